@@ -1,0 +1,40 @@
+//! The typed values that the crates of the simulator share: messages, orders and replies, the public feed, and
+//! the entries of a trace.
+#![tactic(auto)]
+
+mod account;
+mod entry;
+mod feed;
+mod feed_list;
+mod laws;
+mod message;
+mod order;
+mod reply;
+mod roomy;
+mod trace;
+
+pub use account::{Account, TraderTold};
+pub use entry::{EditMark, End, Entry, Record};
+pub use feed::{Feed, What};
+pub use feed_list::FeedList;
+pub use laws::kept_places_are_not_told;
+pub use message::{Body, Message, Quote};
+pub use order::{Cancel, Enter, Inbound, Side, Symbol, Token};
+pub use reply::Reply;
+pub use trace::Trace;
+
+/// Nanoseconds past midnight.
+pub type Time = u64;
+
+/// Millionths of a dollar.
+pub type Money = i128;
+
+/// The number of an agent: 0 is the exchange, the traders follow from 1 in the study's order.
+pub type AgentNo = u16;
+
+/// The number of a stock, from 0 in the study's order.
+pub type StockNo = u16;
+
+/// Want of memory: the one error of a call that can fail for nothing else.
+#[derive(Clone, Copy, PartialEq, Eq, Debug)]
+pub struct Memory;
