@@ -11,6 +11,7 @@ mod message;
 mod order;
 mod reply;
 mod roomy;
+mod sequence;
 mod trace;
 
 pub use account::{Account, TraderTold};
@@ -21,6 +22,8 @@ pub use laws::kept_places_are_not_told;
 pub use message::{Body, Message, Quote};
 pub use order::{Cancel, Enter, Inbound, Side, Symbol, Token};
 pub use reply::Reply;
+pub use roomy::Roomy;
+pub use sequence::Sequence;
 pub use trace::Trace;
 
 /// Nanoseconds past midnight.
