@@ -8,7 +8,7 @@ use Rattle.wire_fields.specs.declared.kind.Kind.TheVariants.{Number, Byte, Lette
 use Rattle.wire_fields.specs.Kinds.{width, admits, is_padded, is_filled, is_good}
 use Rattle.wire_fields.specs.Numbers.{number_bytes, number_of}
 use Rattle.wire_fields.specs.Values.{FieldValue, number, bytes, spelled, is_in_range, value_of}
-use Rattle.wire_fields.specs.Wire.{Wire, IsSpelled, spelled_fields, are_in_range, total_width, field_at, bad_at, values_at, wire_at}
+use Rattle.wire_fields.specs.Wire.{Wire, IsSpelled, spelled_fields, are_in_range, total_width, field_at, bad_at, values_at, wire_at, AreGood}
 use Rattle.wire_fields.proofs.Digits.{IsBytes, IsBytes-tail, IsBytes-take, IsBytes-drop, number_of-bound, length-number_bytes, number_of-number_bytes, number_bytes-number_of}
 
 -- ---- one field
@@ -86,6 +86,13 @@ guarded : (b : Bool) (x : Option ℕ) (at : ℕ) → cond b x (Some at) ≡ None
 guarded true x at e = (refl, e)
 guarded false x at e = absurd cc
 
+-- where no offset is bad, each field is in its range
+pub good_read : (ks : List Kind) (at : ℕ) (bs : List ℕ) → bad_at ks at bs ≡ None → AreGood ks at bs
+good_read [] at bs none = tt
+good_read (k ∷ ks) at bs none =
+    let test = guarded (is_good k (field_at k at bs)) (bad_at ks (at + width k) bs) at none in
+    (test.0, good_read ks (at + width k) bs test.1)
+
 -- fields that were read are in their ranges, and are written so
 pub values_read : (ks : List Kind) (at : ℕ) (bs : List ℕ) → IsBytes bs → at + total_width ks ≡ length bs → bad_at ks at bs ≡ None
     → (spelled_fields ks (values_at ks at bs) ≡ drop at bs) × (are_in_range ks (values_at ks at bs) ≡ true)
@@ -102,7 +109,7 @@ values_read (k ∷ ks) at bs fits len none =
 
 -- ---- whole messages
 
-same_wires : (v w : Wire) → v.letter ≡ w.letter → v.kinds ≡ w.kinds → v.values ≡ w.values → v ≡ w
+pub same_wires : (v w : Wire) → v.letter ≡ w.letter → v.kinds ≡ w.kinds → v.values ≡ w.values → v ≡ w
 same_wires v w letter kinds values =
     let by_letter : ℕ → Wire = λ l. record { letter = l; kinds = v.kinds; values = v.values } in
     let by_kinds : List Kind → Wire = λ ks. record { letter = w.letter; kinds = ks; values = v.values } in

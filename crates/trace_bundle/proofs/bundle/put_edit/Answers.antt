@@ -1,0 +1,10 @@
+use Rattle.std.proofs.Common.{◌++◌}
+use Rattle.std.specs.List.{flat_map}
+use Rattle.market_types.specs.Told.{event_told, edit_told}
+use Rattle.trace_bundle.specs.Bundle.{event_frame, edit_frame, feed_frames, counts_frame, stock_frame, order_frame, agent_frame}
+use Rattle.trace_bundle.proofs.Appends.{then_part, then_last}
+use Rattle.trace_bundle.proofs.bundle.put_edit.Goals as goal
+
+pub returns : goal.returns
+returns c =
+    then_last _ _ _ _ (edit_frame (edit_told c.args.mark.now)) (feed_frames c.args.mark.now.feed.list) c.in_ok-put_mark.ensures (rw c.as_slice.ensures at c.put_feed.ensures)

@@ -1,0 +1,4 @@
+pub mod Closing
+pub mod Frames
+pub mod Feed
+pub mod Bundle

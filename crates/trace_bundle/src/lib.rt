@@ -1,0 +1,16 @@
+//! The bundle of a study: its frames in bytes.
+#![tactic(auto)]
+
+mod bundle;
+
+mod closing;
+mod feed;
+mod frames;
+mod layouts;
+
+
+pub use bundle::{BranchRun, append_branch, append_end, append_header};
+pub use closing::{Closing, ClosingAgent, ClosingCounts, ClosingOrder, ClosingStock};
+pub use layouts::{
+    AGENT, ASK, BRANCH, COUNTS, EDIT, END, EVENT, HEADER, ORDER, POSITION, QUOTE, STOCK,
+};
