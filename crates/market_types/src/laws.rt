@@ -1,13 +1,33 @@
 //! Laws by computation on the definitions.
 
-ghost use Rattle.std.specs.Prelude.{◌≡◌, ℕ};
+ghost use Rattle.std.specs.Prelude.{◌≡◌, ℕ, [], Result, codes};
+ghost use Rattle.market_types.specs.Readers.{price_of, shares_of, symbol_of, token_of};
 ghost use Rattle.market_types.specs.Told.{event_told, edit_told};
 ghost use Rattle.market_types.specs.declared.entry.Record.{Record};
 ghost use Rattle.market_types.specs.declared.entry.EditMark.{EditMark};
+
+use crate::error::TypeError;
 
 /// Entries that differ only in the places that their lists keep for more tell the same.
 pub fn kept_places_are_not_told()
     ensures before { (r : Record) (n : ℕ) → event_told (record r { before = record { list = r.before.list; spare = n } }) ≡ event_told r }
     ensures after { (r : Record) (n : ℕ) → event_told (record r { after = record { list = r.after.list; spare = n } }) ≡ event_told r }
     ensures feed { (m : EditMark) (n : ℕ) → edit_told (record m { feed = record { list = m.feed.list; spare = n } }) ≡ edit_told m }
+{}
+
+/// The readers' ranges at their ends.
+pub fn ranges_at_their_ends()
+    ensures no_price { price_of 0 ≡ Err TypeError.BadPrice }
+    ensures greatest_price { price_of 1999999900 ≡ Ok 1999999900 }
+    ensures above_price { price_of 1999999901 ≡ Err TypeError.BadPrice }
+    ensures greatest_size { shares_of 999999 ≡ Ok 999999 }
+    ensures above_size { shares_of 1000000 ≡ Err TypeError.BadShares }
+    ensures no_symbol { symbol_of [] ≡ Err TypeError.BadSymbol }
+    ensures symbol { symbol_of (codes "ABM") ≡ Ok (record { 0 = codes "ABM     " }) }
+    ensures inner_blank { symbol_of (codes "A M") ≡ Err TypeError.BadSymbol }
+    ensures long_symbol { symbol_of (codes "ABCDEFGHI") ≡ Err TypeError.BadSymbol }
+    ensures token { token_of (codes "T0001") ≡ Ok (record { 0 = codes "T0001         " }) }
+    ensures longest_token { token_of (codes "T0001000000001") ≡ Ok (record { 0 = codes "T0001000000001" }) }
+    ensures long_token { token_of (codes "T00010000000012") ≡ Err TypeError.BadToken }
+    ensures dash { token_of (codes "T-1") ≡ Err TypeError.BadToken }
 {}

@@ -4,23 +4,30 @@
 
 mod account;
 mod entry;
+mod error;
 mod feed;
 mod feed_list;
 mod laws;
 mod message;
 mod order;
+mod readers;
 mod reply;
 mod roomy;
+mod sequence;
 mod trace;
 
 pub use account::{Account, TraderTold};
 pub use entry::{EditMark, End, Entry, Record};
+pub use error::{CodecError, TypeError};
 pub use feed::{Feed, What};
 pub use feed_list::FeedList;
-pub use laws::kept_places_are_not_told;
+pub use laws::{kept_places_are_not_told, ranges_at_their_ends};
 pub use message::{Body, Message, Quote};
 pub use order::{Cancel, Enter, Inbound, Side, Symbol, Token};
+pub use readers::{read_price, read_shares, read_symbol, read_token};
 pub use reply::Reply;
+pub use roomy::Roomy;
+pub use sequence::Sequence;
 pub use trace::Trace;
 
 /// Nanoseconds past midnight.

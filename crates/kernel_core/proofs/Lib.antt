@@ -1,0 +1,4 @@
+pub mod Posts
+pub mod Sound
+pub mod Runs
+pub mod Opened

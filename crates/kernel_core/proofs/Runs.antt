@@ -1,0 +1,120 @@
+-- Lemmas on steps and runs of steps.
+use Rattle.std.proofs.Common.{◌≡◌, ◌≢◌, ℕ, ◌+◌, ◌-◌, ◌<◌, ◌≤◌, true, false, cond, ltb, eqb, List, [], ◌∷◌, ◌++◌, Option, Some, None, option_map, is_some, refl, sym, ap, ◌∙◌, arith, suc, zero, slice_index, get_or, length}
+use Rattle.std.proofs.lemmas.Bool.{lt-ltb, le-ltb}
+use Rattle.std.proofs.lemmas.List.{get_or_default, length-set}
+use Rattle.std.proofs.lemmas.Bool.Decides.{nat_tests}
+use Rattle.market_types.specs.declared.message.Message.{Message}
+use Rattle.market_types.specs.Told.{event}
+use Rattle.event_queue.specs.Waiting.{least}
+use Rattle.kernel_core.specs.declared.opening.Opening.{Opening}
+use Rattle.market_types.specs.declared.entry.End.{End}
+use Rattle.market_types.specs.declared.entry.End.TheVariants.{QueueFull, EventLimit}
+use Rattle.kernel_core.specs.declared.opening.Stepped.TheVariants.{Ended}
+use Rattle.latency_model.specs.Tables.{Tables, group_count}
+use Rattle.kernel_core.specs.declared.trader.Trader.{Trader}
+use Rattle.kernel_core.specs.Agents.{decided, answered, nobody}
+use Rattle.kernel_core.specs.State.{State, IsSound}
+use Rattle.kernel_core.specs.Step.{Fits, Reaction, reaction, trader_reaction, Happened, event_of, put_back, delivered, end_of, end_of_waiting, answer_by}
+use Rattle.kernel_core.specs.Until.{Run, with_event, advanced, advanced_by, until}
+use Rattle.kernel_core.proofs.Sound.{among_least}
+
+pub event-number : (o : Opening) (s : State) (m : Message) → (event_of o s m).entry.number ≡ s.events + 1
+unfolding event_of
+event-number o s m = elim (ltb m.time (slice_index s.own m.to)) as (λ b. let h : Happened = cond b (put_back s m (slice_index s.own m.to)) (delivered o s m) in h.entry.number ≡ s.events + 1) [ true ↦ refl | false ↦ refl ]
+
+pub event-events : (o : Opening) (s : State) (m : Message) → (event_of o s m).state.events ≡ s.events + 1
+unfolding event_of
+event-events o s m = elim (ltb m.time (slice_index s.own m.to)) as (λ b. let h : Happened = cond b (put_back s m (slice_index s.own m.to)) (delivered o s m) in h.state.events ≡ s.events + 1) [ true ↦ refl | false ↦ refl ]
+
+with_some : (r : Run) (f : Message → Happened) (e : Option End) (l : Option Message) (m : Message) → e ≡ None → l ≡ Some m → with_event r (cond (is_some e) None (option_map f l)) ≡ record { state = (f m).state; entries = r.entries ++ event (f m).entry ∷ [] }
+with_some r f None None m p q = cc
+with_some r f None (Some x) m p q = let same : x ≡ m = grind arith in ap (λ (y : Message). with_event r (Some (f y))) same
+with_some r f (Some x) l m p q = cc
+
+with_none : (r : Run) (f : Message → Happened) (e : Option End) (l : Option Message) (x : End) → e ≡ Some x → with_event r (cond (is_some e) None (option_map f l)) ≡ r
+with_none r f None l x p = cc
+with_none r f (Some y) l x p = refl
+
+-- one event more
+pub advanced_going : (o : Opening) (r : Run) (m : Message) → end_of o r.state ≡ None → least r.state.post.waiting ≡ Some m → advanced o r ≡ record { state = (event_of o r.state m).state; entries = r.entries ++ event (event_of o r.state m).entry ∷ [] }
+unfolding advanced
+advanced_going o r m p q = with_some r (event_of o r.state) (end_of o r.state) (least r.state.post.waiting) m p q
+
+pub advanced_ended : (o : Opening) (r : Run) (e : End) → end_of o r.state ≡ Some e → advanced o r ≡ r
+unfolding advanced
+advanced_ended o r e p = with_none r (event_of o r.state) (end_of o r.state) (least r.state.post.waiting) e p
+
+pub advanced_by_ended : (n : ℕ) (o : Opening) (r : Run) (e : End) → end_of o r.state ≡ Some e → advanced_by n o r ≡ r
+advanced_by_ended zero o r e p = refl
+advanced_by_ended (suc n) o r e p = rw (advanced_ended o r e p) (advanced_by_ended n o r e p)
+
+-- first a events, then b
+pub advanced_by-add : (a b n : ℕ) (o : Opening) (r : Run) → n ≡ a + b → advanced_by n o r ≡ advanced_by b o (advanced_by a o r)
+advanced_by-add zero b n o r e = let same : n ≡ b = omega arith in rw same refl
+advanced_by-add (suc a) b zero o r e = absurd (omega arith)
+advanced_by-add (suc a) b (suc n) o r e = advanced_by-add a b n o (advanced o r) (omega arith)
+
+pub event_back : (o : Opening) (s : State) (m : Message) → m.time < slice_index s.own m.to → event_of o s m ≡ put_back s m (slice_index s.own m.to)
+unfolding event_of
+event_back o s m h = rw (lt-ltb m.time (slice_index s.own m.to) h) refl
+
+pub event_deliver : (o : Opening) (s : State) (m : Message) → slice_index s.own m.to ≤ m.time → event_of o s m ≡ delivered o s m
+unfolding event_of
+event_deliver o s m h = rw (le-ltb m.time (slice_index s.own m.to) h) refl
+
+below_limit : (d e n : ℕ) (x : Option End) → cond (ltb 0 d) (Some QueueFull) (cond (eqb e n) (Some EventLimit) x) ≡ None → e ≢ n
+below_limit d e n x h = grind (arith, nat_tests)
+
+-- a state that isn't ended has room for one event
+pub going_below : (o : Opening) (s : State) → end_of o s ≡ None → s.events ≢ o.limit
+going_below o s h = below_limit s.post.dropped s.events o.limit (end_of_waiting o (least s.post.waiting)) h
+
+-- what a read of a receiver's own time gave
+pub own_read : (s q : State) (m : Message) (i x : ℕ) → s ≡ q → IsSound s → least q.post.waiting ≡ Some m → i ≡ m.to → x ≡ get_or s.own i x → x ≡ slice_index q.own m.to
+own_read s q m i x same h next at r =
+    let a = among_least s m (ap (λ (v : State). least v.post.waiting) same ∙ next) h in
+    r ∙ get_or_default s.own i x 0 (omega (arith, a.to)) ∙ ap (λ k. get_or s.own k 0) at ∙ ap (λ (v : State). slice_index v.own m.to) same
+
+pub ended_from : (s : State) (x : Option End) (e : End) → Ended e ≡ answer_by s x → x ≡ Some e
+ended_from s None e h = cc
+ended_from s (Some y) e h = cc
+
+-- one event more
+pub advanced_more : (n k : ℕ) (o : Opening) (r : Run) → k ≡ n + 1 → advanced_by k o r ≡ advanced o (advanced_by n o r)
+advanced_more n k o r e = advanced_by-add n 1 k o r e
+
+-- a run that has ended is the whole run
+pub until_ended : (o : Opening) (first r : Run) (stop n : ℕ) (e : End) → r ≡ advanced_by n o first → n ≤ stop - first.state.events → end_of o r.state ≡ Some e → r ≡ until o stop first
+until_ended o first r stop n e is h p =
+    let k = stop - first.state.events - n in
+    let split = advanced_by-add n k (stop - first.state.events) o first (omega arith) in
+    sym (split ∙ ap (λ (q : Run). advanced_by k o q) (sym is) ∙ advanced_by_ended k o r e p)
+
+-- a reaction keeps how many traders there are
+reaction-length : (o : Opening) (ts : List Trader) (m : Message) → length (reaction o ts m).traders ≡ length ts
+reaction-length o ts m =
+    let d = decided (get_or ts (m.to - 1) nobody) m.time m.body in
+    elim (eqb m.to 0) as (λ b. let r : Reaction = cond b (record { traders = ts; sends = answered m.from m.body; delay = o.exchange_delay }) (trader_reaction ts (m.to - 1) d) in length r.traders ≡ length ts) [
+      | true ↦ refl
+      | false ↦ length-set ts (m.to - 1) d.trader
+    ]
+
+-- an event keeps how many traders there are and the tables, and makes one event
+event-keeps : (o : Opening) (s : State) (m : Message) → let q : State = (event_of o s m).state in (length q.traders ≡ length s.traders) × (q.groups ≡ s.groups) × (q.events ≡ s.events + 1)
+unfolding event_of
+event-keeps o s m =
+    elim (ltb m.time (slice_index s.own m.to)) as (λ b. let h : Happened = cond b (put_back s m (slice_index s.own m.to)) (delivered o s m) in (length h.state.traders ≡ length s.traders) × (h.state.groups ≡ s.groups) × (h.state.events ≡ s.events + 1)) [
+      | true ↦ (refl, refl, refl)
+      | false ↦ (reaction-length o s.traders m, refl, refl)
+    ]
+
+-- an opening that fits a state that is not ended fits the state after the event
+pub event-fits : (o : Opening) (s : State) (m : Message) → end_of o s ≡ None → Fits o s → Fits o (event_of o s m).state
+event-fits o s m going f =
+    let k = event-keeps o s m in
+    record {
+      opening = f.opening;
+      traders = f.traders ∙ sym k.0;
+      groups = f.groups ∙ sym (ap (λ (t : Tables). group_count t) k.1);
+      limit = omega (arith, k.2, f.limit, going_below o s going);
+    }

@@ -1,0 +1,5 @@
+pub mod Rose
+pub mod Files
+pub mod Fetched
+pub mod Taken
+pub mod Fakes

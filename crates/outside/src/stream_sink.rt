@@ -1,0 +1,71 @@
+//! The standard output and the standard error as sinks. They tell no content: what a stream took, no clause
+//! knows.
+
+ghost use Rattle.std.specs.Prelude.{◌≡◌, ◌≤◌, ◌<◌, IfOk, length};
+
+use crate::{Failed, Sink};
+use std::io::Write;
+use std::marker::Model;
+use std::rt::{Stderr, Stdout};
+
+/// A stream as a sink, which flushes at each write. Contracts see its count of faults.
+#[derive(Drop)]
+pub struct StreamSink<W: Write + Drop> {
+    stream: W,
+    faults: u64,
+}
+
+/// The standard output as a sink.
+pub type OutSink = StreamSink<Stdout>;
+
+/// The standard error as a sink.
+pub type ErrSink = StreamSink<Stderr>;
+
+impl<W: Write + Drop> Model for StreamSink<W> {
+    ghost use Rattle.std.specs.Prelude.{ℕ};
+
+    ghost Value = { ℕ };
+
+    ghost view = { λ s. s.faults };
+}
+
+impl<W: Write + Drop> StreamSink<W> {
+    /// A sink into this stream, with no fault counted.
+    pub fn new(stream: W) -> StreamSink<W>
+        ensures { result ≡ 0 }
+    {
+        StreamSink { stream, faults: 0 }
+    }
+}
+
+impl<W: Write + Drop> Sink for StreamSink<W> {
+    ghost use Rattle.std.specs.Prelude.{None};
+
+    ghost taken = { λ _. None };
+
+    ghost faults = { λ sink. sink };
+
+    fn write(&mut self, piece: &[u8]) -> Result<usize, Failed> {
+        let count = write_flushed(&mut self.stream, piece);
+        if count.is_err() {
+            self.faults = self.faults.saturating_add(1);
+        }
+        count
+    }
+}
+
+/// Writes a first part of a piece, and sends it on. A refused flush fails, and so does a write that takes
+/// nothing of a piece that is not empty.
+fn write_flushed<W: Write>(stream: &mut W, piece: &[u8]) -> Result<usize, Failed>
+    ensures within { IfOk result (λ n. n ≤ length piece.now) }
+    ensures some { IfOk result (λ n. 0 < length piece.now → 0 < n) }
+{
+    let count = match stream.write(piece) {
+        Ok(count) => count,
+        Err(_) => return Err(Failed),
+    };
+    if stream.flush().is_err() || (count == 0 && !piece.is_empty()) {
+        return Err(Failed);
+    }
+    Ok(count)
+}

@@ -1,0 +1,9 @@
+//! Which studies are accepted, and what an accepted study says.
+#![tactic(auto)]
+
+mod accept;
+mod form;
+mod values;
+
+pub use accept::{WatcherStudy, watcher_study};
+

@@ -1,0 +1,50 @@
+-- Values of fields, their spelling and their ranges.
+use Rattle.std.specs.Prelude.{◌≡◌, ℕ, ◌^◌, ◌≤◌, Bool, false, ◌&&◌, ◌==◌, nat_lt, List, [], ◌∷◌, length}
+use Rattle.std.specs.List.{list_all}
+use Rattle.market_types.specs.declared.order.Side.{Side}
+use Rattle.market_types.specs.declared.order.Side.TheVariants as side
+use Rattle.wire_fields.specs.declared.kind.Kind.{Kind}
+use Rattle.wire_fields.specs.declared.kind.Kind.TheVariants.{Number}
+use Rattle.wire_fields.specs.declared.writing.Value.{Value}
+use Rattle.wire_fields.specs.declared.writing.Value.TheVariants as value
+use Rattle.wire_fields.specs.Kinds.{width, is_good}
+use Rattle.wire_fields.specs.Numbers.{number_bytes, number_of}
+
+-- A field's value is a number, or the bytes that stand there.
+pub data FieldValue : Type 0 where
+  number : ℕ → FieldValue
+  bytes : List ℕ → FieldValue
+
+-- how a value stands in a field
+abbrev pub spelled : Kind → FieldValue → List ℕ
+spelled k (number n) = number_bytes (width k) n
+spelled k (bytes bs) = bs
+
+-- whether a value is one that a field may have
+unfoldable pub is_in_range : Kind → FieldValue → Bool
+is_in_range (Number w) (number n) = nat_lt n (256 ^ w)
+is_in_range (Number w) (bytes bs) = false
+is_in_range k (number n) = false
+is_in_range k (bytes bs) = (length bs == width k) && (is_good k bs && list_all (λ b. nat_lt b 256) bs)
+
+-- A value has the width of a field, whatever the field's range. The code writes numbers of at most eight bytes.
+abbrev pub HasWidth : Kind → FieldValue → Type 0
+HasWidth (Number w) (number n) = w ≤ 8
+HasWidth (Number w) (bytes bs) = ⊥
+HasWidth k (number n) = ⊥
+HasWidth k (bytes bs) = length bs ≡ width k
+
+-- the value that these bytes are in a field
+abbrev pub value_of : Kind → List ℕ → FieldValue
+value_of (Number w) bs = number (number_of bs)
+value_of k bs = bytes bs
+
+-- the letter of a side
+abbrev pub side_letter : Side → ℕ
+side_letter side.Buy = 66
+side_letter side.Sell = 83
+
+-- what a value of the code is
+abbrev pub told : Value → FieldValue
+told (value.Number n) = number n
+told (value.Bytes bs) = bytes bs.now

@@ -1,0 +1,63 @@
+//! Messages field by field.
+
+ghost use Rattle.std.specs.Prelude.{◌≡◌, ◌+◌, ◌≤◌, ◌<◌, ◌^◌, ◌∷◌, ◌++◌, map, take, drop, length, IsTrue};
+ghost use Rattle.wire_fields.specs.Kinds.{width};
+ghost use Rattle.wire_fields.specs.Numbers.{number_bytes};
+ghost use Rattle.wire_fields.specs.Values.{side_letter, spelled, told, HasWidth};
+ghost use Rattle.wire_fields.specs.Wire.{spelling, total_width, HaveWidths};
+
+use crate::kind::Kind;
+use market_types::Side;
+
+/// A field's value: a number, or the bytes that stand there.
+#[derive(Clone, Copy)]
+pub enum Value<'a> {
+    Number(u64),
+    Bytes(&'a [u8]),
+}
+
+/// The letter of a side.
+pub fn side_letter(side: Side) -> u8
+    ensures { result ≡ side_letter side }
+{
+    match side {
+        Side::Buy => b'B',
+        Side::Sell => b'S',
+    }
+}
+
+/// Writes a message into the first bytes of `out`: its type's letter, and its fields in order.
+pub fn write(out: &mut [u8], letter: u8, kinds: &[Kind], values: &[Value])
+    requires widths { HaveWidths kinds.now (map told values.now) }
+    requires room { 1 + total_width kinds.now ≤ length out.old }
+    ensures { out.new ≡ spelling (record { letter = letter; kinds = kinds.now; values = map told values.now })
+        ++ drop (1 + total_width kinds.now) out.old }
+{
+    out[0] = letter;
+    let mut at = 1;
+    for (i, kind) in kinds.iter().enumerate() {
+        let end = at + kind.width();
+        put(&mut out[at..end], kind, &values[i]);
+        at = end;
+    }
+}
+
+/// Writes one field.
+fn put(out: &mut [u8], kind: &Kind, value: &Value)
+    requires width { length out.old ≡ width kind.now }
+    requires fits { HasWidth kind.now (told value.now) }
+    ensures { out.new ≡ spelled kind.now (told value.now) }
+{
+    match value {
+        Value::Number(number) => put_number(out, *number),
+        Value::Bytes(bytes) => out.copy_from_slice(bytes),
+    }
+}
+
+/// Writes as many of a number's last bytes as there is room for.
+fn put_number(out: &mut [u8], number: u64)
+    requires { length out.old ≤ 8 }
+    ensures { out.new ≡ number_bytes (length out.old) number }
+{
+    out.copy_from_slice(&number.to_be_bytes()[8 - out.len()..]);
+}
