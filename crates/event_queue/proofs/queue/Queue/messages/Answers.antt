@@ -1,0 +1,28 @@
+use Rattle.std.proofs.Common.{◌≡◌, ◌+◌, List, ap, ◌∙◌, get_or, false, arith, rules, subst}
+use Rattle.std.specs.List.Sorted.{IsPermutation}
+use Rattle.std.specs.Ordering.{is_lt, ordering_then, nat_cmp}
+use Rattle.std.proofs.lemmas.Bool.Decides.{nat_tests}
+use Rattle.std.proofs.lemmas.List.Sorted.{answers_always}
+use Rattle.market_types.specs.Room.{Room}
+use Rattle.market_types.specs.declared.message.Message.{Message}
+use Rattle.event_queue.specs.InOrder.{in_order}
+use Rattle.event_queue.specs.Waiting.{before}
+use Rattle.event_queue.proofs.Listing.{sorted_is_in_order}
+use Rattle.event_queue.proofs.queue.Queue.messages.Goals as goal
+
+-- no message is due before the one that the pairs of time and number put before it
+not_before : (a b : Message) → is_lt (ordering_then (nat_cmp a.time b.time) (nat_cmp a.seq b.seq)) ≡ false → before a b ≡ false
+not_before a b h = grind (arith, nat_tests)
+
+pub returns-clause-sorted : goal.returns-clause-sorted
+returns-clause-sorted c = λ k d low high.
+    let v = c.sort_unstable_by_key.new.self.items in
+    not_before (get_or v (k + 1) d) (get_or v k d) (c.sort_unstable_by_key.ensures.sorted (λ (m : Message). (m.time, m.seq)) (answers_always _ _ _ (λ f a r g h. search rules)) k d low high)
+
+pub returns-clause-listed : goal.returns-clause-listed
+returns-clause-listed c =
+    let w = c.self.inside.messages.items in
+    let v = c.sort_unstable_by_key.new.self.items in
+    let copied : c.in_ok-messages.messages.items ≡ w = search rules in
+    let moved = subst (λ (u : List Message). IsPermutation u v) copied c.sort_unstable_by_key.ensures.permutation in
+    sorted_is_in_order w v c.self.invariant.rising moved (returns-clause-sorted c) ∙ ap (λ (r : Room Message). in_order r.list) c.self.view_is

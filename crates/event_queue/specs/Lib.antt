@@ -1,0 +1,4 @@
+pub mod InOrder
+pub mod Known
+pub mod Rising
+pub mod Waiting

@@ -1,0 +1,145 @@
+//! The queue.
+
+ghost use Rattle.std.specs.Prelude.{◌≡◌, ◌<◌, ◌≤◌, ◌+◌, ◌-◌, [], OnOk, OnErr, IfOk, IfSome, IfNone, OnSome, length, option_map};
+ghost use Rattle.std.specs.List.Sorted.{IsPermutation, IsSortedBy};
+ghost use Rattle.event_queue.specs.InOrder.{in_order};
+ghost use Rattle.event_queue.specs.Waiting.{before, least, IsNew, joined, without};
+
+use crate::order::{place_of, place_of_least};
+use market_types::{Memory, Message};
+use std::alloc::Global;
+use std::marker::Model;
+
+/// The waiting messages.
+#[derive(Drop)]
+pub struct Queue {
+    messages: Vec<Message>,
+    spare: usize,
+}
+
+impl Model for Queue {
+    ghost use Rattle.std.specs.Prelude.{◌≤◌, ◌+◌, vec_len, vec_capacity};
+    ghost use Rattle.market_types.specs.Room.{Room};
+    ghost use Rattle.market_types.specs.declared.message.Message.{Message};
+    ghost use Rattle.event_queue.specs.Rising.{IsRising};
+
+    ghost Value = { Room Message };
+
+    ghost view = { λ q. record { list = q.messages.items; spare = q.spare } };
+
+    ghost invariant = { λ q. record {
+      room : vec_len q.messages + q.spare ≤ vec_capacity q.messages;
+      rising : IsRising q.messages.items;
+    } };
+}
+
+impl Queue {
+    /// The empty queue. It takes no memory, and later calls take theirs from `alloc`.
+    pub fn new(alloc: Global) -> Queue
+        ensures { result ≡ record { list = []; spare = 0 } }
+    {
+        Queue {
+            messages: Vec::new(alloc),
+            spare: 0,
+        }
+    }
+
+    /// How many messages wait.
+    pub fn len(&self) -> usize
+        ensures { result ≡ length self.now.list }
+    {
+        self.messages.len()
+    }
+
+    /// Keeps places for `n` more messages.
+    pub fn reserve(&mut self, n: usize) -> Result<(), Memory>
+        ensures list { self.new.list ≡ self.old.list }
+        ensures room { OnOk result (n ≤ self.new.spare) }
+        ensures never_falls { self.old.spare ≤ self.new.spare }
+        ensures refused { OnErr result (self.new ≡ self.old) }
+    {
+        if n <= self.spare {
+            return Ok(());
+        }
+        match self.messages.reserve(n) {
+            Ok(()) => {
+                self.spare = n;
+                Ok(())
+            }
+            Err(_) => Err(Memory),
+        }
+    }
+
+    /// A message joins. A place was kept for it, and no waiting message has its number.
+    pub fn push(&mut self, m: Message)
+        requires room { 0 < self.old.spare }
+        requires fresh { IsNew m.seq self.old.list }
+        ensures joins { self.new ≡ record { list = joined m self.old.list; spare = self.old.spare - 1 } }
+        ensures grows { length self.new.list ≡ length self.old.list + 1 }
+    {
+        let at = place_of(self.messages.as_slice(), m.seq);
+        match self.messages.insert(at, m) {
+            Ok(()) => self.spare -= 1,
+            Err(_) => unreachable!(),
+        }
+    }
+
+    /// The least message leaves: the one with the least time, and among those the least number.
+    /// `None` where none waits. Its number is then free, so that it can be put back.
+    pub fn pop_least(&mut self) -> Option<Message>
+        ensures least { result ≡ least self.old.list }
+        ensures left { IfSome result (λ m. self.new ≡ record { list = without m.seq self.old.list; spare = self.old.spare + 1 }) }
+        ensures gone { IfSome result (λ m. IsNew m.seq self.new.list) }
+        ensures shrinks { OnSome result (length self.new.list + 1 ≡ length self.old.list) }
+        ensures empty { IfNone result (self.new ≡ self.old) }
+    {
+        if self.messages.is_empty() {
+            return None;
+        }
+        let at = place_of_least(self.messages.as_slice());
+        let m = self.messages.remove(at);
+        self.spare += 1;
+        Some(m)
+    }
+
+    /// The least message, which stays. `None` where none waits.
+    pub fn peek_least(&self) -> Option<&Message>
+        ensures { option_map (λ m. m.now) result ≡ least self.now.list }
+    {
+        if self.messages.is_empty() {
+            return None;
+        }
+        let at = place_of_least(self.messages.as_slice());
+        Some(&self.messages[at])
+    }
+
+    /// A queue with the same waiting messages, which may keep any number of places.
+    pub fn copy(&self, alloc: Global) -> Result<Queue, Memory>
+        ensures { IfOk result (λ q. q.list ≡ self.now.list) }
+    {
+        let messages = copied(alloc, self.messages.as_slice())?;
+        Ok(Queue { messages, spare: 0 })
+    }
+
+    /// The waiting messages in order of time, and at one time of number.
+    pub fn messages(&self, alloc: Global) -> Result<Vec<Message>, Memory>
+        ensures listed { IfOk result (λ v. v.items ≡ in_order self.now.list) }
+        ensures same { IfOk result (λ v. IsPermutation self.now.list v.items) }
+        ensures sorted { IfOk result (λ v. IsSortedBy before v.items) }
+    {
+        let mut messages = copied(alloc, self.messages.as_slice())?;
+        messages.sort_unstable_by_key(|m| (m.time, m.seq));
+        Ok(messages)
+    }
+}
+
+// The same messages.
+fn copied(alloc: Global, messages: &[Message]) -> Result<Vec<Message>, Memory>
+    ensures { IfOk result (λ v. v.items ≡ messages.now) }
+{
+    let mut copy = Vec::new(alloc);
+    match copy.extend_from_slice(messages) {
+        Ok(()) => Ok(copy),
+        Err(_) => Err(Memory),
+    }
+}
