@@ -8,7 +8,7 @@ use Rattle.wire_fields.specs.declared.kind.Kind.TheVariants.{Number, Byte, Lette
 use Rattle.wire_fields.specs.Kinds.{width, admits, is_padded, is_filled, is_good}
 use Rattle.wire_fields.specs.Numbers.{number_bytes, number_of}
 use Rattle.wire_fields.specs.Values.{FieldValue, number, bytes, spelled, is_in_range, value_of}
-use Rattle.wire_fields.specs.Wire.{Wire, IsSpelled, spelled_fields, are_in_range, total_width, field_at, bad_at, values_at, wire_at}
+use Rattle.wire_fields.specs.Wire.{Wire, IsSpelled, spelled_fields, are_in_range, total_width, field_at, bad_at, values_at, wire_at, AreGood}
 use Rattle.wire_fields.proofs.Digits.{IsBytes, IsBytes-tail, IsBytes-take, IsBytes-drop, number_of-bound, length-number_bytes, number_of-number_bytes, number_bytes-number_of}
 
 -- ---- one field
@@ -85,6 +85,13 @@ values_again (k ∷ ks) (v ∷ vs) at bs e h =
 guarded : (b : Bool) (x : Option ℕ) (at : ℕ) → cond b x (Some at) ≡ None → (b ≡ true) × (x ≡ None)
 guarded true x at e = (refl, e)
 guarded false x at e = absurd cc
+
+-- where no offset is bad, each field is in its range
+pub good_read : (ks : List Kind) (at : ℕ) (bs : List ℕ) → bad_at ks at bs ≡ None → AreGood ks at bs
+good_read [] at bs none = tt
+good_read (k ∷ ks) at bs none =
+    let test = guarded (is_good k (field_at k at bs)) (bad_at ks (at + width k) bs) at none in
+    (test.0, good_read ks (at + width k) bs test.1)
 
 -- fields that were read are in their ranges, and are written so
 pub values_read : (ks : List Kind) (at : ℕ) (bs : List ℕ) → IsBytes bs → at + total_width ks ≡ length bs → bad_at ks at bs ≡ None

@@ -27,13 +27,6 @@ is_in_range (Number w) (bytes bs) = false
 is_in_range k (number n) = false
 is_in_range k (bytes bs) = (length bs == width k) && (is_good k bs && list_all (λ b. nat_lt b 256) bs)
 
--- A value has the width of a field, whatever the field's range. The code writes numbers of at most eight bytes.
-abbrev pub HasWidth : Kind → FieldValue → Type 0
-HasWidth (Number w) (number n) = w ≤ 8
-HasWidth (Number w) (bytes bs) = ⊥
-HasWidth k (number n) = ⊥
-HasWidth k (bytes bs) = length bs ≡ width k
-
 -- the value that these bytes are in a field
 abbrev pub value_of : Kind → List ℕ → FieldValue
 value_of (Number w) bs = number (number_of bs)
@@ -47,4 +40,19 @@ side_letter side.Sell = 83
 -- what a value of the code is
 abbrev pub told : Value → FieldValue
 told (value.Number n) = number n
-told (value.Bytes bs) = bytes bs.now
+told (value.Byte b) = bytes (b ∷ [])
+told (value.Two bs) = bytes bs
+told (value.Four bs) = bytes bs
+told (value.Side s) = bytes (side_letter s ∷ [])
+told (value.Symbol s) = bytes s.0
+told (value.Token t) = bytes t.0
+
+-- A value of the code has the width of a field, whatever the field's range. Numbers have at most eight bytes.
+abbrev pub HasWidth : Kind → Value → Type 0
+HasWidth k (value.Number n) = width k ≤ 8
+HasWidth k (value.Byte b) = width k ≡ 1
+HasWidth k (value.Two bs) = width k ≡ 2
+HasWidth k (value.Four bs) = width k ≡ 4
+HasWidth k (value.Side s) = width k ≡ 1
+HasWidth k (value.Symbol s) = width k ≡ 8
+HasWidth k (value.Token t) = width k ≡ 14

@@ -1,9 +1,10 @@
 -- Messages as fields one after another, and why bytes are none.
-use Rattle.std.specs.Prelude.{◌≡◌, ℕ, ◌+◌, Bool, true, false, ◌&&◌, ◌==◌, IsTrue, List, [], ◌∷◌, ◌++◌, length, take, drop, slice_index, Option, Some, None, Result, Ok, Err, if◌then◌else◌}
+use Rattle.std.specs.Prelude.{◌≡◌, ℕ, ◌+◌, Bool, true, false, ◌&&◌, ◌==◌, IsTrue, List, [], ◌∷◌, ◌++◌, length, take, drop, slice_index, Option, Some, None, Result, Ok, Err, IfOk, if◌then◌else◌}
 use Rattle.std.specs.Option.{option_map}
 use Rattle.market_types.specs.declared.error.CodecError.{CodecError}
 use Rattle.market_types.specs.declared.error.CodecError.TheVariants.{UnknownType, WrongLength, BadField}
 use Rattle.wire_fields.specs.declared.kind.Kind.{Kind}
+use Rattle.wire_fields.specs.declared.writing.Value.{Value}
 use Rattle.wire_fields.specs.Kinds.{width, is_good}
 use Rattle.wire_fields.specs.Values.{FieldValue, spelled, is_in_range, value_of, HasWidth}
 
@@ -35,8 +36,8 @@ pub record IsSpelled (bytes : List ℕ) (w : Wire) : Type 0 where
   pub same : bytes ≡ spelling w
   pub in_range : IsTrue (are_in_range w.kinds w.values)
 
--- each field has a value of its width, and there are no more
-abbrev pub HaveWidths : List Kind → List FieldValue → Type 0
+-- each field has a value of the code of its width, and there are no more
+abbrev pub HaveWidths : List Kind → List Value → Type 0
 HaveWidths [] [] = Unit {0}
 HaveWidths [] (v ∷ vs) = ⊥
 HaveWidths (k ∷ ks) [] = ⊥
@@ -61,14 +62,23 @@ abbrev pub bad_at : List Kind → ℕ → List ℕ → Option ℕ
 bad_at [] at bytes = None
 bad_at (k ∷ ks) at bytes = if is_good k (field_at k at bytes) then bad_at ks (at + width k) bytes else Some at
 
+-- each field is in its range
+abbrev pub AreGood : List Kind → ℕ → List ℕ → Type 0
+AreGood [] at bytes = Unit {0}
+AreGood (k ∷ ks) at bytes = IsTrue (is_good k (field_at k at bytes)) × AreGood ks (at + width k) bytes
+
 -- the values that stand in the fields
 abbrev pub values_at : List Kind → ℕ → List ℕ → List FieldValue
 values_at [] at bytes = []
 values_at (k ∷ ks) at bytes = value_of k (field_at k at bytes) ∷ values_at ks (at + width k) bytes
 
+-- the message of this letter whose fields stand in bytes
+abbrev pub wire_in : ℕ → List Kind → List ℕ → Wire
+wire_in letter ks bytes = record { letter = letter; kinds = ks; values = values_at ks 1 bytes }
+
 -- the message that stands in bytes by these fields
 abbrev pub wire_at : List Kind → List ℕ → Wire
-wire_at ks bytes = record { letter = slice_index bytes 0; kinds = ks; values = values_at ks 1 bytes }
+wire_at ks bytes = wire_in (slice_index bytes 0) ks bytes
 
 -- why bytes are no message of a type with these fields
 unfoldable pub fault : List Kind → List ℕ → Option CodecError
@@ -91,3 +101,10 @@ refusal layout (letter ∷ rest) = fault_of letter (layout letter) (letter ∷ r
 abbrev pub error_of : {A : Type 0} → Result A CodecError → Option CodecError
 error_of (Ok x) = None
 error_of (Err e) = Some e
+
+-- What is read of bytes is the message that they spell, if they spell one, and otherwise why they spell none. A message
+-- is written as a wire, and a type's letter tells its fields.
+pub record IsRead {M : Type 0} (wire : M → Wire) (layout : ℕ → Option (List Kind)) (bytes : List ℕ) (read : Result M CodecError) : Type 0 where
+  pub spelled : IfOk read (λ m. IsSpelled bytes (wire m))
+  pub only : (m : M) → IsSpelled bytes (wire m) → read ≡ Ok m
+  pub refused : error_of read ≡ refusal layout bytes

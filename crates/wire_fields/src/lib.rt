@@ -11,4 +11,4 @@ pub use checking::check;
 pub use kind::Kind;
 pub use message_bytes::MessageBytes;
 pub use reading::{array_at, byte_at, side_at, u16_at, u32_at, u48_at, u64_at};
-pub use writing::{Value, side_letter, write};
+pub use writing::{Value, message, side_letter, write};

@@ -29,7 +29,7 @@ impl<const N: usize> Model for MessageBytes<N> {
 impl<const N: usize> MessageBytes<N> {
     /// A message of a type's letter and its fields in order.
     pub fn of(letter: u8, kinds: &[Kind], values: &[Value]) -> MessageBytes<N>
-        requires widths { HaveWidths kinds.now (map told values.now) }
+        requires widths { HaveWidths kinds.now values.now }
         requires room { 1 + total_width kinds.now ≤ N }
         ensures { result ≡ spelling (record { letter = letter; kinds = kinds.now; values = map told values.now }) }
     {

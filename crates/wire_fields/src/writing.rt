@@ -7,13 +7,18 @@ ghost use Rattle.wire_fields.specs.Values.{side_letter, spelled, told, HasWidth}
 ghost use Rattle.wire_fields.specs.Wire.{spelling, total_width, HaveWidths};
 
 use crate::kind::Kind;
-use market_types::Side;
+use market_types::{Side, Symbol, Token};
 
-/// A field's value: a number, or the bytes that stand there.
-#[derive(Clone, Copy)]
-pub enum Value<'a> {
+/// A field's value.
+#[derive(Clone, Copy, PartialEq, Eq, Debug)]
+pub enum Value {
     Number(u64),
-    Bytes(&'a [u8]),
+    Byte(u8),
+    Two([u8; 2]),
+    Four([u8; 4]),
+    Side(Side),
+    Symbol(Symbol),
+    Token(Token),
 }
 
 /// The letter of a side.
@@ -26,9 +31,20 @@ pub fn side_letter(side: Side) -> u8
     }
 }
 
+/// A message that has exactly `N` bytes: its type's letter, and its fields in order.
+pub fn message<const N: usize>(letter: u8, kinds: &[Kind], values: &[Value]) -> [u8; N]
+    requires widths { HaveWidths kinds.now values.now }
+    requires size { 1 + total_width kinds.now ≡ N }
+    ensures { result ≡ spelling (record { letter = letter; kinds = kinds.now; values = map told values.now }) }
+{
+    let mut bytes = [0; N];
+    write(&mut bytes, letter, kinds, values);
+    bytes
+}
+
 /// Writes a message into the first bytes of `out`: its type's letter, and its fields in order.
 pub fn write(out: &mut [u8], letter: u8, kinds: &[Kind], values: &[Value])
-    requires widths { HaveWidths kinds.now (map told values.now) }
+    requires widths { HaveWidths kinds.now values.now }
     requires room { 1 + total_width kinds.now ≤ length out.old }
     ensures { out.new ≡ spelling (record { letter = letter; kinds = kinds.now; values = map told values.now })
         ++ drop (1 + total_width kinds.now) out.old }
@@ -45,12 +61,17 @@ pub fn write(out: &mut [u8], letter: u8, kinds: &[Kind], values: &[Value])
 /// Writes one field.
 fn put(out: &mut [u8], kind: &Kind, value: &Value)
     requires width { length out.old ≡ width kind.now }
-    requires fits { HasWidth kind.now (told value.now) }
+    requires fits { HasWidth kind.now value.now }
     ensures { out.new ≡ spelled kind.now (told value.now) }
 {
     match value {
         Value::Number(number) => put_number(out, *number),
-        Value::Bytes(bytes) => out.copy_from_slice(bytes),
+        Value::Byte(byte) => out.copy_from_slice(&[*byte]),
+        Value::Two(bytes) => out.copy_from_slice(bytes),
+        Value::Four(bytes) => out.copy_from_slice(bytes),
+        Value::Side(side) => out.copy_from_slice(&[side_letter(*side)]),
+        Value::Symbol(symbol) => out.copy_from_slice(&symbol.0),
+        Value::Token(token) => out.copy_from_slice(&token.0),
     }
 }
 

@@ -1,5 +1,5 @@
 use Rattle.std.proofs.Common.{arith, refl, rules}
-use Rattle.wire_fields.proofs.Laws.{message_read, message_again}
+use Rattle.wire_fields.proofs.Laws.{message_read, message_again, good_read}
 use Rattle.wire_fields.proofs.checking.check.Goals as goal
 
 pub returns-then-bytes-needed-clause-only : goal.returns-then-bytes-needed-clause-only
@@ -13,3 +13,6 @@ returns-in-None-clause-spelled c = message_read c.args.kinds.now c.args.bytes.no
 
 pub returns-in-None-clause-only : goal.returns-in-None-clause-only
 returns-in-None-clause-only c w kinds is = (refl, (message_again c.args.kinds.now c.args.bytes.now w kinds is).same)
+
+pub returns-in-None-clause-good : goal.returns-in-None-clause-good
+returns-in-None-clause-good c = good_read c.args.kinds.now 1 c.args.bytes.now (search rules)

@@ -6,15 +6,15 @@ use Rattle.wire_fields.proofs.Tables.{write_letter, write_at, write_all, width_t
 use Rattle.wire_fields.proofs.writing.write.Goals as goal
 
 pub loop-i-init : goal.loop-i-init
-loop-i-init c = write_letter c.args.kinds.now (map told c.args.values.now) c.args.letter c.args.out.now c.requires.widths (omega arith)
+loop-i-init c = write_letter c.args.kinds.now c.args.values.now c.args.letter c.args.out.now c.requires.widths (omega arith)
 
 pub loop-i-preserved : goal.loop-i-preserved
 loop-i-preserved c =
     write_at c.args.kinds.now c.args.values.now c.loop-i.i _ _ c.loop-i.at c.width.result _ _ _ c.loop-i.out c.put.new.out
-        c.loop-i-test.true c.requires.widths c.loop-i.invariant (omega (arith, length-set {A = ℕ})) c.width.ensures c.put.ensures
+        c.loop-i-test.true c.requires.widths c.loop-i.invariant (omega (arith, length-set {A = ℕ})) c.width.ensures c.put.ensures (omega arith)
 
 pub put-requires-clause-fits : goal.put-requires-clause-fits
 put-requires-clause-fits c = width_there c.args.kinds.now c.args.values.now c.loop-i.i _ _ c.loop-i-test.true c.requires.widths c.loop-i.invariant.fitting
 
 pub returns : goal.returns
-returns c = write_all c.args.kinds.now (map told c.args.values.now) c.loop-i.i c.args.letter c.loop-i.at _ (1 + total_width c.args.kinds.now) c.args.out.now c.loop-i.out c.loop-i-test.false (omega arith) c.loop-i.invariant
+returns c = write_all c.args.kinds.now c.args.values.now c.loop-i.i c.args.letter c.loop-i.at _ (1 + total_width c.args.kinds.now) c.args.out.now c.loop-i.out c.loop-i-test.false (omega arith) c.loop-i.invariant

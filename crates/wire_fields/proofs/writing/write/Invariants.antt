@@ -6,4 +6,4 @@ use Rattle.wire_fields.proofs.writing.write.Given as goal
 
 abbrev pub invariant-loop-i : goal.invariant-loop-i
 invariant-loop-i l =
-    IsWritten (drop l.i l.kinds) (drop l.i (map told l.values)) l.at (l.letter ∷ spelled_fields l.kinds (map told l.values)) (1 + total_width l.kinds) l.initial.out l.out
+    IsWritten (drop l.i l.kinds) (drop l.i l.values) l.at (l.letter ∷ spelled_fields l.kinds (map told l.values)) (1 + total_width l.kinds) l.initial.out l.out
