@@ -3,8 +3,7 @@ use Rattle.std.proofs.Common.{◌≡◌, ℕ, ◌<◌, Bool, true, false, List, 
 use Rattle.market_types.specs.declared.error.CodecError.{CodecError}
 use Rattle.wire_fields.specs.declared.kind.Kind.{Kind}
 use Rattle.wire_fields.specs.Values.{FieldValue}
-use Rattle.wire_fields.specs.Wire.{Wire, IsSpelled, IsRead, values_at, wire_at, fault, fault_of, refusal}
-use Rattle.wire_fields.proofs.Laws.{same_wires}
+use Rattle.wire_fields.specs.Wire.{Wire, IsSpelled, IsRead, wire_in, wire_at, fault, fault_of, refusal}
 
 -- The letter of each message tells its fields, and a message comes back from its wire.
 pub record IsTable {M : Type 0} (wire : M → Wire) (layout : ℕ → Option (List Kind)) (message : Wire → M) : Type 0 where
@@ -35,11 +34,11 @@ kinds_by wire layout message table bs letter ks is known m spelled =
 pub read_passed : {M : Type 0} (wire : M → Wire) (layout : ℕ → Option (List Kind)) (message : Wire → M) → IsTable wire layout message
     → (bs : List ℕ) (letter : ℕ) (ks : List Kind) → slice_get bs 0 ≡ Some letter → layout letter ≡ Some ks
     → IsSpelled bs (wire_at ks bs) → ((w : Wire) → w.kinds ≡ ks → IsSpelled bs w → (true ≡ true) × (w ≡ wire_at ks bs)) → None ≡ fault ks bs
-    → (x : M) → (wire x).letter ≡ letter → (wire x).kinds ≡ ks → (wire x).values ≡ values_at ks 1 bs → IsRead wire layout bs (Ok x)
-read_passed {M = M} wire layout message table bs letter ks first known spelled only none x x_letter x_kinds x_values =
+    → (x : M) → wire x ≡ wire_in letter ks bs → IsRead wire layout bs (Ok x)
+read_passed {M = M} wire layout message table bs letter ks first known spelled only none x x_is =
     let long = (begins bs letter first).0 in
     let is = (begins bs letter first).1 in
-    let same : wire x ≡ wire_at ks bs = same_wires (wire x) (wire_at ks bs) (x_letter ∙ sym is) x_kinds x_values in
+    let same : wire x ≡ wire_at ks bs = x_is ∙ ap (λ (first : ℕ). wire_in first ks bs) (sym is) in
     record {
       spelled = rw same spelled;
       only = λ m m_spelled.

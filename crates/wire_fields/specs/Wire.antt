@@ -72,9 +72,13 @@ abbrev pub values_at : List Kind → ℕ → List ℕ → List FieldValue
 values_at [] at bytes = []
 values_at (k ∷ ks) at bytes = value_of k (field_at k at bytes) ∷ values_at ks (at + width k) bytes
 
+-- the message of this letter whose fields stand in bytes
+abbrev pub wire_in : ℕ → List Kind → List ℕ → Wire
+wire_in letter ks bytes = record { letter = letter; kinds = ks; values = values_at ks 1 bytes }
+
 -- the message that stands in bytes by these fields
 abbrev pub wire_at : List Kind → List ℕ → Wire
-wire_at ks bytes = record { letter = slice_index bytes 0; kinds = ks; values = values_at ks 1 bytes }
+wire_at ks bytes = wire_in (slice_index bytes 0) ks bytes
 
 -- why bytes are no message of a type with these fields
 unfoldable pub fault : List Kind → List ℕ → Option CodecError

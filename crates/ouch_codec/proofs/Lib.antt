@@ -1,0 +1,2 @@
+pub mod InboundBack
+pub mod OutboundBack

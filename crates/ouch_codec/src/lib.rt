@@ -1,0 +1,9 @@
+//! Orders to the exchange and its replies in the bytes of Nasdaq OUCH 4.2.
+#![tactic(auto)]
+
+mod inbound;
+mod layouts;
+mod outbound;
+
+pub use inbound::{decode_in, encode_cancel, encode_enter};
+pub use outbound::{ReplyBytes, decode_out, encode_reply};

@@ -1,0 +1,245 @@
+//! Replies of the exchange.
+
+ghost use Rattle.std.specs.Prelude.{◌≡◌, length, IfOk, Ok, Some, slice_get};
+ghost use Rattle.wire_fields.specs.Wire.{IsSpelled, IsRead, AreGood, spelling, wire_in, refusal, error_of};
+ghost use Rattle.ouch_codec.specs.Outbound.{reply_wire, reply_layout};
+ghost use Rattle.market_types.specs.declared.reply.Reply.{Reply};
+
+use crate::layouts::{ACCEPTED, CANCELED, EXECUTED, REJECTED, SYSTEM};
+use market_types::{CodecError, Reply, Symbol, Token};
+use wire_fields::{
+    MessageBytes, Value, array_at, byte_at, check, side_at, u32_at, u64_at,
+};
+
+/// The bytes of a reply, at most 66, seen as their list.
+pub type ReplyBytes = MessageBytes<66>;
+
+/// The bytes of a reply. A field out of its range is written as it stands.
+pub fn encode_reply(m: &Reply) -> ReplyBytes
+    ensures { result ≡ spelling (reply_wire m.now) }
+{
+    match *m {
+        Reply::System { time, code } => ReplyBytes::of(
+            b'S',
+            &SYSTEM,
+            &[Value::Number(time), Value::Byte(code)],
+        ),
+        Reply::Accepted {
+            time,
+            token,
+            side,
+            shares,
+            stock,
+            price,
+            tif,
+            firm,
+            display,
+            reference,
+            capacity,
+            sweep,
+            minimum,
+            cross,
+            state,
+            bbo,
+        } => ReplyBytes::of(
+            b'A',
+            &ACCEPTED,
+            &[
+                Value::Number(time),
+                Value::Token(token),
+                Value::Side(side),
+                Value::Number(u64::from(shares)),
+                Value::Symbol(stock),
+                Value::Number(u64::from(price)),
+                Value::Number(u64::from(tif)),
+                Value::Four(firm),
+                Value::Byte(display),
+                Value::Number(reference),
+                Value::Byte(capacity),
+                Value::Byte(sweep),
+                Value::Number(u64::from(minimum)),
+                Value::Byte(cross),
+                Value::Byte(state),
+                Value::Byte(bbo),
+            ],
+        ),
+        Reply::Canceled {
+            time,
+            token,
+            decrement,
+            reason,
+        } => ReplyBytes::of(
+            b'C',
+            &CANCELED,
+            &[
+                Value::Number(time),
+                Value::Token(token),
+                Value::Number(u64::from(decrement)),
+                Value::Byte(reason),
+            ],
+        ),
+        Reply::Executed {
+            time,
+            token,
+            shares,
+            price,
+            flag,
+            number,
+        } => ReplyBytes::of(
+            b'E',
+            &EXECUTED,
+            &[
+                Value::Number(time),
+                Value::Token(token),
+                Value::Number(u64::from(shares)),
+                Value::Number(u64::from(price)),
+                Value::Byte(flag),
+                Value::Number(number),
+            ],
+        ),
+        Reply::Rejected {
+            time,
+            token,
+            reason,
+        } => ReplyBytes::of(
+            b'J',
+            &REJECTED,
+            &[
+                Value::Number(time),
+                Value::Token(token),
+                Value::Byte(reason),
+            ],
+        ),
+    }
+}
+
+/// The reply that these bytes are. What it refuses, the first that applies: a type other than `S`, `A`, `C`, `E` and
+/// `J`, another length than the type's, where 1 is needed of the empty input, and the least offset of a field out of its
+/// range.
+pub fn decode_out(bytes: &[u8]) -> Result<Reply, CodecError>
+    ensures spelled { IfOk result (λ m. IsSpelled bytes.now (reply_wire m)) }
+    ensures only { (m : Reply) → IsSpelled bytes.now (reply_wire m) → result ≡ Ok m }
+    ensures refused { error_of result ≡ refusal reply_layout bytes.now }
+{
+    match bytes {
+        [] => Err(CodecError::WrongLength(0, 1)),
+        [b'S', ..] => decode_system(bytes),
+        [b'A', ..] => decode_accepted(bytes),
+        [b'C', ..] => decode_canceled(bytes),
+        [b'E', ..] => decode_executed(bytes),
+        [b'J', ..] => decode_rejected(bytes),
+        [letter, ..] => Err(CodecError::UnknownType(*letter)),
+    }
+}
+
+fn decode_system(bytes: &[u8]) -> Result<Reply, CodecError>
+    requires { slice_get bytes.now 0 ≡ Some 83 }
+    ensures { IsRead reply_wire reply_layout bytes.now result }
+{
+    check(bytes, &SYSTEM)?;
+    Ok(system_at(bytes))
+}
+
+fn decode_accepted(bytes: &[u8]) -> Result<Reply, CodecError>
+    requires { slice_get bytes.now 0 ≡ Some 65 }
+    ensures { IsRead reply_wire reply_layout bytes.now result }
+{
+    check(bytes, &ACCEPTED)?;
+    Ok(accepted_at(bytes))
+}
+
+fn decode_canceled(bytes: &[u8]) -> Result<Reply, CodecError>
+    requires { slice_get bytes.now 0 ≡ Some 67 }
+    ensures { IsRead reply_wire reply_layout bytes.now result }
+{
+    check(bytes, &CANCELED)?;
+    Ok(canceled_at(bytes))
+}
+
+fn decode_executed(bytes: &[u8]) -> Result<Reply, CodecError>
+    requires { slice_get bytes.now 0 ≡ Some 69 }
+    ensures { IsRead reply_wire reply_layout bytes.now result }
+{
+    check(bytes, &EXECUTED)?;
+    Ok(executed_at(bytes))
+}
+
+fn decode_rejected(bytes: &[u8]) -> Result<Reply, CodecError>
+    requires { slice_get bytes.now 0 ≡ Some 74 }
+    ensures { IsRead reply_wire reply_layout bytes.now result }
+{
+    check(bytes, &REJECTED)?;
+    Ok(rejected_at(bytes))
+}
+
+fn system_at(bytes: &[u8]) -> Reply
+    requires { length bytes.now ≡ 10 }
+    ensures { reply_wire result ≡ wire_in 83 SYSTEM bytes.now }
+{
+    Reply::System {
+        time: u64_at(bytes, 1),
+        code: byte_at(bytes, 9),
+    }
+}
+
+fn accepted_at(bytes: &[u8]) -> Reply
+    requires length { length bytes.now ≡ 66 }
+    requires good { AreGood ACCEPTED 1 bytes.now }
+    ensures { reply_wire result ≡ wire_in 65 ACCEPTED bytes.now }
+{
+    Reply::Accepted {
+        time: u64_at(bytes, 1),
+        token: Token(array_at(bytes, 9)),
+        side: side_at(bytes, 23),
+        shares: u32_at(bytes, 24),
+        stock: Symbol(array_at(bytes, 28)),
+        price: u32_at(bytes, 36),
+        tif: u32_at(bytes, 40),
+        firm: array_at(bytes, 44),
+        display: byte_at(bytes, 48),
+        reference: u64_at(bytes, 49),
+        capacity: byte_at(bytes, 57),
+        sweep: byte_at(bytes, 58),
+        minimum: u32_at(bytes, 59),
+        cross: byte_at(bytes, 63),
+        state: byte_at(bytes, 64),
+        bbo: byte_at(bytes, 65),
+    }
+}
+
+fn canceled_at(bytes: &[u8]) -> Reply
+    requires { length bytes.now ≡ 28 }
+    ensures { reply_wire result ≡ wire_in 67 CANCELED bytes.now }
+{
+    Reply::Canceled {
+        time: u64_at(bytes, 1),
+        token: Token(array_at(bytes, 9)),
+        decrement: u32_at(bytes, 23),
+        reason: byte_at(bytes, 27),
+    }
+}
+
+fn executed_at(bytes: &[u8]) -> Reply
+    requires { length bytes.now ≡ 40 }
+    ensures { reply_wire result ≡ wire_in 69 EXECUTED bytes.now }
+{
+    Reply::Executed {
+        time: u64_at(bytes, 1),
+        token: Token(array_at(bytes, 9)),
+        shares: u32_at(bytes, 23),
+        price: u32_at(bytes, 27),
+        flag: byte_at(bytes, 31),
+        number: u64_at(bytes, 32),
+    }
+}
+
+fn rejected_at(bytes: &[u8]) -> Reply
+    requires { length bytes.now ≡ 24 }
+    ensures { reply_wire result ≡ wire_in 74 REJECTED bytes.now }
+{
+    Reply::Rejected {
+        time: u64_at(bytes, 1),
+        token: Token(array_at(bytes, 9)),
+        reason: byte_at(bytes, 23),
+    }
+}
