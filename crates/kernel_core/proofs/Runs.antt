@@ -1,10 +1,14 @@
 -- Lemmas on steps and runs of steps.
-use Rattle.std.proofs.Common.{◌≡◌, ◌≢◌, ℕ, ◌+◌, ◌-◌, ◌<◌, ◌≤◌, true, false, cond, ltb, eqb, List, [], ◌∷◌, ◌++◌, Option, Some, None, option_map, is_some, refl, sym, ap, ◌∙◌, arith, suc, zero, slice_index, get_or, length}
+use Rattle.std.proofs.Common.{◌≡◌, ◌≢◌, ℕ, ◌+◌, ◌-◌, ◌<◌, ◌≤◌, true, false, cond, ltb, eqb, List, [], ◌∷◌, ◌++◌, Option, Some, None, option_map, is_some, refl, sym, ap, ◌∙◌, arith, suc, zero, subst, slice_index, get_or, length}
 use Rattle.std.proofs.lemmas.Bool.{lt-ltb, le-ltb}
 use Rattle.std.proofs.lemmas.List.{get_or_default, length-set}
+use Rattle.std.proofs.lemmas.List.Elements.{All-push, All-nil}
+use Rattle.std.specs.Prelude.{All, ◌^◌}
 use Rattle.std.proofs.lemmas.Bool.Decides.{nat_tests}
 use Rattle.market_types.specs.declared.message.Message.{Message}
 use Rattle.market_types.specs.Told.{event}
+use Rattle.market_types.specs.Timely.{AreTimely, IsTimely}
+use Rattle.market_types.specs.declared.feed.Feed.{Feed}
 use Rattle.event_queue.specs.Waiting.{least}
 use Rattle.kernel_core.specs.declared.opening.Opening.{Opening}
 use Rattle.market_types.specs.declared.entry.End.{End}
@@ -118,3 +122,32 @@ event-fits o s m going f =
       groups = f.groups ∙ sym (ap (λ (t : Tables). group_count t) k.1);
       limit = omega (arith, k.2, f.limit, going_below o s going);
     }
+
+-- an event has no feed in a market without orders
+event-timely : (o : Opening) (s : State) (m : Message) → IsTimely (event (event_of o s m).entry)
+unfolding event_of
+event-timely o s m =
+    let none : AreTimely [] = All-nil (λ (f : Feed). f.time < 2 ^ 48) in
+    elim (ltb m.time (slice_index s.own m.to)) as (λ b. let h : Happened = cond b (put_back s m (slice_index s.own m.to)) (delivered o s m) in IsTimely (event h.entry)) [
+      | true ↦ (none, none)
+      | false ↦ (none, none)
+    ]
+
+with_event-timely : (o : Opening) (s : State) (r : Run) (e : Option End) (l : Option Message) → All IsTimely r.entries
+    → All IsTimely (with_event r (cond (is_some e) None (option_map (event_of o s) l))).entries
+with_event-timely o s r None None h = h
+with_event-timely o s r None (Some m) h = All-push IsTimely r.entries (event (event_of o s m).entry) h (event-timely o s m)
+with_event-timely o s r (Some x) l h = h
+
+advanced-timely : (o : Opening) (r : Run) → All IsTimely r.entries → All IsTimely (advanced o r).entries
+unfolding advanced
+advanced-timely o r h = with_event-timely o r.state r (end_of o r.state) (least r.state.post.waiting) h
+
+-- a run keeps that all feeds are timely
+pub advanced_by-timely : (n : ℕ) (o : Opening) (r : Run) → All IsTimely r.entries → All IsTimely (advanced_by n o r).entries
+advanced_by-timely zero o r h = h
+advanced_by-timely (suc n) o r h = advanced_by-timely n o (advanced o r) (advanced-timely o r h)
+
+-- the same of a run that is so many events later
+pub timely_run : (n : ℕ) (o : Opening) (first later : Run) → All IsTimely first.entries → later ≡ advanced_by n o first → All IsTimely later.entries
+timely_run n o first later h is = subst (λ (r : Run). All IsTimely r.entries) (sym is) (advanced_by-timely n o first h)

@@ -2,6 +2,7 @@
 
 ghost use Rattle.std.specs.Prelude.{◌≡◌, ◌<◌, ◌≤◌, ◌+◌, ◌-◌, ◌^◌, [], Some, None, OnOk, OnErr, IfOk, IsNone, length, All};
 ghost use Rattle.market_types.specs.Told.{event_told};
+ghost use Rattle.market_types.specs.Timely.{IsTimely};
 ghost use Rattle.event_queue.specs.Waiting.{least};
 ghost use Rattle.kernel_core.specs.declared.trader.Trader.{Trader};
 ghost use Rattle.kernel_core.specs.State.{IsCounted};
@@ -173,6 +174,7 @@ impl Kernel {
         ensures ran { OnOk result (record { state = self.new; entries = trace.new.list } ≡ until o.now stop (record { state = self.old; entries = trace.old.list })) }
         ensures made { record { state = self.new; entries = trace.new.list } ≡ advanced_by (self.new.events - self.old.events) o.now (record { state = self.old; entries = trace.old.list }) }
         ensures ticks { steps.new + self.old.events ≡ steps.old + self.new.events }
+        ensures timely { All IsTimely trace.old.list → All IsTimely trace.new.list }
         ensures fitting { Fits o.now self.new }
     {
         'events: while self.events() < stop {

@@ -1,3 +1,4 @@
 pub mod Readers
 pub mod Room
 pub mod Told
+pub mod Timely

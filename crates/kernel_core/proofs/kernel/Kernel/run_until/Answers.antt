@@ -1,7 +1,9 @@
-use Rattle.std.proofs.Common.{◌≡◌, ◌+◌, ◌-◌, ℕ, sym, ap, ◌∙◌, arith}
+use Rattle.market_types.specs.Told.{EntryTold}
+use Rattle.market_types.specs.Timely.{IsTimely}
+use Rattle.std.proofs.Common.{List, All, subst, rules, ◌≡◌, ◌+◌, ◌-◌, ℕ, sym, ap, ◌∙◌, arith}
 use Rattle.kernel_core.specs.Step.{end_of, raised}
 use Rattle.kernel_core.specs.Until.{Run, advanced, advanced_by}
-use Rattle.kernel_core.proofs.Runs.{ended_from, advanced_ended, advanced_more, until_ended}
+use Rattle.kernel_core.proofs.Runs.{timely_run, ended_from, advanced_ended, advanced_more, until_ended}
 use Rattle.kernel_core.proofs.kernel.Kernel.run_until.Goals as goal
 
 pub returns-in-Ended-clause-answer : goal.returns-in-Ended-clause-answer
@@ -45,3 +47,23 @@ events-preserved g c =
       most = omega (arith, v.grows, v.most);
       ticks = omega (arith, v.ticks);
     }
+
+pub returns-in-Ended-clause-timely : goal.returns-in-Ended-clause-timely
+returns-in-Ended-clause-timely g c before =
+    let o = c.args.o.now in
+    let first : Run = record { state = c.args.self.now; entries = c.args.trace.now.list } in
+    let r : Run = record { state = c.events.self; entries = c.events.trace.list } in
+    let e = ended_from r.state (end_of o r.state) c.in-Ended.end (sym c.in-Ended.is ∙ c.in_ok-end.ensures.answer) in
+    timely_run (r.state.events - first.state.events) o first _ before (c.in_ok-end.ensures.made ∙ advanced_ended o r c.in-Ended.end e ∙ c.events.invariant.made)
+
+pub returns-in_err-end-clause-timely : goal.returns-in_err-end-clause-timely
+returns-in_err-end-clause-timely g c before =
+    let first : Run = record { state = c.args.self.now; entries = c.args.trace.now.list } in
+    let same : c.step.new.trace.list ≡ c.events.trace.list = search rules in
+    let kept = timely_run (c.events.self.events - first.state.events) c.args.o.now first _ before c.events.invariant.made in
+    subst (λ (es : List EntryTold). All IsTimely es) (sym same) kept
+
+pub returns-clause-timely : goal.returns-clause-timely
+returns-clause-timely g c before =
+    let first : Run = record { state = c.args.self.now; entries = c.args.trace.now.list } in
+    timely_run (c.events.self.events - first.state.events) c.args.o.now first _ before c.events.invariant.made
