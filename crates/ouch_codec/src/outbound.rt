@@ -1,11 +1,12 @@
 //! Replies of the exchange.
 
-ghost use Rattle.std.specs.Prelude.{◌≡◌, length, IfOk, Ok, Some, slice_get};
-ghost use Rattle.wire_fields.specs.Wire.{IsSpelled, IsRead, AreGood, spelling, wire_in, refusal, error_of};
+ghost use Rattle.std.specs.Prelude.{◌≡◌, ◌≤◌, length, IfOk, Ok, Some, slice_get};
+ghost use Rattle.std.specs.Result.{result_err};
+ghost use Rattle.wire_fields.specs.Wire.{IsInRange, IsSpelled, IsRead, AreGood, spelling, wire_in, refusal};
 ghost use Rattle.ouch_codec.specs.Outbound.{reply_wire, reply_layout};
 ghost use Rattle.market_types.specs.declared.reply.Reply.{Reply};
 
-use crate::layouts::{ACCEPTED, CANCELED, EXECUTED, REJECTED, SYSTEM};
+use crate::layouts::{ACCEPTED, ACCEPTED_TYPE, CANCELED, CANCELED_TYPE, EXECUTED, EXECUTED_TYPE, REJECTED, REJECTED_TYPE, SYSTEM, SYSTEM_TYPE};
 use market_types::{CodecError, Reply, Symbol, Token};
 use wire_fields::{
     MessageBytes, Value, array_at, byte_at, check, side_at, u32_at, u64_at,
@@ -16,11 +17,13 @@ pub type ReplyBytes = MessageBytes<66>;
 
 /// The bytes of a reply. A field out of its range is written as it stands.
 pub fn encode_reply(m: &Reply) -> ReplyBytes
-    ensures { result ≡ spelling (reply_wire m.now) }
+    ensures spelling { result ≡ spelling (reply_wire m.now) }
+    ensures spelled { IsInRange (reply_wire m.now) → IsSpelled result (reply_wire m.now) }
+    ensures size { length result ≤ 66 }
 {
     match *m {
         Reply::System { time, code } => ReplyBytes::of(
-            b'S',
+            SYSTEM_TYPE,
             &SYSTEM,
             &[Value::Number(time), Value::Byte(code)],
         ),
@@ -42,7 +45,7 @@ pub fn encode_reply(m: &Reply) -> ReplyBytes
             state,
             bbo,
         } => ReplyBytes::of(
-            b'A',
+            ACCEPTED_TYPE,
             &ACCEPTED,
             &[
                 Value::Number(time),
@@ -69,7 +72,7 @@ pub fn encode_reply(m: &Reply) -> ReplyBytes
             decrement,
             reason,
         } => ReplyBytes::of(
-            b'C',
+            CANCELED_TYPE,
             &CANCELED,
             &[
                 Value::Number(time),
@@ -86,7 +89,7 @@ pub fn encode_reply(m: &Reply) -> ReplyBytes
             flag,
             number,
         } => ReplyBytes::of(
-            b'E',
+            EXECUTED_TYPE,
             &EXECUTED,
             &[
                 Value::Number(time),
@@ -102,7 +105,7 @@ pub fn encode_reply(m: &Reply) -> ReplyBytes
             token,
             reason,
         } => ReplyBytes::of(
-            b'J',
+            REJECTED_TYPE,
             &REJECTED,
             &[
                 Value::Number(time),
@@ -119,21 +122,21 @@ pub fn encode_reply(m: &Reply) -> ReplyBytes
 pub fn decode_out(bytes: &[u8]) -> Result<Reply, CodecError>
     ensures spelled { IfOk result (λ m. IsSpelled bytes.now (reply_wire m)) }
     ensures only { (m : Reply) → IsSpelled bytes.now (reply_wire m) → result ≡ Ok m }
-    ensures refused { error_of result ≡ refusal reply_layout bytes.now }
+    ensures refused { result_err result ≡ refusal reply_layout bytes.now }
 {
     match bytes {
         [] => Err(CodecError::WrongLength(0, 1)),
-        [b'S', ..] => decode_system(bytes),
-        [b'A', ..] => decode_accepted(bytes),
-        [b'C', ..] => decode_canceled(bytes),
-        [b'E', ..] => decode_executed(bytes),
-        [b'J', ..] => decode_rejected(bytes),
+        [SYSTEM_TYPE, ..] => decode_system(bytes),
+        [ACCEPTED_TYPE, ..] => decode_accepted(bytes),
+        [CANCELED_TYPE, ..] => decode_canceled(bytes),
+        [EXECUTED_TYPE, ..] => decode_executed(bytes),
+        [REJECTED_TYPE, ..] => decode_rejected(bytes),
         [letter, ..] => Err(CodecError::UnknownType(*letter)),
     }
 }
 
 fn decode_system(bytes: &[u8]) -> Result<Reply, CodecError>
-    requires { slice_get bytes.now 0 ≡ Some 83 }
+    requires { slice_get bytes.now 0 ≡ Some SYSTEM_TYPE }
     ensures { IsRead reply_wire reply_layout bytes.now result }
 {
     check(bytes, &SYSTEM)?;
@@ -141,7 +144,7 @@ fn decode_system(bytes: &[u8]) -> Result<Reply, CodecError>
 }
 
 fn decode_accepted(bytes: &[u8]) -> Result<Reply, CodecError>
-    requires { slice_get bytes.now 0 ≡ Some 65 }
+    requires { slice_get bytes.now 0 ≡ Some ACCEPTED_TYPE }
     ensures { IsRead reply_wire reply_layout bytes.now result }
 {
     check(bytes, &ACCEPTED)?;
@@ -149,7 +152,7 @@ fn decode_accepted(bytes: &[u8]) -> Result<Reply, CodecError>
 }
 
 fn decode_canceled(bytes: &[u8]) -> Result<Reply, CodecError>
-    requires { slice_get bytes.now 0 ≡ Some 67 }
+    requires { slice_get bytes.now 0 ≡ Some CANCELED_TYPE }
     ensures { IsRead reply_wire reply_layout bytes.now result }
 {
     check(bytes, &CANCELED)?;
@@ -157,7 +160,7 @@ fn decode_canceled(bytes: &[u8]) -> Result<Reply, CodecError>
 }
 
 fn decode_executed(bytes: &[u8]) -> Result<Reply, CodecError>
-    requires { slice_get bytes.now 0 ≡ Some 69 }
+    requires { slice_get bytes.now 0 ≡ Some EXECUTED_TYPE }
     ensures { IsRead reply_wire reply_layout bytes.now result }
 {
     check(bytes, &EXECUTED)?;
@@ -165,7 +168,7 @@ fn decode_executed(bytes: &[u8]) -> Result<Reply, CodecError>
 }
 
 fn decode_rejected(bytes: &[u8]) -> Result<Reply, CodecError>
-    requires { slice_get bytes.now 0 ≡ Some 74 }
+    requires { slice_get bytes.now 0 ≡ Some REJECTED_TYPE }
     ensures { IsRead reply_wire reply_layout bytes.now result }
 {
     check(bytes, &REJECTED)?;
@@ -174,7 +177,7 @@ fn decode_rejected(bytes: &[u8]) -> Result<Reply, CodecError>
 
 fn system_at(bytes: &[u8]) -> Reply
     requires { length bytes.now ≡ 10 }
-    ensures { reply_wire result ≡ wire_in 83 SYSTEM bytes.now }
+    ensures { reply_wire result ≡ wire_in SYSTEM_TYPE SYSTEM bytes.now }
 {
     Reply::System {
         time: u64_at(bytes, 1),
@@ -185,7 +188,7 @@ fn system_at(bytes: &[u8]) -> Reply
 fn accepted_at(bytes: &[u8]) -> Reply
     requires length { length bytes.now ≡ 66 }
     requires good { AreGood ACCEPTED 1 bytes.now }
-    ensures { reply_wire result ≡ wire_in 65 ACCEPTED bytes.now }
+    ensures { reply_wire result ≡ wire_in ACCEPTED_TYPE ACCEPTED bytes.now }
 {
     Reply::Accepted {
         time: u64_at(bytes, 1),
@@ -209,7 +212,7 @@ fn accepted_at(bytes: &[u8]) -> Reply
 
 fn canceled_at(bytes: &[u8]) -> Reply
     requires { length bytes.now ≡ 28 }
-    ensures { reply_wire result ≡ wire_in 67 CANCELED bytes.now }
+    ensures { reply_wire result ≡ wire_in CANCELED_TYPE CANCELED bytes.now }
 {
     Reply::Canceled {
         time: u64_at(bytes, 1),
@@ -221,7 +224,7 @@ fn canceled_at(bytes: &[u8]) -> Reply
 
 fn executed_at(bytes: &[u8]) -> Reply
     requires { length bytes.now ≡ 40 }
-    ensures { reply_wire result ≡ wire_in 69 EXECUTED bytes.now }
+    ensures { reply_wire result ≡ wire_in EXECUTED_TYPE EXECUTED bytes.now }
 {
     Reply::Executed {
         time: u64_at(bytes, 1),
@@ -235,7 +238,7 @@ fn executed_at(bytes: &[u8]) -> Reply
 
 fn rejected_at(bytes: &[u8]) -> Reply
     requires { length bytes.now ≡ 24 }
-    ensures { reply_wire result ≡ wire_in 74 REJECTED bytes.now }
+    ensures { reply_wire result ≡ wire_in REJECTED_TYPE REJECTED bytes.now }
 {
     Reply::Rejected {
         time: u64_at(bytes, 1),

@@ -4,7 +4,8 @@ use Rattle.std.specs.Prelude.{ℤ}
 use Rattle.std.specs.List.{flat_map}
 use Rattle.std.proofs.lemmas.List.{drop_more}
 use Rattle.wire_fields.specs.Numbers.{number_bytes}
-use Rattle.trace_bundle.specs.Frames.{frame, position_bytes, positions_bytes}
+use Rattle.itch_codec.specs.Frames.{framed}
+use Rattle.trace_bundle.specs.Frames.{position_bytes, positions_bytes}
 
 -- a part behind two others
 pub then_part : (old now new a b : List ℕ) → now ≡ old ++ a → new ≡ now ++ b → new ≡ old ++ (a ++ b)
@@ -38,10 +39,10 @@ length-positions [] = refl
 length-positions (p ∷ ps) = omega (arith, length-append (position_bytes p) (positions_bytes ps), length-position p, length-positions ps)
 
 -- a frame whose payload is appended in two parts behind its length
-pub framed : {A E : Type 0} (r : Result A E) (old one two new head rest : List ℕ) (n : ℕ) → one ≡ old ++ number_bytes 2 n
-    → n ≡ length (head ++ rest) → two ≡ one ++ head → OnOk r (new ≡ two ++ rest) → OnOk r (new ≡ old ++ frame (head ++ rest))
-framed (Ok x) old one two new head rest n first count second last =
+pub framed_in_parts : {A E : Type 0} (r : Result A E) (old one two new head rest : List ℕ) (n : ℕ) → one ≡ old ++ number_bytes 2 n
+    → n ≡ length (head ++ rest) → two ≡ one ++ head → OnOk r (new ≡ two ++ rest) → OnOk r (new ≡ old ++ framed (head ++ rest))
+framed_in_parts (Ok x) old one two new head rest n first count second last =
     last ∙ ap (λ (l : List ℕ). l ++ rest) (second ∙ ap (λ (l : List ℕ). l ++ head) first)
     ∙ append_assoc (old ++ number_bytes 2 n) head rest ∙ append_assoc old (number_bytes 2 n) (head ++ rest)
     ∙ ap (λ (k : ℕ). old ++ (number_bytes 2 k ++ (head ++ rest))) count
-framed (Err e) old one two new head rest n first count second last = tt
+framed_in_parts (Err e) old one two new head rest n first count second last = tt

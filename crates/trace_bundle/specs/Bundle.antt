@@ -14,8 +14,11 @@ use Rattle.trace_bundle.specs.declared.closing.ClosingStock.{ClosingStock}
 use Rattle.trace_bundle.specs.declared.closing.ClosingOrder.{ClosingOrder}
 use Rattle.trace_bundle.specs.declared.closing.ClosingAgent.{ClosingAgent}
 use Rattle.trace_bundle.specs.declared.bundle.BranchRun.{BranchRun}
-use Rattle.trace_bundle.specs.Feed.{feed_bytes}
-use Rattle.trace_bundle.specs.Frames.{frame, header_wire, branch_wire, event_wire, edit_wire, counts_wire, stock_wire, order_wire, agent_wire, positions_bytes, end_wire, quote_values}
+use Rattle.itch_codec.specs.Frames.{framed}
+use Rattle.itch_codec.specs.Messages.{feed_wire}
+use Rattle.ouch_codec.specs.Inbound.{inbound_wire}
+use Rattle.ouch_codec.specs.Outbound.{reply_wire}
+use Rattle.trace_bundle.specs.Frames.{header_wire, branch_wire, event_wire, edit_wire, counts_wire, stock_wire, order_wire, agent_wire, positions_bytes, end_wire, quote_values}
 
 -- A branch as it is told: its number, its parent's and its stop, its name, the feed of the opening, its entries, the
 -- message that ends its feed, and its closing.
@@ -32,46 +35,46 @@ pub record BranchTold : Type 0 where
 -- the body of a message, in the codes of orders where it is one
 abbrev pub body_bytes : Body → List ℕ
 body_bytes body.Wake = []
-body_bytes (body.Order inbound) = []
-body_bytes (body.Answer reply) = []
+body_bytes (body.Order inbound) = spelling (inbound_wire inbound)
+body_bytes (body.Answer reply) = spelling (reply_wire reply)
 body_bytes (body.Ask stock) = number_bytes 2 stock
 body_bytes (body.Quote quote) = spelled_fields QUOTE (quote_values quote)
 
 -- Each frame of a bundle stands behind its length.
 
 unfoldable pub message_frame : Feed → List ℕ
-message_frame f = frame (feed_bytes f)
+message_frame f = framed (spelling (feed_wire f))
 
 -- an event, without its feed
 unfoldable pub event_frame : EventTold → List ℕ
-event_frame e = frame (spelling (event_wire e) ++ body_bytes e.body)
+event_frame e = framed (spelling (event_wire e) ++ body_bytes e.body)
 
 -- an edit, without its feed
 unfoldable pub edit_frame : EditTold → List ℕ
-edit_frame e = frame (spelling (edit_wire e))
+edit_frame e = framed (spelling (edit_wire e))
 
 unfoldable pub counts_frame : ClosingCounts → List ℕ
-counts_frame c = frame (spelling (counts_wire c))
+counts_frame c = framed (spelling (counts_wire c))
 
 unfoldable pub stock_frame : ClosingStock → List ℕ
-stock_frame s = frame (spelling (stock_wire s))
+stock_frame s = framed (spelling (stock_wire s))
 
 unfoldable pub order_frame : ClosingOrder → List ℕ
-order_frame o = frame (spelling (order_wire o))
+order_frame o = framed (spelling (order_wire o))
 
 -- an agent with its settled positions
 unfoldable pub agent_frame : ClosingAgent → List ℕ
-agent_frame a = frame (spelling (agent_wire a) ++ positions_bytes a.positions)
+agent_frame a = framed (spelling (agent_wire a) ++ positions_bytes a.positions)
 
 -- a branch with its name
 unfoldable pub branch_frame : ℕ → ℕ → ℕ → List ℕ → List ℕ
-branch_frame branch parent stop name = frame (spelling (branch_wire branch parent stop name) ++ name)
+branch_frame branch parent stop name = framed (spelling (branch_wire branch parent stop name) ++ name)
 
 unfoldable pub header_frame : ℕ → ℕ → ℕ → List ℕ
-header_frame agents stocks branches = frame (spelling (header_wire agents stocks branches))
+header_frame agents stocks branches = framed (spelling (header_wire agents stocks branches))
 
 unfoldable pub end_frame : ℕ → List ℕ
-end_frame branches = frame (spelling (end_wire branches))
+end_frame branches = framed (spelling (end_wire branches))
 
 abbrev pub feed_frames : List Feed → List ℕ
 feed_frames = flat_map message_frame

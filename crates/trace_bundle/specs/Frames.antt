@@ -15,10 +15,6 @@ use Rattle.trace_bundle.specs.declared.closing.ClosingCounts.{ClosingCounts}
 use Rattle.trace_bundle.specs.declared.closing.ClosingStock.{ClosingStock}
 use Rattle.trace_bundle.specs.declared.closing.ClosingOrder.{ClosingOrder}
 
--- a payload behind its length in two bytes
-abbrev pub frame : List ℕ → List ℕ
-frame payload = number_bytes 2 (length payload) ++ payload
-
 -- a signed number of eight bytes in two's complement
 abbrev pub signed : ℤ → FieldValue
 signed z = number (cast_unsigned w64 z)

@@ -1,4 +1,3 @@
 pub mod Closing
 pub mod Frames
-pub mod Feed
 pub mod Bundle

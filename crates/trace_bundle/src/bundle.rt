@@ -1,18 +1,20 @@
 //! The frames of a bundle one after another.
 
-ghost use Rattle.std.specs.Prelude.{◌≡◌, ◌<◌, ◌≤◌, ◌+◌, ◌++◌, ◌∷◌, [], length, OnOk, drop, map, All};
+ghost use Rattle.std.specs.Prelude.{◌≡◌, ◌<◌, ◌≤◌, ◌+◌, ◌^◌, ◌++◌, ◌∷◌, [], length, OnOk, drop, map, All};
 ghost use Rattle.trace_bundle.specs.declared.closing.ClosingAgent.{ClosingAgent};
 ghost use Rattle.market_types.specs.Told.{event_told, edit_told, entry_told};
+ghost use Rattle.market_types.specs.Timely.{AreTimely, IsTimely};
 ghost use Rattle.wire_fields.specs.Numbers.{number_bytes};
 ghost use Rattle.std.specs.List.{flat_map};
-ghost use Rattle.trace_bundle.specs.Frames.{frame, position_bytes, positions_bytes};
-ghost use Rattle.trace_bundle.specs.Feed.{feed_bytes};
+ghost use Rattle.trace_bundle.specs.Frames.{position_bytes, positions_bytes};
+ghost use Rattle.itch_codec.specs.Frames.{framed};
 ghost use Rattle.trace_bundle.specs.Bundle.{body_bytes, message_frame, event_frame, edit_frame, counts_frame, stock_frame, order_frame, agent_frame, branch_frame, header_frame, end_frame, feed_frames, event_frames, edit_frames, entry_frames, closing_frames, branch_frames, branch_told};
 
 use crate::closing::{Closing, ClosingAgent, ClosingCounts, ClosingOrder, ClosingStock};
-use crate::feed::encode_feed;
 use crate::frames;
-use market_types::{Body, EditMark, Entry, Feed, FeedList, Memory, Record, Trace};
+use itch_codec::{encode_feed, frame};
+use ouch_codec::{encode_cancel, encode_enter, encode_reply};
+use market_types::{Body, EditMark, Entry, Feed, FeedList, Inbound, Memory, Record, Trace};
 
 /// A branch as it is written.
 #[derive(Drop)]
@@ -49,7 +51,7 @@ fn number_in_two(n: u16) -> [u8; 2]
 /// Appends the frame of a payload in two parts.
 fn put_frame(out: &mut Vec<u8>, head: &[u8], rest: &[u8]) -> Result<(), Memory>
     requires { length head.now + length rest.now < 65536 }
-    ensures { OnOk result (out.new.items ≡ out.old.items ++ frame (head.now ++ rest.now)) }
+    ensures { OnOk result (out.new.items ≡ out.old.items ++ framed (head.now ++ rest.now)) }
 {
     put(out, &number_in_two((head.len() + rest.len()) as u16))?;
     put(out, head)?;
@@ -59,13 +61,15 @@ fn put_frame(out: &mut Vec<u8>, head: &[u8], rest: &[u8]) -> Result<(), Memory>
 /// Appends a message of the feed.
 #[tactic(auto, unfolding(crate::specs::Bundle::message_frame))]
 fn put_message(out: &mut Vec<u8>, message: &Feed) -> Result<(), Memory>
+    requires { message.now.time < 2 ^ 48 }
     ensures { OnOk result (out.new.items ≡ out.old.items ++ message_frame message.now) }
 {
-    put_frame(out, &encode_feed(message), &[])
+    frame(encode_feed(message).as_slice(), out)
 }
 
 /// Appends messages of the feed in order.
 fn put_feed(out: &mut Vec<u8>, messages: &[Feed]) -> Result<(), Memory>
+    requires { AreTimely messages.now }
     ensures { OnOk result (out.new.items ≡ out.old.items ++ flat_map message_frame messages.now) }
 {
     for message in messages {
@@ -77,12 +81,13 @@ fn put_feed(out: &mut Vec<u8>, messages: &[Feed]) -> Result<(), Memory>
 /// Appends a frame that ends in a body.
 fn put_with_body(out: &mut Vec<u8>, head: &[u8], body: &Body) -> Result<(), Memory>
     requires { length head.now < 65000 }
-    ensures { OnOk result (out.new.items ≡ out.old.items ++ frame (head.now ++ body_bytes body.now)) }
+    ensures { OnOk result (out.new.items ≡ out.old.items ++ framed (head.now ++ body_bytes body.now)) }
 {
     match body {
         Body::Wake => put_frame(out, head, &[]),
-        Body::Order(_) => put_frame(out, head, &[]),
-        Body::Answer(_) => put_frame(out, head, &[]),
+        Body::Order(Inbound::Enter(enter)) => put_frame(out, head, &encode_enter(enter)),
+        Body::Order(Inbound::Cancel(cancel)) => put_frame(out, head, &encode_cancel(cancel)),
+        Body::Answer(reply) => put_frame(out, head, encode_reply(reply).as_slice()),
         Body::Ask(stock) => put_frame(out, head, &number_in_two(*stock)),
         Body::Quote(quote) => put_frame(out, head, &frames::quote_body(quote)[1..]),
     }
@@ -106,6 +111,8 @@ fn put_mark(out: &mut Vec<u8>, mark: &EditMark) -> Result<(), Memory>
 
 /// Appends an event with its feed.
 fn put_record(out: &mut Vec<u8>, event: &Record) -> Result<(), Memory>
+    requires before { AreTimely event.now.before.list }
+    requires after { AreTimely event.now.after.list }
     ensures { OnOk result (out.new.items ≡ out.old.items ++ event_frames (event_told event.now)) }
 {
     put_feed(out, event.before.as_slice())?;
@@ -115,6 +122,7 @@ fn put_record(out: &mut Vec<u8>, event: &Record) -> Result<(), Memory>
 
 /// Appends an edit with its feed.
 fn put_edit(out: &mut Vec<u8>, mark: &EditMark) -> Result<(), Memory>
+    requires { AreTimely mark.now.feed.list }
     ensures { OnOk result (out.new.items ≡ out.old.items ++ edit_frames (edit_told mark.now)) }
 {
     put_mark(out, mark)?;
@@ -123,6 +131,7 @@ fn put_edit(out: &mut Vec<u8>, mark: &EditMark) -> Result<(), Memory>
 
 /// Appends an entry with its feed.
 fn put_entry(out: &mut Vec<u8>, entry: &Entry) -> Result<(), Memory>
+    requires { IsTimely (entry_told entry.now) }
     ensures { OnOk result (out.new.items ≡ out.old.items ++ entry_frames (entry_told entry.now)) }
 {
     match entry {
@@ -133,6 +142,7 @@ fn put_entry(out: &mut Vec<u8>, entry: &Entry) -> Result<(), Memory>
 
 /// Appends entries in order.
 fn put_entries(out: &mut Vec<u8>, entries: &[Entry]) -> Result<(), Memory>
+    requires { All IsTimely (map entry_told entries.now) }
     ensures { OnOk result (out.new.items ≡ out.old.items ++ flat_map entry_frames (map entry_told entries.now)) }
 {
     for entry in entries {
@@ -268,6 +278,9 @@ pub fn append_header(
 /// Appends the frames of a branch of this name, of at most 255 bytes.
 pub fn append_branch(out: &mut Vec<u8>, name: &[u8], run: &BranchRun) -> Result<(), Memory>
     requires name { length name.now < 256 }
+    requires opening { AreTimely run.now.opening.list }
+    requires entries { All IsTimely run.now.entries.list }
+    requires ended { run.now.ended.time < 2 ^ 48 }
     requires positions { All (λ (a : ClosingAgent). length a.positions ≤ 16) run.now.closing.agents }
     ensures { OnOk result (out.new.items ≡ out.old.items ++ branch_frames (branch_told name.now run.now)) }
 {

@@ -4,7 +4,6 @@
 mod bundle;
 
 mod closing;
-mod feed;
 mod frames;
 mod layouts;
 

@@ -2,7 +2,7 @@ use Rattle.std.proofs.Common.{◌≡◌, ℤ, List, ◌+◌, ◌*◌, ◌++◌, 
 use Rattle.wire_fields.specs.Wire.{spelling}
 use Rattle.trace_bundle.specs.Bundle.{agent_frame}
 use Rattle.trace_bundle.specs.Frames.{agent_wire, positions_bytes}
-use Rattle.trace_bundle.proofs.Appends.{framed, length-positions}
+use Rattle.trace_bundle.proofs.Appends.{framed_in_parts, length-positions}
 use Rattle.trace_bundle.proofs.bundle.put_agent.Goals as goal
 
 pub returns : goal.returns
@@ -16,5 +16,5 @@ returns c =
     let same : length c.as_slice-positions.result.now ≡ length a.positions = ap (λ (l : List ℤ). length l) items in
     let count : 70 + 8 * length c.as_slice-positions.result.now ≡ length (head ++ rest) =
         omega (arith, long, same, length-positions a.positions, length-append head rest) in
-    framed _ _ _ _ _ head rest (70 + 8 * length c.as_slice-positions.result.now) (rw c.number_in_two.ensures at c.in_ok-put.ensures) count
+    framed_in_parts _ _ _ _ _ head rest (70 + 8 * length c.as_slice-positions.result.now) (rw c.number_in_two.ensures at c.in_ok-put.ensures) count
       (rw c.agent_head.ensures at c.in_ok-put-2.ensures) (rw items at c.put_positions.ensures)

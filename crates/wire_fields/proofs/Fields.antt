@@ -109,7 +109,7 @@ values_read (k ∷ ks) at bs fits len none =
 
 -- ---- whole messages
 
-pub same_wires : (v w : Wire) → v.letter ≡ w.letter → v.kinds ≡ w.kinds → v.values ≡ w.values → v ≡ w
+same_wires : (v w : Wire) → v.letter ≡ w.letter → v.kinds ≡ w.kinds → v.values ≡ w.values → v ≡ w
 same_wires v w letter kinds values =
     let by_letter : ℕ → Wire = λ l. record { letter = l; kinds = v.kinds; values = v.values } in
     let by_kinds : List Kind → Wire = λ ks. record { letter = w.letter; kinds = ks; values = v.values } in
