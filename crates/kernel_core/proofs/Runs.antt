@@ -151,3 +151,27 @@ advanced_by-timely (suc n) o r h = advanced_by-timely n o (advanced o r) (advanc
 -- the same of a run that is so many events later
 pub timely_run : (n : ℕ) (o : Opening) (first later : Run) → All IsTimely first.entries → later ≡ advanced_by n o first → All IsTimely later.entries
 timely_run n o first later h is = subst (λ (r : Run). All IsTimely r.entries) (sym is) (advanced_by-timely n o first h)
+
+with_event-grows : (r : Run) (f : Message → Happened) (e : Option End) (l : Option Message) → ((m : Message) → (f m).state.events ≡ r.state.events + 1)
+    → r.state.events ≤ (with_event r (cond (is_some e) None (option_map f l))).state.events
+with_event-grows r f None None h = omega arith
+with_event-grows r f None (Some m) h = omega (arith, h m)
+with_event-grows r f (Some x) l h = omega arith
+
+advanced-grows : (o : Opening) (r : Run) → r.state.events ≤ (advanced o r).state.events
+unfolding advanced
+advanced-grows o r = with_event-grows r (event_of o r.state) (end_of o r.state) (least r.state.post.waiting) (event-events o r.state)
+
+-- a later run has at least as many events
+pub advanced_by-grows : (n : ℕ) (o : Opening) (r : Run) → r.state.events ≤ (advanced_by n o r).state.events
+advanced_by-grows zero o r = omega arith
+advanced_by-grows (suc n) o r = omega (arith, advanced-grows o r, advanced_by-grows n o (advanced o r))
+
+-- a part of a run has at most as many events as the whole
+pub part_within : (n stop : ℕ) (o : Opening) (first later : Run) → later ≡ advanced_by n o first → n ≤ stop - first.state.events
+    → later.state.events ≤ (until o stop first).state.events
+part_within n stop o first later is most =
+    let rest = stop - first.state.events - n in
+    let whole : until o stop first ≡ advanced_by rest o later =
+        advanced_by-add n rest (stop - first.state.events) o first (omega arith) ∙ ap (λ (r : Run). advanced_by rest o r) (sym is) in
+    omega (arith, ap (λ (r : Run). r.state.events) whole, advanced_by-grows rest o later)

@@ -174,6 +174,8 @@ impl Kernel {
         ensures ran { OnOk result (record { state = self.new; entries = trace.new.list } ≡ until o.now stop (record { state = self.old; entries = trace.old.list })) }
         ensures made { record { state = self.new; entries = trace.new.list } ≡ advanced_by (self.new.events - self.old.events) o.now (record { state = self.old; entries = trace.old.list }) }
         ensures ticks { steps.new + self.old.events ≡ steps.old + self.new.events }
+        ensures grows { self.old.events ≤ self.new.events }
+        ensures within { self.new.events ≤ (until o.now stop (record { state = self.old; entries = trace.old.list })).state.events }
         ensures timely { All IsTimely trace.old.list → All IsTimely trace.new.list }
         ensures fitting { Fits o.now self.new }
     {

@@ -1,2 +1,2 @@
 pub mod Watchers
-
+pub mod Opening

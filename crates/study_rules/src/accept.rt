@@ -2,6 +2,7 @@
 
 ghost use Rattle.std.specs.Prelude.{◌≡◌, ◌≤◌, IfSome};
 ghost use Rattle.toml.specs.View.{table_view};
+ghost use Rattle.study_rules.specs.Opening.{IsInRange};
 ghost use Rattle.study_rules.specs.Watchers.{watcher_study as study_in, free_values as values_of};
 
 use crate::form::is_form;
@@ -24,7 +25,8 @@ pub struct WatcherStudy {
 
 /// The free values, each within its ends.
 fn free_values(table: &Table, agent: &Table) -> Option<WatcherStudy>
-    ensures { result ≡ values_of (table_view table.now) (table_view agent.now) }
+    ensures values { result ≡ values_of (table_view table.now) (table_view agent.now) }
+    ensures in_range { IfSome result IsInRange }
 {
     let close = number_within(table, "close", 1000, 65_535_001_000)?;
     let events = number_within(table, "events", 1, 1_000_000)?;
@@ -40,7 +42,8 @@ fn free_values(table: &Table, agent: &Table) -> Option<WatcherStudy>
 
 /// The watcher study that a table says, if it says one.
 pub fn watcher_study(raw: &RawStudy) -> Option<WatcherStudy>
-    ensures { result ≡ study_in (table_view raw.now.table) }
+    ensures study { result ≡ study_in (table_view raw.now.table) }
+    ensures in_range { IfSome result IsInRange }
 {
     if !is_form(&raw.table) {
         return None;

@@ -3,7 +3,9 @@
 
 mod accept;
 mod form;
+mod opening;
 mod values;
 
 pub use accept::{WatcherStudy, watcher_study};
+pub use opening::opening_for;
 

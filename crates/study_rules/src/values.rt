@@ -84,7 +84,9 @@ pub fn lone_table<'a>(table: &'a Table, key: &str) -> Option<&'a Table>
 
 /// The whole number at a key, where it is within its ends.
 pub fn number_within(table: &Table, key: &str, low: u64, high: u64) -> Option<u64>
-    ensures { result ≡ bounded low high (whole_number_at key.now (table_view table.now)) }
+    ensures number { result ≡ bounded low high (whole_number_at key.now (table_view table.now)) }
+    ensures low { IfSome result (λ n. low ≤ n) }
+    ensures high { IfSome result (λ n. n ≤ high) }
 {
     let found = integer_at(table, key)?;
     if found < 0 {
