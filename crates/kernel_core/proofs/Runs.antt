@@ -12,7 +12,7 @@ use Rattle.market_types.specs.declared.feed.Feed.{Feed}
 use Rattle.event_queue.specs.Waiting.{least}
 use Rattle.kernel_core.specs.declared.opening.Opening.{Opening}
 use Rattle.market_types.specs.declared.entry.End.{End}
-use Rattle.market_types.specs.declared.entry.End.TheVariants.{QueueFull, EventLimit}
+use Rattle.market_types.specs.declared.entry.End.TheVariants.{QueueFull, EventLimit, Closed}
 use Rattle.kernel_core.specs.declared.opening.Stepped.TheVariants.{Ended}
 use Rattle.latency_model.specs.Tables.{Tables, group_count}
 use Rattle.kernel_core.specs.declared.trader.Trader.{Trader}
@@ -175,3 +175,41 @@ part_within n stop o first later is most =
     let whole : until o stop first ≡ advanced_by rest o later =
         advanced_by-add n rest (stop - first.state.events) o first (omega arith) ∙ ap (λ (r : Run). advanced_by rest o r) (sym is) in
     omega (arith, ap (λ (r : Run). r.state.events) whole, advanced_by-grows rest o later)
+
+event-time : (o : Opening) (s : State) (m : Message) → (event_of o s m).state.time ≡ m.time
+unfolding event_of
+event-time o s m = elim (ltb m.time (slice_index s.own m.to)) as (λ b. let h : Happened = cond b (put_back s m (slice_index s.own m.to)) (delivered o s m) in h.state.time ≡ m.time) [ true ↦ refl | false ↦ refl ]
+
+not_late : (d e n c t : ℕ) → cond (ltb 0 d) (Some QueueFull) (cond (eqb e n) (Some EventLimit) (cond (ltb c t) (Some Closed) None)) ≡ None → t ≤ c
+not_late d e n c t h = grind (arith, nat_tests)
+
+-- the next message of a state that is not ended is no later than the close
+going-time : (o : Opening) (s : State) (l : Option Message) (m : Message) → l ≡ Some m
+    → cond (ltb 0 s.post.dropped) (Some QueueFull) (cond (eqb s.events o.limit) (Some EventLimit) (end_of_waiting o l)) ≡ None → m.time ≤ o.close
+going-time o s None m is h = cc
+going-time o s (Some x) m is h =
+    let same : x ≡ m = grind arith in
+    subst (λ (y : Message). y.time ≤ o.close) same (not_late s.post.dropped s.events o.limit o.close x.time h)
+
+with_event-time : (c : ℕ) (r : Run) (f : Message → Happened) (e : Option End) (l : Option Message)
+    → ((m : Message) → e ≡ None → l ≡ Some m → (f m).state.time ≤ c) → r.state.time ≤ c
+    → (with_event r (cond (is_some e) None (option_map f l))).state.time ≤ c
+with_event-time c r f None None g h = h
+with_event-time c r f None (Some m) g h = g m refl refl
+with_event-time c r f (Some x) l g h = h
+
+advanced-time : (o : Opening) (r : Run) → r.state.time ≤ o.close → (advanced o r).state.time ≤ o.close
+unfolding advanced
+advanced-time o r h =
+    let s = r.state in
+    let w = least s.post.waiting in
+    with_event-time o.close r (event_of o s) (end_of o s) w
+      (λ (m : Message) going next. omega (arith, event-time o s m, going-time o s w m next going)) h
+
+advanced_by-time : (n : ℕ) (o : Opening) (r : Run) → r.state.time ≤ o.close → (advanced_by n o r).state.time ≤ o.close
+advanced_by-time zero o r h = h
+advanced_by-time (suc n) o r h = advanced_by-time n o (advanced o r) (advanced-time o r h)
+
+-- a run that is so many events later is no later than the close
+pub run-time : (n : ℕ) (o : Opening) (first later : Run) → first.state.time ≤ o.close → later ≡ advanced_by n o first → later.state.time ≤ o.close
+run-time n o first later h is = subst (λ (r : Run). r.state.time ≤ o.close) (sym is) (advanced_by-time n o first h)

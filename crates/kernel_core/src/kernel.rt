@@ -157,6 +157,15 @@ impl Kernel {
         }
     }
 
+    /// How many agents there are: the exchange and the traders.
+    pub fn agents(&self) -> AgentNo
+        ensures own { result ≡ length self.now.own }
+        ensures traders { result ≡ length self.now.traders + 1 }
+        ensures few { result ≤ 512 }
+    {
+        self.own.len() as AgentNo
+    }
+
     /// An agent's own time, in nanoseconds past midnight: it is busy until then.
     pub fn own_time(&self, agent: AgentNo) -> Time
         requires { agent < length self.now.own }

@@ -176,6 +176,7 @@ impl Kernel {
         ensures ticks { steps.new + self.old.events ≡ steps.old + self.new.events }
         ensures grows { self.old.events ≤ self.new.events }
         ensures within { self.new.events ≤ (until o.now stop (record { state = self.old; entries = trace.old.list })).state.events }
+        ensures time { self.old.time ≤ o.now.close → self.new.time ≤ o.now.close }
         ensures timely { All IsTimely trace.old.list → All IsTimely trace.new.list }
         ensures fitting { Fits o.now self.new }
     {

@@ -4,7 +4,7 @@ use Rattle.std.proofs.Common.{◌≤◌, List, All, subst, rules, ◌≡◌, ◌
 use Rattle.kernel_core.specs.State.{State}
 use Rattle.kernel_core.specs.Step.{end_of, raised}
 use Rattle.kernel_core.specs.Until.{Run, advanced, advanced_by, until}
-use Rattle.kernel_core.proofs.Runs.{timely_run, part_within, ended_from, advanced_ended, advanced_more, until_ended}
+use Rattle.kernel_core.proofs.Runs.{run-time, timely_run, part_within, ended_from, advanced_ended, advanced_more, until_ended}
 use Rattle.kernel_core.proofs.kernel.Kernel.run_until.Goals as goal
 
 pub returns-in-Ended-clause-answer : goal.returns-in-Ended-clause-answer
@@ -88,3 +88,23 @@ pub returns-clause-within : goal.returns-clause-within
 returns-clause-within g c =
     let first : Run = record { state = c.args.self.now; entries = c.args.trace.now.list } in
     part_within (c.events.self.events - first.state.events) c.args.stop c.args.o.now first _ c.events.invariant.made c.events.invariant.most
+
+pub returns-in-Ended-clause-time : goal.returns-in-Ended-clause-time
+returns-in-Ended-clause-time g c before =
+    let o = c.args.o.now in
+    let first : Run = record { state = c.args.self.now; entries = c.args.trace.now.list } in
+    let r : Run = record { state = c.events.self; entries = c.events.trace.list } in
+    let e = ended_from r.state (end_of o r.state) c.in-Ended.end (sym c.in-Ended.is ∙ c.in_ok-end.ensures.answer) in
+    run-time (r.state.events - first.state.events) o first _ before (c.in_ok-end.ensures.made ∙ advanced_ended o r c.in-Ended.end e ∙ c.events.invariant.made)
+
+pub returns-in_err-end-clause-time : goal.returns-in_err-end-clause-time
+returns-in_err-end-clause-time g c before =
+    let first : Run = record { state = c.args.self.now; entries = c.args.trace.now.list } in
+    let same : c.step.new.self ≡ c.events.self = search rules in
+    subst (λ (s : State). s.time ≤ c.args.o.now.close) (sym same)
+      (run-time (c.events.self.events - first.state.events) c.args.o.now first (record { state = c.events.self; entries = c.events.trace.list }) before c.events.invariant.made)
+
+pub returns-clause-time : goal.returns-clause-time
+returns-clause-time g c before =
+    let first : Run = record { state = c.args.self.now; entries = c.args.trace.now.list } in
+    run-time (c.events.self.events - first.state.events) c.args.o.now first _ before c.events.invariant.made

@@ -1,0 +1,20 @@
+-- The line that each status leaves on the notes.
+use Rattle.std.specs.Prelude.{ℕ, List, [], ◌∷◌, ◌++◌, codes}
+use Rattle.std.specs.Fmt.{decimal}
+use Rattle.abides_run.specs.declared.status.Status.{Status}
+use Rattle.abides_run.specs.declared.status.Status.TheVariants.{Ok, Usage, NoStudy, TooLong, Refused, ReadFault, WriteFault, Memory}
+
+-- the line for a broken rule
+abbrev pub refused_line : ℕ → ℕ → List ℕ
+refused_line rule place = codes "study refused: rule " ++ decimal rule ++ codes ", place " ++ decimal place ++ 10 ∷ []
+
+-- the line for a status, where the words name this study
+abbrev pub note : List ℕ → Status → List ℕ
+note name Ok = []
+note name Usage = codes "usage: abides COMMAND STUDY [MORE...] [--workers N] [--places N]\n"
+note name NoStudy = codes "no such file: " ++ name ++ 10 ∷ []
+note name TooLong = codes "file too long: " ++ name ++ 10 ∷ []
+note name (Refused rule place) = refused_line rule place
+note name ReadFault = codes "read failed: " ++ name ++ 10 ∷ []
+note name WriteFault = codes "write failed\n"
+note name Memory = codes "out of memory\n"

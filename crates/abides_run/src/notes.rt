@@ -1,0 +1,53 @@
+//! The line that a status leaves.
+
+ghost use Rattle.std.specs.Prelude.{◌≡◌, ◌⊎◌, ◌≤◌, IfOk, IsOk, string_bytes};
+ghost use Rattle.outside.specs.Rose.{Rose};
+ghost use Rattle.outside.specs.Taken.{appended};
+ghost use Rattle.abides_run.specs.Notes.{note, refused_line};
+
+use crate::status::Status;
+use outside::{Sink, write_all};
+use std::alloc::{AllocError, Global};
+
+/// The line for a rule that a file breaks.
+fn refused_text(alloc: Global, rule: u32, place: u32) -> Result<String, AllocError>
+    ensures { IfOk result (λ text. string_bytes text ≡ refused_line rule place) }
+{
+    format!(in alloc; "study refused: rule {rule}, place {place}\n")
+}
+
+/// The line as text.
+pub fn note_text(alloc: Global, name: &str, status: Status) -> Result<String, AllocError>
+    ensures text { IfOk result (λ text. string_bytes text ≡ note name.now status) }
+    ensures silent { status ≡ Status.Ok → IsOk result }
+{
+    match status {
+        Status::Ok => Ok(String::new(alloc)),
+        Status::Usage => String::from_str(alloc, "usage: abides COMMAND STUDY [MORE...] [--workers N] [--places N]\n"),
+        Status::NoStudy => format!(in alloc; "no such file: {name}\n"),
+        Status::TooLong => format!(in alloc; "file too long: {name}\n"),
+        Status::Refused { rule, place } => refused_text(alloc, rule, place),
+        Status::ReadFault => format!(in alloc; "read failed: {name}\n"),
+        Status::WriteFault => String::from_str(alloc, "write failed\n"),
+        Status::Memory => String::from_str(alloc, "out of memory\n"),
+    }
+}
+
+/// Writes the line for a status. Where there is no memory for it, that is the status.
+pub fn tell<N: Sink>(alloc: Global, name: &str, status: Status, notes: &mut N) -> Status
+    ensures told { (result ≡ status) ⊎ ((result ≡ Status.Memory) × ¬ (status ≡ Status.Ok)) }
+    ensures note { ¬ (Rose (N.faults notes.old) (N.faults notes.new)) →
+        N.taken notes.new ≡ appended (N.taken notes.old) (note name.now result) }
+    ensures never_falls { N.faults notes.old ≤ N.faults notes.new }
+{
+    match note_text(alloc, name, status) {
+        Ok(text) => {
+            let _ = write_all(notes, text.as_bytes());
+            status
+        }
+        Err(_) => {
+            let _ = write_all(notes, b"out of memory\n");
+            Status::Memory
+        }
+    }
+}
