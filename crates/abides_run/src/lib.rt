@@ -7,6 +7,8 @@ mod find;
 mod notes;
 mod play;
 mod status;
+mod top;
 mod words;
 
 pub use status::Status;
+pub use top::run;

@@ -5,7 +5,6 @@ ghost use Rattle.outside.specs.Rose.{Rose};
 ghost use Rattle.outside.specs.Taken.{appended, TookPrefix};
 ghost use Rattle.market_types.specs.Timely.{AreTimely, IsTimely};
 ghost use Rattle.kernel_core.specs.Opening.{IsOpening};
-ghost use Rattle.kernel_core.specs.Step.{Fits};
 ghost use Rattle.trace_bundle.specs.Bundle.{header_frame, branch_frames, branch_told, end_frame};
 ghost use Rattle.trace_bundle.specs.declared.closing.ClosingAgent.{ClosingAgent};
 ghost use Rattle.study_rules.specs.Opening.{IsInRange, opening_of};
@@ -40,7 +39,7 @@ fn simulate<D: Ledger>(
     requires count { steps.old + o.now.limit < 2 ^ 64 }
     ensures run { IfOk result (λ r. record { state = r.kernel; entries = r.trace.list } ≡ full o.now) }
     ensures timely { IfOk result (λ r. All IsTimely r.trace.list) }
-    ensures fits { IfOk result (λ r. Fits o.now r.kernel) }
+    ensures time { IfOk result (λ r. r.kernel.time ≤ o.now.close) }
     ensures counter { OnOk result (steps.new ≡ steps.old + (full o.now).state.events) }
     ensures least { steps.old ≤ steps.new }
     ensures greatest { steps.new ≤ steps.old + (full o.now).state.events }
@@ -73,4 +72,66 @@ fn root_of(alloc: Global, o: &Opening, ran: Ran) -> Result<BranchRun, Memory>
         ended,
         closing,
     })
+}
+
+/// The bundle whose one branch is the root.
+fn bundle(alloc: Global, agents: u16, root: &BranchRun) -> Result<Vec<u8>, Memory>
+    requires opening { AreTimely root.now.opening.list }
+    requires entries { All IsTimely root.now.entries.list }
+    requires ended { root.now.ended.time < 2 ^ 48 }
+    requires positions { All (λ (a : ClosingAgent). length a.positions ≤ 16) root.now.closing.agents }
+    ensures { IfOk result (λ v. v.items ≡ header_frame agents 1 1 ++ branch_frames (branch_told (codes "root") root.now) ++ end_frame 1) }
+{
+    let mut out = Vec::new(alloc);
+    append_header(&mut out, agents, 1, 1)?;
+    append_branch(&mut out, b"root", root)?;
+    append_end(&mut out, 1)?;
+    Ok(out)
+}
+
+/// Simulates a study, and makes its bundle.
+#[tactic(auto, unfolding(crate::specs::Study::bundle_of, crate::specs::Study::events_of))]
+fn make<D: Ledger>(
+    alloc: Global,
+    study: &WatcherStudy,
+    steps: &mut Steps<D>,
+) -> Result<Vec<u8>, Memory>
+    requires in_range { IsInRange study.now }
+    requires count { steps.old ≤ 2 ^ 63 }
+    ensures bundle { IfOk result (λ v. v.items ≡ bundle_of study.now) }
+    ensures counter { OnOk result (steps.new ≡ steps.old + events_of study.now) }
+    ensures least { steps.old ≤ steps.new }
+    ensures greatest { steps.new ≤ steps.old + events_of study.now }
+{
+    let o = opening_for(alloc, study)?;
+    let ran = simulate(alloc, &o, steps)?;
+    let root = root_of(alloc, &o, ran)?;
+    bundle(alloc, study.count + 1, &root)
+}
+
+/// Simulates a study, and then writes its bundle.
+pub fn play<O: Sink, D: Ledger>(
+    alloc: Global,
+    study: &WatcherStudy,
+    out: &mut O,
+    steps: &mut Steps<D>,
+) -> Status
+    requires in_range { IsInRange study.now }
+    requires count { steps.old ≤ 2 ^ 63 }
+    ensures played { IsPlayed result }
+    ensures output { result ≡ Status.Ok → O.taken out.new ≡ appended (O.taken out.old) (bundle_of study.now) }
+    ensures counter { Counts (events_of study.now) steps.old steps.new (O.taken out.old) (O.taken out.new) result }
+    ensures prefix { TookPrefix (O.taken out.old) (O.taken out.new) (bundle_of study.now) }
+    ensures write_fault { result ≡ Status.WriteFault → Rose (O.faults out.old) (O.faults out.new) }
+    ensures steady { result ≡ Status.Ok → O.faults out.new ≡ O.faults out.old }
+    ensures never_falls { O.faults out.old ≤ O.faults out.new }
+{
+    let bytes = match make(alloc, study, steps) {
+        Ok(bytes) => bytes,
+        Err(Memory) => return Status::Memory,
+    };
+    match write_all(out, &bytes) {
+        Ok(()) => Status::Ok,
+        Err(_) => Status::WriteFault,
+    }
 }
