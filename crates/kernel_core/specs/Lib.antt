@@ -6,3 +6,4 @@ pub mod Sendable
 pub mod Open
 pub mod Step
 pub mod Until
+pub mod Worked

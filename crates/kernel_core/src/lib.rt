@@ -8,6 +8,7 @@ mod opening;
 mod sending;
 mod step;
 mod trader;
+pub mod worked;
 
 pub use kernel::{Kernel, KernelTold};
 pub use opening::{Opening, Stepped, Waker};

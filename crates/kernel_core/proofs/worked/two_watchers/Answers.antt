@@ -1,0 +1,10 @@
+use Rattle.std.proofs.Common.{refl}
+use Rattle.rand_core.specs.Steps.{u32_at}
+use Rattle.rand_chacha.specs.Block.{block_word, column_round, diagonal_round, double_rounds, quarter_round}
+use Rattle.kernel_core.specs.Step.{event_of}
+use Rattle.kernel_core.specs.Until.{advanced}
+use Rattle.kernel_core.proofs.worked.two_watchers.Goals as goal
+
+pub returns : goal.returns
+unfolding event_of advanced u32_at block_word double_rounds column_round diagonal_round quarter_round
+returns c = record { events = refl; end = refl }
