@@ -45,3 +45,6 @@ pub type StockNo = u16;
 /// Want of memory: the one error of a call that can fail for nothing else.
 #[derive(Clone, Copy, PartialEq, Eq, Debug)]
 pub struct Memory;
+
+#[cfg(test)]
+mod tests;

@@ -1,0 +1,9 @@
+//! Worked studies and what they must write: tests of the one call, over a library and sinks in memory.
+#![tactic(auto)]
+
+mod bundles;
+
+pub use bundles::{EMPTY_RUN, TWO_WATCHERS};
+
+#[cfg(test)]
+mod tests;
