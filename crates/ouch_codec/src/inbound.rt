@@ -1,7 +1,8 @@
 //! Orders to the exchange.
 
 ghost use Rattle.std.specs.Prelude.{◌≡◌, length, IfOk, Ok, Some, slice_get};
-ghost use Rattle.wire_fields.specs.Wire.{IsSpelled, IsRead, AreGood, spelling, wire_in, refusal, error_of};
+ghost use Rattle.std.specs.Result.{result_err};
+ghost use Rattle.wire_fields.specs.Wire.{IsSpelled, IsRead, AreGood, spelling, wire_in, refusal};
 ghost use Rattle.ouch_codec.specs.Inbound.{inbound_wire, inbound_layout};
 ghost use Rattle.market_types.specs.declared.order.Inbound.TheVariants as inbound;
 ghost use Rattle.market_types.specs.declared.order.Inbound.{Inbound};
@@ -54,7 +55,7 @@ pub fn encode_cancel(m: &Cancel) -> [u8; 19]
 pub fn decode_in(bytes: &[u8]) -> Result<Inbound, CodecError>
     ensures spelled { IfOk result (λ m. IsSpelled bytes.now (inbound_wire m)) }
     ensures only { (m : Inbound) → IsSpelled bytes.now (inbound_wire m) → result ≡ Ok m }
-    ensures refused { error_of result ≡ refusal inbound_layout bytes.now }
+    ensures refused { result_err result ≡ refusal inbound_layout bytes.now }
 {
     match bytes {
         [] => Err(CodecError::WrongLength(0, 1)),

@@ -1,7 +1,8 @@
 //! Replies of the exchange.
 
 ghost use Rattle.std.specs.Prelude.{◌≡◌, length, IfOk, Ok, Some, slice_get};
-ghost use Rattle.wire_fields.specs.Wire.{IsSpelled, IsRead, AreGood, spelling, wire_in, refusal, error_of};
+ghost use Rattle.std.specs.Result.{result_err};
+ghost use Rattle.wire_fields.specs.Wire.{IsSpelled, IsRead, AreGood, spelling, wire_in, refusal};
 ghost use Rattle.ouch_codec.specs.Outbound.{reply_wire, reply_layout};
 ghost use Rattle.market_types.specs.declared.reply.Reply.{Reply};
 
@@ -119,7 +120,7 @@ pub fn encode_reply(m: &Reply) -> ReplyBytes
 pub fn decode_out(bytes: &[u8]) -> Result<Reply, CodecError>
     ensures spelled { IfOk result (λ m. IsSpelled bytes.now (reply_wire m)) }
     ensures only { (m : Reply) → IsSpelled bytes.now (reply_wire m) → result ≡ Ok m }
-    ensures refused { error_of result ≡ refusal reply_layout bytes.now }
+    ensures refused { result_err result ≡ refusal reply_layout bytes.now }
 {
     match bytes {
         [] => Err(CodecError::WrongLength(0, 1)),

@@ -1,6 +1,7 @@
 -- Messages as fields one after another, and why bytes are none.
 use Rattle.std.specs.Prelude.{◌≡◌, ℕ, ◌+◌, Bool, true, false, ◌&&◌, ◌==◌, IsTrue, List, [], ◌∷◌, ◌++◌, length, take, drop, slice_index, Option, Some, None, Result, Ok, Err, IfOk, if◌then◌else◌}
 use Rattle.std.specs.Option.{option_map}
+use Rattle.std.specs.Result.{result_err}
 use Rattle.market_types.specs.declared.error.CodecError.{CodecError}
 use Rattle.market_types.specs.declared.error.CodecError.TheVariants.{UnknownType, WrongLength, BadField}
 use Rattle.wire_fields.specs.declared.kind.Kind.{Kind}
@@ -97,14 +98,9 @@ abbrev pub refusal : (ℕ → Option (List Kind)) → List ℕ → Option CodecE
 refusal layout [] = Some (WrongLength 0 1)
 refusal layout (letter ∷ rest) = fault_of letter (layout letter) (letter ∷ rest)
 
--- the error of a result that has one
-abbrev pub error_of : {A : Type 0} → Result A CodecError → Option CodecError
-error_of (Ok x) = None
-error_of (Err e) = Some e
-
 -- What is read of bytes is the message that they spell, if they spell one, and otherwise why they spell none. A message
 -- is written as a wire, and a type's letter tells its fields.
 pub record IsRead {M : Type 0} (wire : M → Wire) (layout : ℕ → Option (List Kind)) (bytes : List ℕ) (read : Result M CodecError) : Type 0 where
   pub spelled : IfOk read (λ m. IsSpelled bytes (wire m))
   pub only : (m : M) → IsSpelled bytes (wire m) → read ≡ Ok m
-  pub refused : error_of read ≡ refusal layout bytes
+  pub refused : result_err read ≡ refusal layout bytes

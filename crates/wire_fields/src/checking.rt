@@ -3,7 +3,8 @@
 ghost use Rattle.std.specs.Prelude.{◌≡◌, ◌==◌, ◌+◌, ◌≤◌, ◌<◌, ◌^◌, length, OnOk, IsOk};
 ghost use Rattle.std.specs.List.{list_all, prefix_len};
 ghost use Rattle.wire_fields.specs.Kinds.{admits, is_filled, is_good};
-ghost use Rattle.wire_fields.specs.Wire.{total_width, bad_at, fault, error_of, Wire, IsSpelled, AreGood, wire_at};
+ghost use Rattle.std.specs.Result.{result_err};
+ghost use Rattle.wire_fields.specs.Wire.{total_width, bad_at, fault, Wire, IsSpelled, AreGood, wire_at};
 
 use crate::kind::Kind;
 use market_types::CodecError;
@@ -17,7 +18,7 @@ pub fn check(bytes: &[u8], kinds: &[Kind]) -> Result<(), CodecError>
     ensures good { OnOk result (AreGood kinds.now 1 bytes.now) }
     ensures spelled { OnOk result (IsSpelled bytes.now (wire_at kinds.now bytes.now)) }
     ensures only { (w : Wire) → w.kinds ≡ kinds.now → IsSpelled bytes.now w → IsOk result × (w ≡ wire_at kinds.now bytes.now) }
-    ensures refused { error_of result ≡ fault kinds.now bytes.now }
+    ensures refused { result_err result ≡ fault kinds.now bytes.now }
 {
     let needed = 1 + total_width(kinds);
     if bytes.len() != needed {

@@ -1,0 +1,249 @@
+//! Feed messages from bytes.
+
+ghost use Rattle.std.specs.Prelude.{◌≡◌, ◌≤◌, take, drop, length, IfOk, Ok, Some, slice_get};
+ghost use Rattle.std.specs.Result.{result_err};
+ghost use Rattle.wire_fields.specs.Numbers.{number_of};
+ghost use Rattle.wire_fields.specs.Wire.{IsSpelled, IsRead, AreGood, wire_in, refusal};
+ghost use Rattle.itch_codec.specs.Messages.{feed_wire, feed_layout};
+ghost use Rattle.market_types.specs.declared.feed.Feed.{Feed};
+
+use crate::layouts::{
+    ADD, CANCEL, CROSS, DELETE, DIRECTORY, EXECUTED, SYSTEM, TRADE, TRADING,
+};
+use market_types::{CodecError, Feed, Symbol, What};
+use wire_fields::{array_at, byte_at, check, side_at, u16_at, u32_at, u48_at, u64_at};
+
+/// The feed message that these bytes are. What it refuses, the first that applies: a type that is none of `S`, `R`, `H`,
+/// `A`, `E`, `X`, `D`, `P` and `Q`, another length than the type's, where 1 is needed of the empty input, and the least
+/// offset of a field out of its range.
+pub fn decode_feed(bytes: &[u8]) -> Result<Feed, CodecError>
+    ensures spelled { IfOk result (λ m. IsSpelled bytes.now (feed_wire m)) }
+    ensures only { (m : Feed) → IsSpelled bytes.now (feed_wire m) → result ≡ Ok m }
+    ensures refused { result_err result ≡ refusal feed_layout bytes.now }
+{
+    match bytes {
+        [] => Err(CodecError::WrongLength(0, 1)),
+        [b'S', ..] => decode_system(bytes),
+        [b'R', ..] => decode_directory(bytes),
+        [b'H', ..] => decode_trading(bytes),
+        [b'A', ..] => decode_add(bytes),
+        [b'E', ..] => decode_executed(bytes),
+        [b'X', ..] => decode_cancel(bytes),
+        [b'D', ..] => decode_delete(bytes),
+        [b'P', ..] => decode_trade(bytes),
+        [b'Q', ..] => decode_cross(bytes),
+        [letter, ..] => Err(CodecError::UnknownType(*letter)),
+    }
+}
+
+fn decode_system(bytes: &[u8]) -> Result<Feed, CodecError>
+    requires { slice_get bytes.now 0 ≡ Some 83 }
+    ensures { IsRead feed_wire feed_layout bytes.now result }
+{
+    check(bytes, &SYSTEM)?;
+    Ok(system_at(bytes))
+}
+
+fn decode_directory(bytes: &[u8]) -> Result<Feed, CodecError>
+    requires { slice_get bytes.now 0 ≡ Some 82 }
+    ensures { IsRead feed_wire feed_layout bytes.now result }
+{
+    check(bytes, &DIRECTORY)?;
+    Ok(directory_at(bytes))
+}
+
+fn decode_trading(bytes: &[u8]) -> Result<Feed, CodecError>
+    requires { slice_get bytes.now 0 ≡ Some 72 }
+    ensures { IsRead feed_wire feed_layout bytes.now result }
+{
+    check(bytes, &TRADING)?;
+    Ok(trading_at(bytes))
+}
+
+fn decode_add(bytes: &[u8]) -> Result<Feed, CodecError>
+    requires { slice_get bytes.now 0 ≡ Some 65 }
+    ensures { IsRead feed_wire feed_layout bytes.now result }
+{
+    check(bytes, &ADD)?;
+    Ok(add_at(bytes))
+}
+
+fn decode_executed(bytes: &[u8]) -> Result<Feed, CodecError>
+    requires { slice_get bytes.now 0 ≡ Some 69 }
+    ensures { IsRead feed_wire feed_layout bytes.now result }
+{
+    check(bytes, &EXECUTED)?;
+    Ok(executed_at(bytes))
+}
+
+fn decode_cancel(bytes: &[u8]) -> Result<Feed, CodecError>
+    requires { slice_get bytes.now 0 ≡ Some 88 }
+    ensures { IsRead feed_wire feed_layout bytes.now result }
+{
+    check(bytes, &CANCEL)?;
+    Ok(cancel_at(bytes))
+}
+
+fn decode_delete(bytes: &[u8]) -> Result<Feed, CodecError>
+    requires { slice_get bytes.now 0 ≡ Some 68 }
+    ensures { IsRead feed_wire feed_layout bytes.now result }
+{
+    check(bytes, &DELETE)?;
+    Ok(delete_at(bytes))
+}
+
+fn decode_trade(bytes: &[u8]) -> Result<Feed, CodecError>
+    requires { slice_get bytes.now 0 ≡ Some 80 }
+    ensures { IsRead feed_wire feed_layout bytes.now result }
+{
+    check(bytes, &TRADE)?;
+    Ok(trade_at(bytes))
+}
+
+fn decode_cross(bytes: &[u8]) -> Result<Feed, CodecError>
+    requires { slice_get bytes.now 0 ≡ Some 81 }
+    ensures { IsRead feed_wire feed_layout bytes.now result }
+{
+    check(bytes, &CROSS)?;
+    Ok(cross_at(bytes))
+}
+
+/// A feed message with the fields that each begins with.
+fn feed_at(bytes: &[u8], what: What) -> Feed
+    requires { 11 ≤ length bytes.now }
+    ensures locate { result.locate ≡ number_of (take 2 (drop 1 bytes.now)) }
+    ensures tracking { result.tracking ≡ number_of (take 2 (drop 3 bytes.now)) }
+    ensures time { result.time ≡ number_of (take 6 (drop 5 bytes.now)) }
+    ensures what { result.what ≡ what }
+{
+    Feed {
+        locate: u16_at(bytes, 1),
+        tracking: u16_at(bytes, 3),
+        time: u48_at(bytes, 5),
+        what,
+    }
+}
+
+fn system_at(bytes: &[u8]) -> Feed
+    requires { length bytes.now ≡ 12 }
+    ensures { feed_wire result ≡ wire_in 83 SYSTEM bytes.now }
+{
+    let what = What::System {
+        code: byte_at(bytes, 11),
+    };
+    feed_at(bytes, what)
+}
+
+fn directory_at(bytes: &[u8]) -> Feed
+    requires { length bytes.now ≡ 39 }
+    ensures { feed_wire result ≡ wire_in 82 DIRECTORY bytes.now }
+{
+    let what = What::Directory {
+        stock: Symbol(array_at(bytes, 11)),
+        category: byte_at(bytes, 19),
+        financial: byte_at(bytes, 20),
+        lot: u32_at(bytes, 21),
+        lots_only: byte_at(bytes, 25),
+        class: byte_at(bytes, 26),
+        sub_type: array_at(bytes, 27),
+        authenticity: byte_at(bytes, 29),
+        short_sale: byte_at(bytes, 30),
+        ipo: byte_at(bytes, 31),
+        tier: byte_at(bytes, 32),
+        etp: byte_at(bytes, 33),
+        leverage: u32_at(bytes, 34),
+        inverse: byte_at(bytes, 38),
+    };
+    feed_at(bytes, what)
+}
+
+fn trading_at(bytes: &[u8]) -> Feed
+    requires { length bytes.now ≡ 25 }
+    ensures { feed_wire result ≡ wire_in 72 TRADING bytes.now }
+{
+    let what = What::Trading {
+        stock: Symbol(array_at(bytes, 11)),
+        state: byte_at(bytes, 19),
+        reserved: byte_at(bytes, 20),
+        reason: array_at(bytes, 21),
+    };
+    feed_at(bytes, what)
+}
+
+fn add_at(bytes: &[u8]) -> Feed
+    requires length { length bytes.now ≡ 36 }
+    requires good { AreGood ADD 1 bytes.now }
+    ensures { feed_wire result ≡ wire_in 65 ADD bytes.now }
+{
+    let what = What::Add {
+        reference: u64_at(bytes, 11),
+        side: side_at(bytes, 19),
+        shares: u32_at(bytes, 20),
+        stock: Symbol(array_at(bytes, 24)),
+        price: u32_at(bytes, 32),
+    };
+    feed_at(bytes, what)
+}
+
+fn executed_at(bytes: &[u8]) -> Feed
+    requires { length bytes.now ≡ 31 }
+    ensures { feed_wire result ≡ wire_in 69 EXECUTED bytes.now }
+{
+    let what = What::Executed {
+        reference: u64_at(bytes, 11),
+        shares: u32_at(bytes, 19),
+        number: u64_at(bytes, 23),
+    };
+    feed_at(bytes, what)
+}
+
+fn cancel_at(bytes: &[u8]) -> Feed
+    requires { length bytes.now ≡ 23 }
+    ensures { feed_wire result ≡ wire_in 88 CANCEL bytes.now }
+{
+    let what = What::Cancel {
+        reference: u64_at(bytes, 11),
+        shares: u32_at(bytes, 19),
+    };
+    feed_at(bytes, what)
+}
+
+fn delete_at(bytes: &[u8]) -> Feed
+    requires { length bytes.now ≡ 19 }
+    ensures { feed_wire result ≡ wire_in 68 DELETE bytes.now }
+{
+    let what = What::Delete {
+        reference: u64_at(bytes, 11),
+    };
+    feed_at(bytes, what)
+}
+
+fn trade_at(bytes: &[u8]) -> Feed
+    requires length { length bytes.now ≡ 44 }
+    requires good { AreGood TRADE 1 bytes.now }
+    ensures { feed_wire result ≡ wire_in 80 TRADE bytes.now }
+{
+    let what = What::Trade {
+        reference: u64_at(bytes, 11),
+        side: side_at(bytes, 19),
+        shares: u32_at(bytes, 20),
+        stock: Symbol(array_at(bytes, 24)),
+        price: u32_at(bytes, 32),
+        number: u64_at(bytes, 36),
+    };
+    feed_at(bytes, what)
+}
+
+fn cross_at(bytes: &[u8]) -> Feed
+    requires { length bytes.now ≡ 40 }
+    ensures { feed_wire result ≡ wire_in 81 CROSS bytes.now }
+{
+    let what = What::Cross {
+        shares: u64_at(bytes, 11),
+        stock: Symbol(array_at(bytes, 19)),
+        price: u32_at(bytes, 27),
+        number: u64_at(bytes, 31),
+        kind: byte_at(bytes, 39),
+    };
+    feed_at(bytes, what)
+}
