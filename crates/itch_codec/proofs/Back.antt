@@ -4,6 +4,7 @@ use Rattle.market_types.specs.declared.order.Side.{Side}
 use Rattle.market_types.specs.declared.feed.Feed.{Feed}
 use Rattle.market_types.specs.declared.feed.What.{What}
 use Rattle.market_types.specs.declared.feed.What.TheVariants.{System, Directory, Trading, Add, Executed, Cancel, Delete, Trade, Cross}
+use Rattle.itch_codec.specs.declared.layouts.TheConstants.{SYSTEM_TYPE, DIRECTORY_TYPE, TRADING_TYPE, ADD_TYPE, EXECUTED_TYPE, CANCEL_TYPE, DELETE_TYPE, TRADE_TYPE}
 use Rattle.wire_fields.specs.Values.{FieldValue, number}
 use Rattle.wire_fields.specs.Wire.{Wire}
 use Rattle.wire_fields.proofs.Back.{number_in, bytes_in, byte_in, side_in, side_back}
@@ -39,14 +40,14 @@ cross_in vs = Cross (number_in vs 3) (record { 0 = bytes_in vs 4 }) (number_in v
 
 abbrev what_of : Wire → What
 what_of w =
-    (cond (eqb w.letter 83) (system_in w.values)
-    (cond (eqb w.letter 82) (directory_in w.values)
-    (cond (eqb w.letter 72) (trading_in w.values)
-    (cond (eqb w.letter 65) (add_in w.values (side_in w.values 4))
-    (cond (eqb w.letter 69) (executed_in w.values)
-    (cond (eqb w.letter 88) (cancel_in w.values)
-    (cond (eqb w.letter 68) (delete_in w.values)
-    (cond (eqb w.letter 80) (trade_in w.values (side_in w.values 4))
+    (cond (eqb w.letter SYSTEM_TYPE) (system_in w.values)
+    (cond (eqb w.letter DIRECTORY_TYPE) (directory_in w.values)
+    (cond (eqb w.letter TRADING_TYPE) (trading_in w.values)
+    (cond (eqb w.letter ADD_TYPE) (add_in w.values (side_in w.values 4))
+    (cond (eqb w.letter EXECUTED_TYPE) (executed_in w.values)
+    (cond (eqb w.letter CANCEL_TYPE) (cancel_in w.values)
+    (cond (eqb w.letter DELETE_TYPE) (delete_in w.values)
+    (cond (eqb w.letter TRADE_TYPE) (trade_in w.values (side_in w.values 4))
     (cross_in w.values)))))))))
 
 abbrev pub feed_of : Wire → Feed

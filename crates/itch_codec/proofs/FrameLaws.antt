@@ -10,7 +10,7 @@ use Rattle.itch_codec.specs.Frames.{framed, framed_length, unframed}
 length_again : (payload rest : List ℕ) → length payload ≤ 65535 → framed_length (framed payload ++ rest) ≡ length payload
 length_again payload rest le = number_of-number_bytes 2 (length payload) (omega arith)
 
-unframed_again : (payload rest : List ℕ) → length payload ≤ 65535 → unframed (framed payload ++ rest) ≡ Ok (payload, rest)
+pub unframed_again : (payload rest : List ℕ) → length payload ≤ 65535 → unframed (framed payload ++ rest) ≡ Ok (payload, rest)
 unframed_again payload rest le =
     let len = length_again payload rest le in
     let two : ltb (length (framed payload ++ rest)) 2 ≡ false = le-ltb _ _ (omega arith) in

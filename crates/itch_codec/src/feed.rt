@@ -1,11 +1,13 @@
 //! Feed messages to bytes.
 
-ghost use Rattle.std.specs.Prelude.{◌≡◌, ◌<◌, ◌^◌};
-ghost use Rattle.wire_fields.specs.Wire.{spelling};
+ghost use Rattle.std.specs.Prelude.{◌≡◌, ◌<◌, ◌≤◌, ◌^◌, length};
+ghost use Rattle.wire_fields.specs.Wire.{IsInRange, IsSpelled, spelling};
 ghost use Rattle.itch_codec.specs.Messages.{feed_wire};
 
 use crate::layouts::{
-    ADD, CANCEL, CROSS, DELETE, DIRECTORY, EXECUTED, SYSTEM, TRADE, TRADING,
+    ADD, ADD_TYPE, CANCEL, CANCEL_TYPE, CROSS, CROSS_TYPE, DELETE, DELETE_TYPE, DIRECTORY,
+    DIRECTORY_TYPE, EXECUTED, EXECUTED_TYPE, SYSTEM, SYSTEM_TYPE, TRADE, TRADE_TYPE, TRADING,
+    TRADING_TYPE,
 };
 use market_types::{Feed, What};
 use wire_fields::{MessageBytes, Value};
@@ -16,14 +18,16 @@ pub type FeedBytes = MessageBytes<44>;
 /// The bytes of a feed message. A field out of its range is written as it stands.
 pub fn encode_feed(m: &Feed) -> FeedBytes
     requires { m.now.time < 2 ^ 48 }
-    ensures { result ≡ spelling (feed_wire m.now) }
+    ensures spelling { result ≡ spelling (feed_wire m.now) }
+    ensures spelled { IsInRange (feed_wire m.now) → IsSpelled result (feed_wire m.now) }
+    ensures size { length result ≤ 44 }
 {
     let locate = Value::Number(u64::from(m.locate));
     let tracking = Value::Number(u64::from(m.tracking));
     let time = Value::Number(m.time);
     match m.what {
         What::System { code } => FeedBytes::of(
-            b'S',
+            SYSTEM_TYPE,
             &SYSTEM,
             &[locate, tracking, time, Value::Byte(code)],
         ),
@@ -43,7 +47,7 @@ pub fn encode_feed(m: &Feed) -> FeedBytes
             leverage,
             inverse,
         } => FeedBytes::of(
-            b'R',
+            DIRECTORY_TYPE,
             &DIRECTORY,
             &[
                 locate,
@@ -71,7 +75,7 @@ pub fn encode_feed(m: &Feed) -> FeedBytes
             reserved,
             reason,
         } => FeedBytes::of(
-            b'H',
+            TRADING_TYPE,
             &TRADING,
             &[
                 locate,
@@ -90,7 +94,7 @@ pub fn encode_feed(m: &Feed) -> FeedBytes
             stock,
             price,
         } => FeedBytes::of(
-            b'A',
+            ADD_TYPE,
             &ADD,
             &[
                 locate,
@@ -108,7 +112,7 @@ pub fn encode_feed(m: &Feed) -> FeedBytes
             shares,
             number,
         } => FeedBytes::of(
-            b'E',
+            EXECUTED_TYPE,
             &EXECUTED,
             &[
                 locate,
@@ -120,7 +124,7 @@ pub fn encode_feed(m: &Feed) -> FeedBytes
             ],
         ),
         What::Cancel { reference, shares } => FeedBytes::of(
-            b'X',
+            CANCEL_TYPE,
             &CANCEL,
             &[
                 locate,
@@ -131,7 +135,7 @@ pub fn encode_feed(m: &Feed) -> FeedBytes
             ],
         ),
         What::Delete { reference } => FeedBytes::of(
-            b'D',
+            DELETE_TYPE,
             &DELETE,
             &[locate, tracking, time, Value::Number(reference)],
         ),
@@ -143,7 +147,7 @@ pub fn encode_feed(m: &Feed) -> FeedBytes
             price,
             number,
         } => FeedBytes::of(
-            b'P',
+            TRADE_TYPE,
             &TRADE,
             &[
                 locate,
@@ -164,7 +168,7 @@ pub fn encode_feed(m: &Feed) -> FeedBytes
             number,
             kind,
         } => FeedBytes::of(
-            b'Q',
+            CROSS_TYPE,
             &CROSS,
             &[
                 locate,

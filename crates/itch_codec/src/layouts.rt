@@ -1,110 +1,182 @@
-//! The fields of each message after the letter of its type, in order, with the names that ITCH 5.0 gives them.
+//! The messages' fields in order, each by the name that ITCH 5.0 gives it, and the letters of their types.
 
 use wire_fields::Kind;
 
-/// Stock Locate.
-const LOCATE: Kind = Kind::Number(2);
-/// Tracking Number.
-const TRACKING: Kind = Kind::Number(2);
-/// Timestamp in nanoseconds past midnight.
+const STOCK_LOCATE: Kind = Kind::Number(2);
+
+const TRACKING_NUMBER: Kind = Kind::Number(2);
+/// In nanoseconds past midnight.
 const TIMESTAMP: Kind = Kind::Number(6);
-/// Stock.
+
+const EVENT_CODE: Kind = Kind::Letters(1);
+
 const STOCK: Kind = Kind::Text(8);
-/// Order Reference Number or Match Number.
-const NUMBER: Kind = Kind::Number(8);
-/// Buy/Sell Indicator.
-const SIDE: Kind = Kind::Side;
-/// Shares, Executed Shares or Cancelled Shares.
+
+const MARKET_CATEGORY: Kind = Kind::Letters(1);
+
+const FINANCIAL_STATUS_INDICATOR: Kind = Kind::Letters(1);
+
+const ROUND_LOT_SIZE: Kind = Kind::Number(4);
+
+const ROUND_LOTS_ONLY: Kind = Kind::Letters(1);
+
+const ISSUE_CLASSIFICATION: Kind = Kind::Letters(1);
+
+const ISSUE_SUB_TYPE: Kind = Kind::Letters(2);
+
+const AUTHENTICITY: Kind = Kind::Letters(1);
+
+const SHORT_SALE_THRESHOLD_INDICATOR: Kind = Kind::Letters(1);
+
+const IPO_FLAG: Kind = Kind::Letters(1);
+
+const LULD_REFERENCE_PRICE_TIER: Kind = Kind::Letters(1);
+
+const ETP_FLAG: Kind = Kind::Letters(1);
+
+const ETP_LEVERAGE_FACTOR: Kind = Kind::Number(4);
+
+const INVERSE_INDICATOR: Kind = Kind::Letters(1);
+
+const TRADING_STATE: Kind = Kind::TradingState;
+
+const RESERVED: Kind = Kind::Letters(1);
+
+const REASON: Kind = Kind::Letters(4);
+
+const ORDER_REFERENCE_NUMBER: Kind = Kind::Number(8);
+
+const BUY_SELL_INDICATOR: Kind = Kind::Side;
+
 const SHARES: Kind = Kind::Number(4);
-/// Price with four implied decimals.
+/// With four implied decimals.
 const PRICE: Kind = Kind::Number(4);
-/// A code of one letter.
-const LETTER: Kind = Kind::Letters(1);
 
-/// System Event, type `S`.
-pub const SYSTEM: [Kind; 4] = [
-    LOCATE, TRACKING, TIMESTAMP, // Event Code
-    LETTER,
-];
+const EXECUTED_SHARES: Kind = Kind::Number(4);
 
-/// Stock Directory, type `R`.
+const MATCH_NUMBER: Kind = Kind::Number(8);
+
+const CANCELED_SHARES: Kind = Kind::Number(4);
+
+const CROSS_SHARES: Kind = Kind::Number(8);
+/// With four implied decimals.
+const CROSS_PRICE: Kind = Kind::Number(4);
+/// Cross Type.
+const TYPE_OF_CROSS: Kind = Kind::Letters(1);
+
+/// The type of System Event.
+pub const SYSTEM_TYPE: u8 = b'S';
+/// System Event.
+pub const SYSTEM: [Kind; 4] = [STOCK_LOCATE, TRACKING_NUMBER, TIMESTAMP, EVENT_CODE];
+
+/// The type of Stock Directory.
+pub const DIRECTORY_TYPE: u8 = b'R';
+/// Stock Directory.
 pub const DIRECTORY: [Kind; 17] = [
-    LOCATE,
-    TRACKING,
+    STOCK_LOCATE,
+    TRACKING_NUMBER,
     TIMESTAMP,
     STOCK,
-    // Market Category
-    LETTER,
-    // Financial Status Indicator
-    LETTER,
-    // Round Lot Size
-    SHARES,
-    // Round Lots Only
-    LETTER,
-    // Issue Classification
-    LETTER,
-    // Issue Sub-Type
-    Kind::Letters(2),
-    // Authenticity
-    LETTER,
-    // Short Sale Threshold Indicator
-    LETTER,
-    // IPO Flag
-    LETTER,
-    // LULD Reference Price Tier
-    LETTER,
-    // ETP Flag
-    LETTER,
-    // ETP Leverage Factor
-    Kind::Number(4),
-    // Inverse Indicator
-    LETTER,
+    MARKET_CATEGORY,
+    FINANCIAL_STATUS_INDICATOR,
+    ROUND_LOT_SIZE,
+    ROUND_LOTS_ONLY,
+    ISSUE_CLASSIFICATION,
+    ISSUE_SUB_TYPE,
+    AUTHENTICITY,
+    SHORT_SALE_THRESHOLD_INDICATOR,
+    IPO_FLAG,
+    LULD_REFERENCE_PRICE_TIER,
+    ETP_FLAG,
+    ETP_LEVERAGE_FACTOR,
+    INVERSE_INDICATOR,
 ];
 
-/// Stock Trading Action, type `H`.
+/// The type of Stock Trading Action.
+pub const TRADING_TYPE: u8 = b'H';
+/// Stock Trading Action.
 pub const TRADING: [Kind; 7] = [
-    LOCATE,
-    TRACKING,
+    STOCK_LOCATE,
+    TRACKING_NUMBER,
     TIMESTAMP,
     STOCK,
-    // Trading State
-    Kind::TradingState,
-    // Reserved
-    LETTER,
-    // Reason
-    Kind::Letters(4),
+    TRADING_STATE,
+    RESERVED,
+    REASON,
 ];
 
-/// Add Order without MPID attribution, type `A`.
+/// The type of Add Order without MPID attribution.
+pub const ADD_TYPE: u8 = b'A';
+/// Add Order without MPID attribution.
 pub const ADD: [Kind; 8] = [
-    LOCATE, TRACKING, TIMESTAMP, NUMBER, SIDE, SHARES, STOCK, PRICE,
-];
-
-/// Order Executed, type `E`.
-pub const EXECUTED: [Kind; 6] = [LOCATE, TRACKING, TIMESTAMP, NUMBER, SHARES, NUMBER];
-
-/// Order Cancel, type `X`.
-pub const CANCEL: [Kind; 5] = [LOCATE, TRACKING, TIMESTAMP, NUMBER, SHARES];
-
-/// Order Delete, type `D`.
-pub const DELETE: [Kind; 4] = [LOCATE, TRACKING, TIMESTAMP, NUMBER];
-
-/// Trade Message, non-cross, type `P`.
-pub const TRADE: [Kind; 9] = [
-    LOCATE, TRACKING, TIMESTAMP, NUMBER, SIDE, SHARES, STOCK, PRICE, NUMBER,
-];
-
-/// Cross Trade, type `Q`.
-pub const CROSS: [Kind; 8] = [
-    LOCATE,
-    TRACKING,
+    STOCK_LOCATE,
+    TRACKING_NUMBER,
     TIMESTAMP,
-    // Shares
-    Kind::Number(8),
+    ORDER_REFERENCE_NUMBER,
+    BUY_SELL_INDICATOR,
+    SHARES,
     STOCK,
-    // Cross Price
     PRICE,
-    NUMBER,
-    // Cross Type
-    LETTER,
+];
+
+/// The type of Order Executed.
+pub const EXECUTED_TYPE: u8 = b'E';
+/// Order Executed.
+pub const EXECUTED: [Kind; 6] = [
+    STOCK_LOCATE,
+    TRACKING_NUMBER,
+    TIMESTAMP,
+    ORDER_REFERENCE_NUMBER,
+    EXECUTED_SHARES,
+    MATCH_NUMBER,
+];
+
+/// The type of Order Cancel.
+pub const CANCEL_TYPE: u8 = b'X';
+/// Order Cancel.
+pub const CANCEL: [Kind; 5] = [
+    STOCK_LOCATE,
+    TRACKING_NUMBER,
+    TIMESTAMP,
+    ORDER_REFERENCE_NUMBER,
+    CANCELED_SHARES,
+];
+
+/// The type of Order Delete.
+pub const DELETE_TYPE: u8 = b'D';
+/// Order Delete.
+pub const DELETE: [Kind; 4] = [
+    STOCK_LOCATE,
+    TRACKING_NUMBER,
+    TIMESTAMP,
+    ORDER_REFERENCE_NUMBER,
+];
+
+/// The type of Trade Message, non-cross.
+pub const TRADE_TYPE: u8 = b'P';
+/// Trade Message, non-cross.
+pub const TRADE: [Kind; 9] = [
+    STOCK_LOCATE,
+    TRACKING_NUMBER,
+    TIMESTAMP,
+    ORDER_REFERENCE_NUMBER,
+    BUY_SELL_INDICATOR,
+    SHARES,
+    STOCK,
+    PRICE,
+    MATCH_NUMBER,
+];
+
+/// The type of Cross Trade.
+pub const CROSS_TYPE: u8 = b'Q';
+/// Cross Trade.
+pub const CROSS: [Kind; 8] = [
+    STOCK_LOCATE,
+    TRACKING_NUMBER,
+    TIMESTAMP,
+    CROSS_SHARES,
+    STOCK,
+    CROSS_PRICE,
+    MATCH_NUMBER,
+    TYPE_OF_CROSS,
 ];

@@ -8,7 +8,9 @@ ghost use Rattle.itch_codec.specs.Messages.{feed_wire, feed_layout};
 ghost use Rattle.market_types.specs.declared.feed.Feed.{Feed};
 
 use crate::layouts::{
-    ADD, CANCEL, CROSS, DELETE, DIRECTORY, EXECUTED, SYSTEM, TRADE, TRADING,
+    ADD, ADD_TYPE, CANCEL, CANCEL_TYPE, CROSS, CROSS_TYPE, DELETE, DELETE_TYPE, DIRECTORY,
+    DIRECTORY_TYPE, EXECUTED, EXECUTED_TYPE, SYSTEM, SYSTEM_TYPE, TRADE, TRADE_TYPE, TRADING,
+    TRADING_TYPE,
 };
 use market_types::{CodecError, Feed, Symbol, What};
 use wire_fields::{array_at, byte_at, check, side_at, u16_at, u32_at, u48_at, u64_at};
@@ -23,21 +25,21 @@ pub fn decode_feed(bytes: &[u8]) -> Result<Feed, CodecError>
 {
     match bytes {
         [] => Err(CodecError::WrongLength(0, 1)),
-        [b'S', ..] => decode_system(bytes),
-        [b'R', ..] => decode_directory(bytes),
-        [b'H', ..] => decode_trading(bytes),
-        [b'A', ..] => decode_add(bytes),
-        [b'E', ..] => decode_executed(bytes),
-        [b'X', ..] => decode_cancel(bytes),
-        [b'D', ..] => decode_delete(bytes),
-        [b'P', ..] => decode_trade(bytes),
-        [b'Q', ..] => decode_cross(bytes),
+        [SYSTEM_TYPE, ..] => decode_system(bytes),
+        [DIRECTORY_TYPE, ..] => decode_directory(bytes),
+        [TRADING_TYPE, ..] => decode_trading(bytes),
+        [ADD_TYPE, ..] => decode_add(bytes),
+        [EXECUTED_TYPE, ..] => decode_executed(bytes),
+        [CANCEL_TYPE, ..] => decode_cancel(bytes),
+        [DELETE_TYPE, ..] => decode_delete(bytes),
+        [TRADE_TYPE, ..] => decode_trade(bytes),
+        [CROSS_TYPE, ..] => decode_cross(bytes),
         [letter, ..] => Err(CodecError::UnknownType(*letter)),
     }
 }
 
 fn decode_system(bytes: &[u8]) -> Result<Feed, CodecError>
-    requires { slice_get bytes.now 0 ≡ Some 83 }
+    requires { slice_get bytes.now 0 ≡ Some SYSTEM_TYPE }
     ensures { IsRead feed_wire feed_layout bytes.now result }
 {
     check(bytes, &SYSTEM)?;
@@ -45,7 +47,7 @@ fn decode_system(bytes: &[u8]) -> Result<Feed, CodecError>
 }
 
 fn decode_directory(bytes: &[u8]) -> Result<Feed, CodecError>
-    requires { slice_get bytes.now 0 ≡ Some 82 }
+    requires { slice_get bytes.now 0 ≡ Some DIRECTORY_TYPE }
     ensures { IsRead feed_wire feed_layout bytes.now result }
 {
     check(bytes, &DIRECTORY)?;
@@ -53,7 +55,7 @@ fn decode_directory(bytes: &[u8]) -> Result<Feed, CodecError>
 }
 
 fn decode_trading(bytes: &[u8]) -> Result<Feed, CodecError>
-    requires { slice_get bytes.now 0 ≡ Some 72 }
+    requires { slice_get bytes.now 0 ≡ Some TRADING_TYPE }
     ensures { IsRead feed_wire feed_layout bytes.now result }
 {
     check(bytes, &TRADING)?;
@@ -61,7 +63,7 @@ fn decode_trading(bytes: &[u8]) -> Result<Feed, CodecError>
 }
 
 fn decode_add(bytes: &[u8]) -> Result<Feed, CodecError>
-    requires { slice_get bytes.now 0 ≡ Some 65 }
+    requires { slice_get bytes.now 0 ≡ Some ADD_TYPE }
     ensures { IsRead feed_wire feed_layout bytes.now result }
 {
     check(bytes, &ADD)?;
@@ -69,7 +71,7 @@ fn decode_add(bytes: &[u8]) -> Result<Feed, CodecError>
 }
 
 fn decode_executed(bytes: &[u8]) -> Result<Feed, CodecError>
-    requires { slice_get bytes.now 0 ≡ Some 69 }
+    requires { slice_get bytes.now 0 ≡ Some EXECUTED_TYPE }
     ensures { IsRead feed_wire feed_layout bytes.now result }
 {
     check(bytes, &EXECUTED)?;
@@ -77,7 +79,7 @@ fn decode_executed(bytes: &[u8]) -> Result<Feed, CodecError>
 }
 
 fn decode_cancel(bytes: &[u8]) -> Result<Feed, CodecError>
-    requires { slice_get bytes.now 0 ≡ Some 88 }
+    requires { slice_get bytes.now 0 ≡ Some CANCEL_TYPE }
     ensures { IsRead feed_wire feed_layout bytes.now result }
 {
     check(bytes, &CANCEL)?;
@@ -85,7 +87,7 @@ fn decode_cancel(bytes: &[u8]) -> Result<Feed, CodecError>
 }
 
 fn decode_delete(bytes: &[u8]) -> Result<Feed, CodecError>
-    requires { slice_get bytes.now 0 ≡ Some 68 }
+    requires { slice_get bytes.now 0 ≡ Some DELETE_TYPE }
     ensures { IsRead feed_wire feed_layout bytes.now result }
 {
     check(bytes, &DELETE)?;
@@ -93,7 +95,7 @@ fn decode_delete(bytes: &[u8]) -> Result<Feed, CodecError>
 }
 
 fn decode_trade(bytes: &[u8]) -> Result<Feed, CodecError>
-    requires { slice_get bytes.now 0 ≡ Some 80 }
+    requires { slice_get bytes.now 0 ≡ Some TRADE_TYPE }
     ensures { IsRead feed_wire feed_layout bytes.now result }
 {
     check(bytes, &TRADE)?;
@@ -101,7 +103,7 @@ fn decode_trade(bytes: &[u8]) -> Result<Feed, CodecError>
 }
 
 fn decode_cross(bytes: &[u8]) -> Result<Feed, CodecError>
-    requires { slice_get bytes.now 0 ≡ Some 81 }
+    requires { slice_get bytes.now 0 ≡ Some CROSS_TYPE }
     ensures { IsRead feed_wire feed_layout bytes.now result }
 {
     check(bytes, &CROSS)?;
@@ -126,7 +128,7 @@ fn feed_at(bytes: &[u8], what: What) -> Feed
 
 fn system_at(bytes: &[u8]) -> Feed
     requires { length bytes.now ≡ 12 }
-    ensures { feed_wire result ≡ wire_in 83 SYSTEM bytes.now }
+    ensures { feed_wire result ≡ wire_in SYSTEM_TYPE SYSTEM bytes.now }
 {
     let what = What::System {
         code: byte_at(bytes, 11),
@@ -136,7 +138,7 @@ fn system_at(bytes: &[u8]) -> Feed
 
 fn directory_at(bytes: &[u8]) -> Feed
     requires { length bytes.now ≡ 39 }
-    ensures { feed_wire result ≡ wire_in 82 DIRECTORY bytes.now }
+    ensures { feed_wire result ≡ wire_in DIRECTORY_TYPE DIRECTORY bytes.now }
 {
     let what = What::Directory {
         stock: Symbol(array_at(bytes, 11)),
@@ -159,7 +161,7 @@ fn directory_at(bytes: &[u8]) -> Feed
 
 fn trading_at(bytes: &[u8]) -> Feed
     requires { length bytes.now ≡ 25 }
-    ensures { feed_wire result ≡ wire_in 72 TRADING bytes.now }
+    ensures { feed_wire result ≡ wire_in TRADING_TYPE TRADING bytes.now }
 {
     let what = What::Trading {
         stock: Symbol(array_at(bytes, 11)),
@@ -173,7 +175,7 @@ fn trading_at(bytes: &[u8]) -> Feed
 fn add_at(bytes: &[u8]) -> Feed
     requires length { length bytes.now ≡ 36 }
     requires good { AreGood ADD 1 bytes.now }
-    ensures { feed_wire result ≡ wire_in 65 ADD bytes.now }
+    ensures { feed_wire result ≡ wire_in ADD_TYPE ADD bytes.now }
 {
     let what = What::Add {
         reference: u64_at(bytes, 11),
@@ -187,7 +189,7 @@ fn add_at(bytes: &[u8]) -> Feed
 
 fn executed_at(bytes: &[u8]) -> Feed
     requires { length bytes.now ≡ 31 }
-    ensures { feed_wire result ≡ wire_in 69 EXECUTED bytes.now }
+    ensures { feed_wire result ≡ wire_in EXECUTED_TYPE EXECUTED bytes.now }
 {
     let what = What::Executed {
         reference: u64_at(bytes, 11),
@@ -199,7 +201,7 @@ fn executed_at(bytes: &[u8]) -> Feed
 
 fn cancel_at(bytes: &[u8]) -> Feed
     requires { length bytes.now ≡ 23 }
-    ensures { feed_wire result ≡ wire_in 88 CANCEL bytes.now }
+    ensures { feed_wire result ≡ wire_in CANCEL_TYPE CANCEL bytes.now }
 {
     let what = What::Cancel {
         reference: u64_at(bytes, 11),
@@ -210,7 +212,7 @@ fn cancel_at(bytes: &[u8]) -> Feed
 
 fn delete_at(bytes: &[u8]) -> Feed
     requires { length bytes.now ≡ 19 }
-    ensures { feed_wire result ≡ wire_in 68 DELETE bytes.now }
+    ensures { feed_wire result ≡ wire_in DELETE_TYPE DELETE bytes.now }
 {
     let what = What::Delete {
         reference: u64_at(bytes, 11),
@@ -221,7 +223,7 @@ fn delete_at(bytes: &[u8]) -> Feed
 fn trade_at(bytes: &[u8]) -> Feed
     requires length { length bytes.now ≡ 44 }
     requires good { AreGood TRADE 1 bytes.now }
-    ensures { feed_wire result ≡ wire_in 80 TRADE bytes.now }
+    ensures { feed_wire result ≡ wire_in TRADE_TYPE TRADE bytes.now }
 {
     let what = What::Trade {
         reference: u64_at(bytes, 11),
@@ -236,7 +238,7 @@ fn trade_at(bytes: &[u8]) -> Feed
 
 fn cross_at(bytes: &[u8]) -> Feed
     requires { length bytes.now ≡ 40 }
-    ensures { feed_wire result ≡ wire_in 81 CROSS bytes.now }
+    ensures { feed_wire result ≡ wire_in CROSS_TYPE CROSS bytes.now }
 {
     let what = What::Cross {
         shares: u64_at(bytes, 11),

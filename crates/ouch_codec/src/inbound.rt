@@ -2,21 +2,22 @@
 
 ghost use Rattle.std.specs.Prelude.{◌≡◌, length, IfOk, Ok, Some, slice_get};
 ghost use Rattle.std.specs.Result.{result_err};
-ghost use Rattle.wire_fields.specs.Wire.{IsSpelled, IsRead, AreGood, spelling, wire_in, refusal};
+ghost use Rattle.wire_fields.specs.Wire.{IsInRange, IsSpelled, IsRead, AreGood, spelling, wire_in, refusal};
 ghost use Rattle.ouch_codec.specs.Inbound.{inbound_wire, inbound_layout};
 ghost use Rattle.market_types.specs.declared.order.Inbound.TheVariants as inbound;
 ghost use Rattle.market_types.specs.declared.order.Inbound.{Inbound};
 
-use crate::layouts::{CANCEL, ENTER};
+use crate::layouts::{CANCEL, CANCEL_TYPE, ENTER, ENTER_TYPE};
 use market_types::{Cancel, CodecError, Enter, Inbound, Symbol, Token};
 use wire_fields::{Value, array_at, byte_at, check, message, side_at, u32_at};
 
 /// The 49 bytes of an Enter Order. A field out of its range is written as it stands.
 pub fn encode_enter(m: &Enter) -> [u8; 49]
-    ensures { result ≡ spelling (inbound_wire (inbound.Enter m.now)) }
+    ensures spelling { result ≡ spelling (inbound_wire (inbound.Enter m.now)) }
+    ensures spelled { IsInRange (inbound_wire (inbound.Enter m.now)) → IsSpelled result (inbound_wire (inbound.Enter m.now)) }
 {
     message(
-        b'O',
+        ENTER_TYPE,
         &ENTER,
         &[
             Value::Token(m.token),
@@ -38,15 +39,13 @@ pub fn encode_enter(m: &Enter) -> [u8; 49]
 
 /// The 19 bytes of a Cancel Order. A field out of its range is written as it stands.
 pub fn encode_cancel(m: &Cancel) -> [u8; 19]
-    ensures { result ≡ spelling (inbound_wire (inbound.Cancel m.now)) }
+    ensures spelling { result ≡ spelling (inbound_wire (inbound.Cancel m.now)) }
+    ensures spelled { IsInRange (inbound_wire (inbound.Cancel m.now)) → IsSpelled result (inbound_wire (inbound.Cancel m.now)) }
 {
     message(
-        b'X',
+        CANCEL_TYPE,
         &CANCEL,
-        &[
-            Value::Token(m.token),
-            Value::Number(u64::from(m.shares)),
-        ],
+        &[Value::Token(m.token), Value::Number(u64::from(m.shares))],
     )
 }
 
@@ -59,14 +58,14 @@ pub fn decode_in(bytes: &[u8]) -> Result<Inbound, CodecError>
 {
     match bytes {
         [] => Err(CodecError::WrongLength(0, 1)),
-        [b'O', ..] => decode_enter(bytes),
-        [b'X', ..] => decode_cancel(bytes),
+        [ENTER_TYPE, ..] => decode_enter(bytes),
+        [CANCEL_TYPE, ..] => decode_cancel(bytes),
         [letter, ..] => Err(CodecError::UnknownType(*letter)),
     }
 }
 
 fn decode_enter(bytes: &[u8]) -> Result<Inbound, CodecError>
-    requires { slice_get bytes.now 0 ≡ Some 79 }
+    requires { slice_get bytes.now 0 ≡ Some ENTER_TYPE }
     ensures { IsRead inbound_wire inbound_layout bytes.now result }
 {
     check(bytes, &ENTER)?;
@@ -74,7 +73,7 @@ fn decode_enter(bytes: &[u8]) -> Result<Inbound, CodecError>
 }
 
 fn decode_cancel(bytes: &[u8]) -> Result<Inbound, CodecError>
-    requires { slice_get bytes.now 0 ≡ Some 88 }
+    requires { slice_get bytes.now 0 ≡ Some CANCEL_TYPE }
     ensures { IsRead inbound_wire inbound_layout bytes.now result }
 {
     check(bytes, &CANCEL)?;
@@ -85,7 +84,7 @@ fn decode_cancel(bytes: &[u8]) -> Result<Inbound, CodecError>
 fn enter_at(bytes: &[u8]) -> Inbound
     requires length { length bytes.now ≡ 49 }
     requires good { AreGood ENTER 1 bytes.now }
-    ensures { inbound_wire result ≡ wire_in 79 ENTER bytes.now }
+    ensures { inbound_wire result ≡ wire_in ENTER_TYPE ENTER bytes.now }
 {
     Inbound::Enter(Enter {
         token: Token(array_at(bytes, 1)),
@@ -107,7 +106,7 @@ fn enter_at(bytes: &[u8]) -> Inbound
 /// The Cancel Order of these bytes.
 fn cancel_at(bytes: &[u8]) -> Inbound
     requires { length bytes.now ≡ 19 }
-    ensures { inbound_wire result ≡ wire_in 88 CANCEL bytes.now }
+    ensures { inbound_wire result ≡ wire_in CANCEL_TYPE CANCEL bytes.now }
 {
     Inbound::Cancel(Cancel {
         token: Token(array_at(bytes, 1)),

@@ -1,27 +1,30 @@
 //! Replies of the exchange.
 
-ghost use Rattle.std.specs.Prelude.{◌≡◌, length, IfOk, Ok, Some, slice_get};
+ghost use Rattle.std.specs.Prelude.{◌≡◌, ◌≤◌, length, IfOk, Ok, Some, slice_get};
 ghost use Rattle.std.specs.Result.{result_err};
-ghost use Rattle.wire_fields.specs.Wire.{IsSpelled, IsRead, AreGood, spelling, wire_in, refusal};
+ghost use Rattle.wire_fields.specs.Wire.{IsInRange, IsSpelled, IsRead, AreGood, spelling, wire_in, refusal};
 ghost use Rattle.ouch_codec.specs.Outbound.{reply_wire, reply_layout};
 ghost use Rattle.market_types.specs.declared.reply.Reply.{Reply};
 
-use crate::layouts::{ACCEPTED, CANCELED, EXECUTED, REJECTED, SYSTEM};
-use market_types::{CodecError, Reply, Symbol, Token};
-use wire_fields::{
-    MessageBytes, Value, array_at, byte_at, check, side_at, u32_at, u64_at,
+use crate::layouts::{
+    ACCEPTED, ACCEPTED_TYPE, CANCELED, CANCELED_TYPE, EXECUTED, EXECUTED_TYPE, REJECTED,
+    REJECTED_TYPE, SYSTEM, SYSTEM_TYPE,
 };
+use market_types::{CodecError, Reply, Symbol, Token};
+use wire_fields::{MessageBytes, Value, array_at, byte_at, check, side_at, u32_at, u64_at};
 
 /// The bytes of a reply, at most 66, seen as their list.
 pub type ReplyBytes = MessageBytes<66>;
 
 /// The bytes of a reply. A field out of its range is written as it stands.
 pub fn encode_reply(m: &Reply) -> ReplyBytes
-    ensures { result ≡ spelling (reply_wire m.now) }
+    ensures spelling { result ≡ spelling (reply_wire m.now) }
+    ensures spelled { IsInRange (reply_wire m.now) → IsSpelled result (reply_wire m.now) }
+    ensures size { length result ≤ 66 }
 {
     match *m {
         Reply::System { time, code } => ReplyBytes::of(
-            b'S',
+            SYSTEM_TYPE,
             &SYSTEM,
             &[Value::Number(time), Value::Byte(code)],
         ),
@@ -43,7 +46,7 @@ pub fn encode_reply(m: &Reply) -> ReplyBytes
             state,
             bbo,
         } => ReplyBytes::of(
-            b'A',
+            ACCEPTED_TYPE,
             &ACCEPTED,
             &[
                 Value::Number(time),
@@ -70,7 +73,7 @@ pub fn encode_reply(m: &Reply) -> ReplyBytes
             decrement,
             reason,
         } => ReplyBytes::of(
-            b'C',
+            CANCELED_TYPE,
             &CANCELED,
             &[
                 Value::Number(time),
@@ -87,7 +90,7 @@ pub fn encode_reply(m: &Reply) -> ReplyBytes
             flag,
             number,
         } => ReplyBytes::of(
-            b'E',
+            EXECUTED_TYPE,
             &EXECUTED,
             &[
                 Value::Number(time),
@@ -103,7 +106,7 @@ pub fn encode_reply(m: &Reply) -> ReplyBytes
             token,
             reason,
         } => ReplyBytes::of(
-            b'J',
+            REJECTED_TYPE,
             &REJECTED,
             &[
                 Value::Number(time),
@@ -124,17 +127,17 @@ pub fn decode_out(bytes: &[u8]) -> Result<Reply, CodecError>
 {
     match bytes {
         [] => Err(CodecError::WrongLength(0, 1)),
-        [b'S', ..] => decode_system(bytes),
-        [b'A', ..] => decode_accepted(bytes),
-        [b'C', ..] => decode_canceled(bytes),
-        [b'E', ..] => decode_executed(bytes),
-        [b'J', ..] => decode_rejected(bytes),
+        [SYSTEM_TYPE, ..] => decode_system(bytes),
+        [ACCEPTED_TYPE, ..] => decode_accepted(bytes),
+        [CANCELED_TYPE, ..] => decode_canceled(bytes),
+        [EXECUTED_TYPE, ..] => decode_executed(bytes),
+        [REJECTED_TYPE, ..] => decode_rejected(bytes),
         [letter, ..] => Err(CodecError::UnknownType(*letter)),
     }
 }
 
 fn decode_system(bytes: &[u8]) -> Result<Reply, CodecError>
-    requires { slice_get bytes.now 0 ≡ Some 83 }
+    requires { slice_get bytes.now 0 ≡ Some SYSTEM_TYPE }
     ensures { IsRead reply_wire reply_layout bytes.now result }
 {
     check(bytes, &SYSTEM)?;
@@ -142,7 +145,7 @@ fn decode_system(bytes: &[u8]) -> Result<Reply, CodecError>
 }
 
 fn decode_accepted(bytes: &[u8]) -> Result<Reply, CodecError>
-    requires { slice_get bytes.now 0 ≡ Some 65 }
+    requires { slice_get bytes.now 0 ≡ Some ACCEPTED_TYPE }
     ensures { IsRead reply_wire reply_layout bytes.now result }
 {
     check(bytes, &ACCEPTED)?;
@@ -150,7 +153,7 @@ fn decode_accepted(bytes: &[u8]) -> Result<Reply, CodecError>
 }
 
 fn decode_canceled(bytes: &[u8]) -> Result<Reply, CodecError>
-    requires { slice_get bytes.now 0 ≡ Some 67 }
+    requires { slice_get bytes.now 0 ≡ Some CANCELED_TYPE }
     ensures { IsRead reply_wire reply_layout bytes.now result }
 {
     check(bytes, &CANCELED)?;
@@ -158,7 +161,7 @@ fn decode_canceled(bytes: &[u8]) -> Result<Reply, CodecError>
 }
 
 fn decode_executed(bytes: &[u8]) -> Result<Reply, CodecError>
-    requires { slice_get bytes.now 0 ≡ Some 69 }
+    requires { slice_get bytes.now 0 ≡ Some EXECUTED_TYPE }
     ensures { IsRead reply_wire reply_layout bytes.now result }
 {
     check(bytes, &EXECUTED)?;
@@ -166,7 +169,7 @@ fn decode_executed(bytes: &[u8]) -> Result<Reply, CodecError>
 }
 
 fn decode_rejected(bytes: &[u8]) -> Result<Reply, CodecError>
-    requires { slice_get bytes.now 0 ≡ Some 74 }
+    requires { slice_get bytes.now 0 ≡ Some REJECTED_TYPE }
     ensures { IsRead reply_wire reply_layout bytes.now result }
 {
     check(bytes, &REJECTED)?;
@@ -175,7 +178,7 @@ fn decode_rejected(bytes: &[u8]) -> Result<Reply, CodecError>
 
 fn system_at(bytes: &[u8]) -> Reply
     requires { length bytes.now ≡ 10 }
-    ensures { reply_wire result ≡ wire_in 83 SYSTEM bytes.now }
+    ensures { reply_wire result ≡ wire_in SYSTEM_TYPE SYSTEM bytes.now }
 {
     Reply::System {
         time: u64_at(bytes, 1),
@@ -186,7 +189,7 @@ fn system_at(bytes: &[u8]) -> Reply
 fn accepted_at(bytes: &[u8]) -> Reply
     requires length { length bytes.now ≡ 66 }
     requires good { AreGood ACCEPTED 1 bytes.now }
-    ensures { reply_wire result ≡ wire_in 65 ACCEPTED bytes.now }
+    ensures { reply_wire result ≡ wire_in ACCEPTED_TYPE ACCEPTED bytes.now }
 {
     Reply::Accepted {
         time: u64_at(bytes, 1),
@@ -210,7 +213,7 @@ fn accepted_at(bytes: &[u8]) -> Reply
 
 fn canceled_at(bytes: &[u8]) -> Reply
     requires { length bytes.now ≡ 28 }
-    ensures { reply_wire result ≡ wire_in 67 CANCELED bytes.now }
+    ensures { reply_wire result ≡ wire_in CANCELED_TYPE CANCELED bytes.now }
 {
     Reply::Canceled {
         time: u64_at(bytes, 1),
@@ -222,7 +225,7 @@ fn canceled_at(bytes: &[u8]) -> Reply
 
 fn executed_at(bytes: &[u8]) -> Reply
     requires { length bytes.now ≡ 40 }
-    ensures { reply_wire result ≡ wire_in 69 EXECUTED bytes.now }
+    ensures { reply_wire result ≡ wire_in EXECUTED_TYPE EXECUTED bytes.now }
 {
     Reply::Executed {
         time: u64_at(bytes, 1),
@@ -236,7 +239,7 @@ fn executed_at(bytes: &[u8]) -> Reply
 
 fn rejected_at(bytes: &[u8]) -> Reply
     requires { length bytes.now ≡ 24 }
-    ensures { reply_wire result ≡ wire_in 74 REJECTED bytes.now }
+    ensures { reply_wire result ≡ wire_in REJECTED_TYPE REJECTED bytes.now }
 {
     Reply::Rejected {
         time: u64_at(bytes, 1),

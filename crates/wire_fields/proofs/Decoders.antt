@@ -1,9 +1,9 @@
 -- What a decoder answers, from what `check` found of one type.
-use Rattle.std.proofs.Common.{◌≡◌, ℕ, ◌<◌, Bool, true, false, List, [], ◌∷◌, length, get_or, slice_get, Option, Some, None, Result, Ok, Err, refl, sym, ap, subst, ◌∙◌, arith}
+use Rattle.std.proofs.Common.{◌≡◌, ℕ, ◌<◌, true, false, List, [], ◌∷◌, length, get_or, slice_get, Option, Some, None, Ok, Err, refl, sym, ap, ◌∙◌, arith}
 use Rattle.market_types.specs.declared.error.CodecError.{CodecError}
 use Rattle.wire_fields.specs.declared.kind.Kind.{Kind}
-use Rattle.wire_fields.specs.Values.{FieldValue}
-use Rattle.wire_fields.specs.Wire.{Wire, IsSpelled, IsRead, wire_in, wire_at, fault, fault_of, refusal}
+use Rattle.wire_fields.proofs.Fields.{message_again}
+use Rattle.wire_fields.specs.Wire.{Wire, spelling, IsInRange, IsSpelled, IsRead, wire_in, wire_at, fault, refusal}
 
 -- The letter of each message tells its fields, and a message comes back from its wire.
 pub record IsTable {M : Type 0} (wire : M → Wire) (layout : ℕ → Option (List Kind)) (message : Wire → M) : Type 0 where
@@ -42,8 +42,8 @@ read_passed {M = M} wire layout message table bs letter ks first known spelled o
     record {
       spelled = rw same spelled;
       only = λ m m_spelled.
-        let other : wire m ≡ wire_at ks bs = (only (wire m) (kinds_by wire layout message table bs letter ks is known m m_spelled) m_spelled).1 in
-        ap (λ (y : M). Ok y) (sym (table.back x) ∙ ap message (same ∙ sym other) ∙ table.back m);
+          let other : wire m ≡ wire_at ks bs = (only (wire m) (kinds_by wire layout message table bs letter ks is known m m_spelled) m_spelled).1 in
+          ap (λ (y : M). Ok y) (sym (table.back x) ∙ ap message (same ∙ sym other) ∙ table.back m);
       refused = none ∙ sym (refusal_by layout bs letter ks long is known);
     }
 
@@ -66,3 +66,16 @@ pub read_unknown : {M : Type 0} (wire : M → Wire) (layout : ℕ → Option (Li
 read_unknown wire layout message table bs unknown m spelled =
     let known : layout (get_or bs 0 0) ≡ Some (wire m).kinds = ap layout (first_of bs (wire m) spelled) ∙ table.kinds m in
     absurd (cc (known, unknown))
+
+-- what is written of a message in its ranges is spelled so
+pub spelled_by : (bs : List ℕ) (w : Wire) → bs ≡ spelling w → IsInRange w → IsSpelled bs w
+spelled_by bs w is in_range = record { same = is; in_range = in_range }
+
+-- bytes spell one message of a table
+pub one_value : {M : Type 0} (wire : M → Wire) (layout : ℕ → Option (List Kind)) (message : Wire → M) → IsTable wire layout message
+    → (bs : List ℕ) (a b : M) → IsSpelled bs (wire a) → IsSpelled bs (wire b) → a ≡ b
+one_value wire layout message table bs a b a_is b_is =
+    let letter : (wire a).letter ≡ (wire b).letter = sym (first_of bs (wire a) a_is) ∙ first_of bs (wire b) b_is in
+    let kinds : (wire a).kinds ≡ (wire b).kinds = some_same (wire a).kinds (wire b).kinds (sym (table.kinds a) ∙ ap layout letter ∙ table.kinds b) in
+    let same : wire a ≡ wire b = (message_again (wire b).kinds bs (wire a) kinds a_is).same ∙ sym (message_again (wire b).kinds bs (wire b) refl b_is).same in
+    sym (table.back a) ∙ ap message same ∙ table.back b

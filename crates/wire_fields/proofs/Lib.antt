@@ -1,5 +1,5 @@
 pub mod Back
 pub mod Decoders
 pub mod Digits
-pub mod Laws
+pub mod Fields
 pub mod Tables

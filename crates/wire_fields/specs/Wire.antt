@@ -1,5 +1,5 @@
 -- Messages as fields one after another, and why bytes are none.
-use Rattle.std.specs.Prelude.{◌≡◌, ℕ, ◌+◌, Bool, true, false, ◌&&◌, ◌==◌, IsTrue, List, [], ◌∷◌, ◌++◌, length, take, drop, slice_index, Option, Some, None, Result, Ok, Err, IfOk, if◌then◌else◌}
+use Rattle.std.specs.Prelude.{◌≡◌, ℕ, ◌+◌, Bool, true, false, ◌&&◌, ◌==◌, IsTrue, List, [], ◌∷◌, ◌++◌, length, take, drop, slice_index, Option, Some, None, Result, Ok, IfOk, if◌then◌else◌}
 use Rattle.std.specs.Option.{option_map}
 use Rattle.std.specs.Result.{result_err}
 use Rattle.market_types.specs.declared.error.CodecError.{CodecError}
@@ -32,10 +32,14 @@ are_in_range [] (v ∷ vs) = false
 are_in_range (k ∷ ks) [] = false
 are_in_range (k ∷ ks) (v ∷ vs) = is_in_range k v && are_in_range ks vs
 
+-- each field of a message is in its range
+abbrev pub IsInRange : Wire → Type 0
+IsInRange w = IsTrue (are_in_range w.kinds w.values)
+
 -- These bytes spell the message, each of whose fields is in its range.
 pub record IsSpelled (bytes : List ℕ) (w : Wire) : Type 0 where
   pub same : bytes ≡ spelling w
-  pub in_range : IsTrue (are_in_range w.kinds w.values)
+  pub in_range : IsInRange w
 
 -- each field has a value of the code of its width, and there are no more
 abbrev pub HaveWidths : List Kind → List Value → Type 0

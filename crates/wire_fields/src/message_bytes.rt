@@ -31,7 +31,8 @@ impl<const N: usize> MessageBytes<N> {
     pub fn of(letter: u8, kinds: &[Kind], values: &[Value]) -> MessageBytes<N>
         requires widths { HaveWidths kinds.now values.now }
         requires room { 1 + total_width kinds.now ≤ N }
-        ensures { result ≡ spelling (record { letter = letter; kinds = kinds.now; values = map told values.now }) }
+        ensures spelling { result ≡ spelling (record { letter = letter; kinds = kinds.now; values = map told values.now }) }
+        ensures size { length result ≤ N }
     {
         let mut bytes = [0; N];
         write(&mut bytes, letter, kinds, values);
@@ -43,7 +44,8 @@ impl<const N: usize> MessageBytes<N> {
 
     /// The bytes in order.
     pub fn as_slice(&self) -> &[u8]
-        ensures { result.now ≡ self.now }
+        ensures bytes { result.now ≡ self.now }
+        ensures size { length result.now ≤ N }
     {
         &self.bytes[..self.len]
     }

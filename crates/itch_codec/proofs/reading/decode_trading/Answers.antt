@@ -1,6 +1,6 @@
 use Rattle.std.proofs.Common.{refl}
 use Rattle.wire_fields.proofs.Decoders.{read_passed}
-use Rattle.itch_codec.specs.declared.layouts.TheConstants.{TRADING}
+use Rattle.itch_codec.specs.declared.layouts.TheConstants.{TRADING, TRADING_TYPE}
 use Rattle.itch_codec.specs.Messages.{feed_wire, feed_layout}
 use Rattle.itch_codec.proofs.Back.{feed_of, feed_table}
 use Rattle.itch_codec.proofs.reading.decode_trading.Goals as goal
@@ -8,4 +8,4 @@ use Rattle.itch_codec.proofs.reading.decode_trading.Goals as goal
 pub returns : goal.returns
 returns c =
     let ok = c.in_ok-check.ensures in
-    read_passed feed_wire feed_layout feed_of feed_table c.args.bytes.now 72 TRADING c.requires refl ok.spelled ok.only ok.refused c.trading_at.result c.trading_at.ensures
+    read_passed feed_wire feed_layout feed_of feed_table c.args.bytes.now TRADING_TYPE TRADING c.requires refl ok.spelled ok.only ok.refused c.trading_at.result c.trading_at.ensures

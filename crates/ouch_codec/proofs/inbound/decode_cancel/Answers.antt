@@ -1,6 +1,6 @@
 use Rattle.std.proofs.Common.{refl}
 use Rattle.wire_fields.proofs.Decoders.{read_passed}
-use Rattle.ouch_codec.specs.declared.layouts.TheConstants.{CANCEL}
+use Rattle.ouch_codec.specs.declared.layouts.TheConstants.{CANCEL, CANCEL_TYPE}
 use Rattle.ouch_codec.specs.Inbound.{inbound_wire, inbound_layout}
 use Rattle.ouch_codec.proofs.InboundBack.{inbound_of, inbound_table}
 use Rattle.ouch_codec.proofs.inbound.decode_cancel.Goals as goal
@@ -8,4 +8,4 @@ use Rattle.ouch_codec.proofs.inbound.decode_cancel.Goals as goal
 pub returns : goal.returns
 returns c =
     let ok = c.in_ok-check.ensures in
-    read_passed inbound_wire inbound_layout inbound_of inbound_table c.args.bytes.now 88 CANCEL c.requires refl ok.spelled ok.only ok.refused c.cancel_at.result c.cancel_at.ensures
+    read_passed inbound_wire inbound_layout inbound_of inbound_table c.args.bytes.now CANCEL_TYPE CANCEL c.requires refl ok.spelled ok.only ok.refused c.cancel_at.result c.cancel_at.ensures

@@ -1,6 +1,6 @@
 use Rattle.std.proofs.Common.{refl}
 use Rattle.wire_fields.proofs.Decoders.{read_passed}
-use Rattle.ouch_codec.specs.declared.layouts.TheConstants.{SYSTEM}
+use Rattle.ouch_codec.specs.declared.layouts.TheConstants.{SYSTEM, SYSTEM_TYPE}
 use Rattle.ouch_codec.specs.Outbound.{reply_wire, reply_layout}
 use Rattle.ouch_codec.proofs.OutboundBack.{reply_of, reply_table}
 use Rattle.ouch_codec.proofs.outbound.decode_system.Goals as goal
@@ -8,4 +8,4 @@ use Rattle.ouch_codec.proofs.outbound.decode_system.Goals as goal
 pub returns : goal.returns
 returns c =
     let ok = c.in_ok-check.ensures in
-    read_passed reply_wire reply_layout reply_of reply_table c.args.bytes.now 83 SYSTEM c.requires refl ok.spelled ok.only ok.refused c.system_at.result c.system_at.ensures
+    read_passed reply_wire reply_layout reply_of reply_table c.args.bytes.now SYSTEM_TYPE SYSTEM c.requires refl ok.spelled ok.only ok.refused c.system_at.result c.system_at.ensures

@@ -1,5 +1,10 @@
+use Rattle.wire_fields.proofs.Decoders.{spelled_by}
+use Rattle.ouch_codec.specs.Outbound.{reply_wire}
 use Rattle.ouch_codec.proofs.outbound.encode_reply.Goals as goal
 
-pub returns-in-Accepted : goal.returns-in-Accepted
-returns-in-Accepted c =
-    rw (c.in-Accepted.is, c.of-in-Accepted.ensures, c.from.ensures, c.from-in-Accepted.ensures, c.from-in-Accepted-2.ensures, c.from-in-Accepted-3.ensures)
+pub returns-in-Accepted-clause-spelling : goal.returns-in-Accepted-clause-spelling
+returns-in-Accepted-clause-spelling c =
+    rw (c.in-Accepted.is, c.of-in-Accepted.ensures.spelling, c.from.ensures, c.from-in-Accepted.ensures, c.from-in-Accepted-2.ensures, c.from-in-Accepted-3.ensures)
+
+pub returns-in-Accepted-clause-spelled : goal.returns-in-Accepted-clause-spelled
+returns-in-Accepted-clause-spelled c = spelled_by c.of-in-Accepted.result (reply_wire c.args.m.now) (returns-in-Accepted-clause-spelling c)
