@@ -17,7 +17,9 @@ width Side = 1
 width OrderState = 1
 width TradingState = 1
 
--- whether a byte may stand in a field, but for the spaces that fill it
+-- Whether a byte may stand in a field, but for the spaces that fill it. Letters are the printable bytes of ASCII, a space
+-- among them; a text's are all but the space. A side is `B` or `S`, an order's state `L` or `D`, a stock's trading state
+-- `H`, `P`, `Q` or `T`.
 abbrev pub admits : Kind → ℕ → Bool
 admits (Number n) b = true
 admits Byte b = true
