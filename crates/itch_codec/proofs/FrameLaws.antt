@@ -1,16 +1,15 @@
 -- A framed payload is taken out of its frame again.
-use Rattle.std.proofs.Common.{◌≡◌, ℕ, ◌+◌, ◌<◌, ◌≤◌, ◌^◌, false, ltb, List, [], ◌∷◌, ◌++◌, length, take, drop, ◌-◌, Result, Ok, refl, sym, ap, ◌∙◌, arith}
+use Rattle.std.proofs.Common.{◌≡◌, ℕ, ◌+◌, ◌≤◌, false, ltb, List, ◌++◌, length, take, drop, ◌-◌, Result, Ok, refl, sym, ap, ◌∙◌, arith}
 use Rattle.std.proofs.lemmas.Bool.{le-ltb}
 use Rattle.market_types.specs.declared.error.CodecError.{CodecError}
 use Rattle.std.proofs.lemmas.List.{take_at, drop_at, take_all, length-append, length-drop, drop-drop}
-use Rattle.wire_fields.specs.Numbers.{number_bytes, number_of}
 use Rattle.wire_fields.proofs.Digits.{number_of-number_bytes}
 use Rattle.itch_codec.specs.Frames.{framed, framed_length, unframed}
 
 length_again : (payload rest : List ℕ) → length payload ≤ 65535 → framed_length (framed payload ++ rest) ≡ length payload
 length_again payload rest le = number_of-number_bytes 2 (length payload) (omega arith)
 
-unframed_again : (payload rest : List ℕ) → length payload ≤ 65535 → unframed (framed payload ++ rest) ≡ Ok (payload, rest)
+pub unframed_again : (payload rest : List ℕ) → length payload ≤ 65535 → unframed (framed payload ++ rest) ≡ Ok (payload, rest)
 unframed_again payload rest le =
     let len = length_again payload rest le in
     let two : ltb (length (framed payload ++ rest)) 2 ≡ false = le-ltb _ _ (omega arith) in

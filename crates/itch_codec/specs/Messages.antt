@@ -17,9 +17,9 @@ what_wire locate tracking time (Directory stock category financial lot lots_only
   letter = DIRECTORY_TYPE;
   kinds = DIRECTORY;
   values =
-    locate ∷ tracking ∷ time ∷ bytes stock.0 ∷ bytes (category ∷ []) ∷ bytes (financial ∷ []) ∷ number lot ∷ bytes (lots_only ∷ [])
-    ∷ bytes (class ∷ []) ∷ bytes sub_type ∷ bytes (authenticity ∷ []) ∷ bytes (short_sale ∷ []) ∷ bytes (ipo ∷ []) ∷ bytes (tier ∷ [])
-    ∷ bytes (etp ∷ []) ∷ number leverage ∷ bytes (inverse ∷ []) ∷ [];
+      locate ∷ tracking ∷ time ∷ bytes stock.0 ∷ bytes (category ∷ []) ∷ bytes (financial ∷ []) ∷ number lot ∷ bytes (lots_only ∷ [])
+      ∷ bytes (class ∷ []) ∷ bytes sub_type ∷ bytes (authenticity ∷ []) ∷ bytes (short_sale ∷ []) ∷ bytes (ipo ∷ []) ∷ bytes (tier ∷ [])
+      ∷ bytes (etp ∷ []) ∷ number leverage ∷ bytes (inverse ∷ []) ∷ [];
 }
 what_wire locate tracking time (Trading stock state reserved reason) = record {
   letter = TRADING_TYPE;
@@ -42,8 +42,8 @@ what_wire locate tracking time (Trade reference side shares stock price match_nu
   letter = TRADE_TYPE;
   kinds = TRADE;
   values =
-    locate ∷ tracking ∷ time ∷ number reference ∷ bytes (side_letter side ∷ []) ∷ number shares ∷ bytes stock.0 ∷ number price
-    ∷ number match_number ∷ [];
+      locate ∷ tracking ∷ time ∷ number reference ∷ bytes (side_letter side ∷ []) ∷ number shares ∷ bytes stock.0 ∷ number price
+      ∷ number match_number ∷ [];
 }
 what_wire locate tracking time (Cross shares stock price match_number kind) = record {
   letter = CROSS_TYPE;

@@ -4,7 +4,11 @@ ghost use Rattle.std.specs.Prelude.{◌≡◌, ◌<◌, ◌≤◌, ◌^◌, leng
 ghost use Rattle.wire_fields.specs.Wire.{IsInRange, IsSpelled, spelling};
 ghost use Rattle.itch_codec.specs.Messages.{feed_wire};
 
-use crate::layouts::{ADD, ADD_TYPE, CANCEL, CANCEL_TYPE, CROSS, CROSS_TYPE, DELETE, DELETE_TYPE, DIRECTORY, DIRECTORY_TYPE, EXECUTED, EXECUTED_TYPE, SYSTEM, SYSTEM_TYPE, TRADE, TRADE_TYPE, TRADING, TRADING_TYPE};
+use crate::layouts::{
+    ADD, ADD_TYPE, CANCEL, CANCEL_TYPE, CROSS, CROSS_TYPE, DELETE, DELETE_TYPE, DIRECTORY,
+    DIRECTORY_TYPE, EXECUTED, EXECUTED_TYPE, SYSTEM, SYSTEM_TYPE, TRADE, TRADE_TYPE, TRADING,
+    TRADING_TYPE,
+};
 use market_types::{Feed, What};
 use wire_fields::{MessageBytes, Value};
 

@@ -3,35 +3,61 @@
 use wire_fields::Kind;
 
 const STOCK_LOCATE: Kind = Kind::Number(2);
+
 const TRACKING_NUMBER: Kind = Kind::Number(2);
 /// In nanoseconds past midnight.
 const TIMESTAMP: Kind = Kind::Number(6);
+
 const EVENT_CODE: Kind = Kind::Letters(1);
+
 const STOCK: Kind = Kind::Text(8);
+
 const MARKET_CATEGORY: Kind = Kind::Letters(1);
+
 const FINANCIAL_STATUS_INDICATOR: Kind = Kind::Letters(1);
+
 const ROUND_LOT_SIZE: Kind = Kind::Number(4);
+
 const ROUND_LOTS_ONLY: Kind = Kind::Letters(1);
+
 const ISSUE_CLASSIFICATION: Kind = Kind::Letters(1);
+
 const ISSUE_SUB_TYPE: Kind = Kind::Letters(2);
+
 const AUTHENTICITY: Kind = Kind::Letters(1);
+
 const SHORT_SALE_THRESHOLD_INDICATOR: Kind = Kind::Letters(1);
+
 const IPO_FLAG: Kind = Kind::Letters(1);
+
 const LULD_REFERENCE_PRICE_TIER: Kind = Kind::Letters(1);
+
 const ETP_FLAG: Kind = Kind::Letters(1);
+
 const ETP_LEVERAGE_FACTOR: Kind = Kind::Number(4);
+
 const INVERSE_INDICATOR: Kind = Kind::Letters(1);
+
 const TRADING_STATE: Kind = Kind::TradingState;
+
 const RESERVED: Kind = Kind::Letters(1);
+
 const REASON: Kind = Kind::Letters(4);
+
 const ORDER_REFERENCE_NUMBER: Kind = Kind::Number(8);
+
 const BUY_SELL_INDICATOR: Kind = Kind::Side;
+
 const SHARES: Kind = Kind::Number(4);
 /// With four implied decimals.
 const PRICE: Kind = Kind::Number(4);
+
 const EXECUTED_SHARES: Kind = Kind::Number(4);
+
 const MATCH_NUMBER: Kind = Kind::Number(8);
+
 const CANCELED_SHARES: Kind = Kind::Number(4);
+
 const CROSS_SHARES: Kind = Kind::Number(8);
 /// With four implied decimals.
 const CROSS_PRICE: Kind = Kind::Number(4);

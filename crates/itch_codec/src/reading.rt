@@ -7,7 +7,11 @@ ghost use Rattle.wire_fields.specs.Wire.{IsSpelled, IsRead, AreGood, wire_in, re
 ghost use Rattle.itch_codec.specs.Messages.{feed_wire, feed_layout};
 ghost use Rattle.market_types.specs.declared.feed.Feed.{Feed};
 
-use crate::layouts::{ADD, ADD_TYPE, CANCEL, CANCEL_TYPE, CROSS, CROSS_TYPE, DELETE, DELETE_TYPE, DIRECTORY, DIRECTORY_TYPE, EXECUTED, EXECUTED_TYPE, SYSTEM, SYSTEM_TYPE, TRADE, TRADE_TYPE, TRADING, TRADING_TYPE};
+use crate::layouts::{
+    ADD, ADD_TYPE, CANCEL, CANCEL_TYPE, CROSS, CROSS_TYPE, DELETE, DELETE_TYPE, DIRECTORY,
+    DIRECTORY_TYPE, EXECUTED, EXECUTED_TYPE, SYSTEM, SYSTEM_TYPE, TRADE, TRADE_TYPE, TRADING,
+    TRADING_TYPE,
+};
 use market_types::{CodecError, Feed, Symbol, What};
 use wire_fields::{array_at, byte_at, check, side_at, u16_at, u32_at, u48_at, u64_at};
 

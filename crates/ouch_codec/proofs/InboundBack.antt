@@ -1,16 +1,15 @@
 -- An order comes back from its message.
-use Rattle.std.proofs.Common.{◌≡◌, ℕ, Bool, true, false, cond, eqb, List, [], ◌∷◌, get_or, Option, Some, None, refl, ap}
+use Rattle.std.proofs.Common.{◌≡◌, cond, eqb, List, Some, refl, ap}
 use Rattle.market_types.specs.declared.order.Enter.{Enter}
 use Rattle.market_types.specs.declared.order.Cancel.{Cancel}
 use Rattle.market_types.specs.declared.order.Inbound.{Inbound}
 use Rattle.market_types.specs.declared.order.Inbound.TheVariants as inbound
-use Rattle.market_types.specs.declared.order.Side.{Side}
 use Rattle.ouch_codec.specs.declared.layouts.TheConstants.{ENTER_TYPE}
-use Rattle.wire_fields.specs.Values.{FieldValue, number, bytes, side_letter}
+use Rattle.wire_fields.specs.Values.{FieldValue}
 use Rattle.wire_fields.specs.Wire.{Wire}
 use Rattle.wire_fields.proofs.Back.{number_in, bytes_in, byte_in, side_in, side_back}
 use Rattle.wire_fields.proofs.Decoders.{IsTable}
-use Rattle.ouch_codec.specs.Inbound.{enter_values, cancel_values, inbound_wire, inbound_layout}
+use Rattle.ouch_codec.specs.Inbound.{enter_values, inbound_wire, inbound_layout}
 
 abbrev enter_in : List FieldValue → Enter
 enter_in vs = record {

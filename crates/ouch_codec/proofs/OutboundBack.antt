@@ -13,7 +13,7 @@ use Rattle.ouch_codec.specs.Outbound.{reply_wire, reply_layout}
 abbrev accepted_in : List FieldValue → Side → Reply
 accepted_in vs side =
     Accepted (number_in vs 0) (record { 0 = bytes_in vs 1 }) side (number_in vs 3) (record { 0 = bytes_in vs 4 }) (number_in vs 5) (number_in vs 6)
-        (bytes_in vs 7) (byte_in vs 8) (number_in vs 9) (byte_in vs 10) (byte_in vs 11) (number_in vs 12) (byte_in vs 13) (byte_in vs 14) (byte_in vs 15)
+    (bytes_in vs 7) (byte_in vs 8) (number_in vs 9) (byte_in vs 10) (byte_in vs 11) (number_in vs 12) (byte_in vs 13) (byte_in vs 14) (byte_in vs 15)
 
 abbrev pub reply_of : Wire → Reply
 reply_of w =

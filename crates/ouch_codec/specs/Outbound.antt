@@ -3,7 +3,7 @@ use Rattle.std.specs.Prelude.{ℕ, ◌==◌, List, [], ◌∷◌, Option, Some, 
 use Rattle.market_types.specs.declared.reply.Reply.{Reply}
 use Rattle.market_types.specs.declared.reply.Reply.TheVariants.{System, Accepted, Canceled, Executed, Rejected}
 use Rattle.wire_fields.specs.declared.kind.Kind.{Kind}
-use Rattle.wire_fields.specs.Values.{FieldValue, number, bytes, side_letter}
+use Rattle.wire_fields.specs.Values.{number, bytes, side_letter}
 use Rattle.wire_fields.specs.Wire.{Wire}
 use Rattle.ouch_codec.specs.declared.layouts.TheConstants.{ACCEPTED, ACCEPTED_TYPE, CANCELED, CANCELED_TYPE, EXECUTED, EXECUTED_TYPE, REJECTED, REJECTED_TYPE, SYSTEM, SYSTEM_TYPE}
 
@@ -15,9 +15,9 @@ reply_wire (Accepted time token side shares stock price tif firm display referen
   letter = ACCEPTED_TYPE;
   kinds = ACCEPTED;
   values =
-    number time ∷ bytes token.0 ∷ bytes (side_letter side ∷ []) ∷ number shares ∷ bytes stock.0 ∷ number price ∷ number tif
-    ∷ bytes firm ∷ bytes (display ∷ []) ∷ number reference ∷ bytes (capacity ∷ []) ∷ bytes (sweep ∷ []) ∷ number minimum
-    ∷ bytes (cross ∷ []) ∷ bytes (state ∷ []) ∷ bytes (bbo ∷ []) ∷ [];
+      number time ∷ bytes token.0 ∷ bytes (side_letter side ∷ []) ∷ number shares ∷ bytes stock.0 ∷ number price ∷ number tif
+      ∷ bytes firm ∷ bytes (display ∷ []) ∷ number reference ∷ bytes (capacity ∷ []) ∷ bytes (sweep ∷ []) ∷ number minimum
+      ∷ bytes (cross ∷ []) ∷ bytes (state ∷ []) ∷ bytes (bbo ∷ []) ∷ [];
 }
 reply_wire (Canceled time token decrement reason) = record {
   letter = CANCELED_TYPE;

@@ -45,10 +45,7 @@ pub fn encode_cancel(m: &Cancel) -> [u8; 19]
     message(
         CANCEL_TYPE,
         &CANCEL,
-        &[
-            Value::Token(m.token),
-            Value::Number(u64::from(m.shares)),
-        ],
+        &[Value::Token(m.token), Value::Number(u64::from(m.shares))],
     )
 }
 

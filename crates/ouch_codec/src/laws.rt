@@ -36,9 +36,20 @@ pub fn one_spelling()
 /// An Enter Order of 999,999 shares at 10.00 dollars, byte by byte.
 pub fn entered_order()
     ensures { spelling (inbound_wire (inbound.Enter (record {
-            token = record { 0 = codes "T0001000000001" }; side = side.Buy; shares = 999999; stock = record { 0 = codes "ABM     " };
-            price = 100000; tif = 99999; firm = codes "ABID"; display = 89; capacity = 80; sweep = 78; minimum = 0; cross = 78; customer = 78
-        })))
+      token = record { 0 = codes "T0001000000001" };
+      side = side.Buy;
+      shares = 999999;
+      stock = record { 0 = codes "ABM     " };
+      price = 100000;
+      tif = 99999;
+      firm = codes "ABID";
+      display = 89;
+      capacity = 80;
+      sweep = 78;
+      minimum = 0;
+      cross = 78;
+      customer = 78;
+    })))
         ≡ codes "OT0001000000001B" ++ (0x00 ∷ 0x0f ∷ 0x42 ∷ 0x3f ∷ []) ++ codes "ABM     " ++ (0x00 ∷ 0x01 ∷ 0x86 ∷ 0xa0 ∷ [])
         ++ (0x00 ∷ 0x01 ∷ 0x86 ∷ 0x9f ∷ []) ++ codes "ABIDYPN" ++ (0 ∷ 0 ∷ 0 ∷ 0 ∷ []) ++ codes "NN" }
 {}

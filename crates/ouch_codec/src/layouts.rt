@@ -4,30 +4,51 @@ use wire_fields::Kind;
 
 /// In nanoseconds past midnight.
 const TIMESTAMP: Kind = Kind::Number(8);
+
 const ORDER_TOKEN: Kind = Kind::Alphanumeric(14);
+
 const BUY_SELL_INDICATOR: Kind = Kind::Side;
+
 const SHARES: Kind = Kind::Number(4);
+
 const STOCK: Kind = Kind::Text(8);
 /// With four implied decimals.
 const PRICE: Kind = Kind::Number(4);
 /// In seconds.
 const TIME_IN_FORCE: Kind = Kind::Number(4);
+
 const FIRM: Kind = Kind::Letters(4);
+
 const DISPLAY: Kind = Kind::Letters(1);
+
 const CAPACITY: Kind = Kind::Letters(1);
+
 const INTERMARKET_SWEEP_ELIGIBILITY: Kind = Kind::Letters(1);
+
 const MINIMUM_QUANTITY: Kind = Kind::Number(4);
+
 const CROSS_TYPE: Kind = Kind::Letters(1);
+
 const CUSTOMER_TYPE: Kind = Kind::Letters(1);
+
 const EVENT_CODE: Kind = Kind::Letters(1);
+
 const ORDER_REFERENCE_NUMBER: Kind = Kind::Number(8);
+
 const ORDER_STATE: Kind = Kind::OrderState;
+
 const BBO_WEIGHT_INDICATOR: Kind = Kind::Byte;
+
 const DECREMENT_SHARES: Kind = Kind::Number(4);
+
 const REASON: Kind = Kind::Letters(1);
+
 const EXECUTED_SHARES: Kind = Kind::Number(4);
+
 const EXECUTION_PRICE: Kind = Kind::Number(4);
+
 const LIQUIDITY_FLAG: Kind = Kind::Letters(1);
+
 const MATCH_NUMBER: Kind = Kind::Number(8);
 
 /// The type of Enter Order.

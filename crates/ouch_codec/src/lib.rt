@@ -9,3 +9,6 @@ mod outbound;
 pub use inbound::{decode_in, encode_cancel, encode_enter};
 pub use laws::{entered_order, one_spelling, published_layouts, refused_orders};
 pub use outbound::{ReplyBytes, decode_out, encode_reply};
+
+#[cfg(test)]
+mod tests;

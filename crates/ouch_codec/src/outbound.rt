@@ -6,11 +6,12 @@ ghost use Rattle.wire_fields.specs.Wire.{IsInRange, IsSpelled, IsRead, AreGood, 
 ghost use Rattle.ouch_codec.specs.Outbound.{reply_wire, reply_layout};
 ghost use Rattle.market_types.specs.declared.reply.Reply.{Reply};
 
-use crate::layouts::{ACCEPTED, ACCEPTED_TYPE, CANCELED, CANCELED_TYPE, EXECUTED, EXECUTED_TYPE, REJECTED, REJECTED_TYPE, SYSTEM, SYSTEM_TYPE};
-use market_types::{CodecError, Reply, Symbol, Token};
-use wire_fields::{
-    MessageBytes, Value, array_at, byte_at, check, side_at, u32_at, u64_at,
+use crate::layouts::{
+    ACCEPTED, ACCEPTED_TYPE, CANCELED, CANCELED_TYPE, EXECUTED, EXECUTED_TYPE, REJECTED,
+    REJECTED_TYPE, SYSTEM, SYSTEM_TYPE,
 };
+use market_types::{CodecError, Reply, Symbol, Token};
+use wire_fields::{MessageBytes, Value, array_at, byte_at, check, side_at, u32_at, u64_at};
 
 /// The bytes of a reply, at most 66, seen as their list.
 pub type ReplyBytes = MessageBytes<66>;

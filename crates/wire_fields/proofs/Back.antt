@@ -1,5 +1,5 @@
 -- Numbers, bytes and sides in a list of values, by their place.
-use Rattle.std.proofs.Common.{◌≡◌, ℕ, Bool, true, false, cond, eqb, List, [], ◌∷◌, get_or, refl}
+use Rattle.std.proofs.Common.{◌≡◌, ℕ, cond, eqb, List, [], get_or, refl}
 use Rattle.market_types.specs.declared.order.Side.{Side}
 use Rattle.market_types.specs.declared.order.Side.TheVariants.{Buy, Sell}
 use Rattle.wire_fields.specs.Values.{FieldValue, number, bytes, side_letter}

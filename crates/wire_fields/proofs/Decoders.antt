@@ -1,10 +1,9 @@
 -- What a decoder answers, from what `check` found of one type.
-use Rattle.std.proofs.Common.{◌≡◌, ℕ, ◌<◌, Bool, true, false, List, [], ◌∷◌, length, get_or, slice_get, Option, Some, None, Result, Ok, Err, refl, sym, ap, subst, ◌∙◌, arith}
+use Rattle.std.proofs.Common.{◌≡◌, ℕ, ◌<◌, true, false, List, [], ◌∷◌, length, get_or, slice_get, Option, Some, None, Ok, Err, refl, sym, ap, ◌∙◌, arith}
 use Rattle.market_types.specs.declared.error.CodecError.{CodecError}
 use Rattle.wire_fields.specs.declared.kind.Kind.{Kind}
-use Rattle.wire_fields.specs.Values.{FieldValue}
 use Rattle.wire_fields.proofs.Fields.{message_again}
-use Rattle.wire_fields.specs.Wire.{Wire, spelling, IsInRange, IsSpelled, IsRead, wire_in, wire_at, fault, fault_of, refusal}
+use Rattle.wire_fields.specs.Wire.{Wire, spelling, IsInRange, IsSpelled, IsRead, wire_in, wire_at, fault, refusal}
 
 -- The letter of each message tells its fields, and a message comes back from its wire.
 pub record IsTable {M : Type 0} (wire : M → Wire) (layout : ℕ → Option (List Kind)) (message : Wire → M) : Type 0 where
@@ -43,8 +42,8 @@ read_passed {M = M} wire layout message table bs letter ks first known spelled o
     record {
       spelled = rw same spelled;
       only = λ m m_spelled.
-        let other : wire m ≡ wire_at ks bs = (only (wire m) (kinds_by wire layout message table bs letter ks is known m m_spelled) m_spelled).1 in
-        ap (λ (y : M). Ok y) (sym (table.back x) ∙ ap message (same ∙ sym other) ∙ table.back m);
+          let other : wire m ≡ wire_at ks bs = (only (wire m) (kinds_by wire layout message table bs letter ks is known m m_spelled) m_spelled).1 in
+          ap (λ (y : M). Ok y) (sym (table.back x) ∙ ap message (same ∙ sym other) ∙ table.back m);
       refused = none ∙ sym (refusal_by layout bs letter ks long is known);
     }
 

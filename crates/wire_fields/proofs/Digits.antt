@@ -2,7 +2,6 @@
 use Rattle.std.proofs.Common.{◌≡◌, ℕ, zero, suc, ◌+◌, ◌-◌, ◌*◌, ◌/◌, ◌%◌, ◌^◌, ◌<◌, ◌≤◌, List, [], ◌∷◌, ◌++◌, length, get_or, drop, take, replicate, refl, sym, ap, subst, ◌∙◌, inl, inr, zero-add, arith}
 use Rattle.std.proofs.lemmas.List.{length-append, length-take, length-drop, get_or-drop, get_or-take, get_or_past}
 use Rattle.std.proofs.lemmas.Bool.{cases_lt}
-use Rattle.std.proofs.lemmas.Grind.{common_steps}
 use Rattle.std.specs.Int.{w64, from_be_bytes, to_be_bytes}
 use Rattle.wire_fields.specs.Numbers.{number_bytes, number_of}
 use Rattle.std.proofs.lemmas.List.{length-replicate, take_all}
@@ -74,7 +73,7 @@ number_of-number_bytes-with (suc n) number =
     let quotient : number / 256 ^ suc n ≡ number / 256 ^ n / 256 = rw pow-suc (sym (div-div-eq-div-mul number (256 ^ n) 256)) in
     let parts : 256 ^ n * (256 * (number / 256 ^ n / 256) + number / 256 ^ n % 256) ≡ 256 ^ n * (number / 256 ^ n) = ap (λ (q : ℕ). 256 ^ n * q) (div-add-mod (number / 256 ^ n) 256) in
     let first : number_of (number_bytes (suc n) number) ≡ number / 256 ^ n % 256 * 256 ^ n + number_of (number_bytes n number) =
-        ap (λ (k : ℕ). number / 256 ^ n % 256 * 256 ^ k + number_of (number_bytes n number)) (length-number_bytes n number) in
+    ap (λ (k : ℕ). number / 256 ^ n % 256 * 256 ^ k + number_of (number_bytes n number)) (length-number_bytes n number) in
     rw (first, quotient, pow-suc) (omega (arith, so_far, parts))
 
 pow_256_pos : (n : ℕ) → 0 < 256 ^ n

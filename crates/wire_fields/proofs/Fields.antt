@@ -1,11 +1,11 @@
 -- What fields read is how they were written, and the other way round.
-use Rattle.std.proofs.Common.{◌≡◌, ℕ, zero, suc, ◌+◌, ◌^◌, ◌<◌, ◌≤◌, Bool, true, false, cond, ◌&&◌, eqb, ltb, List, [], ◌∷◌, ◌++◌, length, get_or, take, drop, Option, Some, None, refl, sym, ap, subst, ◌∙◌, arith, inl, inr}
+use Rattle.std.proofs.Common.{◌≡◌, ℕ, ◌+◌, ◌^◌, ◌<◌, ◌≤◌, Bool, true, false, cond, ◌&&◌, eqb, ltb, List, [], ◌∷◌, ◌++◌, length, get_or, take, drop, Option, Some, None, refl, sym, ap, subst, ◌∙◌, arith}
 use Rattle.std.specs.List.{list_all}
-use Rattle.std.proofs.lemmas.Bool.{ltb-true, lt-ltb, eqb-true, eq-eqb, and_parts, and_from, cases_Bool}
+use Rattle.std.proofs.lemmas.Bool.{ltb-true, lt-ltb, eqb-true, eq-eqb, and_parts, and_from}
 use Rattle.std.proofs.lemmas.List.{take_at, drop_at, take-append-drop, drop-drop, drop_all, length-append, length-take, length-drop}
 use Rattle.wire_fields.specs.declared.kind.Kind.{Kind}
-use Rattle.wire_fields.specs.declared.kind.Kind.TheVariants.{Number, Byte, Letters, Text, Alphanumeric, Side, OrderState, TradingState}
-use Rattle.wire_fields.specs.Kinds.{width, admits, is_padded, is_filled, is_good}
+use Rattle.wire_fields.specs.declared.kind.Kind.TheVariants.{Number}
+use Rattle.wire_fields.specs.Kinds.{width, is_good}
 use Rattle.wire_fields.specs.Numbers.{number_bytes, number_of}
 use Rattle.wire_fields.specs.Values.{FieldValue, number, bytes, spelled, is_in_range, value_of}
 use Rattle.wire_fields.specs.Wire.{Wire, IsSpelled, spelled_fields, are_in_range, total_width, field_at, bad_at, values_at, wire_at, AreGood}
@@ -103,9 +103,10 @@ values_read (k ∷ ks) at bs fits len none =
     let width_is : length (field_at k at bs) ≡ width k = omega (arith, length-take (width k) (drop at bs), length-drop at bs) in
     let bytes_are : IsBytes (field_at k at bs) = IsBytes-take (width k) (drop at bs) (IsBytes-drop at bs fits) in
     let rest = values_read ks (at + width k) bs fits (omega arith) test.1 in
-    let whole : field_at k at bs ++ drop (at + width k) bs ≡ drop at bs = rw (← drop-drop (width k) at bs) (take-append-drop (width k) (drop at bs)) in
-    (rw (read_spelled k (field_at k at bs) bytes_are width_is, rest.0) whole,
-     and_from (is_in_range k (value_of k (field_at k at bs))) (are_in_range ks (values_at ks (at + width k) bs)) (read_in_range k (field_at k at bs) bytes_are width_is test.0) rest.1)
+    let whole : field_at k at bs ++ drop (at + width k) bs ≡ drop at bs = rw (← drop-drop (width k) at bs) (take-append-drop (width k) (drop at bs)) in (
+      rw (read_spelled k (field_at k at bs) bytes_are width_is, rest.0) whole,
+      and_from (is_in_range k (value_of k (field_at k at bs))) (are_in_range ks (values_at ks (at + width k) bs)) (read_in_range k (field_at k at bs) bytes_are width_is test.0) rest.1,
+    )
 
 -- ---- whole messages
 

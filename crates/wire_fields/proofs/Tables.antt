@@ -1,15 +1,13 @@
 -- A message that is written field by field.
 use Rattle.std.proofs.Common.{◌≡◌, ℕ, suc, ◌+◌, ◌-◌, ◌<◌, ◌≤◌, List, [], ◌∷◌, ◌++◌, length, get_or, take, drop, set, map, refl, sym, ap, subst, ◌∙◌, append_assoc, add-one, arith}
 use Rattle.std.proofs.Math.Seq.{drop-cons}
-use Rattle.std.proofs.lemmas.List.{take-append-drop, drop_all, drop-set-lt, drop-map, length-map, length-drop, append-nil, get_or-map}
+use Rattle.std.proofs.lemmas.List.{take-append-drop, drop_all, drop-set-lt, append-nil}
 use Rattle.std.proofs.lemmas.Slice.{take-put_mid, drop-put_mid}
 use borrow.Rule.Slice.PartMut.{put_mid}
 use Rattle.wire_fields.specs.declared.kind.Kind.{Kind}
 use Rattle.wire_fields.specs.declared.writing.Value.{Value}
-use Rattle.wire_fields.specs.declared.kind.Kind.TheVariants.{Number, Byte, Letters, Text, Alphanumeric, Side, OrderState, TradingState}
 use Rattle.wire_fields.specs.Kinds.{width}
-use Rattle.wire_fields.specs.Values.{FieldValue, number, bytes, spelled, told, HasWidth}
-use Rattle.wire_fields.proofs.Digits.{length-number_bytes}
+use Rattle.wire_fields.specs.Values.{spelled, told, HasWidth}
 use Rattle.wire_fields.specs.Wire.{total_width, spelled_fields, HaveWidths}
 
 -- What stands before an offset and what is left to write are the message; what follows the message stands as before.
@@ -52,8 +50,8 @@ pub width_there : (ks : List Kind) (vs : List Value) (i : ℕ) (k : Kind) (v : V
 width_there ks vs i k v lt all h =
     let there : i < length vs = omega (arith, same_lengths ks vs all) in
     let both : HaveWidths (get_or ks i k ∷ drop (i + 1) ks) (get_or vs i v ∷ drop (i + 1) vs) =
-        subst (λ (values : List Value). HaveWidths (get_or ks i k ∷ drop (i + 1) ks) values) (next_value vs i v there)
-            (subst (λ (kinds : List Kind). HaveWidths kinds (drop i vs)) (next_kind ks i k lt) h) in
+    subst (λ (values : List Value). HaveWidths (get_or ks i k ∷ drop (i + 1) ks) values) (next_value vs i v there)
+    (subst (λ (kinds : List Kind). HaveWidths kinds (drop i vs)) (next_kind ks i k lt) h) in
     both.0
 
 -- the field at a place

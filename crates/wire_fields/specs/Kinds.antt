@@ -1,5 +1,5 @@
 -- Kinds of fields, and the bytes that may stand in them.
-use Rattle.std.specs.Prelude.{ℕ, Bool, true, false, ◌&&◌, ◌||◌, ◌==◌, nat_lt, List, length, drop, if◌then◌else◌}
+use Rattle.std.specs.Prelude.{ℕ, Bool, true, false, ◌&&◌, ◌||◌, ◌==◌, nat_lt, List, drop, if◌then◌else◌}
 use Rattle.std.specs.Int.{is_in_range}
 use Rattle.std.specs.List.{list_all, prefix_len}
 use Rattle.std.specs.Char.{is_ascii_graphic, is_ascii_alphanumeric}
@@ -17,7 +17,9 @@ width Side = 1
 width OrderState = 1
 width TradingState = 1
 
--- whether a byte may stand in a field, but for the spaces that fill it
+-- Whether a byte may stand in a field, but for the spaces that fill it. Letters are the printable bytes of ASCII, a space
+-- among them; a text's are all but the space. A side is `B` or `S`, an order's state `L` or `D`, a stock's trading state
+-- `H`, `P`, `Q` or `T`.
 abbrev pub admits : Kind → ℕ → Bool
 admits (Number n) b = true
 admits Byte b = true

@@ -20,7 +20,7 @@ abbrev pub spelled : Kind → FieldValue → List ℕ
 spelled k (number n) = number_bytes (width k) n
 spelled k (bytes bs) = bs
 
--- whether a value is one that a field may have
+-- Whether a value is one that a field may have: a number of so many bytes, and bytes that may stand there.
 unfoldable pub is_in_range : Kind → FieldValue → Bool
 is_in_range (Number w) (number n) = nat_lt n (256 ^ w)
 is_in_range (Number w) (bytes bs) = false

@@ -1,5 +1,5 @@
 -- Messages as fields one after another, and why bytes are none.
-use Rattle.std.specs.Prelude.{◌≡◌, ℕ, ◌+◌, Bool, true, false, ◌&&◌, ◌==◌, IsTrue, List, [], ◌∷◌, ◌++◌, length, take, drop, slice_index, Option, Some, None, Result, Ok, Err, IfOk, if◌then◌else◌}
+use Rattle.std.specs.Prelude.{◌≡◌, ℕ, ◌+◌, Bool, true, false, ◌&&◌, ◌==◌, IsTrue, List, [], ◌∷◌, ◌++◌, length, take, drop, slice_index, Option, Some, None, Result, Ok, IfOk, if◌then◌else◌}
 use Rattle.std.specs.Option.{option_map}
 use Rattle.std.specs.Result.{result_err}
 use Rattle.market_types.specs.declared.error.CodecError.{CodecError}
@@ -14,6 +14,8 @@ pub record Wire : Type 0 where
   pub letter : ℕ
   pub kinds : List Kind
   pub values : List FieldValue
+
+-- ---- the bytes of a message
 
 -- the fields one after another
 abbrev pub spelled_fields : List Kind → List FieldValue → List ℕ
@@ -47,6 +49,8 @@ HaveWidths [] [] = Unit {0}
 HaveWidths [] (v ∷ vs) = ⊥
 HaveWidths (k ∷ ks) [] = ⊥
 HaveWidths (k ∷ ks) (v ∷ vs) = HasWidth k v × HaveWidths ks vs
+
+-- ---- fields by their offsets
 
 -- the bytes of fields of these kinds together
 abbrev pub total_width : List Kind → ℕ
@@ -84,6 +88,8 @@ wire_in letter ks bytes = record { letter = letter; kinds = ks; values = values_
 -- the message that stands in bytes by these fields
 abbrev pub wire_at : List Kind → List ℕ → Wire
 wire_at ks bytes = wire_in (slice_index bytes 0) ks bytes
+
+-- ---- reading
 
 -- why bytes are no message of a type with these fields
 unfoldable pub fault : List Kind → List ℕ → Option CodecError

@@ -1,7 +1,6 @@
-use Rattle.std.proofs.Common.{ℕ, ◌+◌, ◌∷◌, map, arith, length, set}
+use Rattle.std.proofs.Common.{ℕ, ◌+◌, arith}
 use Rattle.std.proofs.Math.ListN.{length-set}
-use Rattle.wire_fields.specs.Values.{told}
-use Rattle.wire_fields.specs.Wire.{total_width, spelled_fields}
+use Rattle.wire_fields.specs.Wire.{total_width}
 use Rattle.wire_fields.proofs.Tables.{write_letter, write_at, write_all, width_there}
 use Rattle.wire_fields.proofs.writing.write.Goals as goal
 
@@ -11,7 +10,7 @@ loop-i-init c = write_letter c.args.kinds.now c.args.values.now c.args.letter c.
 pub loop-i-preserved : goal.loop-i-preserved
 loop-i-preserved c =
     write_at c.args.kinds.now c.args.values.now c.loop-i.i _ _ c.loop-i.at c.width.result _ _ _ c.loop-i.out c.put.new.out
-        c.loop-i-test.true c.requires.widths c.loop-i.invariant (omega (arith, length-set {A = ℕ})) c.width.ensures c.put.ensures (omega arith)
+    c.loop-i-test.true c.requires.widths c.loop-i.invariant (omega (arith, length-set {A = ℕ})) c.width.ensures c.put.ensures (omega arith)
 
 pub put-requires-clause-fits : goal.put-requires-clause-fits
 put-requires-clause-fits c = width_there c.args.kinds.now c.args.values.now c.loop-i.i _ _ c.loop-i-test.true c.requires.widths c.loop-i.invariant.fitting
