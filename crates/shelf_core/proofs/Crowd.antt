@@ -63,20 +63,24 @@ split_orderly s h =
     (seats_end s.views (seats_of s h))
     (record {
       claimed = λ g c x. for_end (λ i u. times g u.claims ≡ claimed_by c u.numbers) s.views new (claimed_new k c (h.sound.claims.takers g c x)) (h.sound.claims.claimed g c x);
-      takers = λ g c x. subst (λ l. TakerStands l c) longer (taker_more k c (h.sound.claims.takers g c x)) })
+      takers = λ g c x. subst (λ l. TakerStands l c) longer (taker_more k c (h.sound.claims.takers g c x));
+    })
     (record {
       values = h.sound.places.values;
       words = λ p c x. subst (λ l. WordBelongs s.plan l p c) longer (belongs_more s.plan k p c (h.sound.places.words p c x));
       turns = λ p c x. for_end (λ i u. turns_at p u.turns ≡ turned_by c u.numbers) s.views new (turned_new s.plan k p c (h.sound.places.words p c x)) (h.sound.places.turns p c x);
       loans = λ p c y x. for_end (λ i u. loans_at p y u.loan ≡ lent_by c y u.numbers) s.views new (lent_new s.plan k p c y (h.sound.places.words p c x)) (h.sound.places.loans p c y x);
       turn_keys = for_end (λ i u. TurnKeys s.plan u) s.views new (λ i t x. absurd (not_some t x)) h.sound.places.turn_keys;
-      loan_keys = for_end (λ i u. LoanKeys s.plan u) s.views new (λ l x. absurd (not_some l x)) h.sound.places.loan_keys })
+      loan_keys = for_end (λ i u. LoanKeys s.plan u) s.views new (λ l x. absurd (not_some l x)) h.sound.places.loan_keys;
+    })
     (record {
       sum = let t = total_end (λ u. u.counts) s.views new in let d = h.sound.counts.sum in omega arith;
-      within = for_end (λ i u. u.counts ≤ length u.claims) s.views new (omega arith) h.sound.counts.within })
+      within = for_end (λ i u. u.counts ≤ length u.claims) s.views new (omega arith) h.sound.counts.within;
+    })
     (record {
       bit = for_end (λ i u. u.stopped ≡ true → s.stopped ≡ true) s.views new (λ f. absurd (true≢false (sym f))) h.sound.seen.bit;
-      number = for_end (λ i u. u.done_seen ≤ s.done) s.views new (omega arith) h.sound.seen.number })
+      number = for_end (λ i u. u.done_seen ≤ s.done) s.views new (omega arith) h.sound.seen.number;
+    })
     (for_end (λ i u. (key : Key) → is_in key u.known ≡ true → IsKept s.plan s.places key) s.views new (λ key f. absurd (true≢false (sym f))) h.sound.known)
     (for_end (λ i u. (g : ℕ) → 0 < times g u.claims → g < length s.claims) s.views new (λ g pos. absurd (omega arith)) h.segments)
     (let t = total_end (λ u. length u.claims) s.views new in let d = h.taken in omega arith)
@@ -130,41 +134,45 @@ join_orderly s n m v w h live live' two e e' no_turn no_loan =
     (record {
       claimed = λ g c x. both (λ i u. times g u.claims ≡ claimed_by c u.numbers)
           (let a : times g v.claims ≡ claimed_by c v.numbers = h.sound.claims.claimed g c x n v e in let b : times g w.claims ≡ claimed_by c w.numbers = h.sound.claims.claimed g c x m w e' in
-            let p = times_append g v.claims w.claims in let q = claimed_append c v.numbers w.numbers in omega arith)
+          let p = times_append g v.claims w.claims in let q = claimed_append c v.numbers w.numbers in omega arith)
           (claimed_none c) (λ i u ne ne' y. h.sound.claims.claimed g c x i u y);
-      takers = λ g c x. subst (λ l. TakerStands l c) (sym long) (h.sound.claims.takers g c x) })
+      takers = λ g c x. subst (λ l. TakerStands l c) (sym long) (h.sound.claims.takers g c x);
+    })
     (record {
       values = h.sound.places.values;
       words = λ p c x. subst (λ l. WordBelongs s.plan l p c) (sym long) (h.sound.places.words p c x);
       turns = λ p c x. both (λ i u. turns_at p u.turns ≡ turned_by c u.numbers)
           (let a : turns_at p v.turns ≡ turned_by c v.numbers = h.sound.places.turns p c x n v e in let b : turns_at p w.turns ≡ turned_by c w.numbers = h.sound.places.turns p c x m w e' in
-            let z : turns_at p w.turns ≡ 0 = ap (turns_at p) no_turn in let q = turned_append c v.numbers w.numbers in omega arith)
+          let z : turns_at p w.turns ≡ 0 = ap (turns_at p) no_turn in let q = turned_append c v.numbers w.numbers in omega arith)
           (turned_none c) (λ i u ne ne' y. h.sound.places.turns p c x i u y);
       loans = λ p c k x. both (λ i u. loans_at p k u.loan ≡ lent_by c k u.numbers)
           (let a : loans_at p k v.loan ≡ lent_by c k v.numbers = h.sound.places.loans p c k x n v e in let b : loans_at p k w.loan ≡ lent_by c k w.numbers = h.sound.places.loans p c k x m w e' in
-            let z : loans_at p k w.loan ≡ 0 = ap (loans_at p k) no_loan in let q = lent_append c k v.numbers w.numbers in omega arith)
+          let z : loans_at p k w.loan ≡ 0 = ap (loans_at p k) no_loan in let q = lent_append c k v.numbers w.numbers in omega arith)
           (lent_none c k) (λ i u ne ne' y. h.sound.places.loans p c k x i u y);
       turn_keys = both (λ i u. TurnKeys s.plan u)
           (λ i t x. let r = h.sound.places.turn_keys n v e i t x in let a = times_append t.1.segment v.claims w.claims in let pos = r.1 in (r.0, omega arith))
           (λ i t x. absurd (not_some t x)) (λ i u ne ne' y. h.sound.places.turn_keys i u y);
-      loan_keys = both (λ i u. LoanKeys s.plan u) (h.sound.places.loan_keys n v e) (λ l x. absurd (not_some l x)) (λ i u ne ne' y. h.sound.places.loan_keys i u y) })
+      loan_keys = both (λ i u. LoanKeys s.plan u) (h.sound.places.loan_keys n v e) (λ l x. absurd (not_some l x)) (λ i u ne ne' y. h.sound.places.loan_keys i u y);
+    })
     (record {
       sum = let t = sums (λ u. u.counts) in let d = h.sound.counts.sum in omega arith;
       within = both (λ i u. u.counts ≤ length u.claims)
           (let a = h.sound.counts.within n v e in let b = h.sound.counts.within m w e' in let l = length-append v.claims w.claims in omega arith)
-          (omega arith) (λ i u ne ne' y. h.sound.counts.within i u y) })
+          (omega arith) (λ i u ne ne' y. h.sound.counts.within i u y);
+    })
     (record {
       bit = both (λ i u. u.stopped ≡ true → s.stopped ≡ true)
           (λ f. ⊎_elim (h.sound.seen.bit n v e) (h.sound.seen.bit m w e') (or_either v.stopped w.stopped f))
           (λ f. absurd (true≢false (sym f))) (λ i u ne ne' y. h.sound.seen.bit i u y);
       number = both (λ i u. u.done_seen ≤ s.done)
           (let a = h.sound.seen.number n v e in let b = h.sound.seen.number m w e' in omega arith)
-          (omega arith) (λ i u ne ne' y. h.sound.seen.number i u y) })
+          (omega arith) (λ i u ne ne' y. h.sound.seen.number i u y);
+    })
     (both (λ i u. (key : Key) → is_in key u.known ≡ true → IsKept s.plan s.places key)
-      (λ key f. ⊎_elim (h.sound.known n v e key) (h.sound.known m w e' key) (or_either (is_in key v.known) (is_in key w.known) (sym (list_any-append (λ x. same_key x key) v.known w.known) ∙ f)))
-      (λ key f. absurd (true≢false (sym f))) (λ i u ne ne' y. h.sound.known i u y))
+    (λ key f. ⊎_elim (h.sound.known n v e key) (h.sound.known m w e' key) (or_either (is_in key v.known) (is_in key w.known) (sym (list_any-append (λ x. same_key x key) v.known w.known) ∙ f)))
+    (λ key f. absurd (true≢false (sym f))) (λ i u ne ne' y. h.sound.known i u y))
     (both (λ i u. (g : ℕ) → 0 < times g u.claims → g < length s.claims)
-      (λ g pos. let a = times_append g v.claims w.claims in dite (dec_le (times g v.claims) 0) (λ z. h.segments m w e' g (omega arith)) (λ z. h.segments n v e g (omega arith)))
-      (λ g pos. absurd (omega arith)) (λ i u ne ne' y. h.segments i u y))
+    (λ g pos. let a = times_append g v.claims w.claims in dite (dec_le (times g v.claims) 0) (λ z. h.segments m w e' g (omega arith)) (λ z. h.segments n v e g (omega arith)))
+    (λ g pos. absurd (omega arith)) (λ i u ne ne' y. h.segments i u y))
     (let a = sums (λ u. length u.claims) in let b = h.taken in let l = length-append v.claims w.claims in omega arith)
     (shape_keeps s.plan s s' refl refl refl (λ f. (refl, refl)) h.shape)

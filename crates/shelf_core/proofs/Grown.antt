@@ -14,40 +14,12 @@ use Rattle.shelf_core.specs.declared.event.Event.{Event}
 use Rattle.shelf_core.specs.declared.event.Event.TheVariants.{Lay, Claim, Begin, Publish, Abandon, Lend, Return, Count, Stop, Load, Split, Join}
 use Rattle.shelf_core.proofs.Lists.{bool_cases, not_some, some_same}
 
-after_small : (s : System) (e : Event) → IsSmall s.plan → IsSmallEvent e → IsSmall (after s e).plan
-after_small s (Lay plan) h x = x
-after_small s (Claim n g) h x = h
-after_small s (Begin n key) h x = h
-after_small s (Publish n key) h x = h
-after_small s (Abandon n key) h x = h
-after_small s (Lend n key) h x = h
-after_small s (Return n) h x = returned (loan_of (live_view s.views n))
-  where
-    returned : (o : Option (ℕ × Key)) → IsSmall (after_return s n o).plan
-    returned None = h
-    returned (Some l) = h
-after_small s (Count n) h x = h
-after_small s (Stop n) h x = h
-after_small s (Load n word) h x = h
-after_small s (Split n) h x = h
-after_small s (Join n m) h x = joins (live_view s.views m)
-  where
-    joins : (o : Option SeatView) → IsSmall (after_join s n m o).plan
-    joins None = h
-    joins (Some w) = h
-
-pub step_small : (s : System) (e : Event) → IsSmall s.plan → IsSmallEvent e → IsSmall (step_of s e).plan
-step_small s e h x = ⊎_elim
-    (λ (can : possible s e ≡ true). subst (λ (b : Bool). IsSmall (if b then after s e else s).plan) (sym can) (after_small s e h x))
-    (λ (cannot : possible s e ≡ false). subst (λ (b : Bool). IsSmall (if b then after s e else s).plan) (sym cannot) h)
-    (bool_cases (possible s e))
-
 as_long : (change : SeatView → SeatView) (views : List SeatView) (n : ℕ) → length (changed_at change views n) ≡ length views
 as_long change [] n = refl
 as_long change (v ∷ views) zero = refl
 as_long change (v ∷ views) (suc n) = ap suc (as_long change views n)
 
-after_seats : (s : System) (e : Event) → length (after s e).views ≤ length s.views + 1
+pub after_seats : (s : System) (e : Event) → length (after s e).views ≤ length s.views + 1
 after_seats s (Lay plan) = omega arith
 after_seats s (Claim n g) = let a = as_long (with_claim g) s.views n in omega arith
 after_seats s (Begin n key) = let a = as_long (with_turn (key_place s key) key) s.views n in omega arith
@@ -68,12 +40,6 @@ after_seats s (Join n m) = joins (live_view s.views m)
     joins : (o : Option SeatView) → length (after_join s n m o).views ≤ length s.views + 1
     joins None = omega arith
     joins (Some w) = let a = as_long (joined_with w) s.views n in let b = length-set (changed_at (joined_with w) s.views n) m spent_view in omega arith
-
-pub step_seats : (s : System) (e : Event) → length (step_of s e).views ≤ length s.views + 1
-step_seats s e = ⊎_elim
-    (λ (can : possible s e ≡ true). subst (λ (b : Bool). length (if b then after s e else s).views ≤ length s.views + 1) (sym can) (after_seats s e))
-    (λ (cannot : possible s e ≡ false). subst (λ (b : Bool). length (if b then after s e else s).views ≤ length s.views + 1) (sym cannot) (omega arith))
-    (bool_cases (possible s e))
 
 -- What the clauses of a step say together.
 pub step_is : (s t : System) (e : Event) (answer : Bool) → answer ≡ possible s e → (answer ≡ true → t ≡ after s e) → (answer ≡ false → t ≡ s) → t ≡ step_of s e

@@ -40,8 +40,8 @@ fills plan places p old new key is keeps f = go (place_in plan key) refl f
     go None eq f = f
     go (Some q) eq f = dite (ℕ_discrete q p)
         (λ same. let g : is_filled (slice_get places p) ≡ true = subst (λ x. is_filled (slice_get places x) ≡ true) same f in
-          let k = keeps (eq ∙ ap Some same) (subst (λ o. is_filled o ≡ true) is g) in
-          subst (λ x. is_filled (slice_get (set places p new) x) ≡ true) (sym same) (subst (λ o. is_filled o ≡ true) (sym (set_here places p new old is)) k))
+        let k = keeps (eq ∙ ap Some same) (subst (λ o. is_filled o ≡ true) is g) in
+        subst (λ x. is_filled (slice_get (set places p new) x) ≡ true) (sym same) (subst (λ o. is_filled o ≡ true) (sym (set_here places p new old is)) k))
         (λ ne. subst (λ o. is_filled o ≡ true) (sym (set_else places p q new ne)) f)
 
 -- At the place of a key.
@@ -57,7 +57,8 @@ after_keeps s (Lay plan) h can =
       stopped = λ f. absurd (true≢false (sym f ∙ bare.stopped));
       done = (let d = bare.done in omega arith);
       taken = λ g n e. absurd (not_some (Taken n) (sym (ap (λ (l : List ClaimWord). slice_get l g) bare.claims) ∙ e));
-      filled = λ key sole f. absurd (true≢false (sym sole ∙ ap (λ p. sole_in p key) none)) }
+      filled = λ key sole f. absurd (true≢false (sym sole ∙ ap (λ p. sole_in p key) none));
+    }
 after_keeps s (Claim n g) h can =
     let r = live_seat s n (λ view. is_open (slice_get s.claims g)) can in
     let is = open_is (slice_get s.claims g) r.3 in record {
@@ -66,7 +67,8 @@ after_keeps s (Claim n g) h can =
       taken = λ g' m e. dite (ℕ_discrete g' g)
           (λ same. let x : Open ≡ Taken m = some_same Open (Taken m) (sym is ∙ ap (slice_get s.claims) (sym same) ∙ e) in absurd cc)
           (λ ne. set_else s.claims g g' (Taken n) ne ∙ e);
-      filled = λ key sole f. f }
+      filled = λ key sole f. f;
+    }
 after_keeps s (Begin n key) h can =
     let r = live_seat s n (λ view. list_any (λ segment. segment == key.segment) view.claims && allows_writing s key (word_at s key)) can in
     record {
@@ -75,13 +77,14 @@ after_keeps s (Begin n key) h can =
       taken = λ g m e. e;
       filled = ⊎_elim
           (λ (free : word_at s key ≡ Some Free). let w = word_cases s.places (place_in s.plan key) Free free in
-            fills_at s w.0 Free (Writing n) key w.1 w.2 (λ k sole at f. f))
+          fills_at s w.0 Free (Writing n) key w.1 w.2 (λ k sole at f. f))
           (λ (other : (k : Key) × (word_at s key ≡ Some (Ready k)) × (same_key k key ≡ false)). let w = word_cases s.places (place_in s.plan key) (Ready other.0) other.1 in
-            fills_at s w.0 (Ready other.0) (Writing n) key w.1 w.2 (λ k sole at f.
-              let a : other.0 ≡ k = alone_in s.plan k other.0 w.0 sole at (h.sound.places.words w.0 (Ready other.0) w.2) in
-              let b : key ≡ k = alone_in s.plan k key w.0 sole at w.1 in
-              absurd (true≢false (sym (subst (λ (x : Key). same_key other.0 x ≡ true) (a ∙ sym b) (key_self other.0)) ∙ other.2))))
-          (allowed s key (word_at s key) (and_right (list_any (λ segment. segment == key.segment) r.0.claims) (allows_writing s key (word_at s key)) r.3)) }
+          fills_at s w.0 (Ready other.0) (Writing n) key w.1 w.2 (λ k sole at f.
+          let a : other.0 ≡ k = alone_in s.plan k other.0 w.0 sole at (h.sound.places.words w.0 (Ready other.0) w.2) in
+          let b : key ≡ k = alone_in s.plan k key w.0 sole at w.1 in
+          absurd (true≢false (sym (subst (λ (x : Key). same_key other.0 x ≡ true) (a ∙ sym b) (key_self other.0)) ∙ other.2))))
+          (allowed s key (word_at s key) (and_right (list_any (λ segment. segment == key.segment) r.0.claims) (allows_writing s key (word_at s key)) r.3));
+    }
 after_keeps s (Publish n key) h can =
     let r = live_seat s n (λ view. has_turn key view.turns) can in
     let t = turn_place s n key r.0 h r.1 r.3 in
@@ -89,7 +92,8 @@ after_keeps s (Publish n key) h can =
       stopped = λ f. f;
       done = omega arith;
       taken = λ g m e. e;
-      filled = fills_at s t.0 w.0 (Ready key) key t.1 w.1 (λ k sole at f. refl) }
+      filled = fills_at s t.0 w.0 (Ready key) key t.1 w.1 (λ k sole at f. refl);
+    }
 after_keeps s (Abandon n key) h can =
     let r = live_seat s n (λ view. has_turn key view.turns) can in
     let t = turn_place s n key r.0 h r.1 r.3 in
@@ -98,26 +102,30 @@ after_keeps s (Abandon n key) h can =
       stopped = λ f. f;
       done = omega arith;
       taken = λ g m e. e;
-      filled = fills_at s t.0 w.0 Free key t.1 w.1 (λ k sole at f. absurd (true≢false (sym f ∙ ap (λ (o : PlaceWord). is_filled (Some o)) m.1))) }
+      filled = fills_at s t.0 w.0 Free key t.1 w.1 (λ k sole at f. absurd (true≢false (sym f ∙ ap (λ (o : PlaceWord). is_filled (Some o)) m.1)));
+    }
 after_keeps s (Lend n key) h can =
     let r = live_seat s n (λ view. is_ready key (word_at s key) && is_none view.loan) can in
     let w = word_cases s.places (place_in s.plan key) (Ready key) (ready_is key (word_at s key) (and_left (is_ready key (word_at s key)) (is_none r.0.loan) r.3)) in record {
       stopped = λ f. f;
       done = omega arith;
       taken = λ g m e. e;
-      filled = fills_at s w.0 (Ready key) (Lent key n) key w.1 w.2 (λ k sole at f. refl) }
+      filled = fills_at s w.0 (Ready key) (Lent key n) key w.1 w.2 (λ k sole at f. refl);
+    }
 after_keeps s (Return n) h can = returned (loan_of (live_view s.views n)) (λ l e. h_at l e)
   where
     h_at : (l : ℕ × Key) → loan_of (live_view s.views n) ≡ Some l → place_in s.plan l.1 ≡ Some l.0
     h_at l e = let r = live_seat s n (λ view. is_some view.loan) can in
         let has : r.0.loan ≡ Some l = sym (ap loan_of (live_is s.views n r.0 r.1 r.2)) ∙ e in h.sound.places.loan_keys n r.0 r.1 l has
+
     returned : (o : Option (ℕ × Key)) → ((l : ℕ × Key) → o ≡ Some l → place_in s.plan l.1 ≡ Some l.0) → Keeps s (after_return s n o)
     returned None at = keeps_self s
     returned (Some l) at = let w = word_there s l.1 l.0 h (at l refl) in record {
       stopped = λ f. f;
       done = omega arith;
       taken = λ g m e. e;
-      filled = λ key sole f. fills s.plan s.places l.0 w.0 (Ready l.1) key w.1 (λ at f. refl) f }
+      filled = λ key sole f. fills s.plan s.places l.0 w.0 (Ready l.1) key w.1 (λ at f. refl) f;
+    }
 after_keeps s (Count n) h can = record { stopped = λ f. f; done = omega arith; taken = λ g m e. e; filled = λ key sole f. f }
 after_keeps s (Stop n) h can = record { stopped = λ f. refl; done = omega arith; taken = λ g m e. e; filled = λ key sole f. f }
 after_keeps s (Load n word) h can = record { stopped = λ f. f; done = omega arith; taken = λ g m e. e; filled = λ key sole f. f }
@@ -144,4 +152,5 @@ next_keeps (e ∷ events) (suc i) s h = next_keeps events i (step_of s e) (step_
 pub law_holds : (events : List Event) → Law events
 law_holds events = record {
   orderly = λ i. left_orderly (take i events);
-  keeps = λ i. let next : suc i ≡ i + 1 = omega arith in subst (λ j. Keeps (left_by (take i events)) (left_by (take j events))) next (next_keeps events i opening opening_orderly) }
+  keeps = λ i. let next : suc i ≡ i + 1 = omega arith in subst (λ j. Keeps (left_by (take i events)) (left_by (take j events))) next (next_keeps events i opening opening_orderly);
+}

@@ -52,26 +52,29 @@ lay_orderly s plan h none distinct =
     let bare : IsBare s = subst (λ (p : Option ShelfPlan). HasShape p s) none h.shape in
     let s' : System = record s { plan = Some plan; claims = replicate plan.segments Open; places = replicate (place_count plan) Free; home = replicate (place_count plan) None; done = 0; stopped = false } in
     let no_claim : ForViews s.views (λ n v. (g : ℕ) → times g v.claims ≡ 0) = λ n v e g. (let l : length s.claims ≡ 0 = ap length bare.claims in
-        dite (dec_le (times g v.claims) 0) (λ z. omega arith) (λ z. let a = h.segments n v e g (omega arith) in absurd (omega arith))) in
+    dite (dec_le (times g v.claims) 0) (λ z. omega arith) (λ z. let a = h.segments n v e g (omega arith) in absurd (omega arith))) in
     let no_turn : ForViews s.views (λ n v. (p : ℕ) → turns_at p v.turns ≡ 0) = λ n v e. no_turns v.turns (λ i t x. let r = h.sound.places.turn_keys n v e i t x in
-        not_some t.0 (sym (ap (λ p. place_in p t.1) none) ∙ r.0)) in
+    not_some t.0 (sym (ap (λ p. place_in p t.1) none) ∙ r.0)) in
     let no_loan : ForViews s.views (λ n v. (p : ℕ) (k : Key) → loans_at p k v.loan ≡ 0) = λ n v e. no_loans v.loan (λ l x. let r = h.sound.places.loan_keys n v e l x in
-        not_some l.0 (sym (ap (λ p. place_in p l.1) none) ∙ r)) in
+    not_some l.0 (sym (ap (λ p. place_in p l.1) none) ∙ r)) in
     orderly_of s' (seats_of s h)
     (record {
       claimed = λ g c x n v e. let is : Open ≡ c = at_copies plan.segments g Open c x in no_claim n v e g ∙ ap (λ y. claimed_by y v.numbers) is;
-      takers = λ g c x. let is : Open ≡ c = at_copies plan.segments g Open c x in subst (λ y. TakerStands (length s.views) y) is tt })
+      takers = λ g c x. let is : Open ≡ c = at_copies plan.segments g Open c x in subst (λ y. TakerStands (length s.views) y) is tt;
+    })
     (record {
       values = values_free (place_count plan);
       words = λ p c x. subst (WordBelongs (Some plan) (length s.views) p) (at_copies (place_count plan) p Free c x) tt;
       turns = λ p c x n v e. let is : Free ≡ c = at_copies (place_count plan) p Free c x in no_turn n v e p ∙ ap (λ y. turned_by y v.numbers) is;
       loans = λ p c k x n v e. let is : Free ≡ c = at_copies (place_count plan) p Free c x in no_loan n v e p k ∙ ap (λ y. lent_by y k v.numbers) is;
       turn_keys = λ n v e i t x. let r = h.sound.places.turn_keys n v e i t x in absurd (not_some t.0 (sym (ap (λ p. place_in p t.1) none) ∙ r.0));
-      loan_keys = λ n v e l x. absurd (not_some l.0 (sym (ap (λ p. place_in p l.1) none) ∙ h.sound.places.loan_keys n v e l x)) })
+      loan_keys = λ n v e l x. absurd (not_some l.0 (sym (ap (λ p. place_in p l.1) none) ∙ h.sound.places.loan_keys n v e l x));
+    })
     (record { sum = sym bare.done ∙ h.sound.counts.sum; within = h.sound.counts.within })
     (record {
       bit = λ n v e f. sym bare.stopped ∙ h.sound.seen.bit n v e f;
-      number = λ n v e. let a = h.sound.seen.number n v e in let b = bare.done in omega arith })
+      number = λ n v e. let a = h.sound.seen.number n v e in let b = bare.done in omega arith;
+    })
     (λ n v e key f. let k = h.sound.known n v e key f in absurd (true≢false (sym k.sole ∙ ap (λ p. sole_in p key) none)))
     (λ n v e g pos. let a = no_claim n v e g in absurd (omega arith))
     (h.taken ∙ ap taken_count bare.claims ∙ sym (taken_none plan.segments))
@@ -89,7 +92,8 @@ opening_orderly = orderly_of opening
     (record {
       numbers = numbers;
       spent = opening_for _ (λ f. absurd (true≢false (sym f)));
-      own = opening_for _ (λ f. ([], refl)) })
+      own = opening_for _ (λ f. ([], refl));
+    })
     (record { claimed = λ g c x. absurd (not_some c x); takers = λ g c x. absurd (not_some c x) })
     (record {
       values = refl;
@@ -97,7 +101,8 @@ opening_orderly = orderly_of opening
       turns = λ p c x. absurd (not_some c x);
       loans = λ p c k x. absurd (not_some c x);
       turn_keys = opening_for _ (λ i t x. absurd (not_some t x));
-      loan_keys = opening_for _ (λ l x. absurd (not_some l x)) })
+      loan_keys = opening_for _ (λ l x. absurd (not_some l x));
+    })
     (record { sum = refl; within = opening_for _ (omega arith) })
     (record { bit = opening_for _ (λ f. absurd (true≢false (sym f))); number = opening_for _ (omega arith) })
     (opening_for _ (λ key f. absurd (true≢false (sym f))))

@@ -79,10 +79,11 @@ begins s n p key old v h e live is at claim idle none =
       turns_others = λ ms x. idle_turns old ms idle ∙ sym (x n (omega arith));
       loans_here = λ k x. x ∙ idle_loans old k v.numbers idle;
       loans_else = λ q k ne. refl;
-      loans_others = λ k ms x. idle_loans old k ms idle })
+      loans_others = λ k ms x. idle_loans old k ms idle;
+    })
     (λ i t x. ⊎_elim (h.sound.places.turn_keys n v e i t)
-      (λ (y : (i ≡ length v.turns) × ((p, key) ≡ t)). subst (λ (z : ℕ × Key). (place_in s.plan z.1 ≡ Some z.0) × (0 < times z.1.segment v.claims)) y.1 (at, claim))
-      (at_end v.turns (p, key) t i x))
+    (λ (y : (i ≡ length v.turns) × ((p, key) ≡ t)). subst (λ (z : ℕ × Key). (place_in s.plan z.1 ≡ Some z.0) × (0 < times z.1.segment v.claims)) y.1 (at, claim))
+    (at_end v.turns (p, key) t i x))
     (h.sound.places.loan_keys n v e) keeps
     (λ k f. kept_move s.plan s.places p old (Writing n) is keeps k (h.sound.known n v e k f))
 
@@ -96,7 +97,7 @@ pub begin_other : (s : System) (n p : ℕ) (key other : Key) (v : SeatView) → 
 unfolding IsIdle
 begin_other s n p key other v h e live is at claim ne = begins s n p key (Ready other) v h e live is at claim tt
     (λ k sole there held. let a : other ≡ k = key_is other k held in let b : key ≡ k = alone_in s.plan k key p sole there at in
-      true≢false (sym (subst (λ (x : Key). same_key other x ≡ true) (a ∙ sym b) (key_self other)) ∙ ne))
+    true≢false (sym (subst (λ (x : Key). same_key other x ≡ true) (a ∙ sym b) (key_self other)) ∙ ne))
 
 -- How many turns of a key are at a place.
 pub turns_of : ℕ → Key → List (ℕ × Key) → ℕ
@@ -183,17 +184,18 @@ spends s n p key old new v w h e live is at has idle belongs sp num claims count
     let has_m : 0 < times m.0 v.numbers = m.2 in
     let by' : turned_by old v.numbers ≡ times m.0 v.numbers = ap (λ x. turned_by x v.numbers) writing in
     let keeps : (k : Key) → sole_in s.plan k ≡ true → place_in s.plan k ≡ Some p → is_held k (Some old) ≡ true → is_held k (Some new) ≡ true =
-        λ x sole there held. absurd (true≢false (sym held ∙ ap (λ o. is_held x (Some o)) writing)) in
+    λ x sole there held. absurd (true≢false (sym held ∙ ap (λ o. is_held x (Some o)) writing)) in
     move_orderly s n p old new v w h e live is sp num claims counts stopped seen belongs
     (record {
       turns_here = λ x. ap (turns_at p) turns ∙ (let i = idle_turns new v.numbers idle in omega arith);
       turns_else = λ q ne. ap (turns_at q) turns ∙ (let a = turns_split q key v.turns in
           let b = no_turns q key v.turns (λ i u y same z. let ku = h.sound.places.turn_keys n v e i u y in
-              ne (sym z ∙ some_same u.0 p (sym ku.0 ∙ ap (λ x. place_in s.plan x) (key_is u.1 key same) ∙ at))) in omega arith);
+          ne (sym z ∙ some_same u.0 p (sym ku.0 ∙ ap (λ x. place_in s.plan x) (key_is u.1 key same) ∙ at))) in omega arith);
       turns_others = λ ms x. ap (λ o. turned_by o ms) writing ∙ x m.0 has_m ∙ sym (idle_turns new ms idle);
       loans_here = λ c x. ap (loans_at p c) loan ∙ x ∙ ap (λ o. lent_by o c v.numbers) writing ∙ sym (idle_loans new c v.numbers idle);
       loans_else = λ q c ne. ap (loans_at q c) loan;
-      loans_others = λ c ms x. ap (λ o. lent_by o c ms) writing ∙ sym (idle_loans new c ms idle) })
+      loans_others = λ c ms x. ap (λ o. lent_by o c ms) writing ∙ sym (idle_loans new c ms idle);
+    })
     (λ i u x. let j = stays key v.turns i u (ap (λ l. slice_get l i) (sym turns) ∙ x) in let y = h.sound.places.turn_keys n v e j.0 u j.1 in (y.0, subst (λ (l : List ℕ). 0 < times u.1.segment l) (sym claims) y.1))
     (λ l x. h.sound.places.loan_keys n v e l (sym loan ∙ x)) keeps (known keeps)
 
@@ -202,8 +204,8 @@ pub publish_orderly : (s : System) (n p : ℕ) (key : Key) (old : PlaceWord) (v 
 unfolding IsIdle
 publish_orderly s n p key old v h e live is at has = spends s n p key old (Ready key) v (having_published s.plan key v) h e live is at has tt at refl refl refl refl refl refl refl refl
     (λ keeps. knowing_kept s.plan (set s.places p (Ready key)) key v.known
-      (subst (λ o. is_held key (word_in (set s.places p (Ready key)) o) ≡ true) (sym at) (subst (λ o. is_held key o ≡ true) (sym (set_here s.places p (Ready key) old is)) (key_self key)))
-      (λ k f. kept_move s.plan s.places p old (Ready key) is keeps k (h.sound.known n v e k f)))
+    (subst (λ o. is_held key (word_in (set s.places p (Ready key)) o) ≡ true) (sym at) (subst (λ o. is_held key o ≡ true) (sym (set_here s.places p (Ready key) old is)) (key_self key)))
+    (λ k f. kept_move s.plan s.places p old (Ready key) is keeps k (h.sound.known n v e k f)))
 
 pub abandon_orderly : (s : System) (n p : ℕ) (key : Key) (old : PlaceWord) (v : SeatView) → Orderly s → slice_get s.views n ≡ Some v → v.spent ≡ false → slice_get s.places p ≡ Some old → place_in s.plan key ≡ Some p
     → has_turn key v.turns ≡ true → Orderly (record s { places = set s.places p Free; home = set s.home p None; views = set s.views n (without_turn key v) })
@@ -231,13 +233,14 @@ lend_orderly s n p key v h e live is at none =
       turns_others = λ ms x. refl;
       loans_here = λ k x. loan_here p key k ∙ ap (λ i. if same_key key k then i else 0) (sym m);
       loans_else = λ q k ne. loan_else p q key k ne ∙ sym (ap (loans_at q k) none);
-      loans_others = λ k ms x. let z : times n ms ≡ 0 = x n (omega arith) in ⊎_elim (λ (y : same_key key k ≡ true). rw y (sym z)) (λ (y : same_key key k ≡ false). rw y refl) (bool_cases (same_key key k)) })
+      loans_others = λ k ms x. let z : times n ms ≡ 0 = x n (omega arith) in ⊎_elim (λ (y : same_key key k ≡ true). rw y (sym z)) (λ (y : same_key key k ≡ false). rw y refl) (bool_cases (same_key key k));
+    })
     (h.sound.places.turn_keys n v e)
     (λ l x. let same : (p, key) ≡ l = some_same (p, key) l x in subst (λ (z : ℕ × Key). place_in s.plan z.1 ≡ Some z.0) same at)
     keeps
     (knowing_kept s.plan (set s.places p (Lent key n)) key v.known
-      (subst (λ o. is_held key (word_in (set s.places p (Lent key n)) o) ≡ true) (sym at) (subst (λ o. is_held key o ≡ true) (sym (set_here s.places p (Lent key n) (Ready key) is)) (key_self key)))
-      (λ k f. kept_move s.plan s.places p (Ready key) (Lent key n) is keeps k (h.sound.known n v e k f)))
+    (subst (λ o. is_held key (word_in (set s.places p (Lent key n)) o) ≡ true) (sym at) (subst (λ o. is_held key o ≡ true) (sym (set_here s.places p (Lent key n) (Ready key) is)) (key_self key)))
+    (λ k f. kept_move s.plan s.places p (Ready key) (Lent key n) is keeps k (h.sound.known n v e k f)))
 
 lent_is : (w : PlaceWord) (key : Key) (ns : List ℕ) → 0 < lent_by w key ns → (m : ℕ) × (w ≡ Lent key m) × (0 < times m ns)
 lent_is Free key ns pos = absurd (omega arith)
@@ -258,7 +261,7 @@ return_orderly s n p key old v h e live is loan =
     let lent : old ≡ Lent key m.0 = m.1 in
     let has : 0 < times m.0 v.numbers = m.2 in
     let keeps : (k : Key) → sole_in s.plan k ≡ true → place_in s.plan k ≡ Some p → is_held k (Some old) ≡ true → is_held k (Some (Ready key)) ≡ true =
-        λ k sole there held. subst (λ o. is_held k (Some o) ≡ true) lent held in
+    λ k sole there held. subst (λ o. is_held k (Some o) ≡ true) lent held in
     move_orderly s n p old (Ready key) v (having_returned key v) h e live is refl refl refl refl refl refl at
     (record {
       turns_here = λ x. x ∙ ap (λ o. turned_by o v.numbers) lent;
@@ -266,7 +269,8 @@ return_orderly s n p key old v h e live is loan =
       turns_others = λ ms x. ap (λ o. turned_by o ms) lent;
       loans_here = λ k x. refl;
       loans_else = λ q k ne. sym (ap (loans_at q k) loan ∙ loan_else p q key k ne);
-      loans_others = λ k ms x. ap (λ o. lent_by o k ms) lent ∙ (let z : times m.0 ms ≡ 0 = x m.0 has in ⊎_elim (λ (y : same_key key k ≡ true). rw y z) (λ (y : same_key key k ≡ false). rw y refl) (bool_cases (same_key key k))) })
+      loans_others = λ k ms x. ap (λ o. lent_by o k ms) lent ∙ (let z : times m.0 ms ≡ 0 = x m.0 has in ⊎_elim (λ (y : same_key key k ≡ true). rw y z) (λ (y : same_key key k ≡ false). rw y refl) (bool_cases (same_key key k)));
+    })
     (h.sound.places.turn_keys n v e)
     (λ l x. absurd (not_some l x)) keeps
     (λ k f. kept_move s.plan s.places p old (Ready key) is keeps k (h.sound.known n v e k f))

@@ -21,7 +21,6 @@ pub record Seats (views : List SeatView) : Type 0 where
   pub spent : ForViews views Spent
   pub own : ForViews views Own
 
-
 one_at_most : (n k : ℕ) → (if nat_lt n k then 1 else 0) ≤ 1
 one_at_most n k = ⊎_elim (λ (y : nat_lt n k ≡ true). rw y (omega arith)) (λ (y : nat_lt n k ≡ false). rw y (omega arith)) (bool_cases (nat_lt n k))
 
@@ -75,7 +74,8 @@ module _ (views : List SeatView) (seats : Seats views) where
         let s : times m w.numbers ≡ times m v.numbers = ap (times m) same in let l = length-set views n w in
         (let t : total (standing m) (set views n w) ≡ total (standing m) views = omega arith in t ∙ b ∙ ap (λ k. if nat_lt m k then 1 else 0) (sym l));
     spent = for_set' Spent (λ f. absurd (true≢false (sym f ∙ live'))) (λ i u x. seats.spent i u x);
-    own = for_set' Own (λ f. let r = seats.own n v e live in (r.0, same ∙ r.1)) (λ i u x. seats.own i u x) }
+    own = for_set' Own (λ f. let r = seats.own n v e live in (r.0, same ∙ r.1)) (λ i u x. seats.own i u x);
+  }
     where
       for_set' : (Fact : ℕ → SeatView → Type 0) → Fact n w → ((i : ℕ) (u : SeatView) → slice_get views i ≡ Some u → Fact i u) → ForViews (set views n w) Fact
       for_set' Fact here others i u x = ⊎_elim
@@ -93,13 +93,14 @@ module _ (views : List SeatView) (seats : Seats views) where
       let longer : length vs ≡ suc k = omega (arith, length-append views (new ∷ [])) in record {
         numbers = λ m. let a : total (standing m) vs ≡ total (standing m) views + times m (k ∷ []) = total_end (standing m) views new in let b : total (standing m) views ≡ given m k = seats.numbers m in
             let g : given m (suc k) ≡ given m k + times m (k ∷ []) = dite (dec_le (suc m) k)
-              (λ z. let x = is_below m k z in let y = is_below m (suc k) (omega arith) in let t = named_less k m z in omega arith)
-              (λ z. dite (ℕ_discrete k m)
-                (λ same. let x = not_below m k (omega arith) in let y = is_below m (suc k) (omega arith) in let t : times m (k ∷ []) ≡ 1 = subst (λ q. times q (k ∷ []) ≡ suc (times q [])) same (times_here k []) in omega arith)
-                (λ ne. let x = not_below m k (omega arith) in let y = not_below m (suc k) (omega arith) in let t = times_else m k [] ne in omega arith)) in
+            (λ z. let x = is_below m k z in let y = is_below m (suc k) (omega arith) in let t = named_less k m z in omega arith)
+            (λ z. dite (ℕ_discrete k m)
+            (λ same. let x = not_below m k (omega arith) in let y = is_below m (suc k) (omega arith) in let t : times m (k ∷ []) ≡ 1 = subst (λ q. times q (k ∷ []) ≡ suc (times q [])) same (times_here k []) in omega arith)
+            (λ ne. let x = not_below m k (omega arith) in let y = not_below m (suc k) (omega arith) in let t = times_else m k [] ne in omega arith)) in
             (let t : total (standing m) vs ≡ given m (suc k) = omega arith in t ∙ ap (given m) (sym longer));
         spent = for_end Spent views new (λ f. absurd (true≢false (sym f))) seats.spent;
-        own = for_end Own views new (λ f. ([], refl)) seats.own }
+        own = for_end Own views new (λ f. ([], refl)) seats.own;
+      }
 
 -- a seat that took in another
 module _ (views : List SeatView) (seats : Seats views) (n m : ℕ) (v w : SeatView) (live : v.spent ≡ false) (live' : w.spent ≡ false) (two : m ≢ n)
@@ -129,4 +130,5 @@ module _ (views : List SeatView) (seats : Seats views) (n m : ℕ) (v w : SeatVi
         let f : standing k J ≡ times k (v.numbers ++ w.numbers) = standing_live k J live in let g = times_append k v.numbers w.numbers in
         (let t : total (standing k) vs ≡ given k (length views) = omega arith in t ∙ ap (given k) (sym same_length));
     spent = for_both Spent (λ f. absurd (true≢false (sym f ∙ live))) (λ f. refl) (λ i u ne ne' x. seats.spent i u x);
-    own = for_both Own (λ f. let r = seats.own n v e live in (r.0 ++ w.numbers, ap (λ l. l ++ w.numbers) r.1)) (λ f. absurd (true≢false f)) (λ i u ne ne' x. seats.own i u x) }
+    own = for_both Own (λ f. let r = seats.own n v e live in (r.0 ++ w.numbers, ap (λ l. l ++ w.numbers) r.1)) (λ f. absurd (true≢false f)) (λ i u ne ne' x. seats.own i u x);
+  }

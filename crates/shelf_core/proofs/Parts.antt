@@ -84,12 +84,14 @@ orderly_of s seats claims places counts seen known segments taken shape = record
     counts = counts;
     seen = seen;
     known = known;
-    writers = writers_stand s.plan s.claims s.places s.home s.views seats claims segments places };
+    writers = writers_stand s.plan s.claims s.places s.home s.views seats claims segments places;
+  };
   shape = shape;
   segments = segments;
   spent = seats.spent;
   own = seats.own;
-  taken = taken }
+  taken = taken;
+}
 
 pub seats_of : (s : System) → Orderly s → Seats s.views
 seats_of s h = record { numbers = h.sound.numbers; spent = h.spent; own = h.own }
@@ -116,28 +118,30 @@ module _ (views : List SeatView) (seats : Seats views) (n : ℕ) (v w : SeatView
   pub claims_same : (claims : List ClaimWord) → w.claims ≡ v.claims → w.numbers ≡ v.numbers → ClaimsStand claims views → ClaimsStand claims (set views n w)
   claims_same claims same num h = record {
     claimed = λ g c x. for_set (λ i u. times g u.claims ≡ claimed_by c u.numbers) views n w (ap (times g) same ∙ h.claimed g c x n v e ∙ ap (claimed_by c) (sym num)) (λ i u ne y. h.claimed g c x i u y);
-    takers = λ g c x. subst (λ k. TakerStands k c) (sym (length-set views n w)) (h.takers g c x) }
+    takers = λ g c x. subst (λ k. TakerStands k c) (sym (length-set views n w)) (h.takers g c x);
+  }
 
   pub claims_taken : (claims : List ClaimWord) (g : ℕ) → v.spent ≡ false → slice_get claims g ≡ Some Open → w.claims ≡ v.claims ++ g ∷ [] → w.numbers ≡ v.numbers
       → ClaimsStand claims views → ClaimsStand (set claims g (Taken n)) (set views n w)
   claims_taken claims g live is_open one_more num h = record {
     claimed = λ g' c x. ⊎_elim
         (λ (y : (g' ≡ g) × (Taken n ≡ c)).
-          let G : (ℕ × ClaimWord) → Type 0 = λ z. ForViews (set views n w) (λ i u. times z.0 u.claims ≡ claimed_by z.1 u.numbers) in
-          subst G (λ j. (sym y.0 j, y.1 j))
-          (for_set (λ i u. times g u.claims ≡ times n u.numbers) views n w
-            (let o : times g v.claims ≡ 0 = h.claimed g Open is_open n v e in let a = times_append g v.claims (g ∷ []) in let t = times_here g [] in let m = mine views seats n v e live in
-              let c1 : times g w.claims ≡ 1 = ap (times g) one_more ∙ omega arith in let c2 : times n w.numbers ≡ 1 = ap (times n) num ∙ m in c1 ∙ sym c2)
-            (λ i u ne x'. let o : times g u.claims ≡ 0 = h.claimed g Open is_open i u x' in let m = mine views seats n v e live in let a : times n u.numbers ≡ 0 = apart views seats n i n v u e x' ne (omega arith) in omega arith)))
+        let G : (ℕ × ClaimWord) → Type 0 = λ z. ForViews (set views n w) (λ i u. times z.0 u.claims ≡ claimed_by z.1 u.numbers) in
+        subst G (λ j. (sym y.0 j, y.1 j))
+        (for_set (λ i u. times g u.claims ≡ times n u.numbers) views n w
+        (let o : times g v.claims ≡ 0 = h.claimed g Open is_open n v e in let a = times_append g v.claims (g ∷ []) in let t = times_here g [] in let m = mine views seats n v e live in
+        let c1 : times g w.claims ≡ 1 = ap (times g) one_more ∙ omega arith in let c2 : times n w.numbers ≡ 1 = ap (times n) num ∙ m in c1 ∙ sym c2)
+        (λ i u ne x'. let o : times g u.claims ≡ 0 = h.claimed g Open is_open i u x' in let m = mine views seats n v e live in let a : times n u.numbers ≡ 0 = apart views seats n i n v u e x' ne (omega arith) in omega arith)))
         (λ (y : (g' ≢ g) × (slice_get claims g' ≡ Some c)). for_set (λ i u. times g' u.claims ≡ claimed_by c u.numbers) views n w
-          (let a = times_append g' v.claims (g ∷ []) in let t = times_else g' g [] (λ z. y.0 (sym z)) in
-            let c1 : times g' w.claims ≡ times g' v.claims = ap (times g') one_more ∙ omega arith in c1 ∙ h.claimed g' c y.1 n v e ∙ ap (claimed_by c) (sym num))
-          (λ i u ne x'. h.claimed g' c y.1 i u x'))
+        (let a = times_append g' v.claims (g ∷ []) in let t = times_else g' g [] (λ z. y.0 (sym z)) in
+        let c1 : times g' w.claims ≡ times g' v.claims = ap (times g') one_more ∙ omega arith in c1 ∙ h.claimed g' c y.1 n v e ∙ ap (claimed_by c) (sym num))
+        (λ i u ne x'. h.claimed g' c y.1 i u x'))
         (at_set claims g g' (Taken n) c x);
     takers = λ g' c x. subst (λ k. TakerStands k c) (sym (length-set views n w)) (⊎_elim
         (λ (y : (g' ≡ g) × (Taken n ≡ c)). subst (TakerStands (length views)) y.1 (within views n v e))
         (λ (y : (g' ≢ g) × (slice_get claims g' ≡ Some c)). h.takers g' c y.1)
-        (at_set claims g g' (Taken n) c x)) }
+        (at_set claims g g' (Taken n) c x));
+  }
 
   belongs_set : (plan : Option ShelfPlan) (p : ℕ) (c : PlaceWord) → WordBelongs plan (length views) p c → WordBelongs plan (length (set views n w)) p c
   belongs_set plan p c h = subst (λ k. WordBelongs plan k p c) (sym (length-set views n w)) h
@@ -152,7 +156,8 @@ module _ (views : List SeatView) (seats : Seats views) (n : ℕ) (v w : SeatView
     turn_keys = for_set (λ i u. TurnKeys plan u) views n w
         (λ i t x. let r = h.turn_keys n v e i t (ap (λ l. slice_get l i) (sym turns) ∙ x) in (r.0, claims t.1.segment r.1))
         (λ i u ne y. h.turn_keys i u y);
-    loan_keys = for_set (λ i u. LoanKeys plan u) views n w (λ l x. h.loan_keys n v e l (sym loan ∙ x)) (λ i u ne y. h.loan_keys i u y) }
+    loan_keys = for_set (λ i u. LoanKeys plan u) views n w (λ l x. h.loan_keys n v e l (sym loan ∙ x)) (λ i u ne y. h.loan_keys i u y);
+  }
 
   pub places_move : (plan : Option ShelfPlan) (places : List PlaceWord) (home : List (Option Key)) (p : ℕ) (old new : PlaceWord) → slice_get places p ≡ Some old → w.numbers ≡ v.numbers
       → WordBelongs plan (length views) p new → Moves old new p v w → TurnKeys plan w → LoanKeys plan w → PlacesStand plan places home views
@@ -165,36 +170,39 @@ module _ (views : List SeatView) (seats : Seats views) (n : ℕ) (v w : SeatView
         (at_set places p q new c x));
     turns = λ q c x. ⊎_elim
         (λ (y : (q ≡ p) × (new ≡ c)).
-          let G : (ℕ × PlaceWord) → Type 0 = λ z. ForViews (set views n w) (λ i u. turns_at z.0 u.turns ≡ turned_by z.1 u.numbers) in
-          subst G (λ j. (sym y.0 j, y.1 j)) (for_set (λ i u. turns_at p u.turns ≡ turned_by new u.numbers) views n w
-            (moves.turns_here (h.turns p old is n v e) ∙ ap (turned_by new) (sym num))
-            (λ i u ne x'. h.turns p old is i u x' ∙ moves.turns_others u.numbers (λ m pos. apart views seats n i m v u e x' ne pos))))
+        let G : (ℕ × PlaceWord) → Type 0 = λ z. ForViews (set views n w) (λ i u. turns_at z.0 u.turns ≡ turned_by z.1 u.numbers) in
+        subst G (λ j. (sym y.0 j, y.1 j)) (for_set (λ i u. turns_at p u.turns ≡ turned_by new u.numbers) views n w
+        (moves.turns_here (h.turns p old is n v e) ∙ ap (turned_by new) (sym num))
+        (λ i u ne x'. h.turns p old is i u x' ∙ moves.turns_others u.numbers (λ m pos. apart views seats n i m v u e x' ne pos))))
         (λ (y : (q ≢ p) × (slice_get places q ≡ Some c)). for_set (λ i u. turns_at q u.turns ≡ turned_by c u.numbers) views n w
-          (moves.turns_else q y.0 ∙ h.turns q c y.1 n v e ∙ ap (turned_by c) (sym num))
-          (λ i u ne x'. h.turns q c y.1 i u x'))
+        (moves.turns_else q y.0 ∙ h.turns q c y.1 n v e ∙ ap (turned_by c) (sym num))
+        (λ i u ne x'. h.turns q c y.1 i u x'))
         (at_set places p q new c x);
     loans = λ q c k x. ⊎_elim
         (λ (y : (q ≡ p) × (new ≡ c)).
-          let G : (ℕ × PlaceWord) → Type 0 = λ z. ForViews (set views n w) (λ i u. loans_at z.0 k u.loan ≡ lent_by z.1 k u.numbers) in
-          subst G (λ j. (sym y.0 j, y.1 j)) (for_set (λ i u. loans_at p k u.loan ≡ lent_by new k u.numbers) views n w
-            (moves.loans_here k (h.loans p old k is n v e) ∙ ap (lent_by new k) (sym num))
-            (λ i u ne x'. h.loans p old k is i u x' ∙ moves.loans_others k u.numbers (λ m pos. apart views seats n i m v u e x' ne pos))))
+        let G : (ℕ × PlaceWord) → Type 0 = λ z. ForViews (set views n w) (λ i u. loans_at z.0 k u.loan ≡ lent_by z.1 k u.numbers) in
+        subst G (λ j. (sym y.0 j, y.1 j)) (for_set (λ i u. loans_at p k u.loan ≡ lent_by new k u.numbers) views n w
+        (moves.loans_here k (h.loans p old k is n v e) ∙ ap (lent_by new k) (sym num))
+        (λ i u ne x'. h.loans p old k is i u x' ∙ moves.loans_others k u.numbers (λ m pos. apart views seats n i m v u e x' ne pos))))
         (λ (y : (q ≢ p) × (slice_get places q ≡ Some c)). for_set (λ i u. loans_at q k u.loan ≡ lent_by c k u.numbers) views n w
-          (moves.loans_else q k y.0 ∙ h.loans q c k y.1 n v e ∙ ap (lent_by c k) (sym num))
-          (λ i u ne x'. h.loans q c k y.1 i u x'))
+        (moves.loans_else q k y.0 ∙ h.loans q c k y.1 n v e ∙ ap (lent_by c k) (sym num))
+        (λ i u ne x'. h.loans q c k y.1 i u x'))
         (at_set places p q new c x);
     turn_keys = for_set (λ i u. TurnKeys plan u) views n w turn_keys (λ i u ne y. h.turn_keys i u y);
-    loan_keys = for_set (λ i u. LoanKeys plan u) views n w loan_keys (λ i u ne y. h.loan_keys i u y) }
+    loan_keys = for_set (λ i u. LoanKeys plan u) views n w loan_keys (λ i u ne y. h.loan_keys i u y);
+  }
 
   pub counts_set : (done done' : ℕ) → done' + v.counts ≡ done + w.counts → w.counts ≤ length w.claims → CountsStand done views → CountsStand done' (set views n w)
   counts_set done done' sum low h = record {
     sum = let t = total_set (λ u. u.counts) views n v w e in let s = h.sum in omega arith;
-    within = for_set (λ i u. u.counts ≤ length u.claims) views n w low (λ i u ne x. h.within i u x) }
+    within = for_set (λ i u. u.counts ≤ length u.claims) views n w low (λ i u ne x. h.within i u x);
+  }
 
   pub seen_set : (done done' : ℕ) (bit bit' : Bool) → done ≤ done' → (bit ≡ true → bit' ≡ true) → (w.stopped ≡ true → bit' ≡ true) → w.done_seen ≤ done' → SeenStands done bit views → SeenStands done' bit' (set views n w)
   seen_set done done' bit bit' more keeps stopped low h = record {
     bit = for_set (λ i u. u.stopped ≡ true → bit' ≡ true) views n w stopped (λ i u ne x f. keeps (h.bit i u x f));
-    number = for_set (λ i u. u.done_seen ≤ done') views n w low (λ i u ne x. let a = h.number i u x in omega arith) }
+    number = for_set (λ i u. u.done_seen ≤ done') views n w low (λ i u ne x. let a = h.number i u x in omega arith);
+  }
 
   pub known_set : (plan : Option ShelfPlan) (places places' : List PlaceWord) → ((key : Key) → IsKept plan places key → IsKept plan places' key)
       → ((key : Key) → is_in key w.known ≡ true → IsKept plan places' key) → KnownStands plan places views → KnownStands plan places' (set views n w)
@@ -209,13 +217,13 @@ pub knowing_kept : (plan : Option ShelfPlan) (places : List PlaceWord) (key : Ke
     → ((k : Key) → is_in k known ≡ true → IsKept plan places k) → (k : Key) → is_in k (knowing plan key known) ≡ true → IsKept plan places k
 knowing_kept plan places key known held old k f = ⊎_elim
     (λ (sole : sole_in plan key ≡ true).
-      let f' : is_in k (known ++ key ∷ []) ≡ true = rw sole at f in
-      ⊎_elim (old k)
-        (λ (last : is_in k (key ∷ []) ≡ true). ⊎_elim
-          (λ (same : same_key key k ≡ true). subst (IsKept plan places) (key_is key k same) (record { sole = sole; there = held }))
-          (λ (no : false ≡ true). absurd (true≢false (sym no)))
-          (or_either (same_key key k) false last))
-        (or_either (is_in k known) (is_in k (key ∷ [])) (sym (list_any-append (λ x. same_key x k) known (key ∷ [])) ∙ f')))
+    let f' : is_in k (known ++ key ∷ []) ≡ true = rw sole at f in
+    ⊎_elim (old k)
+    (λ (last : is_in k (key ∷ []) ≡ true). ⊎_elim
+    (λ (same : same_key key k ≡ true). subst (IsKept plan places) (key_is key k same) (record { sole = sole; there = held }))
+    (λ (no : false ≡ true). absurd (true≢false (sym no)))
+    (or_either (same_key key k) false last))
+    (or_either (is_in k known) (is_in k (key ∷ [])) (sym (list_any-append (λ x. same_key x k) known (key ∷ [])) ∙ f')))
     (λ (no : sole_in plan key ≡ false). let f' : is_in k known ≡ true = rw no at f in old k f')
     (bool_cases (sole_in plan key))
 
@@ -229,7 +237,7 @@ kept_move plan places p old new is keeps key h = record { sole = h.sole; there =
     there' None eq f = absurd (true≢false (sym f))
     there' (Some q) eq f = dite (ℕ_discrete q p)
         (λ same. let eq' : place_in plan key ≡ Some p = eq ∙ ap Some same in
-          let g : is_held key (slice_get places p) ≡ true = subst (λ x. is_held key (slice_get places x) ≡ true) same f in
-          let k = keeps key h.sole eq' (subst (λ o. is_held key o ≡ true) is g) in
-          subst (λ x. is_held key (slice_get (set places p new) x) ≡ true) (sym same) (subst (λ o. is_held key o ≡ true) (sym (set_here places p new old is)) k))
+        let g : is_held key (slice_get places p) ≡ true = subst (λ x. is_held key (slice_get places x) ≡ true) same f in
+        let k = keeps key h.sole eq' (subst (λ o. is_held key o ≡ true) is g) in
+        subst (λ x. is_held key (slice_get (set places p new) x) ≡ true) (sym same) (subst (λ o. is_held key o ≡ true) (sym (set_here places p new old is)) k))
         (λ ne. subst (λ o. is_held key o ≡ true) (sym (set_else places p q new ne)) f)

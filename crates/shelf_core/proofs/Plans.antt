@@ -78,15 +78,15 @@ place_cases plan None None p e = absurd (not_some p e)
 place_cases plan None (Some j) p e = ⊎_elim
     (λ (yes : (plan.places == 0) ≡ true). let h : None ≡ Some p = rw yes at e in absurd (not_some p h))
     (λ (no : (plan.places == 0) ≡ false). let h : Some (length plan.forks + j % plan.places) ≡ Some p = rw no at e in
-        inr (j, refl, (λ z. grind (arith, no, z)), sym (some_same _ p h)))
+    inr (j, refl, (λ z. grind (arith, no, z)), sym (some_same _ p h)))
     (bool_cases (plan.places == 0))
 
 pub place_below : (plan : ShelfPlan) (key : Key) (p : ℕ) → place_of plan key ≡ Some p → p < place_count plan
 place_below plan key p e = ⊎_elim
     (λ (fork : index_of key plan.forks ≡ Some p). let w : p < length plan.forks = within plan.forks p key (index_found key p plan.forks fork) in omega arith)
     (λ (grid : (j : ℕ) × (index_of key plan.grid ≡ Some j) × (plan.places ≢ 0) × (p ≡ length plan.forks + j % plan.places)).
-        let some : 0 < plan.places = (let z = grid.2 in omega arith) in
-        let low : grid.0 % plan.places < plan.places = mod-lt grid.0 some in let is = grid.3 in omega arith)
+    let some : 0 < plan.places = (let z = grid.2 in omega arith) in
+    let low : grid.0 % plan.places < plan.places = mod-lt grid.0 some in let is = grid.3 in omega arith)
     (place_cases plan (index_of key plan.forks) (index_of key plan.grid) p e)
 
 -- a fork's place is one of the forks'
@@ -101,20 +101,20 @@ same_at p = grind arith
 pub sole_alone : (plan : ShelfPlan) (key other : Key) (p : ℕ) → is_sole plan key ≡ true → place_of plan key ≡ Some p → place_of plan other ≡ Some p → other ≡ key
 sole_alone plan key other p sole at at' = ⊎_elim
     (λ (fork : index_of other plan.forks ≡ Some p). let x = index_found other p plan.forks fork in ⊎_elim
-        (λ (mine : index_of key plan.forks ≡ Some p). some_same other key (sym x ∙ index_found key p plan.forks mine))
-        (λ (grid : (j : ℕ) × (index_of key plan.grid ≡ Some j) × (plan.places ≢ 0) × (p ≡ length plan.forks + j % plan.places)).
-            let w : p < length plan.forks = within plan.forks p other x in let is = grid.3 in absurd (omega arith))
-        (place_cases plan (index_of key plan.forks) (index_of key plan.grid) p at))
+    (λ (mine : index_of key plan.forks ≡ Some p). some_same other key (sym x ∙ index_found key p plan.forks mine))
+    (λ (grid : (j : ℕ) × (index_of key plan.grid ≡ Some j) × (plan.places ≢ 0) × (p ≡ length plan.forks + j % plan.places)).
+    let w : p < length plan.forks = within plan.forks p other x in let is = grid.3 in absurd (omega arith))
+    (place_cases plan (index_of key plan.forks) (index_of key plan.grid) p at))
     (λ (grid : (j : ℕ) × (index_of other plan.grid ≡ Some j) × (plan.places ≢ 0) × (p ≡ length plan.forks + j % plan.places)).
-        let x = index_found other grid.0 plan.grid grid.1 in let is = grid.3 in ⊎_elim
-        (λ (fork : is_in key plan.forks ≡ true). let r = fork_place plan key fork in let low = r.2 in let same : p ≡ r.0 = some_same p r.0 (sym at ∙ r.1) in absurd (omega arith))
-        (λ (alone : has_alone plan key (place_of plan key) ≡ true).
-            let all : list_all (λ k. same_key k key || not (is_at (place_of plan k) p)) plan.grid ≡ true = rw at at alone in
-            ⊎_elim
-            (λ (same : same_key other key ≡ true). key_is other key same)
-            (λ (apart : not (is_at (place_of plan other) p) ≡ true). let h : not (is_at (Some p) p) ≡ true = rw at' at apart in absurd (true≢false (sym (same_at p) ∙ not_true (is_at (Some p) p) h)))
-            (or_either (same_key other key) (not (is_at (place_of plan other) p)) (all_at (λ k. same_key k key || not (is_at (place_of plan k) p)) plan.grid grid.0 other all x)))
-        (or_either (is_in key plan.forks) (has_alone plan key (place_of plan key)) sole))
+    let x = index_found other grid.0 plan.grid grid.1 in let is = grid.3 in ⊎_elim
+    (λ (fork : is_in key plan.forks ≡ true). let r = fork_place plan key fork in let low = r.2 in let same : p ≡ r.0 = some_same p r.0 (sym at ∙ r.1) in absurd (omega arith))
+    (λ (alone : has_alone plan key (place_of plan key) ≡ true).
+    let all : list_all (λ k. same_key k key || not (is_at (place_of plan k) p)) plan.grid ≡ true = rw at at alone in
+    ⊎_elim
+    (λ (same : same_key other key ≡ true). key_is other key same)
+    (λ (apart : not (is_at (place_of plan other) p) ≡ true). let h : not (is_at (Some p) p) ≡ true = rw at' at apart in absurd (true≢false (sym (same_at p) ∙ not_true (is_at (Some p) p) h)))
+    (or_either (same_key other key) (not (is_at (place_of plan other) p)) (all_at (λ k. same_key k key || not (is_at (place_of plan k) p)) plan.grid grid.0 other all x)))
+    (or_either (is_in key plan.forks) (has_alone plan key (place_of plan key)) sole))
     (place_cases plan (index_of other plan.forks) (index_of other plan.grid) p at')
 
 -- The same of a system's plan.

@@ -39,7 +39,8 @@ shape_keeps None s s' c p m still h = record {
   places = empty_of s'.places (p ∙ ap length h.places);
   home = empty_of s'.home (m ∙ ap length h.home);
   done = (still refl).0 ∙ h.done;
-  stopped = (still refl).1 ∙ h.stopped }
+  stopped = (still refl).1 ∙ h.stopped;
+}
 shape_keeps (Some plan) s s' c p m still h = record { claims = c ∙ h.claims; places = p ∙ h.places; home = m ∙ h.home; distinct = h.distinct }
 
 -- A view changes, and the done word with it, but no other word and nothing of what the seat has.
@@ -90,10 +91,10 @@ claim_orderly s n g v h e live is_open =
     (seen_set s.views seats n v w e s.done s.done s.stopped s.stopped (omega arith) (λ f. f) (h.sound.seen.bit n v e) (h.sound.seen.number n v e) h.sound.seen)
     (known_set s.views seats n v w e s.plan s.places s.places (λ key k. k) (h.sound.known n v e) h.sound.known)
     (segments_set s.views seats n v w e s.claims s'.claims (length-set s.claims g (Taken n))
-      (λ g' pos. let l = length-set s.claims g (Taken n) in let a = times_append g' v.claims (g ∷ []) in dite (ℕ_discrete g g')
-        (λ same. let b = within s.claims g Open is_open in omega arith)
-        (λ ne. let b = times_else g' g [] ne in let c = h.segments n v e g' (omega arith) in omega arith))
-      h.segments)
+    (λ g' pos. let l = length-set s.claims g (Taken n) in let a = times_append g' v.claims (g ∷ []) in dite (ℕ_discrete g g')
+    (λ same. let b = within s.claims g Open is_open in omega arith)
+    (λ ne. let b = times_else g' g [] ne in let c = h.segments n v e g' (omega arith) in omega arith))
+    h.segments)
     (let t = total_set (λ u. length u.claims) s.views n v w e in let k = h.taken in let b = taken_set s.claims g n is_open in omega arith)
     (shape_keeps s.plan s s' (length-set s.claims g (Taken n)) refl refl (λ f. (refl, refl)) h.shape)
 

@@ -114,6 +114,7 @@ seen_place s (place_word q) seen e p w is = place (slice_get s.places q) refl (e
         number (claim_seen i x) = 0
         number (place_seen i x) = i
         number (done_seen d b) = 0
+
         under : PlaceWord → Seen → PlaceWord
         under c (claim_seen i x) = c
         under c (place_seen i x) = x
@@ -145,6 +146,7 @@ seen_done s done_word seen e d b is = done s.plan (e ∙ ap Some is)
         number (claim_seen i x) = 0
         number (place_seen i x) = 0
         number (done_seen k c) = k
+
         bit : Seen → Bool
         bit (claim_seen i x) = false
         bit (place_seen i x) = false
@@ -166,41 +168,41 @@ after_orderly s (Lay plan) h can =
 after_orderly s (Claim n g) h can =
     let r = live_seat s n (λ view. is_open (slice_get s.claims g)) can in
     at_seat s n r.0 r.1 (λ l. Orderly (record s { claims = set s.claims g (Taken n); views = l })) (with_claim g)
-      (claim_orderly s n g r.0 h r.1 r.2 (open_is (slice_get s.claims g) r.3))
+    (claim_orderly s n g r.0 h r.1 r.2 (open_is (slice_get s.claims g) r.3))
 after_orderly s (Begin n key) h can =
     let r = live_seat s n (λ view. list_any (λ segment. segment == key.segment) view.claims && allows_writing s key (word_at s key)) can in
     let claim = any_times key.segment r.0.claims (and_left (list_any (λ segment. segment == key.segment) r.0.claims) (allows_writing s key (word_at s key)) r.3) in
     let word = allowed s key (word_at s key) (and_right (list_any (λ segment. segment == key.segment) r.0.claims) (allows_writing s key (word_at s key)) r.3) in
     let whole : (p : ℕ) → place_in s.plan key ≡ Some p → Orderly (record s { places = set s.places p (Writing n); home = set s.home p None; views = set s.views n (with_turn p key r.0) }) → Orderly (after s (Begin n key)) =
-      λ p at x. at_place s key p (λ q. Orderly (put (seat s n (with_turn q key)) q (Writing n) None)) at
-        (at_seat s n r.0 r.1 (λ l. Orderly (record s { places = set s.places p (Writing n); home = set s.home p None; views = l })) (with_turn p key) x) in
+    λ p at x. at_place s key p (λ q. Orderly (put (seat s n (with_turn q key)) q (Writing n) None)) at
+    (at_seat s n r.0 r.1 (λ l. Orderly (record s { places = set s.places p (Writing n); home = set s.home p None; views = l })) (with_turn p key) x) in
     ⊎_elim
     (λ (free : word_at s key ≡ Some Free). let w = word_cases s.places (place_in s.plan key) Free free in whole w.0 w.1 (begin_free s n w.0 key r.0 h r.1 r.2 w.2 w.1 claim))
     (λ (other : (k : Key) × (word_at s key ≡ Some (Ready k)) × (same_key k key ≡ false)). let w = word_cases s.places (place_in s.plan key) (Ready other.0) other.1 in
-      whole w.0 w.1 (begin_other s n w.0 key other.0 r.0 h r.1 r.2 w.2 w.1 claim other.2))
+    whole w.0 w.1 (begin_other s n w.0 key other.0 r.0 h r.1 r.2 w.2 w.1 claim other.2))
     word
 after_orderly s (Publish n key) h can =
     let r = live_seat s n (λ view. has_turn key view.turns) can in
     let t = turn_place s n key r.0 h r.1 r.3 in
     let w = word_there s key t.0 h t.1 in
     at_place s key t.0 (λ q. Orderly (put (seat s n (having_published s.plan key)) q (Ready key) (Some key))) t.1
-      (at_seat s n r.0 r.1 (λ l. Orderly (record s { places = set s.places t.0 (Ready key); home = set s.home t.0 (Some key); views = l })) (having_published s.plan key)
-        (publish_orderly s n t.0 key w.0 r.0 h r.1 r.2 w.1 t.1 r.3))
+    (at_seat s n r.0 r.1 (λ l. Orderly (record s { places = set s.places t.0 (Ready key); home = set s.home t.0 (Some key); views = l })) (having_published s.plan key)
+    (publish_orderly s n t.0 key w.0 r.0 h r.1 r.2 w.1 t.1 r.3))
 after_orderly s (Abandon n key) h can =
     let r = live_seat s n (λ view. has_turn key view.turns) can in
     let t = turn_place s n key r.0 h r.1 r.3 in
     let w = word_there s key t.0 h t.1 in
     at_place s key t.0 (λ q. Orderly (put (seat s n (without_turn key)) q Free None)) t.1
-      (at_seat s n r.0 r.1 (λ l. Orderly (record s { places = set s.places t.0 Free; home = set s.home t.0 None; views = l })) (without_turn key)
-        (abandon_orderly s n t.0 key w.0 r.0 h r.1 r.2 w.1 t.1 r.3))
+    (at_seat s n r.0 r.1 (λ l. Orderly (record s { places = set s.places t.0 Free; home = set s.home t.0 None; views = l })) (without_turn key)
+    (abandon_orderly s n t.0 key w.0 r.0 h r.1 r.2 w.1 t.1 r.3))
 after_orderly s (Lend n key) h can =
     let r = live_seat s n (λ view. is_ready key (word_at s key) && is_none view.loan) can in
     let word = ready_is key (word_at s key) (and_left (is_ready key (word_at s key)) (is_none r.0.loan) r.3) in
     let none = none_of r.0.loan (and_right (is_ready key (word_at s key)) (is_none r.0.loan) r.3) in
     let w = word_cases s.places (place_in s.plan key) (Ready key) word in
     at_place s key w.0 (λ q. Orderly (put (seat s n (with_loan s.plan q key)) q (Lent key n) None)) w.1
-      (at_seat s n r.0 r.1 (λ l. Orderly (record s { places = set s.places w.0 (Lent key n); home = set s.home w.0 None; views = l })) (with_loan s.plan w.0 key)
-        (lend_orderly s n w.0 key r.0 h r.1 r.2 w.2 w.1 none))
+    (at_seat s n r.0 r.1 (λ l. Orderly (record s { places = set s.places w.0 (Lent key n); home = set s.home w.0 None; views = l })) (with_loan s.plan w.0 key)
+    (lend_orderly s n w.0 key r.0 h r.1 r.2 w.2 w.1 none))
 after_orderly s (Return n) h can =
     let r = live_seat s n (λ view. is_some view.loan) can in
     let l = some_of r.0.loan r.3 in
@@ -208,8 +210,8 @@ after_orderly s (Return n) h can =
     let w = word_there s l.0.1 l.0.0 h at in
     let has : loan_of (live_view s.views n) ≡ Some l.0 = ap loan_of (live_is s.views n r.0 r.1 r.2) ∙ l.1 in
     subst (λ o. Orderly (after_return s n o)) (sym has)
-      (at_seat s n r.0 r.1 (λ x. Orderly (record s { places = set s.places l.0.0 (Ready l.0.1); home = set s.home l.0.0 (Some l.0.1); views = x })) (having_returned l.0.1)
-        (return_orderly s n l.0.0 l.0.1 w.0 r.0 h r.1 r.2 w.1 l.1))
+    (at_seat s n r.0 r.1 (λ x. Orderly (record s { places = set s.places l.0.0 (Ready l.0.1); home = set s.home l.0.0 (Some l.0.1); views = x })) (having_returned l.0.1)
+    (return_orderly s n l.0.0 l.0.1 w.0 r.0 h r.1 r.2 w.1 l.1))
 after_orderly s (Count n) h can =
     let r = live_seat s n (λ view. nat_lt view.counts (length view.claims)) can in
     at_seat s n r.0 r.1 (λ l. Orderly (record s { done = s.done + 1; views = l })) with_count (count_orderly s n r.0 h r.1 r.2 (less_of r.0.counts (length r.0.claims) r.3))
@@ -221,8 +223,8 @@ after_orderly s (Load n word) h can =
     let r = live_seat s n (λ view. is_some (seen_at s word)) can in
     let seen = some_of (seen_at s word) r.3 in
     subst (λ o. Orderly (seat s n (having_loaded s.plan o))) (sym seen.1)
-      (at_seat s n r.0 r.1 (λ l. Orderly (record s { views = l })) (having_loaded s.plan (Some seen.0))
-        (seen_orderly s n r.0 seen.0 h r.1 r.2 (seen_place s word seen.0 seen.1) (seen_done s word seen.0 seen.1)))
+    (at_seat s n r.0 r.1 (λ l. Orderly (record s { views = l })) (having_loaded s.plan (Some seen.0))
+    (seen_orderly s n r.0 seen.0 h r.1 r.2 (seen_place s word seen.0 seen.1) (seen_done s word seen.0 seen.1)))
 after_orderly s (Split n) h can = split_orderly s h
 after_orderly s (Join n m) h can =
     let test : SeatView → Bool = λ view. not (m == n) && through s m (λ other. (length other.turns == 0) && is_none other.loan) in
@@ -232,8 +234,8 @@ after_orderly s (Join n m) h can =
     let empty : length q.0.turns ≡ 0 = eq_true (length q.0.turns) 0 (and_left (length q.0.turns == 0) (is_none q.0.loan) q.3) in
     let none = none_of q.0.loan (and_right (length q.0.turns == 0) (is_none q.0.loan) q.3) in
     subst (λ o. Orderly (after_join s n m o)) (sym (live_is s.views m q.0 q.1 q.2))
-      (at_seat s n r.0 r.1 (λ l. Orderly (record s { views = set l m spent_view })) (joined_with q.0)
-        (join_orderly s n m r.0 q.0 h r.2 q.2 two r.1 q.1 (empty_of q.0.turns empty) none))
+    (at_seat s n r.0 r.1 (λ l. Orderly (record s { views = set l m spent_view })) (joined_with q.0)
+    (join_orderly s n m r.0 q.0 h r.2 q.2 two r.1 q.1 (empty_of q.0.turns empty) none))
 
 pub step_orderly : (s : System) (e : Event) → Orderly s → Orderly (step_of s e)
 step_orderly s e h = ⊎_elim

@@ -91,7 +91,8 @@ joined_with other view = record {
   stopped = view.stopped || other.stopped;
   found = view.found ++ other.found;
   loads = view.loads;
-  saw = view.saw }
+  saw = view.saw;
+}
 
 -- Seat n takes in the seat m with this view.
 abbrev pub after_join : System → ℕ → ℕ → Option SeatView → System
@@ -115,7 +116,8 @@ after s (Lay plan) = record s {
   places = replicate (place_count plan) Free;
   home = replicate (place_count plan) None;
   done = 0;
-  stopped = false }
+  stopped = false;
+}
 after s (Claim n segment) = record (seat s n (with_claim segment)) { claims = slice_set s.claims segment (Taken n) }
 after s (Begin n key) = put (seat s n (with_turn (key_place s key) key)) (key_place s key) (Writing n) None
 after s (Publish n key) = put (seat s n (having_published s.plan key)) (key_place s key) (Ready key) (Some key)

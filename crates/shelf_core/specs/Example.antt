@@ -42,4 +42,5 @@ two_seats_left = record {
   home = Some (key 0 2) ∷ [];
   done = 1;
   stopped = true;
-  views = record { numbers = 0 ∷ 1 ∷ []; spent = false; claims = 0 ∷ []; counts = 1; turns = []; loan = None; known = key 0 2 ∷ key 0 2 ∷ []; done_seen = 0; stopped = true; found = key 0 2 ∷ []; loads = 0; saw = [] } ∷ spent_view ∷ [] }
+  views = record { numbers = 0 ∷ 1 ∷ []; spent = false; claims = 0 ∷ []; counts = 1; turns = []; loan = None; known = key 0 2 ∷ key 0 2 ∷ []; done_seen = 0; stopped = true; found = key 0 2 ∷ []; loads = 0; saw = [] } ∷ spent_view ∷ [];
+}

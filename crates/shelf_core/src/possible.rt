@@ -123,7 +123,8 @@ impl System {
     {
         match self.seat(n) {
             None => false,
-            Some(view) => view.has_claim(key.segment) && self.allows_writing(key, self.word_at(key)),
+            Some(view) => view.has_claim(key.segment)
+                && self.allows_writing(key, self.word_at(key)),
         }
     }
 

@@ -1,6 +1,6 @@
 //! One event, and a list of events from the opening system.
 
-ghost use Rattle.std.specs.Prelude.{◌≡◌, ◌-◌, ◌<◌, ◌^◌, All, IfOk, OnErr, IsTrue, IsFalse, length};
+ghost use Rattle.std.specs.Prelude.{◌≡◌, ◌+◌, ◌-◌, ◌<◌, ◌≤◌, ◌^◌, All, IfOk, OnErr, IsTrue, IsFalse, length};
 ghost use Rattle.shelf_core.specs.Possible.{possible};
 ghost use Rattle.shelf_core.specs.After.{opening, after, left_by};
 ghost use Rattle.shelf_core.specs.Orderly.{Orderly, IsSmall, IsSmallEvent};
@@ -16,7 +16,8 @@ impl System {
     /// # Errors
     /// `Memory`.
     pub fn opening(alloc: Global) -> Result<System, Memory>
-        ensures { IfOk result (λ s. s ≡ opening) }
+        ensures opening { IfOk result (λ s. s ≡ opening) }
+        ensures orderly { IfOk result (λ s. Orderly s) }
     {
         let mut views = Listed::new(alloc);
         views.push(SeatView::new(alloc, 0)?)?;
@@ -46,9 +47,11 @@ pub fn step(alloc: Global, s: &mut System, e: &Event) -> Result<bool, Memory>
     ensures not_made { IfOk result (λ answer. IsFalse answer → s.new ≡ s.old) }
     ensures refused { OnErr result (s.new ≡ s.old) }
 
-    // What the law says of one event.
+    // What the law says of one event, and what the next step asks.
     ensures stays_orderly { Orderly s.new }
     ensures keeps { Keeps s.old s.new }
+    ensures stays_small { IsSmall s.new.plan }
+    ensures one_more { length s.new.views ≤ length s.old.views + 1 }
 {
     if !s.is_possible(e) {
         return Ok(false);

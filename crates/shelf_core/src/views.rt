@@ -218,14 +218,15 @@ fn learn(plan: &Option<ShelfPlan>, key: Key, known: &mut Listed<Key>) -> Result<
 }
 
 /// The turns but for those of a key.
-fn other_turns(
-    alloc: Global,
-    turns: &[(u32, Key)],
-    key: Key,
-) -> Result<Listed<(u32, Key)>, Memory>
+fn other_turns(alloc: Global, turns: &[(u32, Key)], key: Key) -> Result<Listed<(u32, Key)>, Memory>
     ensures { IfOk result (λ others. others ≡ other_turns key turns.now) }
 {
-    match turns.iter().copied().filter(|turn| turn.1 != key).collect(alloc) {
+    match turns
+        .iter()
+        .copied()
+        .filter(|turn| turn.1 != key)
+        .collect(alloc)
+    {
         Ok(others) => Ok(Listed::from_vec(others)),
         Err(_) => Err(Memory),
     }

@@ -5,7 +5,7 @@ use Rattle.shelf_core.specs.After.{left_by, step_of}
 use Rattle.shelf_core.specs.Orderly.{IsSmall, IsSmallEvent}
 use Rattle.shelf_core.specs.declared.system.System.{System}
 use Rattle.shelf_core.specs.declared.event.Event.{Event}
-use Rattle.shelf_core.proofs.Grown.{step_is, step_small, step_seats, left_next}
+use Rattle.shelf_core.proofs.Grown.{step_is, left_next}
 use Rattle.shelf_core.proofs.Kept.{law_holds}
 use Rattle.shelf_core.proofs.run.law.Goals as goal
 
@@ -23,12 +23,10 @@ loop-event-preserved c =
     let e : Event = c.event-item.result in
     let s : System = c.loop-event.s in
     let at = slice_get_read c.args.events.now (length c.args.events.now) c.loop-event.event-index e refl c.loop-event-test.true c.event-item.is in
-    let small : IsSmallEvent e = subst IsSmallEvent (sym c.event-item.is) (c.requires.small c.loop-event.event-index e c.loop-event-test.true) in
     let is : c.step.new.s ≡ step_of s e = step_is s c.step.new.s e c.in_ok-step.field-0 c.in_ok-step.ensures.answer c.in_ok-step.ensures.made c.in_ok-step.ensures.not_made in
     record {
       left = is ∙ ap (λ t. step_of t e) c.loop-event.invariant.left ∙ sym (left_next c.args.events.now c.loop-event.event-index e at);
       orderly = c.step.ensures.stays_orderly;
-      small = subst (λ (t : System). IsSmall t.plan) (sym is) (step_small s e c.loop-event.invariant.small small);
-      seats = let long : length c.step.new.s.views ≡ length (step_of s e).views = ap (λ (t : System). length t.views) is in
-          let a = step_seats s e in let b = c.loop-event.invariant.seats in omega arith;
+      small = c.step.ensures.stays_small;
+      seats = let more = c.step.ensures.one_more in let before = c.loop-event.invariant.seats in omega arith;
     }
