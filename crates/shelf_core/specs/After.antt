@@ -17,7 +17,15 @@ use Rattle.shelf_core.specs.declared.event.Event.TheVariants.{Lay, Claim, Begin,
 
 -- The opening system: nothing is laid, and there is one seat, number 0.
 abbrev pub opening : System
-opening = record { plan = None; claims = []; places = []; home = []; done = 0; stopped = false; views = new_view 0 ∷ [] }
+opening = record {
+  plan = None;
+  claims = [];
+  places = [];
+  home = [];
+  done = 0;
+  stopped = false;
+  views = new_view 0 ∷ [];
+}
 
 -- The system with the view of seat n changed.
 abbrev pub seat : System → ℕ → (SeatView → SeatView) → System

@@ -16,7 +16,12 @@ key segment event = record { segment = segment; event = event }
 -- Two forks, and three grid keys that share two places in turn: the first and the third have place 2, the second has
 -- place 3 alone.
 abbrev pub shared_plan : ShelfPlan
-shared_plan = record { segments = 3; forks = key 0 2 ∷ key 1 3 ∷ []; grid = key 2 50 ∷ key 2 100 ∷ key 2 150 ∷ []; places = 2 }
+shared_plan = record {
+  segments = 3;
+  forks = key 0 2 ∷ key 1 3 ∷ [];
+  grid = key 2 50 ∷ key 2 100 ∷ key 2 150 ∷ [];
+  places = 2;
+}
 
 -- Two segments, of which the first is forked at event 2, and no grid.
 abbrev pub fork_plan : ShelfPlan
@@ -25,10 +30,13 @@ fork_plan = record { segments = 2; forks = key 0 2 ∷ []; grid = []; places = 0
 -- Two seats at the fork's place: seat 0 claims its segment and publishes, seat 1 takes the value on loan and returns
 -- it, and seat 0 takes in seat 1.
 abbrev pub two_seats : List Event
-two_seats = Lay fork_plan ∷ Lay fork_plan ∷ Split 0 ∷ Claim 0 0 ∷ Claim 1 0 ∷ Begin 0 (key 0 2) ∷ Begin 1 (key 0 2) ∷ Lend 1 (key 0 2) ∷ Abandon 1 (key 0 2)
-    ∷ Publish 0 (key 0 2) ∷ Lend 1 (key 0 2) ∷ Lend 0 (key 0 2) ∷ Join 0 1 ∷ Return 1 ∷ Count 0 ∷ Count 0 ∷ Stop 1 ∷ Join 0 1 ∷ []
+two_seats =
+    Lay fork_plan ∷ Lay fork_plan ∷ Split 0 ∷ Claim 0 0 ∷ Claim 1 0
+    ∷ Begin 0 (key 0 2) ∷ Begin 1 (key 0 2) ∷ Lend 1 (key 0 2) ∷ Abandon 1 (key 0 2)
+    ∷ Publish 0 (key 0 2) ∷ Lend 1 (key 0 2) ∷ Lend 0 (key 0 2) ∷ Join 0 1 ∷ Return 1
+    ∷ Count 0 ∷ Count 0 ∷ Stop 1 ∷ Join 0 1 ∷ []
 
--- Whether each of a list of events is possible, of those that are the effect being made.
+-- Whether each event of a list is possible when its turn comes.
 abbrev pub answers : System → List Event → List Bool
 answers s [] = []
 answers s (e ∷ events) = possible s e ∷ answers (step_of s e) events
@@ -42,5 +50,18 @@ two_seats_left = record {
   home = Some (key 0 2) ∷ [];
   done = 1;
   stopped = true;
-  views = record { numbers = 0 ∷ 1 ∷ []; spent = false; claims = 0 ∷ []; counts = 1; turns = []; loan = None; known = key 0 2 ∷ key 0 2 ∷ []; done_seen = 0; stopped = true; found = key 0 2 ∷ []; loads = 0; saw = [] } ∷ spent_view ∷ [];
+  views = record {
+    numbers = 0 ∷ 1 ∷ [];
+    spent = false;
+    claims = 0 ∷ [];
+    counts = 1;
+    turns = [];
+    loan = None;
+    known = key 0 2 ∷ key 0 2 ∷ [];
+    done_seen = 0;
+    stopped = true;
+    found = key 0 2 ∷ [];
+    loads = 0;
+    saw = [];
+  } ∷ spent_view ∷ [];
 }

@@ -14,8 +14,10 @@ use Rattle.shelf_core.specs.declared.event.Event.{Event}
 pub record Keeps (s t : System) : Type 0 where
   pub stopped : s.stopped ≡ true → t.stopped ≡ true
   pub done : s.done ≤ t.done
-  pub taken : (segment n : ℕ) → slice_get s.claims segment ≡ Some (Taken n) → slice_get t.claims segment ≡ Some (Taken n)
-  pub filled : (key : Key) → sole_in s.plan key ≡ true → is_filled (word_at s key) ≡ true → is_filled (word_at t key) ≡ true
+  pub taken : (segment n : ℕ) → slice_get s.claims segment ≡ Some (Taken n) →
+      slice_get t.claims segment ≡ Some (Taken n)
+  pub filled : (key : Key) → sole_in s.plan key ≡ true → is_filled (word_at s key) ≡ true →
+      is_filled (word_at t key) ≡ true
 
 -- The law of a list of events, of each prefix of it: what the prefix leaves of the opening system is orderly, and so
 -- sound, and the next event undoes none of it.

@@ -32,7 +32,8 @@ HasShape (Some plan) s = IsLaid plan s
 pub record Orderly (s : System) : Type 0 where
   pub sound : Sound s
   pub shape : HasShape s.plan s
-  pub segments : ForViews s.views (λ n view. (segment : ℕ) → 0 < times segment view.claims → segment < length s.claims)
+  pub segments : ForViews s.views (λ n view. (segment : ℕ) → 0 < times segment view.claims →
+      segment < length s.claims)
   pub spent : ForViews s.views (λ n view. view.spent ≡ true → view ≡ spent_view)
   pub own : ForViews s.views (λ n view. view.spent ≡ false → (rest : List ℕ) × (view.numbers ≡ n ∷ rest))
   pub taken : total (λ view. length view.claims) s.views ≡ taken_count s.claims

@@ -51,9 +51,11 @@ seen_at s done_word = option_map (λ plan. done_seen s.done s.stopped) s.plan
 
 -- Where each event is possible.
 abbrev pub possible : System → Event → Bool
-possible s (Lay plan) = is_none s.plan && (length (live_views s.views) == 1) && are_distinct (plan.forks ++ plan.grid)
+possible s (Lay plan) =
+    is_none s.plan && (length (live_views s.views) == 1) && are_distinct (plan.forks ++ plan.grid)
 possible s (Claim n segment) = through s n (λ view. is_open (slice_get s.claims segment))
-possible s (Begin n key) = through s n (λ view. list_any (λ segment. segment == key.segment) view.claims && allows_writing s key (word_at s key))
+possible s (Begin n key) = through s n (λ view.
+    list_any (λ segment. segment == key.segment) view.claims && allows_writing s key (word_at s key))
 possible s (Publish n key) = through s n (λ view. has_turn key view.turns)
 possible s (Abandon n key) = through s n (λ view. has_turn key view.turns)
 possible s (Lend n key) = through s n (λ view. is_ready key (word_at s key) && is_none view.loan)
@@ -62,4 +64,5 @@ possible s (Count n) = through s n (λ view. nat_lt view.counts (length view.cla
 possible s (Stop n) = through s n (λ view. is_some s.plan)
 possible s (Load n word) = through s n (λ view. is_some (seen_at s word))
 possible s (Split n) = through s n (λ view. true)
-possible s (Join n m) = through s n (λ view. not (m == n) && through s m (λ other. (length other.turns == 0) && is_none other.loan))
+possible s (Join n m) = through s n (λ view.
+    not (m == n) && through s m (λ other. (length other.turns == 0) && is_none other.loan))

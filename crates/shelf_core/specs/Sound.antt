@@ -40,8 +40,10 @@ TakerStands seats (Taken n) = n < seats
 -- 2. A segment's word is Open and the segment stands in no claims, or it is Taken(n) and the segment stands once in
 -- the claims of the view that has n, and in no other.
 pub record ClaimsStand (claims : List ClaimWord) (views : List SeatView) : Type 0 where
-  pub claimed : (segment : ℕ) (word : ClaimWord) → slice_get claims segment ≡ Some word → ForViews views (λ n view. times segment view.claims ≡ claimed_by word view.numbers)
-  pub takers : (segment : ℕ) (word : ClaimWord) → slice_get claims segment ≡ Some word → TakerStands (length views) word
+  pub claimed : (segment : ℕ) (word : ClaimWord) → slice_get claims segment ≡ Some word →
+      ForViews views (λ n view. times segment view.claims ≡ claimed_by word view.numbers)
+  pub takers : (segment : ℕ) (word : ClaimWord) → slice_get claims segment ≡ Some word →
+      TakerStands (length views) word
 
 -- How many turns a view with these numbers has at a place with this word: one where it has the number under Writing.
 abbrev pub turned_by : PlaceWord → List ℕ → ℕ
@@ -75,13 +77,19 @@ WordBelongs plan seats place (Lent key n) = (place_in plan key ≡ Some place) �
 -- this place, the home value is gone, and the view that has n has the loan of a value of key k at this place. No view
 -- has any other turn or loan. The key of each turn belongs to the turn's place, and its segment stands in the claims
 -- of the same view; the key of each loan belongs to the loan's place.
-pub record PlacesStand (plan : Option ShelfPlan) (places : List PlaceWord) (home : List (Option Key)) (views : List SeatView) : Type 0 where
+pub record PlacesStand (plan : Option ShelfPlan) (places : List PlaceWord) (home : List (Option Key))
+    (views : List SeatView) : Type 0 where
   pub values : home ≡ map value_under places
-  pub words : (place : ℕ) (word : PlaceWord) → slice_get places place ≡ Some word → WordBelongs plan (length views) place word
-  pub turns : (place : ℕ) (word : PlaceWord) → slice_get places place ≡ Some word → ForViews views (λ n view. turns_at place view.turns ≡ turned_by word view.numbers)
-  pub loans : (place : ℕ) (word : PlaceWord) (key : Key) → slice_get places place ≡ Some word → ForViews views (λ n view. loans_at place key view.loan ≡ lent_by word key view.numbers)
-  pub turn_keys : ForViews views (λ n view. (i : ℕ) (turn : ℕ × Key) → slice_get view.turns i ≡ Some turn → (place_in plan turn.1 ≡ Some turn.0) × (0 < times turn.1.segment view.claims))
-  pub loan_keys : ForViews views (λ n view. (loan : ℕ × Key) → view.loan ≡ Some loan → place_in plan loan.1 ≡ Some loan.0)
+  pub words : (place : ℕ) (word : PlaceWord) → slice_get places place ≡ Some word →
+      WordBelongs plan (length views) place word
+  pub turns : (place : ℕ) (word : PlaceWord) → slice_get places place ≡ Some word →
+      ForViews views (λ n view. turns_at place view.turns ≡ turned_by word view.numbers)
+  pub loans : (place : ℕ) (word : PlaceWord) (key : Key) → slice_get places place ≡ Some word →
+      ForViews views (λ n view. loans_at place key view.loan ≡ lent_by word key view.numbers)
+  pub turn_keys : ForViews views (λ n view. (i : ℕ) (turn : ℕ × Key) → slice_get view.turns i ≡ Some turn →
+      (place_in plan turn.1 ≡ Some turn.0) × (0 < times turn.1.segment view.claims))
+  pub loan_keys : ForViews views (λ n view. (loan : ℕ × Key) → view.loan ≡ Some loan →
+      place_in plan loan.1 ≡ Some loan.0)
 
 -- 4. The done number is the sum of all counts, and each view's counts is at most the number of its claims.
 pub record CountsStand (done : ℕ) (views : List SeatView) : Type 0 where
@@ -99,13 +107,16 @@ pub record IsKept (plan : Option ShelfPlan) (places : List PlaceWord) (key : Key
   pub there : is_held key (word_in places (place_in plan key)) ≡ true
 
 abbrev pub KnownStands : Option ShelfPlan → List PlaceWord → List SeatView → Type 0
-KnownStands plan places views = ForViews views (λ n view. (key : Key) → is_in key view.known ≡ true → IsKept plan places key)
+KnownStands plan places views =
+    ForViews views (λ n view. (key : Key) → is_in key view.known ≡ true → IsKept plan places key)
 
 -- 7. Where the segment of a sole key is among a view's claims and the word of the key's place is Writing(m), that
 -- view has m and has the turn of the key.
 abbrev pub WritersStand : Option ShelfPlan → List PlaceWord → List SeatView → Type 0
-WritersStand plan places views = ForViews views (λ n view. (key : Key) (m : ℕ) → sole_in plan key ≡ true → 0 < times key.segment view.claims
-    → word_in places (place_in plan key) ≡ Some (Writing m) → (times m view.numbers ≡ 1) × (has_turn key view.turns ≡ true))
+WritersStand plan places views = ForViews views (λ n view. (key : Key) (m : ℕ) →
+    sole_in plan key ≡ true → 0 < times key.segment view.claims →
+    word_in places (place_in plan key) ≡ Some (Writing m) →
+    (times m view.numbers ≡ 1) × (has_turn key view.turns ≡ true))
 
 pub record Sound (s : System) : Type 0 where
   pub numbers : NumbersStand s.views

@@ -6,11 +6,37 @@ use Rattle.shelf_core.specs.declared.seat.SeatView.{SeatView}
 
 -- The view of a new seat with this number.
 abbrev pub new_view : ℕ → SeatView
-new_view n = record { numbers = n ∷ []; spent = false; claims = []; counts = 0; turns = []; loan = None; known = []; done_seen = 0; stopped = false; found = []; loads = 0; saw = [] }
+new_view n = record {
+  numbers = n ∷ [];
+  spent = false;
+  claims = [];
+  counts = 0;
+  turns = [];
+  loan = None;
+  known = [];
+  done_seen = 0;
+  stopped = false;
+  found = [];
+  loads = 0;
+  saw = [];
+}
 
 -- What is left of the view of a seat that joined another.
 abbrev pub spent_view : SeatView
-spent_view = record { numbers = []; spent = true; claims = []; counts = 0; turns = []; loan = None; known = []; done_seen = 0; stopped = false; found = []; loads = 0; saw = [] }
+spent_view = record {
+  numbers = [];
+  spent = true;
+  claims = [];
+  counts = 0;
+  turns = [];
+  loan = None;
+  known = [];
+  done_seen = 0;
+  stopped = false;
+  found = [];
+  loads = 0;
+  saw = [];
+}
 
 -- The view of seat n, where it is there and isn't spent. Views stand in the order of their own numbers.
 abbrev pub unspent : Option SeatView → Option SeatView
