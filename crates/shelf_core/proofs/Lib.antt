@@ -1,0 +1,12 @@
+pub mod Lists
+pub mod Plans
+pub mod Numbers
+pub mod Parts
+pub mod Quiet
+pub mod Moved
+pub mod Crowd
+pub mod Laid
+pub mod Steps
+pub mod Kept
+pub mod Apply
+pub mod Grown

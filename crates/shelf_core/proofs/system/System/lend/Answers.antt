@@ -1,0 +1,14 @@
+use Rattle.std.proofs.Common.{None}
+use Rattle.shelf_core.specs.After.{with_loan}
+use Rattle.shelf_core.specs.declared.words.PlaceWord.TheVariants.{Lent}
+use Rattle.shelf_core.proofs.Apply.{placed, place_low, lend_at}
+use Rattle.shelf_core.proofs.system.System.lend.Goals as goal
+
+pub put-requires-clause-word : goal.put-requires-clause-word
+put-requires-clause-word c = (place_low _ _ _ c.requires.orderly (lend_at c.args.self.now c.args.n c.args.key c.requires.possible) c.key_place-place.ensures).0
+
+pub put-requires-clause-value : goal.put-requires-clause-value
+put-requires-clause-value c = (place_low _ _ _ c.requires.orderly (lend_at c.args.self.now c.args.n c.args.key c.requires.possible) c.key_place-place.ensures).1
+
+pub returns-clause-after : goal.returns-clause-after
+returns-clause-after c = placed c.args.self.now _ c.args.n _ _ (Lent c.args.key c.args.n) None (λ place. with_loan c.args.self.now.plan place c.args.key) _ _ _ c.view.ensures c.in_ok-view.ensures c.set.ensures c.key_place-place.ensures c.put.ensures

@@ -1,0 +1,9 @@
+pub mod Plan
+pub mod Words
+pub mod Views
+pub mod Possible
+pub mod After
+pub mod Sound
+pub mod Orderly
+pub mod Law
+pub mod Example

@@ -1,0 +1,26 @@
+//! The shelf of checkpoints that workers share, as a machine on plain data, and its law.
+#![tactic(auto)]
+
+mod after;
+mod event;
+pub mod laws;
+mod listed;
+mod places;
+mod plan;
+mod possible;
+mod run;
+mod seat;
+mod system;
+mod views;
+mod words;
+
+pub use event::Event;
+pub use listed::Listed;
+pub use plan::{Key, ShelfPlan};
+pub use run::{law, step};
+pub use seat::SeatView;
+pub use system::System;
+pub use words::{ClaimWord, PlaceWord, Seen, Word};
+
+#[cfg(test)]
+mod tests;

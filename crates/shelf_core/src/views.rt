@@ -1,0 +1,245 @@
+//! How the view of a seat changes. Each call makes a new view, so that want of memory changes nothing.
+
+ghost use Rattle.std.specs.Prelude.{◌≡◌, ◌+◌, ◌<◌, ◌≤◌, ◌^◌, ◌++◌, ◌∷◌, [], IfOk, Some, take};
+ghost use Rattle.shelf_core.specs.Orderly.{IsSmall};
+ghost use Rattle.shelf_core.specs.Views.{new_view, spent_view, other_turns};
+ghost use Rattle.shelf_core.specs.After.{knowing, with_claim, with_turn, without_turn, having_published, with_loan, having_returned, with_count, having_stopped, learning, having_loaded, joined_with};
+
+use crate::places::is_sole_in;
+use crate::{Key, Listed, PlaceWord, SeatView, Seen, ShelfPlan};
+use outside::Memory;
+use std::alloc::Global;
+
+impl SeatView {
+    /// The view of a new seat with this number.
+    pub(crate) fn new(alloc: Global, number: u32) -> Result<SeatView, Memory>
+        ensures { IfOk result (λ view. view ≡ new_view number) }
+    {
+        let mut view = SeatView::spent(alloc);
+        view.numbers.push(number)?;
+        view.spent = false;
+        Ok(view)
+    }
+
+    /// What is left of the view of a seat that joined another.
+    pub(crate) fn spent(alloc: Global) -> SeatView
+        ensures { result ≡ spent_view }
+    {
+        SeatView {
+            numbers: Listed::new(alloc),
+            spent: true,
+            claims: Listed::new(alloc),
+            counts: 0,
+            turns: Listed::new(alloc),
+            loan: None,
+            known: Listed::new(alloc),
+            done_seen: 0,
+            stopped: false,
+            found: Listed::new(alloc),
+            loads: 0,
+            saw: Listed::new(alloc),
+        }
+    }
+
+    /// An equal view.
+    fn copy(&self, alloc: Global) -> Result<SeatView, Memory>
+        ensures { IfOk result (λ view. view ≡ self.now) }
+    {
+        Ok(SeatView {
+            numbers: self.numbers.copy(alloc)?,
+            spent: self.spent,
+            claims: self.claims.copy(alloc)?,
+            counts: self.counts,
+            turns: self.turns.copy(alloc)?,
+            loan: self.loan,
+            known: self.known.copy(alloc)?,
+            done_seen: self.done_seen,
+            stopped: self.stopped,
+            found: self.found.copy(alloc)?,
+            loads: self.loads,
+            saw: self.saw.copy(alloc)?,
+        })
+    }
+
+    /// The view with a claim.
+    pub(crate) fn with_claim(&self, alloc: Global, segment: u32) -> Result<SeatView, Memory>
+        ensures { IfOk result (λ view. view ≡ with_claim segment self.now) }
+    {
+        let mut view = self.copy(alloc)?;
+        view.claims.push(segment)?;
+        Ok(view)
+    }
+
+    /// The view with a turn.
+    pub(crate) fn with_turn(&self, alloc: Global, place: u32, key: Key) -> Result<SeatView, Memory>
+        ensures { IfOk result (λ view. view ≡ with_turn place key self.now) }
+    {
+        let mut view = self.copy(alloc)?;
+        view.turns.push((place, key))?;
+        Ok(view)
+    }
+
+    /// The view without the turn of a key.
+    pub(crate) fn without_turn(&self, alloc: Global, key: Key) -> Result<SeatView, Memory>
+        ensures { IfOk result (λ view. view ≡ without_turn key self.now) }
+    {
+        let mut view = self.copy(alloc)?;
+        view.turns = other_turns(alloc, self.turns.as_slice(), key)?;
+        Ok(view)
+    }
+
+    /// The view once the value of its turn is there.
+    pub(crate) fn having_published(
+        &self,
+        alloc: Global,
+        plan: &Option<ShelfPlan>,
+        key: Key,
+    ) -> Result<SeatView, Memory>
+        requires small { IsSmall plan.now }
+        ensures { IfOk result (λ view. view ≡ having_published plan.now key self.now) }
+    {
+        let mut view = self.without_turn(alloc, key)?;
+        learn(plan, key, &mut view.known)?;
+        Ok(view)
+    }
+
+    /// The view with a loan.
+    pub(crate) fn with_loan(
+        &self,
+        alloc: Global,
+        plan: &Option<ShelfPlan>,
+        place: u32,
+        key: Key,
+    ) -> Result<SeatView, Memory>
+        requires small { IsSmall plan.now }
+        ensures { IfOk result (λ view. view ≡ with_loan plan.now place key self.now) }
+    {
+        let mut view = self.copy(alloc)?;
+        view.loan = Some((place, key));
+        learn(plan, key, &mut view.known)?;
+        Ok(view)
+    }
+
+    /// The view once the value of its loan was returned.
+    pub(crate) fn having_returned(&self, alloc: Global, key: Key) -> Result<SeatView, Memory>
+        ensures { IfOk result (λ view. view ≡ having_returned key self.now) }
+    {
+        let mut view = self.copy(alloc)?;
+        view.loan = None;
+        view.found.push(key)?;
+        Ok(view)
+    }
+
+    /// The view with one count more.
+    pub(crate) fn with_count(&self, alloc: Global) -> Result<SeatView, Memory>
+        requires { self.now.counts + 1 < 2 ^ 32 }
+        ensures { IfOk result (λ view. view ≡ with_count self.now) }
+    {
+        let mut view = self.copy(alloc)?;
+        view.counts += 1;
+        Ok(view)
+    }
+
+    /// The view once it has set the stop bit.
+    pub(crate) fn having_stopped(&self, alloc: Global) -> Result<SeatView, Memory>
+        ensures { IfOk result (λ view. view ≡ having_stopped self.now) }
+    {
+        let mut view = self.copy(alloc)?;
+        view.stopped = true;
+        Ok(view)
+    }
+
+    /// The view with what it learns from a word that it sees.
+    fn learning(
+        &self,
+        alloc: Global,
+        plan: &Option<ShelfPlan>,
+        seen: Seen,
+    ) -> Result<SeatView, Memory>
+        requires small { IsSmall plan.now }
+        ensures { IfOk result (λ view. view ≡ learning plan.now seen self.now) }
+    {
+        let mut view = self.copy(alloc)?;
+        match seen {
+            Seen::Claim(_, _) => {}
+            Seen::Place(_, PlaceWord::Free | PlaceWord::Writing(_)) => {}
+            Seen::Place(_, PlaceWord::Ready(key)) => learn(plan, key, &mut view.known)?,
+            Seen::Place(_, PlaceWord::Lent(key, _)) => learn(plan, key, &mut view.known)?,
+            Seen::Done(number, bit) => {
+                view.done_seen = number;
+                view.stopped = bit;
+            }
+        }
+        Ok(view)
+    }
+
+    /// The view after a load.
+    pub(crate) fn having_loaded(
+        &self,
+        alloc: Global,
+        plan: &Option<ShelfPlan>,
+        seen: Seen,
+    ) -> Result<SeatView, Memory>
+        requires small { IsSmall plan.now }
+        ensures { IfOk result (λ view. view ≡ having_loaded plan.now (Some seen) self.now) }
+    {
+        let mut view = self.learning(alloc, plan, seen)?;
+        view.loads = self.loads.wrapping_add(1);
+        view.saw = last_two(alloc, seen, self.saw.as_slice())?;
+        Ok(view)
+    }
+
+    /// The view with all that another has.
+    pub(crate) fn joined_with(&self, alloc: Global, other: &SeatView) -> Result<SeatView, Memory>
+        requires { self.now.counts + other.now.counts < 2 ^ 32 }
+        ensures { IfOk result (λ view. view ≡ joined_with other.now self.now) }
+    {
+        let mut view = self.copy(alloc)?;
+        view.numbers.append(&other.numbers)?;
+        view.claims.append(&other.claims)?;
+        view.counts += other.counts;
+        view.known.append(&other.known)?;
+        view.done_seen = view.done_seen.max(other.done_seen);
+        view.stopped |= other.stopped;
+        view.found.append(&other.found)?;
+        Ok(view)
+    }
+}
+
+/// Adds a key to those that are known, where it is sole.
+fn learn(plan: &Option<ShelfPlan>, key: Key, known: &mut Listed<Key>) -> Result<(), Memory>
+    requires small { IsSmall plan.now }
+    ensures { IfOk result (λ _. known.new ≡ knowing plan.now key known.old) }
+{
+    if is_sole_in(plan, key) {
+        known.push(key)?;
+    }
+    Ok(())
+}
+
+/// The turns but for those of a key.
+fn other_turns(alloc: Global, turns: &[(u32, Key)], key: Key) -> Result<Listed<(u32, Key)>, Memory>
+    ensures { IfOk result (λ others. others ≡ other_turns key turns.now) }
+{
+    match turns
+        .iter()
+        .copied()
+        .filter(|turn| turn.1 != key)
+        .collect(alloc)
+    {
+        Ok(others) => Ok(Listed::from_vec(others)),
+        Err(_) => Err(Memory),
+    }
+}
+
+/// A load, and the newest of those before it.
+fn last_two(alloc: Global, seen: Seen, before: &[Seen]) -> Result<Listed<Seen>, Memory>
+    ensures { IfOk result (λ list. list ≡ take 2 (seen ∷ before.now)) }
+{
+    let mut list = Listed::new(alloc);
+    list.push(seen)?;
+    if let Some(last) = before.first() {
+        list.push(*last)?;
+    }
+    Ok(list)
+}
