@@ -1,5 +1,5 @@
 -- Lemmas on an order that changes, leaves or comes to rest.
-use Rattle.std.proofs.Common.{◌≡◌, ◌≢◌, ℕ, ◌+◌, ◌-◌, ◌<◌, ◌≤◌, ◌^◌, Bool, true, false, not, cond, ltb, eqb, List, [], ◌∷◌, ◌++◌, Option, Some, None, All, option_map, length, get_or, refl, sym, ap, ◌∙◌, arith, inl, inr, suc, zero, subst, filter, map, length-append}
+use Rattle.std.proofs.Common.{◌≡◌, ◌≢◌, ℕ, ◌<◌, ◌≤◌, Bool, true, false, not, cond, eqb, List, [], ◌∷◌, ◌++◌, Option, Some, None, All, option_map, IfSome, IfNone, length, refl, sym, ap, arith, inl, inr, suc, zero, subst, filter, length-append}
 use Rattle.std.specs.Prelude.{slice_get, slice_set}
 use Rattle.std.specs.List.{AllByRecursion, remove}
 use Rattle.std.proofs.lemmas.Bool.{cases_eq, eq-eqb, ne_eqb}
@@ -29,6 +29,7 @@ filter_le p (x ∷ w) = elim (p x) as (λ b. length (cond b (x ∷ filter p w) (
 orderly-without : (n : ℕ) (w : List Resting) → IsOrderly w → IsOrderly (without n w)
 orderly-without n w h = record {
   rising = rising-filter (λ (o : Resting). not (eqb o.reference n)) w h.rising;
+  live = each-filter (λ (o : Resting). 0 < o.left) (λ (o : Resting). not (eqb o.reference n)) w h.live;
   within = each-filter (λ (o : Resting). o.left ≤ o.intended) (λ (o : Resting). not (eqb o.reference n)) w h.within;
   few = omega (arith, filter_le (λ (o : Resting). not (eqb o.reference n)) w, h.few);
 }
@@ -57,16 +58,35 @@ length-with : (o : Resting) (w : List Resting) → length (with_order o w) ≡ l
 length-with o [] = refl
 length-with o (x ∷ w) = omega (arith, length-with o w)
 
-orderly-with : (o : Resting) (w : List Resting) → o.left ≤ o.intended → IsOrderly w → IsOrderly (with_order o w)
-orderly-with o w le h = record {
+orderly-with : (o : Resting) (w : List Resting) → o.left ≢ 0 → o.left ≤ o.intended → IsOrderly w → IsOrderly (with_order o w)
+orderly-with o w some le h = record {
   rising = rising-with o w h.rising;
+  live = each-with (λ (x : Resting). 0 < x.left) o w (omega arith) h.live;
   within = each-with (λ (x : Resting). x.left ≤ x.intended) o w le h.within;
   few = omega (arith, length-with o w, h.few);
 }
 
 orderly-changed : (o : Resting) (w : List Resting) → o.left ≤ o.intended → IsOrderly w → IsOrderly (changed o w)
 orderly-changed o w le h =
-    elim (eqb o.left 0) as (λ b. IsOrderly (cond b (without o.reference w) (with_order o w))) [ true ↦ orderly-without o.reference w h | false ↦ orderly-with o w le h ]
+    elim (cases_eq o.left 0) [
+      | inl none ↦ (let b : eqb o.left 0 ≡ true = eq-eqb o.left 0 none in subst (λ c. IsOrderly (cond c (without o.reference w) (with_order o w))) (sym b) (orderly-without o.reference w h))
+      | inr some ↦ (let b : eqb o.left 0 ≡ false = ne_eqb o.left 0 some in subst (λ c. IsOrderly (cond c (without o.reference w) (with_order o w))) (sym b) (orderly-with o w some le h))
+    ]
+
+-- ---- what a change leaves
+-- all references stay below a number
+pub below-changed : (n : ℕ) (o : Resting) (w : List Resting) → All (λ (x : Resting). x.reference < n) w → All (λ (x : Resting). x.reference < n) (changed o w)
+below-changed n o w a = All-from_recursion (λ (x : Resting). x.reference < n) (changed o w) (elim (eqb o.left 0) as (λ b. AllByRecursion (λ (x : Resting). x.reference < n) (cond b (without o.reference w) (with_order o w))) [
+  | true ↦ each-filter (λ (x : Resting). x.reference < n) (λ (x : Resting). not (eqb x.reference o.reference)) w (recursion_from_All (λ (x : Resting). x.reference < n) w a)
+  | false ↦ with w (recursion_from_All (λ (x : Resting). x.reference < n) w a)
+])
+  where
+    with : (w : List Resting) → AllByRecursion (λ (x : Resting). x.reference < n) w → AllByRecursion (λ (x : Resting). x.reference < n) (with_order o w)
+    with [] a = tt
+    with (x ∷ w) a = (omega (arith, same_reference o x, a.0), with w a.1)
+
+pub length-changed : (o : Resting) (w : List Resting) → length (changed o w) ≤ length w
+length-changed o w = elim (eqb o.left 0) as (λ b. length (cond b (without o.reference w) (with_order o w)) ≤ length w) [ true ↦ filter_le (λ (x : Resting). not (eqb x.reference o.reference)) w | false ↦ omega (arith, length-with o w) ]
 
 -- ---- the same at a place
 keep_all : (n : ℕ) (w : List Resting) → AllByRecursion (λ (y : Resting). n < y.reference) w → without n w ≡ w
@@ -142,18 +162,34 @@ rising-push : (w : List Resting) (o : Resting) → IsRising w → AllByRecursion
 rising-push [] o r a = (tt, tt)
 rising-push (x ∷ w) o r a = (each-push (λ (y : Resting). x.reference < y.reference) w o r.0 a.0, rising-push w o r.1 a.1)
 
-pub orderly-push : (w : List Resting) (o : Resting) → IsOrderly w → o.left ≤ o.intended → length w < 4294967296 → All (λ (x : Resting). x.reference < o.reference) w → IsOrderly (w ++ o ∷ [])
-orderly-push w o h le few later = record {
+pub orderly-push : (w : List Resting) (o : Resting) → IsOrderly w → 0 < o.left → o.left ≤ o.intended → length w < 4294967296 → All (λ (x : Resting). x.reference < o.reference) w → IsOrderly (w ++ o ∷ [])
+orderly-push w o h some le few later = record {
   rising = rising-push w o h.rising (recursion_from_All (λ (x : Resting). x.reference < o.reference) w later);
+  live = each-push (λ (x : Resting). 0 < x.left) w o h.live some;
   within = each-push (λ (x : Resting). x.left ≤ x.intended) w o h.within le;
   few = omega (arith, length-append w (o ∷ []), few);
 }
 
+-- what holds of all orders holds of that at a place
+each_at : (P : Resting → Type 0) (w : List Resting) (i : ℕ) (o : Resting) → AllByRecursion P w → slice_get w i ≡ Some o → P o
+each_at P [] i o a e = absurd (cc e)
+each_at P (x ∷ w) zero o a e = let same : x ≡ o = cc e in subst P same a.0
+each_at P (x ∷ w) (suc i) o a e = each_at P w i o a.1 e
+
 -- no order of an orderly book w, which a slice s shows, has more open shares than its intended size
-pub intended_at : (s w : List Resting) (i : ℕ) (o : Resting) → s ≡ w → AllByRecursion (λ (x : Resting). x.left ≤ x.intended) w → slice_get s i ≡ Some o → o.left ≤ o.intended
-intended_at s w i o same a e = there w i a (subst (λ (u : List Resting). slice_get u i ≡ Some o) same e)
-  where
-    there : (w : List Resting) (i : ℕ) → AllByRecursion (λ (x : Resting). x.left ≤ x.intended) w → slice_get w i ≡ Some o → o.left ≤ o.intended
-    there [] i a e = absurd (cc e)
-    there (x ∷ w) zero a e = let same : x ≡ o = cc e in subst (λ (y : Resting). y.left ≤ y.intended) same a.0
-    there (x ∷ w) (suc i) a e = there w i a.1 e
+pub intended_at : (s w : List Resting) (i : ℕ) (o : Resting) → s ≡ w → IsOrderly w → slice_get s i ≡ Some o → o.left ≤ o.intended
+intended_at s w i o same h e = each_at (λ (x : Resting). x.left ≤ x.intended) w i o h.within (subst (λ (u : List Resting). slice_get u i ≡ Some o) same e)
+
+-- each order of it has open shares
+pub live_at : (s w : List Resting) (i : ℕ) (o : Resting) → s ≡ w → IsOrderly w → slice_get s i ≡ Some o → 0 < o.left
+live_at s w i o same h e = each_at (λ (x : Resting). 0 < x.left) w i o h.live (subst (λ (u : List Resting). slice_get u i ≡ Some o) same e)
+
+-- ---- the same after a call that may change an order
+pub below-kept : {X : Type 0} (g : X → Resting) (n : ℕ) (r : Option X) (old new : List Resting) → IfSome r (λ x. new ≡ changed (g x) old) → IfNone r (new ≡ old) → All (λ (o : Resting). o.reference < n) old → All (λ (o : Resting). o.reference < n) new
+below-kept g n None old new some none a = subst (λ (w : List Resting). All (λ (o : Resting). o.reference < n) w) (sym none) a
+below-kept g n (Some x) old new some none a =
+    subst (λ (w : List Resting). All (λ (o : Resting). o.reference < n) w) (sym some) (below-changed n (g x) old a)
+
+pub length-kept : {X : Type 0} (g : X → Resting) (r : Option X) (old new : List Resting) → IfSome r (λ x. new ≡ changed (g x) old) → IfNone r (new ≡ old) → length new ≤ length old
+length-kept g None old new some none = omega (arith, ap (λ (w : List Resting). length w) none)
+length-kept g (Some x) old new some none = omega (arith, ap (λ (w : List Resting). length w) some, length-changed (g x) old)

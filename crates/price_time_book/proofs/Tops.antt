@@ -1,11 +1,10 @@
 -- Lemmas on the first order of a side, and on the next order for an incoming one.
-use Rattle.std.proofs.Common.{◌≡◌, ℕ, ◌+◌, ◌<◌, ◌≤◌, Bool, true, false, cond, ◌&&◌, ltb, leb, List, [], ◌∷◌, ◌++◌, Option, Some, None, length, take, get_or, refl, sym, ap, subst, ◌∙◌, arith, inl, inr, filter, fold, option_map, IfSome}
+use Rattle.std.proofs.Common.{◌≡◌, ℕ, ◌+◌, ◌<◌, Bool, true, false, cond, ◌&&◌, ltb, leb, List, [], ◌∷◌, ◌++◌, Option, Some, None, length, take, get_or, refl, sym, ap, subst, ◌∙◌, arith, inl, inr, filter, fold, option_map, IfSome}
 use Rattle.std.specs.Prelude.{slice_get}
 use Rattle.std.specs.List.{best_of}
 use Rattle.std.proofs.lemmas.Bool.{cases_Bool}
 use Rattle.std.proofs.lemmas.Bool.Decides.{nat_tests}
 use Rattle.std.proofs.lemmas.List.{take_more}
-use Rattle.std.proofs.lemmas.List.Elements.{filter-append}
 use Rattle.std.proofs.lemmas.Option.{slice_get-get_or}
 use Rattle.std.proofs.lemmas.List.Sums.{fold-append}
 use Rattle.market_types.specs.declared.order.Side.{Side}
@@ -66,17 +65,19 @@ top_more side w i x h e =
 pub top_takes : (side : Side) (w : List Resting) (i : ℕ) (x : Resting) (first after : Option (ℕ × Resting)) → i < length w → x ≡ get_or w i x → option_map (λ p. p.1) first ≡ top_of side (take i w) → goes_first side (option_map (λ p. p.1) first) x ≡ true → after ≡ Some (i, x)
     → (option_map (λ p. p.1) after ≡ top_of side (take (i + 1) w)) × IfSome after (λ p. slice_get w p.0 ≡ Some p.1)
 top_takes side w i x first after h e is goes new =
-    let now : goes_first side (top_of side (take i w)) x ≡ true = subst (λ (o : Option Resting). goes_first side o x ≡ true) is goes in
-    (ap (option_map (λ p. p.1)) new ∙ sym (top_more side w i x h e ∙ ap (λ b. cond b (Some x) (top_of side (take i w))) now),
-     subst (λ (a : Option (ℕ × Resting)). IfSome a (λ p. slice_get w p.0 ≡ Some p.1)) (sym new) (slice_get-get_or w i x h ∙ ap (λ (o : Resting). Some o) (sym e)))
+    let now : goes_first side (top_of side (take i w)) x ≡ true = subst (λ (o : Option Resting). goes_first side o x ≡ true) is goes in (
+      ap (option_map (λ p. p.1)) new ∙ sym (top_more side w i x h e ∙ ap (λ b. cond b (Some x) (top_of side (take i w))) now),
+      subst (λ (a : Option (ℕ × Resting)). IfSome a (λ p. slice_get w p.0 ≡ Some p.1)) (sym new) (slice_get-get_or w i x h ∙ ap (λ (o : Resting). Some o) (sym e)),
+    )
 
 -- the turn of a search at which the first one so far stays
 pub top_keeps : (side : Side) (w : List Resting) (i : ℕ) (x : Resting) (first after : Option (ℕ × Resting)) → i < length w → x ≡ get_or w i x → option_map (λ p. p.1) first ≡ top_of side (take i w) → goes_first side (option_map (λ p. p.1) first) x ≡ false → after ≡ first
     → IfSome first (λ p. slice_get w p.0 ≡ Some p.1) → (option_map (λ p. p.1) after ≡ top_of side (take (i + 1) w)) × IfSome after (λ p. slice_get w p.0 ≡ Some p.1)
 top_keeps side w i x first after h e is goes same place =
-    let now : goes_first side (top_of side (take i w)) x ≡ false = subst (λ (o : Option Resting). goes_first side o x ≡ false) is goes in
-    (ap (option_map (λ p. p.1)) same ∙ is ∙ sym (top_more side w i x h e ∙ ap (λ b. cond b (Some x) (top_of side (take i w))) now),
-     subst (λ (a : Option (ℕ × Resting)). IfSome a (λ p. slice_get w p.0 ≡ Some p.1)) (sym same) place)
+    let now : goes_first side (top_of side (take i w)) x ≡ false = subst (λ (o : Option Resting). goes_first side o x ≡ false) is goes in (
+      ap (option_map (λ p. p.1)) same ∙ is ∙ sym (top_more side w i x h e ∙ ap (λ b. cond b (Some x) (top_of side (take i w))) now),
+      subst (λ (a : Option (ℕ × Resting)). IfSome a (λ p. slice_get w p.0 ≡ Some p.1)) (sym same) place,
+    )
 
 -- an order if an incoming one of this side meets its price
 abbrev gate : Side → ℕ → Option Resting → Option Resting
@@ -126,6 +127,7 @@ gate_step side limit (Some b) x =
   where
     left_side : step (opposite side) (crosses side limit) (gate side limit (Some b)) x ≡ cond (is_on (opposite side) x && is_within side limit x.price) (Some (cond (is_within side limit b.price) (cond (is_better (opposite side) x.price b.price) x b) x)) (cond (is_within side limit b.price) (Some b) None)
     left_side = elim (is_within side limit b.price) as (λ w. cond (is_on (opposite side) x && is_within side limit x.price) (Some (better (opposite side) (cond w (Some b) None) x)) (cond w (Some b) None) ≡ cond (is_on (opposite side) x && is_within side limit x.price) (Some (cond w (cond (is_better (opposite side) x.price b.price) x b) x)) (cond w (Some b) None)) [ true ↦ refl | false ↦ refl ]
+
     right_side : cond (is_on (opposite side) x) (cond (is_better (opposite side) x.price b.price) (cond (is_within side limit x.price) (Some x) None) (cond (is_within side limit b.price) (Some b) None)) (cond (is_within side limit b.price) (Some b) None) ≡ gate side limit (step (opposite side) (is_on (opposite side)) (Some b) x)
     right_side = elim (is_on (opposite side) x) as (λ c. cond c (cond (is_better (opposite side) x.price b.price) (cond (is_within side limit x.price) (Some x) None) (cond (is_within side limit b.price) (Some b) None)) (cond (is_within side limit b.price) (Some b) None) ≡ gate side limit (cond c (Some (cond (is_better (opposite side) x.price b.price) x b)) (Some b))) [
       | true ↦ elim (is_better (opposite side) x.price b.price) as (λ d. cond d (cond (is_within side limit x.price) (Some x) None) (cond (is_within side limit b.price) (Some b) None) ≡ gate side limit (Some (cond d x b))) [ true ↦ refl | false ↦ refl ]

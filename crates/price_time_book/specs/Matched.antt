@@ -1,5 +1,5 @@
 -- How an incoming order is matched with a book, which is the list of its orders in order of arrival.
-use Rattle.std.specs.Prelude.{ℕ, zero, suc, ◌-◌, ◌==◌, min, if◌then◌else◌, List, [], ◌∷◌, ◌++◌, length, Option, Some, None}
+use Rattle.std.specs.Prelude.{◌≡◌, ◌⊎◌, ℕ, zero, suc, ◌-◌, ◌==◌, min, if◌then◌else◌, List, [], ◌∷◌, ◌++◌, length, Option, Some, None}
 use Rattle.market_types.specs.declared.order.Side.{Side}
 use Rattle.price_time_book.specs.declared.resting.Fill.{Fill}
 use Rattle.price_time_book.specs.declared.resting.Resting.{Resting}
@@ -34,7 +34,15 @@ abbrev pub matched_by : ℕ → Side → ℕ → Matching → Matching
 matched_by zero side limit m = m
 matched_by (suc n) side limit m = matched_by n side limit (with_next (next_of m.book side limit) m)
 
--- an incoming order of this side and limit for so many shares, until it wants no more or nothing crosses: each time but the last
--- an order leaves, so as many times as there are orders suffice
+-- an incoming order until it wants no more or nothing crosses: each time but the last an order leaves, so as many times as there are
+-- orders suffice
+abbrev pub completed : Side → ℕ → Matching → Matching
+completed side limit m = matched_by (length m.book) side limit m
+
+-- the whole way of an incoming order of this side and limit for so many shares
 abbrev pub matched : List Resting → Side → ℕ → ℕ → Matching
-matched book side limit shares = matched_by (length book) side limit (record { fills = []; book = book; shares = shares })
+matched book side limit shares = completed side limit (record { fills = []; book = book; shares = shares })
+
+-- an incoming order wants no more, or nothing crosses
+abbrev pub IsEnded : Side → ℕ → Matching → Type 0
+IsEnded side limit m = (m.shares ≡ 0) ⊎ (next_of m.book side limit ≡ None)

@@ -10,5 +10,6 @@ IsRising (x ∷ book) = AllByRecursion (λ (o : Resting). x.reference < o.refere
 
 pub record IsOrderly (book : List Resting) : Type 0 where
   pub rising : IsRising book
+  pub live : AllByRecursion (λ (o : Resting). 0 < o.left) book
   pub within : AllByRecursion (λ (o : Resting). o.left ≤ o.intended) book
   pub few : length book ≤ 2 ^ 32

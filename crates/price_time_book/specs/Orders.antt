@@ -1,5 +1,5 @@
 -- Orders of a book by reference, and by agent and token. A book is the list of its orders in order of arrival.
-use Rattle.std.specs.Prelude.{ℕ, ◌-◌, Bool, not, ◌&&◌, ◌==◌, bytes_eq, if◌then◌else◌, List, Option, find, filter, map}
+use Rattle.std.specs.Prelude.{ℕ, ◌-◌, not, ◌&&◌, ◌==◌, bytes_eq, if◌then◌else◌, List, Option, find, filter, map}
 use Rattle.market_types.specs.declared.order.Token.{Token}
 use Rattle.price_time_book.specs.declared.resting.Resting.{Resting}
 

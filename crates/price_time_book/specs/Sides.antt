@@ -1,5 +1,5 @@
 -- The two sides of a book.
-use Rattle.std.specs.Prelude.{ℕ, Bool, true, false, ◌&&◌, ◌==◌, nat_lt, nat_le, List, sum_by, count_by, filter}
+use Rattle.std.specs.Prelude.{ℕ, Bool, true, false, nat_lt, nat_le, List, count_by}
 use Rattle.market_types.specs.declared.order.Side.{Side}
 use Rattle.market_types.specs.declared.order.Side.TheVariants.{Buy, Sell}
 use Rattle.price_time_book.specs.declared.resting.Resting.{Resting}

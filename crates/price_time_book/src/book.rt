@@ -7,7 +7,7 @@ ghost use Rattle.price_time_book.specs.Orders.{order_of, order_with, changed, re
 ghost use Rattle.price_time_book.specs.Sides.{depth_of};
 
 use crate::resting::{Best, Fill, Resting};
-use crate::search::{held_at, is_within, opposite, shares_at, top_of};
+use crate::search::{held_at, is_within, opposite, order_of, shares_at, top_of};
 use market_types::{AgentNo, Memory, Side, Token};
 use std::alloc::Global;
 use std::marker::Model;
@@ -92,6 +92,7 @@ impl Book {
     pub fn match_next(&mut self, side: Side, limit: u32, shares: u32) -> Option<Fill>
         requires { 0 < shares }
         ensures next { result ≡ option_map (fill_of shares) (next_of self.old.list side limit) }
+        ensures gives { IfSome result (λ f. 0 < f.shares) }
         ensures filled { IfSome result (λ f. self.new.list ≡ after_fill f self.old.list) }
         ensures unmatched { IfNone result (self.new.list ≡ self.old.list) }
         ensures room { self.old.spare ≤ self.new.spare }
@@ -123,13 +124,14 @@ impl Book {
         }
     }
 
-    /// The order that an agent sent under a token. `None` where no such order rests.
+    /// The order that an agent sent under a token. `None` where no such order rests. It has open shares,
+    /// no more than its intended size, and no other order has its reference.
     pub fn find(&self, agent: AgentNo, token: &Token) -> Option<&Resting>
-        ensures { option_map (λ o. o.now) result ≡ order_of agent token.now self.now.list }
+        ensures found { option_map (λ o. o.now) result ≡ order_of agent token.now self.now.list }
+        ensures live { IfSome result (λ o. (0 < o.now.left) × (o.now.left ≤ o.now.intended)) }
+        ensures by_reference { IfSome result (λ o. order_with o.now.reference self.now.list ≡ Some o.now) }
     {
-        self.orders
-            .iter()
-            .find(|o| o.agent == agent && o.token == *token)
+        order_of(self.orders.as_slice(), agent, token)
     }
 
     /// Lowers the open shares of the order with this reference to `left`, and its intended size by as

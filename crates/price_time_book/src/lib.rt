@@ -7,8 +7,11 @@
 
 mod book;
 pub mod known;
+pub mod laws;
 mod resting;
 mod search;
+#[cfg(test)]
+mod tests;
 
 pub use book::Book;
 pub use resting::{Best, Fill, Resting};

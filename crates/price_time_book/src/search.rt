@@ -2,12 +2,12 @@
 
 ghost use Rattle.std.specs.Prelude.{◌≡◌, ◌==◌, ◌≤◌, ◌^◌, IfSome, Some, length, option_map, position, slice_get};
 ghost use Rattle.price_time_book.specs.Next.{shares_at, top_of};
-ghost use Rattle.price_time_book.specs.Orders.{order_with};
+ghost use Rattle.price_time_book.specs.Orders.{order_of, order_with};
 ghost use Rattle.price_time_book.specs.Search.{goes_first};
 ghost use Rattle.price_time_book.specs.Sides.{is_better, is_within, opposite};
 
 use crate::resting::Resting;
-use market_types::Side;
+use market_types::{AgentNo, Side, Token};
 
 // The side that an order of this side meets.
 pub fn opposite(side: Side) -> Side
@@ -92,4 +92,13 @@ pub fn held_at(orders: &[Resting], reference: u64) -> Option<(usize, Resting)>
 {
     let at = place_of(orders, reference)?;
     Some((at, orders[at]))
+}
+
+// The order that an agent sent under a token.
+pub fn order_of<'a>(orders: &'a [Resting], agent: AgentNo, token: &Token) -> Option<&'a Resting>
+    ensures { option_map (λ o. o.now) result ≡ order_of agent token.now orders.now }
+{
+    orders
+        .iter()
+        .find(|o| o.agent == agent && o.token == *token)
 }

@@ -1,4 +1,4 @@
-use Rattle.std.proofs.Common.{◌≡◌, ap, ◌∙◌, sym, eqb, option_map, arith}
+use Rattle.std.proofs.Common.{ap, ◌∙◌, sym, eqb, option_map}
 use Rattle.std.proofs.lemmas.Option.{slice_get-get_or}
 use Rattle.price_time_book.specs.declared.resting.Resting.{Resting}
 use Rattle.price_time_book.proofs.Places.{find-none, find-some}

@@ -1,4 +1,4 @@
-use Rattle.std.proofs.Common.{◌∙◌, sym, get_or, refl}
+use Rattle.std.proofs.Common.{◌∙◌, sym}
 use Rattle.std.proofs.lemmas.List.{get_or_default}
 use Rattle.price_time_book.proofs.Tops.{top_takes, top_keeps}
 use Rattle.price_time_book.proofs.search.top_of.Goals as goal

@@ -1,4 +1,4 @@
-use Rattle.std.proofs.Common.{◌≡◌, ◌<◌, ◌∷◌, ◌++◌, [], All, List, length, ap, subst, sym, arith}
+use Rattle.std.proofs.Common.{◌<◌, All, List, length, ap, subst, sym, arith}
 use Rattle.price_time_book.specs.declared.resting.Resting.{Resting}
 use Rattle.price_time_book.specs.Orderly.{IsOrderly}
 use Rattle.price_time_book.proofs.Changes.{orderly-push}
@@ -12,5 +12,5 @@ invariant_of-self c =
     let old = subst P (sym same) (c.requires.few, c.requires.later) in
     record {
       room = omega (arith, c.in-Ok.ensures.len, c.in-Ok.ensures.capacity, c.self.invariant.room, ap (λ b. b.spare) c.self.view_is, c.requires.room);
-      orderly = subst IsOrderly (sym c.in-Ok.ensures.items) (orderly-push c.self.inside.orders.items order c.self.invariant.orderly c.requires.intended old.0 old.1);
+      orderly = subst IsOrderly (sym c.in-Ok.ensures.items) (orderly-push c.self.inside.orders.items order c.self.invariant.orderly c.requires.shares c.requires.intended old.0 old.1);
     }
