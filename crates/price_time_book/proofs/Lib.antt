@@ -1,0 +1,5 @@
+pub mod Changes
+pub mod Matching
+pub mod Places
+pub mod Tops
+pub mod Shares

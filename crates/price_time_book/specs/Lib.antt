@@ -1,0 +1,7 @@
+pub mod Known
+pub mod Matched
+pub mod Next
+pub mod Orderly
+pub mod Orders
+pub mod Search
+pub mod Sides

@@ -1,0 +1,33 @@
+-- Which resting order comes first. A book is the list of its orders in order of arrival.
+use Rattle.std.specs.Prelude.{ℕ, Bool, ◌&&◌, ◌==◌, List, [], ◌∷◌, Option, Some, None, option_map, filter, sum_by}
+use Rattle.std.specs.List.{best_of}
+use Rattle.market_types.specs.declared.order.Side.{Side}
+use Rattle.price_time_book.specs.declared.resting.Best.{Best}
+use Rattle.price_time_book.specs.declared.resting.Resting.{Resting}
+use Rattle.price_time_book.specs.Sides.{opposite, is_on, is_better, is_within}
+
+-- of orders on one side that with the best price, and of those with one price the earliest
+abbrev pub first_best : Side → List Resting → Option Resting
+first_best side [] = None
+first_best side (o ∷ book) = Some (best_of (λ a b. is_better side a.price b.price) o book)
+
+-- whether a resting order crosses an incoming order of this side: it rests on the other side at a price within the limit
+abbrev pub crosses : Side → ℕ → Resting → Bool
+crosses side limit o = is_on (opposite side) o && is_within side limit o.price
+
+-- the order that an incoming order of this side meets next: of those that cross the one with the best price, and among those the
+-- earliest
+abbrev pub next_of : List Resting → Side → ℕ → Option Resting
+next_of book side limit = first_best (opposite side) (filter (crosses side limit) book)
+
+-- the first order of a side
+abbrev pub top_of : Side → List Resting → Option Resting
+top_of side book = first_best side (filter (is_on side) book)
+
+-- the open shares of a side at one price
+abbrev pub shares_at : Side → ℕ → List Resting → ℕ
+shares_at side price book = sum_by (λ o. o.left) (filter (λ o. is_on side o && (o.price == price)) book)
+
+-- the best price of a side and the open shares at it
+abbrev pub best_at : Side → List Resting → Option Best
+best_at side book = option_map (λ o. record { price = o.price; shares = shares_at side o.price book }) (top_of side book)

@@ -1,0 +1,198 @@
+//! The book.
+
+ghost use Rattle.std.specs.Prelude.{◌≡◌, ◌<◌, ◌≤◌, ◌-◌, ◌∷◌, ◌++◌, [], OnErr, OnOk, IfOk, IfSome, IfNone, All, Some, None, length, option_map, slice_get};
+ghost use Rattle.price_time_book.specs.Matched.{fill_of, after_fill};
+ghost use Rattle.price_time_book.specs.Next.{best_at, next_of};
+ghost use Rattle.price_time_book.specs.Orders.{order_of, order_with, changed, reduced};
+ghost use Rattle.price_time_book.specs.Sides.{depth_of};
+
+use crate::resting::{Best, Fill, Resting};
+use crate::search::{held_at, is_within, opposite, order_of, shares_at, top_of};
+use market_types::{AgentNo, Memory, Side, Token};
+use std::alloc::Global;
+use std::marker::Model;
+
+/// The resting orders of one stock.
+#[derive(Drop)]
+pub struct Book {
+    orders: Vec<Resting>,
+    spare: usize,
+}
+
+impl Model for Book {
+    ghost use Rattle.std.specs.Prelude.{◌≤◌, ◌+◌, vec_len, vec_capacity};
+    ghost use Rattle.market_types.specs.Room.{Room};
+    ghost use Rattle.price_time_book.specs.declared.resting.Resting.{Resting};
+    ghost use Rattle.price_time_book.specs.Orderly.{IsOrderly};
+
+    ghost Value = { Room Resting };
+
+    ghost view = { λ b. record { list = b.orders.items; spare = b.spare } };
+
+    ghost invariant = { λ b. record {
+      room : vec_len b.orders + b.spare ≤ vec_capacity b.orders;
+      orderly : IsOrderly b.orders.items;
+    } };
+}
+
+impl Book {
+    /// The empty book. It takes no memory, and later calls take theirs from `alloc`.
+    pub fn new(alloc: Global) -> Book
+        ensures { result ≡ record { list = []; spare = 0 } }
+    {
+        Book {
+            orders: Vec::new(alloc),
+            spare: 0,
+        }
+    }
+
+    /// Keeps places for `n` more orders. After want of memory the book is as it was.
+    pub fn reserve(&mut self, n: usize) -> Result<(), Memory>
+        ensures list { self.new.list ≡ self.old.list }
+        ensures room { OnOk result (n ≤ self.new.spare) }
+        ensures never_falls { self.old.spare ≤ self.new.spare }
+        ensures refused { OnErr result (self.new ≡ self.old) }
+    {
+        if n <= self.spare {
+            return Ok(());
+        }
+        match self.orders.reserve(n) {
+            Ok(()) => {
+                self.spare = n;
+                Ok(())
+            }
+            Err(_) => Err(Memory),
+        }
+    }
+
+    /// A book with the same orders, which may keep any number of places.
+    pub fn copy(&self, alloc: Global) -> Result<Book, Memory>
+        ensures { IfOk result (λ b. b.list ≡ self.now.list) }
+    {
+        let orders = copied(alloc, self.orders.as_slice())?;
+        Ok(Book { orders, spare: 0 })
+    }
+
+    /// The best price of a side and the open shares at it. `None` where no order rests there.
+    pub fn best(&self, side: Side) -> Option<Best>
+        ensures { result ≡ best_at side self.now.list }
+    {
+        let (_, first) = top_of(self.orders.as_slice(), side)?;
+        let shares = shares_at(self.orders.as_slice(), side, first.price);
+        Some(Best {
+            price: first.price,
+            shares,
+        })
+    }
+
+    /// Matches an incoming order of `side`, which wants `shares` more and trades at no worse price than
+    /// `limit`, with the next order of the other side: the one with the best price, and at one price the
+    /// earliest. It gives the lesser of its open shares and those wanted, and leaves where none stay open.
+    /// `None` where nothing crosses, and the book is then as it was.
+    pub fn match_next(&mut self, side: Side, limit: u32, shares: u32) -> Option<Fill>
+        requires { 0 < shares }
+        ensures next { result ≡ option_map (fill_of shares) (next_of self.old.list side limit) }
+        ensures gives { IfSome result (λ f. 0 < f.shares) }
+        ensures filled { IfSome result (λ f. self.new.list ≡ after_fill f self.old.list) }
+        ensures unmatched { IfNone result (self.new.list ≡ self.old.list) }
+        ensures room { self.old.spare ≤ self.new.spare }
+    {
+        let (at, resting) = top_of(self.orders.as_slice(), opposite(side))?;
+        if !is_within(side, limit, resting.price) {
+            return None;
+        }
+        let shares = shares.min(resting.left);
+        let left = resting.left - shares;
+        self.change(at, Resting { left, ..resting });
+        Some(Fill { resting, shares })
+    }
+
+    /// An order comes to rest. A place was kept for it, its reference is greater than each that is
+    /// held, and its agent has no held order with its token.
+    pub fn rest(&mut self, order: Resting)
+        requires room { 0 < self.old.spare }
+        requires shares { 0 < order.left }
+        requires intended { order.left ≤ order.intended }
+        requires few { length self.old.list < 4294967296 }
+        requires later { All (λ o. o.reference < order.reference) self.old.list }
+        requires fresh { order_of order.agent order.token self.old.list ≡ None }
+        ensures { self.new ≡ record { list = self.old.list ++ order ∷ []; spare = self.old.spare - 1 } }
+    {
+        match self.orders.push(order) {
+            Ok(()) => self.spare -= 1,
+            Err(_) => unreachable!(),
+        }
+    }
+
+    /// The order that an agent sent under a token. `None` where no such order rests. It has open shares,
+    /// no more than its intended size, and no other order has its reference.
+    pub fn find(&self, agent: AgentNo, token: &Token) -> Option<&Resting>
+        ensures found { option_map (λ o. o.now) result ≡ order_of agent token.now self.now.list }
+        ensures live { IfSome result (λ o. (0 < o.now.left) × (o.now.left ≤ o.now.intended)) }
+        ensures by_reference { IfSome result (λ o. order_with o.now.reference self.now.list ≡ Some o.now) }
+    {
+        order_of(self.orders.as_slice(), agent, token)
+    }
+
+    /// Lowers the open shares of the order with this reference to `left`, and its intended size by as
+    /// much. At 0 it leaves. Gives the order as it was; `None` where no order has this reference, and the
+    /// book is then as it was.
+    pub fn reduce(&mut self, reference: u64, left: u32) -> Option<Resting>
+        requires { IfSome (order_with reference self.old.list) (λ o. left < o.left) }
+        ensures was { result ≡ order_with reference self.old.list }
+        ensures reduced { IfSome result (λ o. self.new.list ≡ changed (reduced left o) self.old.list) }
+        ensures absent { IfNone result (self.new.list ≡ self.old.list) }
+        ensures room { self.old.spare ≤ self.new.spare }
+    {
+        let (at, resting) = held_at(self.orders.as_slice(), reference)?;
+        let intended = resting.intended - (resting.left - left);
+        self.change(
+            at,
+            Resting {
+                intended,
+                left,
+                ..resting
+            },
+        );
+        Some(resting)
+    }
+
+    /// How many orders rest on a side.
+    pub fn depth(&self, side: Side) -> usize
+        ensures { result ≡ depth_of side self.now.list }
+    {
+        self.orders.iter().filter(|o| o.side == side).count()
+    }
+
+    /// The orders in order of arrival.
+    pub fn orders(&self, alloc: Global) -> Result<Vec<Resting>, Memory>
+        ensures { IfOk result (λ v. v.items ≡ self.now.list) }
+    {
+        copied(alloc, self.orders.as_slice())
+    }
+
+    // The order at a place becomes another with its reference, which leaves where it has no open shares.
+    fn change(&mut self, at: usize, order: Resting)
+        requires place { option_map (λ o. o.reference) (slice_get self.old.list at) ≡ Some order.reference }
+        requires intended { order.left ≤ order.intended }
+        ensures list { self.new.list ≡ changed order self.old.list }
+        ensures room { self.old.spare ≤ self.new.spare }
+    {
+        if order.left == 0 {
+            self.orders.remove(at);
+        } else {
+            self.orders[at] = order;
+        }
+    }
+}
+
+// The same orders.
+fn copied(alloc: Global, orders: &[Resting]) -> Result<Vec<Resting>, Memory>
+    ensures { IfOk result (λ v. v.items ≡ orders.now) }
+{
+    let mut copy = Vec::new(alloc);
+    match copy.extend_from_slice(orders) {
+        Ok(()) => Ok(copy),
+        Err(_) => Err(Memory),
+    }
+}

@@ -1,0 +1,17 @@
+//! The resting orders of one stock, which meet incoming orders by price and, at one price, by time.
+//!
+//! Contracts see a book as the list of its orders in order of arrival, which is the order of their
+//! references, and a number `spare` of places that are kept for more. An incoming order meets the
+//! order with the best price first, and at one price the one that came first.
+#![tactic(auto)]
+
+mod book;
+pub mod known;
+pub mod laws;
+mod resting;
+mod search;
+#[cfg(test)]
+mod tests;
+
+pub use book::Book;
+pub use resting::{Best, Fill, Resting};

@@ -1,0 +1,39 @@
+//! What rests in a book, and what a match gives. Prices have four implied decimals.
+
+use market_types::{AgentNo, Side, Token};
+
+/// An order that rests.
+#[derive(Clone, Copy, PartialEq, Eq, Debug)]
+pub struct Resting {
+    /// The order reference number, which the exchange gave.
+    pub reference: u64,
+    pub agent: AgentNo,
+    pub token: Token,
+    pub side: Side,
+    /// Dollars with four implied decimals.
+    pub price: u32,
+    /// The intended size in shares, executed ones included.
+    pub intended: u32,
+    /// The open shares.
+    pub left: u32,
+    /// Time in force, as the order gave it.
+    pub tif: u32,
+}
+
+/// A resting order and the shares that an incoming order took of it.
+#[derive(Clone, Copy, PartialEq, Eq, Debug)]
+pub struct Fill {
+    /// The resting order as it was before.
+    pub resting: Resting,
+    /// Shares.
+    pub shares: u32,
+}
+
+/// The best price of a side and the open shares at it.
+#[derive(Clone, Copy, PartialEq, Eq, Debug)]
+pub struct Best {
+    /// Dollars with four implied decimals.
+    pub price: u32,
+    /// Shares.
+    pub shares: u64,
+}
