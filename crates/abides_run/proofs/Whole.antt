@@ -5,7 +5,7 @@ use Rattle.market_types.specs.Told.{EntryTold}
 use Rattle.kernel_core.specs.declared.opening.Opening.{Opening}
 use Rattle.kernel_core.specs.Open.{opened}
 use Rattle.kernel_core.specs.State.{State}
-use Rattle.kernel_core.specs.Until.{Run, until}
+use Rattle.kernel_core.specs.Until.{until}
 use Rattle.abides_run.specs.Full.{full}
 
 pub from_opening : (o : Opening) (s : State) (t : Room EntryTold) → s ≡ opened o → t ≡ record { list = []; spare = 0 }

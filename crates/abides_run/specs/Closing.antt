@@ -1,5 +1,5 @@
 -- The closing of a state: its counters, stocks, live orders and agents.
-use Rattle.std.specs.Prelude.{ℕ, zero, suc, ◌-◌, ◌+◌, ℤ, pos, false, List, [], ◌∷◌, ◌++◌, length, slice_index, slice_index_or, Option, Some, None}
+use Rattle.std.specs.Prelude.{ℕ, zero, suc, ◌+◌, pos, false, List, [], ◌∷◌, ◌++◌, length, slice_index, slice_index_or, Option, Some, None}
 use Rattle.market_types.specs.declared.entry.End.{End}
 use Rattle.market_types.specs.declared.entry.End.TheVariants.{Quiet, Closed, EventLimit, QueueFull}
 use Rattle.market_types.specs.declared.account.TraderTold.{TraderTold}
@@ -23,8 +23,16 @@ end_letter (Some QueueFull) = 70
 -- the counters; in a market without orders those of the exchange are 0
 abbrev pub counts_of : Opening → State → ClosingCounts
 counts_of o s = record {
-  end = end_letter (end_of o s); events = s.events; time = s.time; next_seq = s.post.next_seq; waiting = length s.post.waiting;
-  dropped = s.post.dropped; enters = 0; cancels = 0; orders = 0; matches = 0
+  end = end_letter (end_of o s);
+  events = s.events;
+  time = s.time;
+  next_seq = s.post.next_seq;
+  waiting = length s.post.waiting;
+  dropped = s.post.dropped;
+  enters = 0;
+  cancels = 0;
+  orders = 0;
+  matches = 0;
 }
 
 -- a stock that trades and has matched nothing
@@ -34,15 +42,33 @@ idle_stock = record { stock = 0; state = 84; last = 0; matched = 0; fees = pos 0
 -- The exchange is agent 0. It has nothing but its own time.
 abbrev pub exchange_told : State → ClosingAgent
 exchange_told s = record {
-  agent = 0; silenced = false; time = slice_index s.own 0; tokens = 0; draws = 0; cash = pos 0; own_cash = pos 0;
-  own_position = pos 0; live = 0; quotes = 0; positions = pos 0 ∷ []
+  agent = 0;
+  silenced = false;
+  time = slice_index s.own 0;
+  tokens = 0;
+  draws = 0;
+  cash = pos 0;
+  own_cash = pos 0;
+  own_position = pos 0;
+  live = 0;
+  quotes = 0;
+  positions = pos 0 ∷ [];
 }
 
 -- a trader with what it tells of itself; nothing was settled
 abbrev pub trader_told : State → ℕ → TraderTold → ClosingAgent
 trader_told s agent t = record {
-  agent = agent; silenced = false; time = slice_index s.own agent; tokens = t.tokens; draws = t.draws; cash = pos 0;
-  own_cash = t.account.cash; own_position = t.account.position; live = t.live; quotes = t.quotes; positions = pos 0 ∷ []
+  agent = agent;
+  silenced = false;
+  time = slice_index s.own agent;
+  tokens = t.tokens;
+  draws = t.draws;
+  cash = pos 0;
+  own_cash = t.account.cash;
+  own_position = t.account.position;
+  live = t.live;
+  quotes = t.quotes;
+  positions = pos 0 ∷ [];
 }
 
 -- the exchange and the first n traders
@@ -52,5 +78,8 @@ agents_told s (suc n) = agents_told s n ++ trader_told s (n + 1) (told_of (slice
 
 abbrev pub closing_of : Opening → State → Closing
 closing_of o s = record {
-  counts = counts_of o s; stocks = idle_stock ∷ []; orders = []; agents = agents_told s (length s.traders)
+  counts = counts_of o s;
+  stocks = idle_stock ∷ [];
+  orders = [];
+  agents = agents_told s (length s.traders);
 }

@@ -1,14 +1,12 @@
 -- The full run of a study, and the bundle that tells it.
-use Rattle.std.specs.Prelude.{ℕ, ◌+◌, List, [], ◌∷◌, ◌++◌, codes}
+use Rattle.std.specs.Prelude.{ℕ, List, [], ◌∷◌, codes}
 use Rattle.market_types.specs.declared.feed.Feed.{Feed}
 use Rattle.market_types.specs.declared.feed.What.TheVariants.{System, Directory, Trading}
 use Rattle.market_types.specs.declared.order.Symbol.{Symbol}
 use Rattle.kernel_core.specs.declared.opening.Opening.{Opening}
 use Rattle.kernel_core.specs.Open.{opened}
 use Rattle.kernel_core.specs.Until.{Run, until}
-use Rattle.trace_bundle.specs.Bundle.{BranchTold, header_frame, branch_frames, end_frame}
-use Rattle.study_rules.specs.declared.accept.WatcherStudy.{WatcherStudy}
-use Rattle.study_rules.specs.Opening.{opening_of}
+use Rattle.trace_bundle.specs.Bundle.{BranchTold}
 use Rattle.abides_run.specs.Closing.{closing_of}
 
 -- From the opening on, one event after another, until the state is ended or all events stand.
@@ -26,13 +24,19 @@ system_event time code = record { locate = 0; tracking = 0; time = time; what = 
 -- the directory of the stock, with the fields that every stock has here
 abbrev pub directory : ℕ → Feed
 directory time = record {
-  locate = 1; tracking = 0; time = time; what = Directory symbol 81 78 100 78 67 (90 ∷ 32 ∷ []) 84 78 78 32 78 0 78
+  locate = 1;
+  tracking = 0;
+  time = time;
+  what = Directory symbol 81 78 100 78 67 (90 ∷ 32 ∷ []) 84 78 78 32 78 0 78;
 }
 
 -- the stock trades
 abbrev pub trading : ℕ → Feed
 trading time = record {
-  locate = 1; tracking = 0; time = time; what = Trading symbol 84 32 (32 ∷ 32 ∷ 32 ∷ 32 ∷ [])
+  locate = 1;
+  tracking = 0;
+  time = time;
+  what = Trading symbol 84 32 (32 ∷ 32 ∷ 32 ∷ 32 ∷ []);
 }
 
 -- the feed of the opening: the messages start, and the stock is listed and trades
@@ -42,6 +46,12 @@ opening_feed time = system_event time 79 ∷ directory time ∷ trading time ∷
 -- The root branch, which has no parent.
 abbrev pub root_told : Opening → Run → BranchTold
 root_told o r = record {
-  branch = 0; parent = 65535; stop = 0; name = codes "root"; opening = opening_feed o.start; entries = r.entries;
-  ended = system_event r.state.time 67; closing = closing_of o r.state
+  branch = 0;
+  parent = 65535;
+  stop = 0;
+  name = codes "root";
+  opening = opening_feed o.start;
+  entries = r.entries;
+  ended = system_event r.state.time 67;
+  closing = closing_of o r.state;
 }

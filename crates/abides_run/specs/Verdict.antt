@@ -1,5 +1,5 @@
 -- What words and files come to, before anything is simulated. The order of refusals is the order of this computation.
-use Rattle.std.specs.Prelude.{ℕ, List, [], Option, Some, None, length}
+use Rattle.std.specs.Prelude.{ℕ, List, [], Option, Some, None}
 use Rattle.outside.specs.Files.{Content, absent, too_long, whole, held, content}
 use Rattle.study_rules.specs.declared.accept.WatcherStudy.{WatcherStudy}
 use Rattle.study_rules.specs.Watchers.{study_of}

@@ -23,7 +23,10 @@ pub fn note_text(alloc: Global, name: &str, status: Status) -> Result<String, Al
 {
     match status {
         Status::Ok => Ok(String::new(alloc)),
-        Status::Usage => String::from_str(alloc, "usage: abides COMMAND STUDY [MORE...] [--workers N] [--places N]\n"),
+        Status::Usage => String::from_str(
+            alloc,
+            "usage: abides COMMAND STUDY [MORE...] [--workers N] [--places N]\n",
+        ),
         Status::NoStudy => format!(in alloc; "no such file: {name}\n"),
         Status::TooLong => format!(in alloc; "file too long: {name}\n"),
         Status::Refused { rule, place } => refused_text(alloc, rule, place),

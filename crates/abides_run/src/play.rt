@@ -30,11 +30,7 @@ struct Ran {
 }
 
 /// Runs an opening to its end.
-fn simulate<D: Ledger>(
-    alloc: Global,
-    o: &Opening,
-    steps: &mut Steps<D>,
-) -> Result<Ran, Memory>
+fn simulate<D: Ledger>(alloc: Global, o: &Opening, steps: &mut Steps<D>) -> Result<Ran, Memory>
     requires opening { IsOpening o.now }
     requires count { steps.old + o.now.limit < 2 ^ 64 }
     ensures run { IfOk result (λ r. record { state = r.kernel; entries = r.trace.list } ≡ full o.now) }

@@ -19,7 +19,7 @@ woken-among : (t : ℕ) (o : Opening) (k : ℕ) (p : Post) (ws : List Waker) →
 woken-among t o k p [] h a = a
 woken-among t o k p (w ∷ ws) h a =
     woken-among t o (k + 1) (sent o o.groups k 0 p (WakeAt w.first)) ws (omega arith)
-      (sent-among t k 0 o o.groups p (WakeAt w.first) (record { sender = omega arith; receiver = omega arith; extra = lit< tt }) a)
+    (sent-among t k 0 o o.groups p (WakeAt w.first) (record { sender = omega arith; receiver = omega arith; extra = lit< tt }) a)
 
 woken-next_seq : (o : Opening) (k : ℕ) (p : Post) (ws : List Waker) → (woken o k p ws).next_seq ≤ p.next_seq + length ws
 woken-next_seq o k p [] = omega arith

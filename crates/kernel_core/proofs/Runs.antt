@@ -173,7 +173,7 @@ pub part_within : (n stop : ℕ) (o : Opening) (first later : Run) → later ≡
 part_within n stop o first later is most =
     let rest = stop - first.state.events - n in
     let whole : until o stop first ≡ advanced_by rest o later =
-        advanced_by-add n rest (stop - first.state.events) o first (omega arith) ∙ ap (λ (r : Run). advanced_by rest o r) (sym is) in
+    advanced_by-add n rest (stop - first.state.events) o first (omega arith) ∙ ap (λ (r : Run). advanced_by rest o r) (sym is) in
     omega (arith, ap (λ (r : Run). r.state.events) whole, advanced_by-grows rest o later)
 
 event-time : (o : Opening) (s : State) (m : Message) → (event_of o s m).state.time ≡ m.time
@@ -204,7 +204,7 @@ advanced-time o r h =
     let s = r.state in
     let w = least s.post.waiting in
     with_event-time o.close r (event_of o s) (end_of o s) w
-      (λ (m : Message) going next. omega (arith, event-time o s m, going-time o s w m next going)) h
+    (λ (m : Message) going next. omega (arith, event-time o s m, going-time o s w m next going)) h
 
 advanced_by-time : (n : ℕ) (o : Opening) (r : Run) → r.state.time ≤ o.close → (advanced_by n o r).state.time ≤ o.close
 advanced_by-time zero o r h = h

@@ -27,7 +27,7 @@ use Rattle.kernel_core.proofs.Posts.{all-joined, all-without, all-least}
 pub grouped : (o : Opening) (groups : Tables) → IsOpening o → group_count o.groups ≡ group_count groups → IsGrouped o groups
 grouped o groups h same = record {
   exchange = omega (arith, h.exchange_group);
-  traders = All-weaker (λ (w : Waker). IsWaker (group_count o.groups) w) (λ (w : Waker). w.group < group_count groups) (λ w q. omega (arith, q.group)) o.traders h.traders
+  traders = All-weaker (λ (w : Waker). IsWaker (group_count o.groups) w) (λ (w : Waker). w.group < group_count groups) (λ w q. omega (arith, q.group)) o.traders h.traders;
 }
 
 pub counted_later : (n k : ℕ) (ts : List Trader) → n ≤ k → All (λ (d : Trader). IsCounted n d) ts → All (λ (d : Trader). IsCounted k d) ts
@@ -108,18 +108,23 @@ pub meek_reaction : (o : Opening) (s : State) (m : Message) → Fits o s → IsS
 meek_reaction o s m f h a =
     elim (cases_eq m.to 0) [
       | inl e ↦
-        let t : eqb m.to 0 ≡ true = grind (arith, nat_tests) in
-        let w = answered-addressed (length s.traders) m.from m.body (omega (arith, a.from, h.agents)) in
-        let sends = subst (λ (k : ℕ). AllByRecursion (λ (x : Sending). IsAddressed (length s.traders) k x) (answered m.from m.body)) (sym e) w.0 in
-        rw t (record { addressed = sends; few = w.1; delay = f.opening.exchange_delay; traders = refl; counted = counted_later s.events (s.events + 1) s.traders (omega arith) h.counted })
+          let t : eqb m.to 0 ≡ true = grind (arith, nat_tests) in
+          let w = answered-addressed (length s.traders) m.from m.body (omega (arith, a.from, h.agents)) in
+          let sends = subst (λ (k : ℕ). AllByRecursion (λ (x : Sending). IsAddressed (length s.traders) k x) (answered m.from m.body)) (sym e) w.0 in
+          rw t (record { addressed = sends; few = w.1; delay = f.opening.exchange_delay; traders = refl; counted = counted_later s.events (s.events + 1) s.traders (omega arith) h.counted })
       | inr e ↦
-        let t : eqb m.to 0 ≡ false = grind (arith, nat_tests) in
-        let j : m.to - 1 < length s.traders = omega (arith, h.agents, a.to) in
-        let d = get_or s.traders (m.to - 1) nobody in
-        let w = decided-addressed (length s.traders) m.to m.time d m.body (omega (arith, a.to, h.agents)) in
-        let c : IsCounted s.events d = All-get_or (λ (d : Trader). IsCounted s.events d) s.traders (m.to - 1) nobody j h.counted in
-        rw t (record { addressed = w.0; few = w.1; delay = c.delay; traders = length-set s.traders (m.to - 1) (decided d m.time m.body).trader;
-          counted = All-set (λ (d : Trader). IsCounted (s.events + 1) d) s.traders (m.to - 1) (decided d m.time m.body).trader (decided-counted s.events m.time d m.body c) (counted_later s.events (s.events + 1) s.traders (omega arith) h.counted) })
+          let t : eqb m.to 0 ≡ false = grind (arith, nat_tests) in
+          let j : m.to - 1 < length s.traders = omega (arith, h.agents, a.to) in
+          let d = get_or s.traders (m.to - 1) nobody in
+          let w = decided-addressed (length s.traders) m.to m.time d m.body (omega (arith, a.to, h.agents)) in
+          let c : IsCounted s.events d = All-get_or (λ (d : Trader). IsCounted s.events d) s.traders (m.to - 1) nobody j h.counted in
+          rw t (record {
+            addressed = w.0;
+            few = w.1;
+            delay = c.delay;
+            traders = length-set s.traders (m.to - 1) (decided d m.time m.body).trader;
+            counted = All-set (λ (d : Trader). IsCounted (s.events + 1) d) s.traders (m.to - 1) (decided d m.time m.body).trader (decided-counted s.events m.time d m.body c) (counted_later s.events (s.events + 1) s.traders (omega arith) h.counted);
+          })
     ]
 
 -- after a delivery
@@ -149,4 +154,4 @@ all_addressed o s m xs f e h is =
     let r = meek_reaction o s m f h (among_least s m e h) in
     let all = All-from_recursion (λ (x : Sending). IsAddressed (length s.traders) m.to x) (reaction o s.traders m).sends r.addressed in
     subst (λ (ys : List Sending). All (λ (x : Sending). IsAddressed (length o.traders) m.to x) ys) (sym is)
-      (subst (λ (n : ℕ). All (λ (x : Sending). IsAddressed n m.to x) (reaction o s.traders m).sends) (sym f.traders) all)
+    (subst (λ (n : ℕ). All (λ (x : Sending). IsAddressed n m.to x) (reaction o s.traders m).sends) (sym f.traders) all)

@@ -26,7 +26,7 @@ pub record Decided : Type 0 where
 abbrev pub decided : Trader → ℕ → Body → Decided
 decided d time Wake = record {
   trader = record d { draws = d.draws + 1 };
-  sends = To 0 (Ask 0) 0 ∷ (WakeAt (time + d.every) ∷ [])
+  sends = To 0 (Ask 0) 0 ∷ (WakeAt (time + d.every) ∷ []);
 }
 decided d time (Order inbound) = record { trader = d; sends = [] }
 decided d time (Answer reply) = record { trader = d; sends = [] }
@@ -45,5 +45,9 @@ answered from (Quote quote) = []
 -- what a trader tells of itself: a watcher gives no token, has no open order and trades nothing
 abbrev pub told_of : Trader → TraderTold
 told_of d = record {
-  tokens = 0; draws = d.draws; account = record { position = pos 0; cash = pos 0 }; live = 0; quotes = d.quotes
+  tokens = 0;
+  draws = d.draws;
+  account = record { position = pos 0; cash = pos 0 };
+  live = 0;
+  quotes = d.quotes;
 }

@@ -20,5 +20,5 @@ opened o = record {
   post = woken o 1 nothing_waits o.traders;
   own = replicate (length o.traders + 1) o.start;
   traders = map trader_of o.traders;
-  groups = o.groups
+  groups = o.groups;
 }

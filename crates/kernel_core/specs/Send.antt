@@ -23,7 +23,11 @@ under_way o groups from to seq = latency_of o.key groups (group_of o from) (grou
 -- it, and is due once it was under way. A wakeup is due at the time that the agent asks for, and goes nowhere.
 abbrev pub message_of : Opening → Tables → ℕ → ℕ → ℕ → Sending → Message
 message_of o groups seq from leave (To to body extra) = record {
-  time = leave + extra + under_way o groups from to seq; seq = seq; from = from; to = to; body = body
+  time = leave + extra + under_way o groups from to seq;
+  seq = seq;
+  from = from;
+  to = to;
+  body = body;
 }
 message_of o groups seq from leave (WakeAt time) = record { time = time; seq = seq; from = from; to = from; body = Wake }
 
@@ -34,7 +38,7 @@ sent o groups from leave p x =
     then record {
       waiting = joined (message_of o groups p.next_seq from leave x) p.waiting;
       next_seq = p.next_seq + 1;
-      dropped = p.dropped
+      dropped = p.dropped;
     }
     else record p { dropped = p.dropped + 1 }
 

@@ -39,12 +39,21 @@ put_back s m until = record {
   state = record s {
     time = m.time;
     events = s.events + 1;
-    post = record s.post { waiting = joined (record m { time = until }) (without m.seq s.post.waiting) }
+    post = record s.post { waiting = joined (record m { time = until }) (without m.seq s.post.waiting) };
   };
   entry = record {
-    number = s.events + 1; time = m.time; seq = m.seq; from = m.from; to = m.to; put_back = true;
-    until = until; fee = pos 0; body = m.body; before = []; after = []
-  }
+    number = s.events + 1;
+    time = m.time;
+    seq = m.seq;
+    from = m.from;
+    to = m.to;
+    put_back = true;
+    until = until;
+    fee = pos 0;
+    body = m.body;
+    before = [];
+    after = [];
+  };
 }
 
 -- What the receiver of a message does: the traders' new data, what is sent, and how long it computes.
@@ -56,7 +65,9 @@ pub record Reaction : Type 0 where
 -- a trader's data once it computed, beside all others
 abbrev pub trader_reaction : List Trader → ℕ → Decided → Reaction
 trader_reaction traders at d = record {
-  traders = slice_set traders at d.trader; sends = d.sends; delay = (slice_index_or traders at nobody).delay
+  traders = slice_set traders at d.trader;
+  sends = d.sends;
+  delay = (slice_index_or traders at nobody).delay;
 }
 
 -- The exchange is agent 0; the traders follow in their order.
@@ -75,12 +86,21 @@ delivered_with o s m r = record {
     post = all_sent o s.groups m.to (m.time + r.delay) (record s.post { waiting = without m.seq s.post.waiting }) r.sends;
     own = slice_set s.own m.to (m.time + r.delay);
     traders = r.traders;
-    groups = s.groups
+    groups = s.groups;
   };
   entry = record {
-    number = s.events + 1; time = m.time; seq = m.seq; from = m.from; to = m.to; put_back = false;
-    until = m.time + r.delay; fee = pos 0; body = m.body; before = []; after = []
-  }
+    number = s.events + 1;
+    time = m.time;
+    seq = m.seq;
+    from = m.from;
+    to = m.to;
+    put_back = false;
+    until = m.time + r.delay;
+    fee = pos 0;
+    body = m.body;
+    before = [];
+    after = [];
+  };
 }
 
 abbrev pub delivered : Opening → State → Message → Happened

@@ -1,7 +1,6 @@
 -- Worked runs: two watchers that first wake at 1000, under a latency of 5.
-use Rattle.std.specs.Prelude.{ℕ, Bool, false, List, [], ◌∷◌, map, length, replicate, Option, Some}
+use Rattle.std.specs.Prelude.{ℕ, Bool, false, List, [], ◌∷◌, map, length, replicate, Option}
 use Rattle.market_types.specs.declared.entry.End.{End}
-use Rattle.market_types.specs.declared.entry.End.TheVariants.{Closed}
 use Rattle.market_types.specs.Told.{EntryTold, event, edit}
 use Rattle.kernel_core.specs.declared.opening.Opening.{Opening}
 use Rattle.kernel_core.specs.declared.opening.Waker.{Waker}
@@ -16,9 +15,14 @@ watcher first = record { first = first; every = 1000000; group = 0; delay = 0 }
 -- watchers of an exchange that computes for so long; the market opens at 1000
 abbrev pub market : ℕ → ℕ → List Waker → Opening
 market close delay watchers = record {
-  start = 1000; close = close; limit = 100; key = replicate 32 0;
+  start = 1000;
+  close = close;
+  limit = 100;
+  key = replicate 32 0;
   groups = record { base = (5 ∷ []) ∷ []; jitter = (0 ∷ []) ∷ [] };
-  exchange_group = 0; exchange_delay = delay; traders = watchers
+  exchange_group = 0;
+  exchange_delay = delay;
+  traders = watchers;
 }
 
 abbrev pub full_run : Opening → Run

@@ -68,7 +68,10 @@ fn asks_are_put_back_until_the_exchange_is_free(rt: HostRuntime) -> Result<(), F
     let ticks = steps.close();
     assert_eq!(rt; kernel.agents(), 4);
     assert!(rt; end == Ok(Some(End::Closed)) && stepped == Ok(Stepped::Ended(End::Closed)));
-    assert_eq!(rt; (ticks, kernel.events(), kernel.time(), kernel.own_time(0)), (12, 12, 1019, 1014));
+    assert_eq!(rt;
+        (ticks, kernel.events(), kernel.time(), kernel.own_time(0)),
+        (12, 12, 1019, 1014)
+    );
     // the time, the message's number, whether it was put back, and until when the receiver is busy
     let rows = [
         (1000, 0, false, 1000),

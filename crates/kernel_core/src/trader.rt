@@ -16,12 +16,7 @@ pub struct Trader {
 }
 
 /// What a watcher does with a message that it receives at a time.
-pub fn decide(
-    trader: &mut Trader,
-    time: Time,
-    body: &Body,
-    out: &mut Sends,
-) -> Result<(), Memory>
+pub fn decide(trader: &mut Trader, time: Time, body: &Body, out: &mut Sends) -> Result<(), Memory>
     requires empty { out.old.list ≡ [] }
     requires time { time < 2 ^ 62 }
     requires every { trader.old.every < 2 ^ 62 }

@@ -1,6 +1,6 @@
 -- Lemmas on the keys of a table and the items of an array.
-use Rattle.std.proofs.Common.{◌≡◌, ◌≢◌, ◌&&◌, ℕ, ◌<◌, List, [], ◌∷◌, Bor, Option, None, length, map, refl, ap, ◌∙◌, arith, string_bytes, bytes_eq, String, Global}
-use Rattle.std.specs.Prelude.{Bool, ◌||◌}
+use Rattle.std.proofs.Common.{◌≡◌, ◌≢◌, ◌&&◌, ℕ, List, [], ◌∷◌, Bor, None, length, map, refl, ap, ◌∙◌, string_bytes, bytes_eq, String, Global}
+use Rattle.std.specs.Prelude.{◌||◌}
 use Rattle.std.specs.List.{list_all, list_any}
 use Rattle.std.specs.Map.{keys_of}
 use Rattle.toml.specs.View.{members_view, items_view}

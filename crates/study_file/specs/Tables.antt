@@ -1,5 +1,5 @@
 -- What the bytes of a study say as a TOML table, and what is found in it.
-use Rattle.std.specs.Prelude.{◌&&◌, ℕ, ℤ, pos, negsuc, Bool, true, false, nat_le, List, [], ◌∷◌, Option, Some, None, if◌then◌else◌, option_and_then}
+use Rattle.std.specs.Prelude.{◌&&◌, ℕ, ℤ, Bool, true, List, [], ◌∷◌, Option, None, if◌then◌else◌, option_and_then}
 use Rattle.std.specs.Str.{is_utf8}
 use Rattle.std.specs.List.{list_any}
 use Rattle.std.specs.Str.{bytes_eq}

@@ -1,5 +1,5 @@
 -- What a watcher study starts from.
-use Rattle.std.specs.Prelude.{◌≤◌, ℕ, List, [], ◌∷◌, replicate}
+use Rattle.std.specs.Prelude.{◌≤◌, [], ◌∷◌, replicate}
 use Rattle.kernel_core.specs.declared.opening.Opening.{Opening}
 use Rattle.kernel_core.specs.declared.opening.Waker.{Waker}
 use Rattle.study_rules.specs.declared.accept.WatcherStudy.{WatcherStudy}
@@ -29,5 +29,5 @@ opening_of s = record {
   groups = record { base = (5 ∷ []) ∷ []; jitter = (0 ∷ []) ∷ [] };
   exchange_group = 0;
   exchange_delay = 0;
-  traders = replicate s.count (waker_of s)
+  traders = replicate s.count (waker_of s);
 }

@@ -1,9 +1,9 @@
 -- The studies that are accepted: watchers of one stock. A study has exactly these keys, and all values but four are
 -- fixed.
-use Rattle.std.specs.Prelude.{◌&&◌, ◌||◌, ℕ, ℤ, pos, negsuc, Bool, true, false, nat_le, List, [], ◌∷◌, Option, Some, None, if◌then◌else◌, option_map, option_and_then, unwrap_or, codes, replicate}
+use Rattle.std.specs.Prelude.{◌&&◌, ℕ, ℤ, pos, negsuc, Bool, false, nat_le, List, [], ◌∷◌, Option, Some, None, if◌then◌else◌, option_map, option_and_then, unwrap_or, codes, replicate}
 use Rattle.std.specs.Ordering.{int_eq}
 use Rattle.std.specs.Str.{bytes_eq}
-use Rattle.toml.specs.Data.{as_integer, as_array, as_table, Data, Members, Items, get_member}
+use Rattle.toml.specs.Data.{as_integer, as_array, as_table, Data, Members, Items}
 use Rattle.study_file.specs.Tables.{table_of, has_only, integer_at, text_at, table_at, array_at}
 use Rattle.study_file.specs.Items.{single, double}
 use Rattle.study_rules.specs.declared.accept.WatcherStudy.{WatcherStudy}
@@ -123,11 +123,11 @@ is_form t =
 abbrev pub free_values : Members → Members → Option WatcherStudy
 free_values t agent =
     option_and_then (λ close. option_and_then (λ events. option_and_then (λ first. option_and_then (λ count.
-        Some (record { close = close; events = events; first = first; count = count }))
-        (number_within 1 511 (integer_at (codes "count") agent)))
-        (number_within 1000 86399999999999 (integer_at (codes "first") agent)))
-        (number_within 1 1000000 (integer_at (codes "events") t)))
-        (number_within 1000 65535001000 (integer_at (codes "close") t))
+    Some (record { close = close; events = events; first = first; count = count }))
+    (number_within 1 511 (integer_at (codes "count") agent)))
+    (number_within 1000 86399999999999 (integer_at (codes "first") agent)))
+    (number_within 1 1000000 (integer_at (codes "events") t)))
+    (number_within 1000 65535001000 (integer_at (codes "close") t))
 
 -- the watcher study that a table says, if it says one
 abbrev pub watcher_study : Members → Option WatcherStudy

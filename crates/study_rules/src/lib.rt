@@ -8,4 +8,3 @@ mod values;
 
 pub use accept::{WatcherStudy, watcher_study};
 pub use opening::opening_for;
-

@@ -1,7 +1,7 @@
 -- The entries of a list are timely, each by itself.
 use Rattle.std.proofs.Common.{◌≡◌, ℕ, ◌<◌, List, length, get_or, map, sym, ap, ◌∙◌, subst, arith, All}
 use Rattle.std.proofs.lemmas.List.{length-map, get_or-map}
-use Rattle.market_types.specs.Told.{EntryTold, entry_told}
+use Rattle.market_types.specs.Told.{entry_told}
 use Rattle.market_types.specs.Timely.{IsTimely}
 use Rattle.market_types.specs.declared.entry.Entry.{Entry}
 

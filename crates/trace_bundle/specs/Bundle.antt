@@ -1,5 +1,5 @@
 -- The bundle of a study: what is written of its branches.
-use Rattle.std.specs.Prelude.{ℕ, List, [], ◌∷◌, ◌++◌, length}
+use Rattle.std.specs.Prelude.{ℕ, List, [], ◌++◌}
 use Rattle.std.specs.List.{flat_map}
 use Rattle.market_types.specs.declared.feed.Feed.{Feed}
 use Rattle.market_types.specs.declared.message.Body.{Body}
@@ -105,6 +105,12 @@ branch_frames b =
 -- what a branch's run tells under its name
 abbrev pub branch_told : List ℕ → BranchRun → BranchTold
 branch_told name r = record {
-  branch = r.branch; parent = r.parent; stop = r.stop; name = name; opening = r.opening.list; entries = r.entries.list;
-  ended = r.ended; closing = r.closing
+  branch = r.branch;
+  parent = r.parent;
+  stop = r.stop;
+  name = name;
+  opening = r.opening.list;
+  entries = r.entries.list;
+  ended = r.ended;
+  closing = r.closing;
 }

@@ -1,5 +1,5 @@
 -- The frames of a bundle.
-use Rattle.std.specs.Prelude.{ℕ, ℤ, ◌/◌, ◌%◌, ◌^◌, Bool, List, [], ◌∷◌, ◌++◌, length, if◌then◌else◌}
+use Rattle.std.specs.Prelude.{ℕ, ℤ, ◌/◌, ◌%◌, ◌^◌, Bool, List, [], ◌∷◌, length, if◌then◌else◌}
 use Rattle.std.specs.List.{flat_map}
 use Rattle.std.specs.Int.{cast_unsigned, w64, w128}
 use Rattle.market_types.specs.declared.message.Body.{Body}
@@ -8,8 +8,8 @@ use Rattle.market_types.specs.declared.message.Quote.{Quote}
 use Rattle.market_types.specs.Told.{EventTold, EditTold}
 use Rattle.wire_fields.specs.Numbers.{number_bytes}
 use Rattle.wire_fields.specs.Values.{FieldValue, number, bytes, side_letter}
-use Rattle.wire_fields.specs.Wire.{Wire, spelling, spelled_fields}
-use Rattle.trace_bundle.specs.declared.layouts.TheConstants.{HEADER, BRANCH, EVENT, ASK, QUOTE, EDIT, COUNTS, STOCK, ORDER, AGENT, POSITION, END}
+use Rattle.wire_fields.specs.Wire.{Wire}
+use Rattle.trace_bundle.specs.declared.layouts.TheConstants.{HEADER, BRANCH, EVENT, EDIT, COUNTS, STOCK, ORDER, AGENT, END}
 use Rattle.trace_bundle.specs.declared.closing.ClosingAgent.{ClosingAgent}
 use Rattle.trace_bundle.specs.declared.closing.ClosingCounts.{ClosingCounts}
 use Rattle.trace_bundle.specs.declared.closing.ClosingStock.{ClosingStock}
@@ -33,13 +33,17 @@ byte b = bytes (b ∷ [])
 -- `h`: the version is 1
 abbrev pub header_wire : ℕ → ℕ → ℕ → Wire
 header_wire agents stocks branches = record {
-  letter = 104; kinds = HEADER; values = number 1 ∷ number agents ∷ number stocks ∷ number branches ∷ []
+  letter = 104;
+  kinds = HEADER;
+  values = number 1 ∷ number agents ∷ number stocks ∷ number branches ∷ [];
 }
 
 -- `b`, before the name
 abbrev pub branch_wire : ℕ → ℕ → ℕ → List ℕ → Wire
 branch_wire branch parent stop name = record {
-  letter = 98; kinds = BRANCH; values = number branch ∷ number parent ∷ number stop ∷ byte (length name) ∷ []
+  letter = 98;
+  kinds = BRANCH;
+  values = number branch ∷ number parent ∷ number stop ∷ byte (length name) ∷ [];
 }
 
 -- `D` is delivered, `P` is put back
@@ -61,40 +65,50 @@ quote_values q =
 -- `e`, before the body
 abbrev pub event_wire : EventTold → Wire
 event_wire e = record {
-  letter = 101; kinds = EVENT; values =
-    number e.number ∷ number e.time ∷ number e.seq ∷ number e.from ∷ number e.to ∷ byte (delivery_letter e.put_back)
-    ∷ number e.until ∷ signed e.fee ∷ byte (body_letter e.body) ∷ []
+  letter = 101;
+  kinds = EVENT;
+  values =
+      number e.number ∷ number e.time ∷ number e.seq ∷ number e.from ∷ number e.to ∷ byte (delivery_letter e.put_back)
+      ∷ number e.until ∷ signed e.fee ∷ byte (body_letter e.body) ∷ [];
 }
 
 -- `d`
 abbrev pub edit_wire : EditTold → Wire
 edit_wire e = record {
-  letter = 100; kinds = EDIT; values =
-    number e.events ∷ number e.time ∷ number e.branch ∷ number e.index ∷ byte e.letter ∷ []
+  letter = 100;
+  kinds = EDIT;
+  values =
+      number e.events ∷ number e.time ∷ number e.branch ∷ number e.index ∷ byte e.letter ∷ [];
 }
 
 -- `c`
 abbrev pub counts_wire : ClosingCounts → Wire
 counts_wire c = record {
-  letter = 99; kinds = COUNTS; values =
-    byte c.end ∷ number c.events ∷ number c.time ∷ number c.next_seq ∷ number c.waiting ∷ number c.dropped
-    ∷ number c.enters ∷ number c.cancels ∷ number c.orders ∷ number c.matches ∷ []
+  letter = 99;
+  kinds = COUNTS;
+  values =
+      byte c.end ∷ number c.events ∷ number c.time ∷ number c.next_seq ∷ number c.waiting ∷ number c.dropped
+      ∷ number c.enters ∷ number c.cancels ∷ number c.orders ∷ number c.matches ∷ [];
 }
 
 -- `s`
 abbrev pub stock_wire : ClosingStock → Wire
 stock_wire s = record {
-  letter = 115; kinds = STOCK; values =
-    number s.stock ∷ byte s.state ∷ number s.last ∷ number s.matched ∷ high_half s.fees ∷ low_half s.fees
-    ∷ signed s.offset ∷ number s.live ∷ []
+  letter = 115;
+  kinds = STOCK;
+  values =
+      number s.stock ∷ byte s.state ∷ number s.last ∷ number s.matched ∷ high_half s.fees ∷ low_half s.fees
+      ∷ signed s.offset ∷ number s.live ∷ [];
 }
 
 -- `l`
 abbrev pub order_wire : ClosingOrder → Wire
 order_wire o = record {
-  letter = 108; kinds = ORDER; values =
-    number o.reference ∷ number o.agent ∷ bytes o.token.0 ∷ byte (side_letter o.side) ∷ number o.intended ∷ number o.left
-    ∷ number o.stock ∷ number o.price ∷ number o.tif ∷ []
+  letter = 108;
+  kinds = ORDER;
+  values =
+      number o.reference ∷ number o.agent ∷ bytes o.token.0 ∷ byte (side_letter o.side) ∷ number o.intended ∷ number o.left
+      ∷ number o.stock ∷ number o.price ∷ number o.tif ∷ [];
 }
 
 -- `Y` is silenced, `N` is not
@@ -104,10 +118,12 @@ silence_letter silenced = if silenced then 89 else 78
 -- `a`, before the positions
 abbrev pub agent_wire : ClosingAgent → Wire
 agent_wire a = record {
-  letter = 97; kinds = AGENT; values =
-    number a.agent ∷ byte (silence_letter a.silenced) ∷ number a.time ∷ number a.tokens ∷ number a.draws
-    ∷ high_half a.cash ∷ low_half a.cash ∷ high_half a.own_cash ∷ low_half a.own_cash ∷ signed a.own_position
-    ∷ number a.live ∷ number a.quotes ∷ []
+  letter = 97;
+  kinds = AGENT;
+  values =
+      number a.agent ∷ byte (silence_letter a.silenced) ∷ number a.time ∷ number a.tokens ∷ number a.draws
+      ∷ high_half a.cash ∷ low_half a.cash ∷ high_half a.own_cash ∷ low_half a.own_cash ∷ signed a.own_position
+      ∷ number a.live ∷ number a.quotes ∷ [];
 }
 
 -- a position in eight bytes

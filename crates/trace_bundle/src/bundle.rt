@@ -13,8 +13,8 @@ ghost use Rattle.trace_bundle.specs.Bundle.{body_bytes, message_frame, event_fra
 use crate::closing::{Closing, ClosingAgent, ClosingCounts, ClosingOrder, ClosingStock};
 use crate::frames;
 use itch_codec::{encode_feed, frame};
-use ouch_codec::{encode_cancel, encode_enter, encode_reply};
 use market_types::{Body, EditMark, Entry, Feed, FeedList, Inbound, Memory, Record, Trace};
+use ouch_codec::{encode_cancel, encode_enter, encode_reply};
 
 /// A branch as it is written.
 #[derive(Drop)]

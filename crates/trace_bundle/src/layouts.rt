@@ -4,8 +4,11 @@
 use wire_fields::Kind;
 
 const BYTE: Kind = Kind::Byte;
+
 const SHORT: Kind = Kind::Number(2);
+
 const WORD: Kind = Kind::Number(4);
+
 const LONG: Kind = Kind::Number(8);
 
 /// `h`, the header: version, agents with the exchange, stocks, branches.

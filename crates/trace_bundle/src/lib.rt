@@ -2,11 +2,9 @@
 #![tactic(auto)]
 
 mod bundle;
-
 mod closing;
 mod frames;
 mod layouts;
-
 
 pub use bundle::{BranchRun, append_branch, append_end, append_header};
 pub use closing::{Closing, ClosingAgent, ClosingCounts, ClosingOrder, ClosingStock};

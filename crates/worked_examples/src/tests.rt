@@ -5,15 +5,20 @@ use std::alloc::Global;
 use std::test::Fail;
 
 /// A watcher study before its close, and what stands between its free values.
-const BEFORE_CLOSE: &str = "version = 1\nkey = \"0000000000000000000000000000000000000000000000000000000000000000\"\nopen = 1000\nclose = ";
+const BEFORE_CLOSE: &str =
+    "version = 1\nkey = \"0000000000000000000000000000000000000000000000000000000000000000\"\nopen = 1000\nclose = ";
+
 const BEFORE_EVENTS: &str = "\nevents = ";
-const BEFORE_FIRST: &str = "\n\n[exchange]\ngroup = 0\ndelay = 0\n\n[latency]\nbase = [[5]]\njitter = [[0]]\n\n[[stock]]\nsymbol = \"ABM\"\nbands = [[0, 100]]\nadd = -20\ntake = 30\nseries = \"rule\"\nstart = 100000\nmean = 100000\npull = 0\nshock = 0\nevery = 1000000\n\n[[agent]]\nkind = \"watcher\"\ngroup = 0\nstock = \"ABM\"\nfirst = ";
+
+const BEFORE_FIRST: &str =
+    "\n\n[exchange]\ngroup = 0\ndelay = 0\n\n[latency]\nbase = [[5]]\njitter = [[0]]\n\n[[stock]]\nsymbol = \"ABM\"\nbands = [[0, 100]]\nadd = -20\ntake = 30\nseries = \"rule\"\nstart = 100000\nmean = 100000\npull = 0\nshock = 0\nevery = 1000000\n\n[[agent]]\nkind = \"watcher\"\ngroup = 0\nstock = \"ABM\"\nfirst = ";
+
 const BEFORE_COUNT: &str = "\nevery = 1000000\ncount = ";
 
 fn study(alloc: Global, close: u32, events: u32, first: u32, count: u32) -> Result<String, Fail> {
-    Ok(
-        format!(in alloc; "{BEFORE_CLOSE}{close}{BEFORE_EVENTS}{events}{BEFORE_FIRST}{first}{BEFORE_COUNT}{count}\n")?,
-    )
+    Ok(format!(in alloc;
+        "{BEFORE_CLOSE}{close}{BEFORE_EVENTS}{events}{BEFORE_FIRST}{first}{BEFORE_COUNT}{count}\n"
+    )?)
 }
 
 fn words_of(alloc: Global, words: &[&str]) -> Result<Vec<String>, Fail> {
@@ -84,12 +89,26 @@ fn bundles_byte_for_byte(rt: HostRuntime) -> Result<(), Fail> {
     for most in [1, 7, 64, 1000] {
         let mut out = sink(alloc, 402, most, &[])?;
         let mut notes = sink(alloc, 100, most, &[])?;
-        let ended = run_over(alloc, &["run", "s"], empty.as_bytes(), &[], &mut out, &mut notes)?;
+        let ended = run_over(
+            alloc,
+            &["run", "s"],
+            empty.as_bytes(),
+            &[],
+            &mut out,
+            &mut notes,
+        )?;
         assert_eq!(rt; ended, (Status::Ok, 0));
         assert!(rt; are_frames(out.taken(), &EMPTY_RUN) && notes.taken().is_empty());
 
         let mut out = sink(alloc, 666, most, &[])?;
-        let ended = run_over(alloc, &["run", "s"], two.as_bytes(), &[], &mut out, &mut notes)?;
+        let ended = run_over(
+            alloc,
+            &["run", "s"],
+            two.as_bytes(),
+            &[],
+            &mut out,
+            &mut notes,
+        )?;
         assert_eq!(rt; ended, (Status::Ok, 4));
         assert!(rt; are_frames(out.taken(), &TWO_WATCHERS) && notes.taken().is_empty());
     }
@@ -102,7 +121,14 @@ fn many_watchers_run(rt: HostRuntime) -> Result<(), Fail> {
     let text = study(alloc, 2000, 2000, 1000, 511)?;
     let mut out = sink(alloc, 200_000, 4096, &[])?;
     let mut notes = sink(alloc, 100, 64, &[])?;
-    let ended = run_over(alloc, &["run", "s"], text.as_bytes(), &[], &mut out, &mut notes)?;
+    let ended = run_over(
+        alloc,
+        &["run", "s"],
+        text.as_bytes(),
+        &[],
+        &mut out,
+        &mut notes,
+    )?;
     // each watcher wakes, asks, and hears its quote
     assert_eq!(rt; ended, (Status::Ok, 1533));
     assert!(rt; notes.taken().is_empty());
@@ -115,7 +141,14 @@ fn failing_writes_leave_a_first_part(rt: HostRuntime) -> Result<(), Fail> {
     let text = study(alloc, 1005, 100, 1000, 2)?;
     let mut whole = sink(alloc, 666, 666, &[])?;
     let mut notes = sink(alloc, 100, 64, &[])?;
-    run_over(alloc, &["run", "s"], text.as_bytes(), &[], &mut whole, &mut notes)?;
+    run_over(
+        alloc,
+        &["run", "s"],
+        text.as_bytes(),
+        &[],
+        &mut whole,
+        &mut notes,
+    )?;
     for (room, most, failing) in [
         (666, 64, 1),
         (666, 64, 2),
@@ -128,7 +161,14 @@ fn failing_writes_leave_a_first_part(rt: HostRuntime) -> Result<(), Fail> {
     ] {
         let mut out = sink(alloc, room, most, &[failing])?;
         let mut notes = sink(alloc, 100, 64, &[])?;
-        let ended = run_over(alloc, &["run", "s"], text.as_bytes(), &[], &mut out, &mut notes)?;
+        let ended = run_over(
+            alloc,
+            &["run", "s"],
+            text.as_bytes(),
+            &[],
+            &mut out,
+            &mut notes,
+        )?;
         assert_eq!(rt; ended, (Status::WriteFault, 4));
         assert!(rt; whole.taken().starts_with(out.taken()) && out.taken().len() < 666);
         assert_eq!(rt; notes.taken(), b"write failed\n".as_slice());
@@ -149,10 +189,34 @@ fn refusals_take_nothing(rt: HostRuntime) -> Result<(), Fail> {
         (&["ran", "s"], b"", 1, Status::Usage, USAGE),
         (&["run", "s", "s"], b"", 0, Status::Usage, USAGE),
         (&["run", "t"], b"", 0, Status::NoStudy, b"no such file: t\n"),
-        (&["run", "s"], b"", 1, Status::ReadFault, b"read failed: s\n"),
-        (&["run", "s"], b"", 2, broken, b"study refused: rule 99, place 0\n"),
-        (&["run", "s"], b"\xff", 0, broken, b"study refused: rule 99, place 0\n"),
-        (&["run", "s"], b"version = 1\n", 0, broken, b"study refused: rule 99, place 0\n"),
+        (
+            &["run", "s"],
+            b"",
+            1,
+            Status::ReadFault,
+            b"read failed: s\n",
+        ),
+        (
+            &["run", "s"],
+            b"",
+            2,
+            broken,
+            b"study refused: rule 99, place 0\n",
+        ),
+        (
+            &["run", "s"],
+            b"\xff",
+            0,
+            broken,
+            b"study refused: rule 99, place 0\n",
+        ),
+        (
+            &["run", "s"],
+            b"version = 1\n",
+            0,
+            broken,
+            b"study refused: rule 99, place 0\n",
+        ),
     ];
     for (words, bytes, failing, status, note) in rows {
         let mut out = sink(alloc, 100, 64, &[])?;
@@ -181,7 +245,14 @@ fn free_values_have_their_ends(rt: HostRuntime) -> Result<(), Fail> {
         let text = study(alloc, close, events, first, count)?;
         let mut out = sink(alloc, 60_000, 4096, &[])?;
         let mut notes = sink(alloc, 100, 64, &[])?;
-        let ended = run_over(alloc, &["run", "s"], text.as_bytes(), &[], &mut out, &mut notes)?;
+        let ended = run_over(
+            alloc,
+            &["run", "s"],
+            text.as_bytes(),
+            &[],
+            &mut out,
+            &mut notes,
+        )?;
         assert_eq!(rt; ended.0 == Status::Ok, accepted, "{text}");
     }
     Ok(())

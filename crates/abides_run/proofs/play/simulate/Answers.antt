@@ -1,6 +1,5 @@
-use Rattle.std.proofs.Common.{◌≡◌, ◌+◌, ◌≤◌, ap, ◌∙◌, arith, rules}
+use Rattle.std.proofs.Common.{ap, ◌∙◌, arith}
 use Rattle.kernel_core.specs.Until.{Run}
-use Rattle.abides_run.specs.Full.{full}
 use Rattle.abides_run.proofs.Whole.{from_opening}
 use Rattle.abides_run.proofs.play.simulate.Goals as goal
 

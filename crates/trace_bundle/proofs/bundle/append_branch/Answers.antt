@@ -12,9 +12,9 @@ returns c =
     let entries = flat_map entry_frames r.entries.list in
     let ended = message_frame r.ended in
     then_last _ _ _ _ (here ++ opening ++ entries ++ ended) (closing_frames r.closing)
-      (then_part _ _ _ (here ++ opening ++ entries) ended
-        (then_part _ _ _ (here ++ opening) entries
-          (then_part _ _ _ here opening c.in_ok-put_branch.ensures (rw c.as_slice.ensures at c.in_ok-put_feed.ensures))
-          (rw c.as_slice-2.ensures at c.in_ok-put_entries.ensures))
-        c.in_ok-put_message.ensures)
-      c.put_closing.ensures
+    (then_part _ _ _ (here ++ opening ++ entries) ended
+    (then_part _ _ _ (here ++ opening) entries
+    (then_part _ _ _ here opening c.in_ok-put_branch.ensures (rw c.as_slice.ensures at c.in_ok-put_feed.ensures))
+    (rw c.as_slice-2.ensures at c.in_ok-put_entries.ensures))
+    c.in_ok-put_message.ensures)
+    c.put_closing.ensures

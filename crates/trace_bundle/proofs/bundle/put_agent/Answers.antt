@@ -15,6 +15,6 @@ returns c =
     let long : length head ≡ 70 = refl in
     let same : length c.as_slice-positions.result.now ≡ length a.positions = ap (λ (l : List ℤ). length l) items in
     let count : 70 + 8 * length c.as_slice-positions.result.now ≡ length (head ++ rest) =
-        omega (arith, long, same, length-positions a.positions, length-append head rest) in
+    omega (arith, long, same, length-positions a.positions, length-append head rest) in
     framed_in_parts _ _ _ _ _ head rest (70 + 8 * length c.as_slice-positions.result.now) (rw c.number_in_two.ensures at c.in_ok-put.ensures) count
-      (rw c.agent_head.ensures at c.in_ok-put-2.ensures) (rw items at c.put_positions.ensures)
+    (rw c.agent_head.ensures at c.in_ok-put-2.ensures) (rw items at c.put_positions.ensures)

@@ -1,8 +1,6 @@
-use Rattle.std.proofs.Common.{◌++◌}
-use Rattle.std.specs.List.{flat_map}
-use Rattle.market_types.specs.Told.{event_told, edit_told}
-use Rattle.trace_bundle.specs.Bundle.{event_frame, edit_frame, feed_frames, counts_frame, stock_frame, order_frame, agent_frame}
-use Rattle.trace_bundle.proofs.Appends.{then_part, then_last}
+use Rattle.market_types.specs.Told.{edit_told}
+use Rattle.trace_bundle.specs.Bundle.{edit_frame, feed_frames}
+use Rattle.trace_bundle.proofs.Appends.{then_last}
 use Rattle.trace_bundle.proofs.bundle.put_edit.Goals as goal
 
 pub returns : goal.returns

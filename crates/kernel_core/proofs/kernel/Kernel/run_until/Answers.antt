@@ -82,7 +82,7 @@ returns-in_err-end-clause-within g c =
     let first : Run = record { state = c.args.self.now; entries = c.args.trace.now.list } in
     let same : c.step.new.self ≡ c.events.self = search rules in
     subst (λ (s : State). s.events ≤ (until c.args.o.now c.args.stop first).state.events) (sym same)
-      (part_within (c.events.self.events - first.state.events) c.args.stop c.args.o.now first (record { state = c.events.self; entries = c.events.trace.list }) c.events.invariant.made c.events.invariant.most)
+    (part_within (c.events.self.events - first.state.events) c.args.stop c.args.o.now first (record { state = c.events.self; entries = c.events.trace.list }) c.events.invariant.made c.events.invariant.most)
 
 pub returns-clause-within : goal.returns-clause-within
 returns-clause-within g c =
@@ -102,7 +102,7 @@ returns-in_err-end-clause-time g c before =
     let first : Run = record { state = c.args.self.now; entries = c.args.trace.now.list } in
     let same : c.step.new.self ≡ c.events.self = search rules in
     subst (λ (s : State). s.time ≤ c.args.o.now.close) (sym same)
-      (run-time (c.events.self.events - first.state.events) c.args.o.now first (record { state = c.events.self; entries = c.events.trace.list }) before c.events.invariant.made)
+    (run-time (c.events.self.events - first.state.events) c.args.o.now first (record { state = c.events.self; entries = c.events.trace.list }) before c.events.invariant.made)
 
 pub returns-clause-time : goal.returns-clause-time
 returns-clause-time g c before =

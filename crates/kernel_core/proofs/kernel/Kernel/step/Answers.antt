@@ -31,7 +31,7 @@ returns-clause-made g c =
     let going : end_of o s ≡ None = search rules in
     let next : least s.post.waiting ≡ Some m = search rules in
     let entries : c.put.new.self.list ≡ r.entries ++ event (event_of o s m).entry ∷ [] =
-        ap (λ (q : Room EntryTold). q.list) c.put.ensures ∙ ap (λ (l : List EntryTold). l ++ event (event_told c.in_ok-entry.entry) ∷ []) c.in_ok-reserve.ensures.list ∙ ap (λ (t : EventTold). r.entries ++ event t ∷ []) c.in_ok-entry.ensures.entry in
+    ap (λ (q : Room EntryTold). q.list) c.put.ensures ∙ ap (λ (l : List EntryTold). l ++ event (event_told c.in_ok-entry.entry) ∷ []) c.in_ok-reserve.ensures.list ∙ ap (λ (t : EventTold). r.entries ++ event t ∷ []) c.in_ok-entry.ensures.entry in
     rw (c.in_ok-entry.ensures.state, entries) (sym (advanced_going o r m going next))
 
 pub returns-clause-events : goal.returns-clause-events
