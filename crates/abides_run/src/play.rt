@@ -20,7 +20,7 @@ use market_types::{Memory, Trace};
 use outside::{Ledger, Sink, Steps, write_all};
 use std::alloc::Global;
 use study_rules::{WatcherStudy, opening_for};
-use trace_bundle::{BranchRun, append_branch, append_end, append_header};
+use trace_bundle::{BranchRun, bundle_of};
 
 /// A kernel at the end of its run, and the trace of the run.
 #[derive(Drop)]
@@ -70,21 +70,6 @@ fn root_of(alloc: Global, o: &Opening, ran: Ran) -> Result<BranchRun, Memory>
     })
 }
 
-/// The bundle whose one branch is the root.
-fn bundle(alloc: Global, agents: u16, root: &BranchRun) -> Result<Vec<u8>, Memory>
-    requires opening { AreTimely root.now.opening.list }
-    requires entries { All IsTimely root.now.entries.list }
-    requires ended { root.now.ended.time < 2 ^ 48 }
-    requires positions { All (λ (a : ClosingAgent). length a.positions ≤ 16) root.now.closing.agents }
-    ensures { IfOk result (λ v. v.items ≡ header_frame agents 1 1 ++ branch_frames (branch_told (codes "root") root.now) ++ end_frame 1) }
-{
-    let mut out = Vec::new(alloc);
-    append_header(&mut out, agents, 1, 1)?;
-    append_branch(&mut out, b"root", root)?;
-    append_end(&mut out, 1)?;
-    Ok(out)
-}
-
 /// Simulates a study, and makes its bundle.
 #[tactic(auto, unfolding(crate::specs::Study::bundle_of, crate::specs::Study::events_of))]
 fn make<D: Ledger>(
@@ -102,7 +87,7 @@ fn make<D: Ledger>(
     let o = opening_for(alloc, study)?;
     let ran = simulate(alloc, &o, steps)?;
     let root = root_of(alloc, &o, ran)?;
-    bundle(alloc, study.count + 1, &root)
+    bundle_of(alloc, study.count + 1, 1, b"root", &root)
 }
 
 /// Simulates a study, and then writes its bundle.

@@ -1,6 +1,6 @@
 //! The frames of a bundle one after another.
 
-ghost use Rattle.std.specs.Prelude.{◌≡◌, ◌<◌, ◌≤◌, ◌+◌, ◌^◌, ◌++◌, ◌∷◌, [], length, OnOk, drop, map, All};
+ghost use Rattle.std.specs.Prelude.{◌≡◌, ◌<◌, ◌≤◌, ◌+◌, ◌^◌, ◌++◌, ◌∷◌, [], length, OnOk, map, IfOk, All};
 ghost use Rattle.trace_bundle.specs.declared.closing.ClosingAgent.{ClosingAgent};
 ghost use Rattle.market_types.specs.Told.{event_told, edit_told, entry_told};
 ghost use Rattle.market_types.specs.Timely.{AreTimely, IsTimely};
@@ -15,6 +15,7 @@ use crate::frames;
 use itch_codec::{encode_feed, frame};
 use market_types::{Body, EditMark, Entry, Feed, FeedList, Inbound, Memory, Record, Trace};
 use ouch_codec::{encode_cancel, encode_enter, encode_reply};
+use std::alloc::Global;
 
 /// A branch as it is written.
 #[derive(Drop)]
@@ -262,21 +263,16 @@ fn put_branch(
     put_frame(out, &frames::branch_head(branch, parent, stop, name), name)
 }
 
-/// Appends the header of a bundle, for so many agents with the exchange, stocks and branches.
+/// Appends the header of a bundle.
 #[tactic(auto, unfolding(crate::specs::Bundle::header_frame))]
-pub fn append_header(
-    out: &mut Vec<u8>,
-    agents: u16,
-    stocks: u16,
-    branches: u16,
-) -> Result<(), Memory>
+fn put_header(out: &mut Vec<u8>, agents: u16, stocks: u16, branches: u16) -> Result<(), Memory>
     ensures { OnOk result (out.new.items ≡ out.old.items ++ header_frame agents stocks branches) }
 {
     put_frame(out, &frames::header(agents, stocks, branches), &[])
 }
 
-/// Appends the frames of a branch of this name, of at most 255 bytes.
-pub fn append_branch(out: &mut Vec<u8>, name: &[u8], run: &BranchRun) -> Result<(), Memory>
+/// Appends the frames of a branch of this name.
+fn put_run(out: &mut Vec<u8>, name: &[u8], run: &BranchRun) -> Result<(), Memory>
     requires name { length name.now < 256 }
     requires opening { AreTimely run.now.opening.list }
     requires entries { All IsTimely run.now.entries.list }
@@ -291,10 +287,33 @@ pub fn append_branch(out: &mut Vec<u8>, name: &[u8], run: &BranchRun) -> Result<
     put_closing(out, &run.closing)
 }
 
-/// Appends the end of a bundle of so many branches.
+/// Appends the end of a bundle.
 #[tactic(auto, unfolding(crate::specs::Bundle::end_frame))]
-pub fn append_end(out: &mut Vec<u8>, branches: u16) -> Result<(), Memory>
+fn put_end(out: &mut Vec<u8>, branches: u16) -> Result<(), Memory>
     ensures { OnOk result (out.new.items ≡ out.old.items ++ end_frame branches) }
 {
     put_frame(out, &frames::end(branches), &[])
+}
+
+/// The bundle of a study whose one branch has this name, of at most 255 bytes: so many agents with the exchange, so many
+/// stocks, and the branch's run.
+pub fn bundle_of(
+    alloc: Global,
+    agents: u16,
+    stocks: u16,
+    name: &[u8],
+    run: &BranchRun,
+) -> Result<Vec<u8>, Memory>
+    requires name { length name.now < 256 }
+    requires opening { AreTimely run.now.opening.list }
+    requires entries { All IsTimely run.now.entries.list }
+    requires ended { run.now.ended.time < 2 ^ 48 }
+    requires positions { All (λ (a : ClosingAgent). length a.positions ≤ 16) run.now.closing.agents }
+    ensures { IfOk result (λ v. v.items ≡ header_frame agents stocks 1 ++ branch_frames (branch_told name.now run.now) ++ end_frame 1) }
+{
+    let mut out = Vec::new(alloc);
+    put_header(&mut out, agents, stocks, 1)?;
+    put_run(&mut out, name, run)?;
+    put_end(&mut out, 1)?;
+    Ok(out)
 }

@@ -6,7 +6,7 @@ mod closing;
 mod frames;
 mod layouts;
 
-pub use bundle::{BranchRun, append_branch, append_end, append_header};
+pub use bundle::{BranchRun, bundle_of};
 pub use closing::{Closing, ClosingAgent, ClosingCounts, ClosingOrder, ClosingStock};
 pub use layouts::{
     AGENT, ASK, BRANCH, COUNTS, EDIT, END, EVENT, HEADER, ORDER, POSITION, QUOTE, STOCK,

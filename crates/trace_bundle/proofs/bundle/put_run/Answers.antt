@@ -2,7 +2,7 @@ use Rattle.std.proofs.Common.{◌++◌}
 use Rattle.std.specs.List.{flat_map}
 use Rattle.trace_bundle.specs.Bundle.{branch_frame, feed_frames, entry_frames, message_frame, closing_frames}
 use Rattle.trace_bundle.proofs.Appends.{then_part, then_last}
-use Rattle.trace_bundle.proofs.bundle.append_branch.Goals as goal
+use Rattle.trace_bundle.proofs.bundle.put_run.Goals as goal
 
 pub returns : goal.returns
 returns c =
