@@ -6,3 +6,4 @@ pub mod Verdict
 pub mod Headline
 pub mod Notes
 pub mod Code
+pub mod Worked

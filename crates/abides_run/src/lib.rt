@@ -9,6 +9,7 @@ mod play;
 mod status;
 mod top;
 mod words;
+pub mod worked;
 
 pub use status::Status;
 pub use top::run;

@@ -5,6 +5,7 @@ mod accept;
 mod form;
 mod opening;
 mod values;
+pub mod worked;
 
 pub use accept::{WatcherStudy, watcher_study};
 pub use opening::opening_for;

@@ -1,0 +1,64 @@
+-- The empty run, byte by byte: one watcher would first wake after the close, so that no event comes.
+use Rattle.std.specs.Prelude.{ℕ, List, [], ◌∷◌, ◌++◌, replicate}
+use Rattle.study_rules.specs.declared.accept.WatcherStudy.{WatcherStudy}
+
+abbrev pub empty_study : WatcherStudy
+empty_study = record { close = 1000; events = 100; first = 2000; count = 1 }
+
+-- the header, 11 bytes with its length
+abbrev pub header_bytes : List ℕ
+header_bytes = (0 ∷ 9 ∷ 104 ∷ 0 ∷ 1 ∷ 0 ∷ 2 ∷ 0 ∷ 1 ∷ 0 ∷ 1 ∷ [])
+
+-- the branch, 16 bytes with its length
+abbrev pub branch_bytes : List ℕ
+branch_bytes = (0 ∷ 14 ∷ 98 ∷ 0 ∷ 0 ∷ 255 ∷ 255 ∷ 0 ∷ 0 ∷ 0 ∷ 0 ∷ 4 ∷ 114 ∷ 111 ∷ 111 ∷ 116 ∷ [])
+
+-- System Event `O`, 14 bytes with its length
+abbrev pub start_bytes : List ℕ
+start_bytes = (0 ∷ 12 ∷ 83 ∷ 0 ∷ 0 ∷ 0 ∷ 0 ∷ 0 ∷ 0 ∷ 0 ∷ 0 ∷ 3 ∷ 232 ∷ 79 ∷ [])
+
+-- Stock Directory, 41 bytes with its length
+abbrev pub directory_bytes : List ℕ
+directory_bytes = (0 ∷ 39 ∷ 82 ∷ 0 ∷ 1 ∷ 0 ∷ 0 ∷ 0 ∷ 0 ∷ 0 ∷ 0 ∷ 3 ∷ 232 ∷ 65 ∷ 66 ∷ 77 ∷ 32 ∷ 32 ∷ 32 ∷ 32 ∷ 32 ∷ 81 ∷ 78 ∷ 0 ∷ 0 ∷ 0 ∷ 100 ∷ 78 ∷ 67 ∷ 90 ∷ 32 ∷ 84 ∷ 78 ∷ 78 ∷ 32 ∷ 78 ∷ 0 ∷ 0 ∷ 0 ∷ 0 ∷ 78 ∷ [])
+
+-- Stock Trading Action, 27 bytes with its length
+abbrev pub trading_bytes : List ℕ
+trading_bytes = (0 ∷ 25 ∷ 72 ∷ 0 ∷ 1 ∷ 0 ∷ 0 ∷ 0 ∷ 0 ∷ 0 ∷ 0 ∷ 3 ∷ 232 ∷ 65 ∷ 66 ∷ 77 ∷ 32 ∷ 32 ∷ 32 ∷ 32 ∷ 32 ∷ 84 ∷ 32 ∷ 32 ∷ 32 ∷ 32 ∷ 32 ∷ [])
+
+-- System Event `C`, 14 bytes with its length
+abbrev pub last_bytes : List ℕ
+last_bytes = (0 ∷ 12 ∷ 83 ∷ 0 ∷ 0 ∷ 0 ∷ 0 ∷ 0 ∷ 0 ∷ 0 ∷ 0 ∷ 3 ∷ 232 ∷ 67 ∷ [])
+
+-- the counters, 68 bytes with its length
+abbrev pub counters_bytes : List ℕ
+counters_bytes = (0 ∷ 66 ∷ 99 ∷ 67 ∷ []) ++ replicate 10 0 ++ (3 ∷ 232 ∷ 0 ∷ 0 ∷ 0 ∷ 0 ∷ 0 ∷ 0 ∷ 0 ∷ 1 ∷ 0 ∷ 0 ∷ 0 ∷ 1 ∷ []) ++ replicate 40 0
+
+-- the stock, 46 bytes with its length
+abbrev pub stock_bytes : List ℕ
+stock_bytes = (0 ∷ 44 ∷ 115 ∷ 0 ∷ 0 ∷ 84 ∷ []) ++ replicate 40 0
+
+-- the exchange, 80 bytes with its length
+abbrev pub exchange_bytes : List ℕ
+exchange_bytes = (0 ∷ 78 ∷ 97 ∷ 0 ∷ 0 ∷ 78 ∷ 0 ∷ 0 ∷ 0 ∷ 0 ∷ 0 ∷ 0 ∷ 3 ∷ 232 ∷ []) ++ replicate 66 0
+
+-- the watcher, 80 bytes with its length
+abbrev pub watcher_bytes : List ℕ
+watcher_bytes = (0 ∷ 78 ∷ 97 ∷ 0 ∷ 1 ∷ 78 ∷ 0 ∷ 0 ∷ 0 ∷ 0 ∷ 0 ∷ 0 ∷ 3 ∷ 232 ∷ []) ++ replicate 66 0
+
+-- the end, 5 bytes with its length
+abbrev pub end_bytes : List ℕ
+end_bytes = (0 ∷ 3 ∷ 122 ∷ 0 ∷ 1 ∷ [])
+
+abbrev pub empty_run : List ℕ
+empty_run =
+    header_bytes
+    ++ branch_bytes
+    ++ start_bytes
+    ++ directory_bytes
+    ++ trading_bytes
+    ++ last_bytes
+    ++ counters_bytes
+    ++ stock_bytes
+    ++ exchange_bytes
+    ++ watcher_bytes
+    ++ end_bytes
