@@ -1,3 +1,4 @@
+pub mod Bests
 pub mod Changes
 pub mod Matching
 pub mod Places

@@ -1,0 +1,22 @@
+//! The series of a stock's fundamental value, from which traders make their estimates.
+//!
+//! A series is made of a rule, by which the value is drawn back to a mean and takes a random shock at
+//! each step, or of rows of a file. The random words are draws of the study's key that are addressed
+//! by the stock and the step, so that a value depends on nothing but the time that is asked for.
+//! Contracts see a series as what it was made of.
+#![tactic(auto)]
+
+pub mod known;
+mod rows;
+mod rule;
+mod series;
+mod table;
+#[cfg(test)]
+mod tests;
+
+pub use rule::{SeriesRow, SeriesRule};
+pub use series::{Series, series_by_rule, series_from_rows};
+
+/// The stream of a key's draws from which stock 0 takes its shocks; stock `k` takes its own from the
+/// `k`th stream after it.
+pub const SERIES_STREAMS: u64 = 1 << 33;
