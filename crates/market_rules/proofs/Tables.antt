@@ -32,8 +32,8 @@ last_here p o (b ∷ bs) d zero l s h =
     rw e (above_all p (Some b) bs d (λ k m. h (suc k) (omega arith) (omega arith)))
 last_here p o (b ∷ bs) d (suc at) l s h =
     elim (leb b.from p) as (λ t. last_or o (cond t (b ∷ filter (λ (x : Band). leb x.from p) bs) (filter (λ (x : Band). leb x.from p) bs)) ≡ Some (get_or bs at d)) [
-      true ↦ last_here p (Some b) bs d at (omega arith) s (λ k m n. h (suc k) (omega arith) (omega arith))
-    | false ↦ last_here p o bs d at (omega arith) s (λ k m n. h (suc k) (omega arith) (omega arith))
+      | true ↦ last_here p (Some b) bs d at (omega arith) s (λ k m n. h (suc k) (omega arith) (omega arith))
+      | false ↦ last_here p o bs d at (omega arith) s (λ k m n. h (suc k) (omega arith) (omega arith))
     ]
 
 -- the tick at a price is that of the last band that doesn't start above it
@@ -68,15 +68,15 @@ unmapped f (Some x) e = cc
 
 none_passes : {X : Type 0} (p : X → Bool) (xs : List X) (d : X) → position p xs ≡ None → (k : ℕ) → k < length xs → p (get_or xs k d) ≡ false
 none_passes p xs d e k l = elim (cases_lt (position_or_len p xs) (length xs)) [
-    inl h ↦ let bad = rw (lt-ltb (position_or_len p xs) (length xs) h) at e in cc
+  | inl h ↦ let bad = rw (lt-ltb (position_or_len p xs) (length xs) h) at e in cc
   | inr h ↦ fails_before_first p xs k d (omega arith)
-  ]
+]
 
 opens_at_zero : (b : Band) (bs : List Band) → off_tick (b ∷ bs) ≡ None → (b.from ≡ 0) × (position (λ (x : Band). not (eqb (x.from % x.tick) 0)) (b ∷ bs) ≡ None)
 opens_at_zero b bs e = elim (cases_eq b.from 0) [
-    inl h ↦ (h, rw (eq-eqb b.from 0 h) at e)
+  | inl h ↦ (h, rw (eq-eqb b.from 0 h) at e)
   | inr h ↦ let f : eqb b.from 0 ≡ false = grind (arith, nat_tests) in let bad = rw f at e in cc
-  ]
+]
 
 true_of_not : (b : Bool) → not b ≡ false → b ≡ true
 true_of_not true e = refl
@@ -102,16 +102,16 @@ table (b ∷ bs) d e =
 pub rises : (bs : List Band) (d : Band) → IsTable bs d → (j k : ℕ) → j < k → k < length bs → (get_or bs j d).from < (get_or bs k d).from
 rises bs d t j zero h l = absurd (omega arith)
 rises bs d t j (suc k) h l = elim (cases_lt j k) [
-    inl m ↦ omega (arith, rises bs d t j k m (omega arith), t.rising k l)
+  | inl m ↦ omega (arith, rises bs d t j k m (omega arith), t.rising k l)
   | inr m ↦ let e : j ≡ k = omega arith in subst (λ (n : ℕ). (get_or bs n d).from < (get_or bs (suc k) d).from) (sym e) (t.rising k l)
-  ]
+]
 
 -- two multiples of t are t apart
 between : (t r q : ℕ) → 0 < t → r % t ≡ 0 → q % t ≡ 0 → r < q → r + t ≤ q
 between t r q z er eq h = elim (cases_lt (r / t) (q / t)) [
-    inl m ↦ (let k : r / t + 1 ≤ q / t = omega arith in omega (arith, mul-le-mul_left t k, div-add-mod r t, div-add-mod q t))
+  | inl m ↦ (let k : r / t + 1 ≤ q / t = omega arith in omega (arith, mul-le-mul_left t k, div-add-mod r t, div-add-mod q t))
   | inr m ↦ absurd (omega (arith, mul-le-mul_left t m, div-add-mod r t, div-add-mod q t))
-  ]
+]
 
 allowed_here : (bs : List Band) (d : Band) (at p : ℕ) → IsIn bs d at p → p % (get_or bs at d).tick ≡ 0 → is_allowed bs p ≡ true
 allowed_here bs d at p i e =
@@ -134,17 +134,17 @@ greatest_here bs d at p t table i e =
     let whole : p - p % t ≡ t * (p / t) = omega (arith, div-add-mod p t) in
     let multiple : (p - p % t) % t ≡ 0 = subst (λ (n : ℕ). n % t ≡ 0) (sym whole) (mul-mod_right t (p / t)) in
     let above : (q : ℕ) → q % t ≡ 0 → q ≤ p → q ≤ p - p % t = λ q m h. elim (cases_lt (p - p % t) q) [
-        inl l ↦ absurd (omega (arith, between t (p - p % t) q pos_t multiple m l))
+      | inl l ↦ absurd (omega (arith, between t (p - p % t) q pos_t multiple m l))
       | inr l ↦ l
-      ] in
+    ] in
     let start : (get_or bs at d).from ≤ p - p % t = above (get_or bs at d).from (subst (λ (n : ℕ). (get_or bs at d).from % n ≡ 0) (sym e) (table.multiples at i.within)) i.starts in
     record {
       allowed = allowed_here bs d at (p - p % t) (lower_in bs d at p (p - p % t) i start (omega arith)) (subst (λ (n : ℕ). (p - p % t) % n ≡ 0) e multiple);
       not_above = omega arith;
       greatest = λ q a h. elim (cases_lt (p - p % t) q) [
-          inl l ↦ above q (subst (λ (n : ℕ). q % n ≡ 0) (sym e) (multiple_here bs d at q (lower_in bs d at p q i (omega arith) h) a)) h
+        | inl l ↦ above q (subst (λ (n : ℕ). q % n ≡ 0) (sym e) (multiple_here bs d at q (lower_in bs d at p q i (omega arith) h) a)) h
         | inr l ↦ l
-        ];
+      ];
     }
 
 -- the next multiple, where no later band starts at or below it
@@ -152,20 +152,20 @@ pub least_in_band : (bs : List Band) (d : Band) (at p t n : ℕ) → IsTable bs 
 least_in_band bs d at p t n table i e m low high next =
     let pos_t : 0 < t = omega (arith, table.ticks at i.within) in
     let in_n : IsIn bs d at n = record {
-        within = i.within;
-        starts = omega (arith, i.starts);
-        later = λ k g l. elim (cases_lt (suc at) k) [
-            inl f ↦ omega (arith, rises bs d table (suc at) k f l, next (omega arith))
-          | inr f ↦ (let s : suc at ≡ k = omega arith in subst (λ (j : ℕ). n < (get_or bs j d).from) s (next (omega arith)))
-          ]
-      } in
+      within = i.within;
+      starts = omega (arith, i.starts);
+      later = λ k g l. elim (cases_lt (suc at) k) [
+        | inl f ↦ omega (arith, rises bs d table (suc at) k f l, next (omega arith))
+        | inr f ↦ (let s : suc at ≡ k = omega arith in subst (λ (j : ℕ). n < (get_or bs j d).from) s (next (omega arith)))
+      ];
+    } in
     record {
       allowed = allowed_here bs d at n in_n (subst (λ (j : ℕ). n % j ≡ 0) e m);
       not_below = low;
       least = λ q a h. elim (cases_lt q n) [
-          inl l ↦ absurd (omega (arith, between t q n pos_t (subst (λ (j : ℕ). q % j ≡ 0) (sym e) (multiple_here bs d at q (lower_in bs d at n q in_n (omega (arith, i.starts)) (omega arith)) a)) m l))
+        | inl l ↦ absurd (omega (arith, between t q n pos_t (subst (λ (j : ℕ). q % j ≡ 0) (sym e) (multiple_here bs d at q (lower_in bs d at n q in_n (omega (arith, i.starts)) (omega arith)) a)) m l))
         | inr l ↦ l
-        ];
+      ];
     }
 
 -- the start of the next band, where the next multiple isn't below it
@@ -179,17 +179,17 @@ least_at_edge bs d at p t n table i e m low high l reach =
       allowed = allowed_here bs d (suc at) edge in_edge (table.multiples (suc at) l);
       not_below = omega arith;
       least = λ q a h. elim (cases_lt q edge) [
-          inl f ↦ (let in_q : IsIn bs d at q = record {
-              within = i.within;
-              starts = omega (arith, i.starts);
-              later = λ k g j. elim (cases_lt (suc at) k) [
-                  inl v ↦ omega (arith, rises bs d table (suc at) k v j)
-                | inr v ↦ (let s : suc at ≡ k = omega arith in subst (λ (x : ℕ). q < (get_or bs x d).from) s f)
-                ]
-            } in
+        | inl f ↦ (let in_q : IsIn bs d at q = record {
+          within = i.within;
+          starts = omega (arith, i.starts);
+          later = λ k g j. elim (cases_lt (suc at) k) [
+            | inl v ↦ omega (arith, rises bs d table (suc at) k v j)
+            | inr v ↦ (let s : suc at ≡ k = omega arith in subst (λ (x : ℕ). q < (get_or bs x d).from) s f)
+          ];
+        } in
             absurd (omega (arith, between t q n pos_t (subst (λ (j : ℕ). q % j ≡ 0) (sym e) (multiple_here bs d at q in_q a)) m (omega arith))))
         | inr f ↦ f
-        ];
+      ];
     }
 
 -- the greatest allowed price is the first that a search downward meets
@@ -197,32 +197,32 @@ pub greatest_is : (bs : List Band) (p r : ℕ) → IsGreatest bs p r → r ≡ g
 unfolding greatest_allowed
 greatest_is bs zero r g = omega (arith, g.not_above)
 greatest_is bs (suc p) r g = elim (is_allowed bs (suc p)) as (λ b. is_allowed bs (suc p) ≡ b → r ≡ cond b (suc p) (greatest_allowed bs p)) [
-    true ↦ λ t. omega (arith, g.not_above, g.greatest (suc p) t (omega arith))
+  | true ↦ λ t. omega (arith, g.not_above, g.greatest (suc p) t (omega arith))
   | false ↦ λ f. greatest_is bs p r (record {
-      allowed = g.allowed;
-      not_above = elim (cases_lt r (suc p)) [
-          inl h ↦ omega arith
-        | inr h ↦ (let e : r ≡ suc p = omega (arith, g.not_above) in let t : is_allowed bs (suc p) ≡ true = subst (λ (n : ℕ). is_allowed bs n ≡ true) e g.allowed in let bad = sym t ∙ f in cc)
-        ];
-      greatest = λ q a h. g.greatest q a (omega arith);
-    })
-  ] refl
+    allowed = g.allowed;
+    not_above = elim (cases_lt r (suc p)) [
+      | inl h ↦ omega arith
+      | inr h ↦ (let e : r ≡ suc p = omega (arith, g.not_above) in let t : is_allowed bs (suc p) ≡ true = subst (λ (n : ℕ). is_allowed bs n ≡ true) e g.allowed in let bad = sym t ∙ f in cc)
+    ];
+    greatest = λ q a h. g.greatest q a (omega arith);
+  })
+] refl
 
 -- the least allowed price is the first that a search upward meets
 pub least_is : (n : ℕ) (bs : List Band) (p r : ℕ) → IsLeast bs p r → r ≤ p + n → r ≡ allowed_among n bs p
 unfolding allowed_among
 least_is zero bs p r l h = omega (arith, l.not_below)
 least_is (suc n) bs p r l h = elim (is_allowed bs p) as (λ b. is_allowed bs p ≡ b → r ≡ cond b p (allowed_among n bs (p + 1))) [
-    true ↦ λ t. omega (arith, l.not_below, l.least p t (omega arith))
+  | true ↦ λ t. omega (arith, l.not_below, l.least p t (omega arith))
   | false ↦ λ f. least_is n bs (p + 1) r (record {
-      allowed = l.allowed;
-      not_below = elim (cases_lt p r) [
-          inl m ↦ omega arith
-        | inr m ↦ (let e : r ≡ p = omega (arith, l.not_below) in let t : is_allowed bs p ≡ true = subst (λ (k : ℕ). is_allowed bs k ≡ true) e l.allowed in let bad = sym t ∙ f in cc)
-        ];
-      least = λ q a m. l.least q a (omega arith);
-    }) (omega arith)
-  ] refl
+    allowed = l.allowed;
+    not_below = elim (cases_lt p r) [
+      | inl m ↦ omega arith
+      | inr m ↦ (let e : r ≡ p = omega (arith, l.not_below) in let t : is_allowed bs p ≡ true = subst (λ (k : ℕ). is_allowed bs k ≡ true) e l.allowed in let bad = sym t ∙ f in cc)
+    ];
+    least = λ q a m. l.least q a (omega arith);
+  }) (omega arith)
+] refl
 
 -- the same by the place after: the lower of the next multiple and the start of the next band
 pub least_next : (bs : List Band) (d : Band) (at p n r : ℕ) → IsTable bs d → IsIn bs d at p → n % (get_or bs at d).tick ≡ 0 → p ≤ n → n < p + (get_or bs at d).tick → at + 1 < length bs → r ≡ min n (get_or bs (at + 1) d).from → IsLeast bs p r
@@ -230,8 +230,8 @@ least_next bs d at p n r table i m low high l e =
     let s : at + 1 ≡ suc at = omega arith in
     let e' : r ≡ min n (get_or bs (suc at) d).from = subst (λ (k : ℕ). r ≡ min n (get_or bs k d).from) s e in
     elim (cases_lt n (get_or bs (suc at) d).from) [
-      inl f ↦ (let q : n ≡ r = omega arith in subst (λ (x : ℕ). IsLeast bs p x) q (least_in_band bs d at p (get_or bs at d).tick n table i refl m low high (λ g. f)))
-    | inr f ↦ (let q : (get_or bs (suc at) d).from ≡ r = omega arith in subst (λ (x : ℕ). IsLeast bs p x) q (least_at_edge bs d at p (get_or bs at d).tick n table i refl m low high (omega arith) f))
+      | inl f ↦ (let q : n ≡ r = omega arith in subst (λ (x : ℕ). IsLeast bs p x) q (least_in_band bs d at p (get_or bs at d).tick n table i refl m low high (λ g. f)))
+      | inr f ↦ (let q : (get_or bs (suc at) d).from ≡ r = omega arith in subst (λ (x : ℕ). IsLeast bs p x) q (least_at_edge bs d at p (get_or bs at d).tick n table i refl m low high (omega arith) f))
     ]
 
 pub least_last : (bs : List Band) (d : Band) (at p n : ℕ) → IsTable bs d → IsIn bs d at p → n % (get_or bs at d).tick ≡ 0 → p ≤ n → n < p + (get_or bs at d).tick → length bs ≤ at + 1 → IsLeast bs p n

@@ -92,6 +92,10 @@ impl DatedList {
     pub fn rules_at(&self, time: Time) -> usize
         ensures { result ≡ dated_by self.now time }
     {
-        self.list.as_slice().iter().filter(|d| d.time <= time).count()
+        self.list
+            .as_slice()
+            .iter()
+            .filter(|d| d.time <= time)
+            .count()
     }
 }

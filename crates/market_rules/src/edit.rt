@@ -36,13 +36,23 @@ pub enum Param {
 #[derive(Drop)]
 pub enum Edit {
     /// Another tick table.
-    Tick { stock: StockNo, table: TickTable },
+    Tick {
+        stock: StockNo,
+        table: TickTable,
+    },
     /// Other fees.
-    Fee { stock: StockNo, fees: FeeTable },
+    Fee {
+        stock: StockNo,
+        fees: FeeTable,
+    },
     /// Trading in a stock stops.
-    Halt { stock: StockNo },
+    Halt {
+        stock: StockNo,
+    },
     /// Trading in a stock goes on.
-    Resume { stock: StockNo },
+    Resume {
+        stock: StockNo,
+    },
     /// Another base and jitter from one group to another, in nanoseconds.
     Latency {
         from: u8,
@@ -57,7 +67,9 @@ pub enum Edit {
         value: u64,
     },
     /// A trader sends nothing from now on.
-    Silence { agent: AgentNo },
+    Silence {
+        agent: AgentNo,
+    },
     /// A message from a trader to the exchange, due so many nanoseconds after the state's time.
     Inject {
         agent: AgentNo,
@@ -65,7 +77,10 @@ pub enum Edit {
         message: Inbound,
     },
     /// Added to the offset of a stock's value, with four implied decimals.
-    Series { stock: StockNo, offset: i64 },
+    Series {
+        stock: StockNo,
+        offset: i64,
+    },
 }
 
 impl Edit {
@@ -76,7 +91,10 @@ impl Edit {
         match self {
             Edit::Tick { stock, table } => {
                 let table = table.copy(alloc)?;
-                Ok(Edit::Tick { stock: *stock, table })
+                Ok(Edit::Tick {
+                    stock: *stock,
+                    table,
+                })
             }
             Edit::Fee { stock, fees } => Ok(Edit::Fee {
                 stock: *stock,

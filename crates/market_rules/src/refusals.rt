@@ -26,7 +26,11 @@ fn place_of_break(bands: &[Band]) -> Option<usize>
 fn place_not_rising(bands: &[Band]) -> Option<usize>
     ensures { result ≡ not_rising bands.now }
 {
-    if bands.is_empty() { Some(0) } else { place_of_break(bands) }
+    if bands.is_empty() {
+        Some(0)
+    } else {
+        place_of_break(bands)
+    }
 }
 
 // The first band with tick 0.

@@ -1,6 +1,4 @@
-use crate::{
-    Band, Change, Dated, DatedList, Edit, FeeTable, Param, RuleError, TickTable, View,
-};
+use crate::{Band, Change, Dated, DatedList, Edit, FeeTable, Param, RuleError, TickTable, View};
 use std::alloc::Global;
 use std::process::Abort;
 
@@ -72,10 +70,19 @@ fn bad_bands_are_refused(rt: HostRuntime) {
         tick: 100,
     };
     assert_eq!(rt; refusal(alloc, &[]), Some(RuleError::BandsNotRising(0)));
-    assert_eq!(rt; refusal(alloc, &[cent, cent]), Some(RuleError::BandsNotRising(1)));
-    assert_eq!(rt; refusal(alloc, &[off, none, cent]), Some(RuleError::BandsNotRising(1)));
+    assert_eq!(rt;
+        refusal(alloc, &[cent, cent]),
+        Some(RuleError::BandsNotRising(1))
+    );
+    assert_eq!(rt;
+        refusal(alloc, &[off, none, cent]),
+        Some(RuleError::BandsNotRising(1))
+    );
     assert_eq!(rt; refusal(alloc, &[none, off]), Some(RuleError::ZeroTick(0)));
-    assert_eq!(rt; refusal(alloc, &[cent, off]), Some(RuleError::BandOffTick(1)));
+    assert_eq!(rt;
+        refusal(alloc, &[cent, off]),
+        Some(RuleError::BandOffTick(1))
+    );
     assert_eq!(rt; refusal(alloc, &[nickel]), Some(RuleError::BandOffTick(0)));
     assert_eq!(rt; refusal(alloc, &[cent, nickel]), None);
 }
@@ -130,14 +137,16 @@ fn copies_are_equal(rt: HostRuntime) {
         name: Param::Pause,
         value: 9,
     };
-    assert!(rt; matches!(
-        agent.copy(alloc),
-        Ok(Edit::Agent {
-            agent: 7,
-            name: Param::Pause,
-            value: 9,
-        })
-    ));
+    assert!(rt;
+        matches!(
+            agent.copy(alloc),
+            Ok(Edit::Agent {
+                agent: 7,
+                name: Param::Pause,
+                value: 9,
+            })
+        )
+    );
 }
 
 #[test]

@@ -59,7 +59,7 @@ impl TickTable {
     /// The tick at a price: that of the last band that doesn't start above it.
     pub fn tick_at(&self, price: u32) -> u32
         ensures value { result ≡ tick_of self.now price }
-    ensures positive { 0 < result }
+        ensures positive { 0 < result }
     {
         let bands = self.bands.as_slice();
         bands[place_of(bands, u64::from(price))].tick

@@ -4,6 +4,7 @@ use crate::ticks::TickTable;
 use market_types::Time;
 
 /// What a trader sees besides the messages that it is sent.
+#[derive(Clone, Copy)]
 pub struct View<'a> {
     /// Nanoseconds past midnight.
     pub time: Time,
