@@ -1,5 +1,5 @@
 -- Lemmas on where a list leaves its order.
-use Rattle.std.proofs.Common.{◌≡◌, ℕ, ◌+◌, ◌<◌, Bool, true, false, cond, List, [], ◌∷◌, Option, Some, None, length, get_or, refl, sym, ap, ◌∙◌, arith, suc, zero, subst}
+use Rattle.std.proofs.Common.{◌≡◌, ℕ, ◌+◌, ◌<◌, Bool, true, false, cond, List, [], ◌∷◌, Some, None, length, get_or, refl, sym, ap, ◌∙◌, arith, suc, zero, subst}
 use Rattle.market_rules.specs.Breaks.{break_after, first_break}
 
 pub break_none : {X : Type 0} (follows : X → X → Bool) (b : X) (k : ℕ) (xs : List X) (d : X) → ((j : ℕ) → j < length xs → follows (get_or (b ∷ xs) j d) (get_or xs j d) ≡ true) → break_after follows b k xs ≡ None

@@ -1,18 +1,18 @@
 -- Lemmas on tick tables.
-use Rattle.std.proofs.Common.{◌≡◌, ◌≢◌, ℕ, ◌+◌, ◌*◌, ◌/◌, ◌%◌, ◌-◌, min, ◌<◌, ◌≤◌, ◌⊎◌, Bool, true, false, not, cond, ltb, leb, eqb, List, [], ◌∷◌, Option, Some, None, length, get_or, refl, sym, ap, ◌∙◌, arith, inl, inr, suc, zero, subst, filter}
+use Rattle.std.proofs.Common.{◌≡◌, ℕ, ◌+◌, ◌*◌, ◌/◌, ◌%◌, ◌-◌, min, ◌<◌, ◌≤◌, ◌⊎◌, Bool, true, false, not, cond, ltb, leb, eqb, List, [], ◌∷◌, Option, Some, None, length, get_or, refl, sym, ◌∙◌, arith, inl, inr, suc, zero, subst, filter}
 use Rattle.std.specs.List.{last_or, position, position_or_len}
 use Rattle.std.specs.Option.{option_map}
 use Rattle.std.proofs.lemmas.List.Sums.{fails_before_first}
 use Rattle.std.proofs.Math.Nat.{div-add-mod, mul-le-mul_left, mul-mod_right}
 use Rattle.std.proofs.lemmas.Nat.{mod_below}
-use Rattle.std.proofs.lemmas.Bool.{cases_lt, cases_eq, lt-ltb, le-ltb, eq-eqb}
+use Rattle.std.proofs.lemmas.Bool.{cases_lt, cases_eq, lt-ltb, eq-eqb}
 use Rattle.std.proofs.lemmas.Bool.Decides.{nat_tests}
 use Rattle.market_rules.specs.declared.bands.Band.{Band}
 use Rattle.market_rules.specs.declared.error.RuleError.{RuleError}
 use Rattle.market_rules.specs.declared.error.RuleError.TheVariants.{BandsNotRising, ZeroTick, BandOffTick}
 use Rattle.market_rules.specs.Nearest.{IsGreatest, IsLeast, greatest_allowed, allowed_among, least_allowed}
 use Rattle.market_rules.specs.Refusals.{first_of, not_rising, zero_tick, off_tick, table_refusal}
-use Rattle.market_rules.specs.Ticks.{band_of, tick_of, is_allowed}
+use Rattle.market_rules.specs.Ticks.{tick_of, is_allowed}
 use Rattle.market_rules.proofs.Breaking.{first_break_never}
 
 abbrev pub no_band : Band

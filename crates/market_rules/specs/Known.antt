@@ -3,7 +3,6 @@ use Rattle.std.specs.Prelude.{ℕ, List, [], ◌∷◌}
 use Rattle.market_rules.specs.declared.bands.Band.{Band}
 use Rattle.market_rules.specs.declared.changes.Dated.{Dated}
 use Rattle.market_rules.specs.declared.changes.Change.TheVariants.{Halt}
-use Rattle.market_rules.specs.declared.fees.FeeTable.{FeeTable}
 
 -- a band from this price on with this tick
 abbrev pub band : ℕ → ℕ → Band

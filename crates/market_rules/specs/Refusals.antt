@@ -1,5 +1,5 @@
 -- Why bands are no tick table.
-use Rattle.std.specs.Prelude.{ℕ, ◌%◌, ◌==◌, Bool, not, nat_lt, if◌then◌else◌, List, [], ◌∷◌, Option, None, Some, option_map, position}
+use Rattle.std.specs.Prelude.{ℕ, ◌%◌, ◌==◌, not, nat_lt, if◌then◌else◌, List, [], ◌∷◌, Option, None, Some, option_map, position}
 use Rattle.market_rules.specs.declared.bands.Band.{Band}
 use Rattle.market_rules.specs.declared.error.RuleError.{RuleError}
 use Rattle.market_rules.specs.declared.error.RuleError.TheVariants.{BandsNotRising, ZeroTick, BandOffTick}

@@ -1,5 +1,4 @@
 use Rattle.std.proofs.Common.{◌≡◌, ◌-◌, ◌%◌, get_or, rules}
-use Rattle.market_rules.specs.declared.bands.Band.{Band}
 use Rattle.market_rules.specs.Nearest.{IsGreatest}
 use Rattle.market_rules.proofs.Tables.{table, greatest_here, greatest_is, no_band}
 use Rattle.market_rules.proofs.bands.greatest.Goals as goal

@@ -1,5 +1,4 @@
-use Rattle.std.proofs.Common.{◌≡◌, ◌+◌, ◌-◌, ◌%◌, ◌<◌, ◌≤◌, length, get_or, rules, arith, min}
-use Rattle.market_rules.specs.declared.bands.Band.{Band}
+use Rattle.std.proofs.Common.{rules, arith}
 use Rattle.market_rules.specs.Nearest.{IsLeast}
 use Rattle.market_rules.proofs.Tables.{IsIn, table, least_next, least_last, least_value, no_band}
 use Rattle.market_rules.proofs.bands.least.Goals as goal

@@ -1,4 +1,4 @@
-use Rattle.std.proofs.Common.{◌≡◌, ℕ, suc, ◌+◌, ◌-◌, ◌<◌, ◌≤◌, true, false, ltb, leb, sym, arith, length, get_or, rules}
+use Rattle.std.proofs.Common.{◌≡◌, suc, ◌-◌, false, leb, sym, arith, get_or, rules}
 use Rattle.std.proofs.lemmas.List.{get_or_default}
 use Rattle.std.proofs.lemmas.Bool.Decides.{nat_tests}
 use Rattle.market_rules.specs.declared.changes.Dated.{Dated}

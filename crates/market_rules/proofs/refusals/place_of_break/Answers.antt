@@ -1,4 +1,4 @@
-use Rattle.std.proofs.Common.{◌≡◌, ℕ, suc, ◌+◌, ◌-◌, ◌<◌, ◌≤◌, true, false, ltb, leb, sym, arith, length, get_or}
+use Rattle.std.proofs.Common.{◌≡◌, suc, ◌-◌, false, ltb, sym, arith, get_or}
 use Rattle.std.proofs.lemmas.Bool.Decides.{nat_tests}
 use Rattle.market_rules.specs.declared.bands.Band.{Band}
 use Rattle.market_rules.proofs.Breaking.{first_break_none, first_break_here}
