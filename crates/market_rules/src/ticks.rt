@@ -1,6 +1,6 @@
 //! Tick tables.
 
-ghost use Rattle.std.specs.Prelude.{◌≡◌, ◌<◌, ◌≤ℤ◌, pos, IfOk, IfErr, IfSome, IfNone, Err};
+ghost use Rattle.std.specs.Prelude.{◌≡◌, ◌<◌, ◌≤ℤ◌, pos, IfOk, IfErr, IfSome, IfNone, Err, None};
 ghost use Rattle.market_rules.specs.Nearest.{IsDown, IsUp, down_of, up_of};
 ghost use Rattle.market_rules.specs.Refusals.{table_refusal};
 ghost use Rattle.market_rules.specs.Ticks.{tick_of, is_allowed};
@@ -51,7 +51,8 @@ impl TickTable {
 
     /// The bands in order.
     pub fn bands(&self) -> &[Band]
-        ensures { result.now ≡ self.now }
+        ensures value { result.now ≡ self.now }
+        ensures accepted { table_refusal result.now ≡ None }
     {
         self.bands.as_slice()
     }
