@@ -1,0 +1,51 @@
+//! What the definitions give on known rules.
+
+ghost use Rattle.std.specs.Prelude.{◌≡◌, ◌∷◌, [], None, Some, true, false, pos, negsuc};
+ghost use Rattle.market_rules.specs.Changes.{dates_refusal, dated_by};
+ghost use Rattle.market_rules.specs.Fees.{fee_of};
+ghost use Rattle.market_rules.specs.Known.{band, two_bands, uneven_bands, halt_at};
+ghost use Rattle.market_rules.specs.Nearest.{down_of, up_of};
+ghost use Rattle.market_rules.specs.Refusals.{table_refusal};
+ghost use Rattle.market_rules.specs.Ticks.{tick_of, is_allowed};
+
+use crate::error::RuleError;
+
+/// Ticks at the edge of a band, and the allowed prices next to a number.
+pub fn known_ticks()
+    ensures below { tick_of two_bands 999999 ≡ 100 }
+    ensures edge { tick_of two_bands 1000000 ≡ 500 }
+    ensures on_tick { is_allowed two_bands 999900 ≡ true }
+    ensures off_tick { is_allowed two_bands 1000100 ≡ false }
+    ensures down { down_of two_bands (pos 1000499) ≡ pos 1000000 }
+    ensures down_to_zero { down_of two_bands (pos 99) ≡ pos 0 }
+    ensures down_below_zero { down_of two_bands (negsuc 0) ≡ pos 0 }
+    ensures up_to_the_edge { up_of two_bands (pos 999950) ≡ pos 1000000 }
+    ensures up { up_of two_bands (pos 1000001) ≡ pos 1000500 }
+    ensures up_below_zero { up_of two_bands (negsuc 499) ≡ pos 0 }
+    ensures up_past_a_tick { up_of uneven_bands (pos 950) ≡ pos 1000 }
+{}
+
+/// Refused bands: the first reason of the list, and of it the least index.
+pub fn known_refusals()
+    ensures none { table_refusal two_bands ≡ None }
+    ensures no_band { table_refusal [] ≡ Some (RuleError.BandsNotRising 0) }
+    ensures equal_starts { table_refusal (band 0 0 ∷ band 0 100 ∷ []) ≡ Some (RuleError.BandsNotRising 1) }
+    ensures falling { table_refusal (band 0 1 ∷ band 5 1 ∷ band 4 1 ∷ band 3 1 ∷ []) ≡ Some (RuleError.BandsNotRising 2) }
+    ensures zero_tick { table_refusal (band 7 100 ∷ band 100 0 ∷ []) ≡ Some (RuleError.ZeroTick 1) }
+    ensures first_band { table_refusal (band 100 100 ∷ band 150 100 ∷ []) ≡ Some (RuleError.BandOffTick 0) }
+    ensures off_tick { table_refusal (band 0 100 ∷ band 150 100 ∷ []) ≡ Some (RuleError.BandOffTick 1) }
+{}
+
+/// Dates may be equal, and a change counts from its own nanosecond on.
+pub fn known_dates()
+    ensures equal { dates_refusal (halt_at 5 ∷ halt_at 5 ∷ []) ≡ None }
+    ensures earlier { dates_refusal (halt_at 5 ∷ halt_at 6 ∷ halt_at 4 ∷ []) ≡ Some (RuleError.DatesNotRising 2) }
+    ensures before { dated_by (halt_at 5 ∷ halt_at 5 ∷ halt_at 7 ∷ []) 4 ≡ 0 }
+    ensures at { dated_by (halt_at 5 ∷ halt_at 5 ∷ halt_at 7 ∷ []) 5 ≡ 2 }
+{}
+
+/// A rebate of 20 millionths a share for liquidity that is added, and 30 for liquidity that is taken.
+pub fn known_fees()
+    ensures added { fee_of (record { add = negsuc 19; take = pos 30 }) 65 100 ≡ negsuc 1999 }
+    ensures taken { fee_of (record { add = negsuc 19; take = pos 30 }) 82 100 ≡ pos 3000 }
+{}
