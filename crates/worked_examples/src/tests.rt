@@ -141,7 +141,7 @@ fn failing_writes_leave_a_first_part(rt: HostRuntime) -> Result<(), Fail> {
     let text = study(alloc, 1005, 100, 1000, 2)?;
     let mut whole = sink(alloc, 666, 666, &[])?;
     let mut notes = sink(alloc, 100, 64, &[])?;
-    run_over(
+    let ended = run_over(
         alloc,
         &["run", "s"],
         text.as_bytes(),
@@ -149,10 +149,17 @@ fn failing_writes_leave_a_first_part(rt: HostRuntime) -> Result<(), Fail> {
         &mut whole,
         &mut notes,
     )?;
+    assert_eq!(rt; ended, (Status::Ok, 4));
     for (room, most, failing) in [
         (666, 64, 1),
         (666, 64, 2),
+        (666, 64, 3),
+        (666, 64, 4),
         (666, 64, 5),
+        (666, 64, 6),
+        (666, 64, 7),
+        (666, 64, 8),
+        (666, 64, 9),
         (666, 64, 10),
         (666, 64, 11),
         (256, 64, 0),
