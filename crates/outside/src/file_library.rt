@@ -1,7 +1,7 @@
 //! The system's files as a library. It tells no content: what a file holds, no clause knows.
 
-ghost use Rattle.std.specs.Prelude.{◌≡◌, ◌≤◌, IfOk, length};
-ghost use Rattle.outside.specs.Files.{AtMost};
+ghost use Rattle.std.specs.Prelude.{◌≡◌, ◌≤◌, IfOk, IfSome, Some, length};
+ghost use Rattle.outside.specs.Files.{AtMost, content};
 ghost use Rattle.outside.specs.Fetched.{content_of};
 
 use crate::{FetchError, Fetched, Library};
@@ -70,8 +70,11 @@ fn open_and_read<R: Files>(
 /// Bytes that are asked for in one read.
 const BLOCK: usize = 4096;
 
-/// Reads to the end. Each turn takes at least one byte, so the turns run out only at too many bytes.
+/// Reads to the end. Each turn takes at least one byte, so the turns run out only at too many bytes. Of a reader that
+/// tells its bytes, the answer is exactly these.
 fn read_whole<F: Read>(alloc: Global, file: &mut F, most: u64) -> Result<Fetched, FetchError>
+    ensures answer { IfSome (F.remaining file.old) (λ bytes.
+        IfOk result (λ fetched. content_of fetched ≡ content (Some bytes) most)) }
     ensures within { IfOk result (λ fetched. AtMost most (content_of fetched)) }
 {
     let mut bytes = Vec::new(alloc);
