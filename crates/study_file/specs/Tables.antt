@@ -1,9 +1,9 @@
 -- What the bytes of a study say as a TOML table, and what is found in it.
-use Rattle.std.specs.Prelude.{◌&&◌, ℕ, ℤ, Bool, true, List, [], ◌∷◌, Option, None, if◌then◌else◌, option_and_then}
+use Rattle.std.specs.Prelude.{◌&&◌, ℕ, ℤ, Bool, true, List, Option, None, if◌then◌else◌, option_and_then}
 use Rattle.std.specs.Str.{is_utf8}
 use Rattle.std.specs.List.{list_any}
 use Rattle.std.specs.Str.{bytes_eq}
-use Rattle.toml.specs.Data.{as_integer, as_str, as_table, as_array, Data, Members, no_members, member, Items, no_items, item, get_member}
+use Rattle.toml.specs.Data.{as_integer, as_str, as_table, as_array, Members, no_members, member, Items, get_member}
 use Rattle.toml.specs.Parse.{parse_document}
 
 -- the TOML table that the bytes are the text of, if any
@@ -34,8 +34,3 @@ table_at key table = option_and_then as_table (get_member key table)
 -- the array at a key
 abbrev pub array_at : List ℕ → Members → Option Items
 array_at key table = option_and_then as_array (get_member key table)
-
--- the items of an array as a list
-abbrev pub items_list : Items → List Data
-items_list no_items = []
-items_list (item d rest) = d ∷ items_list rest

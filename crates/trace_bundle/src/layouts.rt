@@ -21,9 +21,6 @@ pub const BRANCH: [Kind; 4] = [SHORT, SHORT, WORD, BYTE];
 /// receiver, delivered or put back, the receiver's own time afterwards, fee, kind of body.
 pub const EVENT: [Kind; 9] = [WORD, LONG, LONG, SHORT, SHORT, BYTE, LONG, LONG, BYTE];
 
-/// The body of an ask: the stock.
-pub const ASK: [Kind; 1] = [SHORT];
-
 /// The body of a quote: stock, state, bid, its shares, ask, its shares, last price.
 pub const QUOTE: [Kind; 7] = [SHORT, BYTE, WORD, LONG, WORD, LONG, WORD];
 

@@ -8,6 +8,4 @@ mod layouts;
 
 pub use bundle::{BranchRun, bundle_of};
 pub use closing::{Closing, ClosingAgent, ClosingCounts, ClosingOrder, ClosingStock};
-pub use layouts::{
-    AGENT, ASK, BRANCH, COUNTS, EDIT, END, EVENT, HEADER, ORDER, POSITION, QUOTE, STOCK,
-};
+pub use layouts::{AGENT, BRANCH, COUNTS, EDIT, END, EVENT, HEADER, ORDER, POSITION, QUOTE, STOCK};
