@@ -1,2 +1,3 @@
 pub mod Frames
+pub mod Layouts
 pub mod Messages

@@ -1,4 +1,4 @@
-//! Laws of the fields, and their definitions on worked examples.
+//! Laws of numbers in bytes, and the definitions of fields on worked examples.
 
 ghost use Rattle.std.specs.Prelude.{◌≡◌, ℕ, ◌<◌, ◌^◌, [], ◌∷◌, true, false, codes};
 ghost use Rattle.wire_fields.specs.Kinds.{is_good};
@@ -26,4 +26,13 @@ pub fn texts_and_sides()
     ensures neither { is_good kind.Side (codes "T") ≡ false }
     ensures blank_letter { is_good (kind.Letters 1) (codes " ") ≡ true }
     ensures no_letter { is_good (kind.Letters 1) (127 ∷ []) ≡ false }
+    ensures any { is_good (kind.Bytes 2) (0 ∷ 255 ∷ []) ≡ true }
+    ensures either { is_good (kind.Either (codes "DP")) (codes "P") ≡ true }
+    ensures no_third { is_good (kind.Either (codes "DP")) (codes "Q") ≡ false }
+    ensures one_of { is_good (kind.OneOf (codes "wioaq")) (codes "q") ≡ true }
+    ensures no_sixth { is_good (kind.OneOf (codes "wioaq")) (codes "W") ≡ false }
+    ensures live { is_good kind.OrderState (codes "L") ≡ true }
+    ensures no_state { is_good kind.OrderState (codes "X") ≡ false }
+    ensures quoted { is_good kind.TradingState (codes "Q") ≡ true }
+    ensures no_trading { is_good kind.TradingState (codes "L") ≡ false }
 {}
