@@ -10,6 +10,8 @@ ghost use Rattle.itch_codec.specs.Messages.{feed_wire, feed_layout};
 ghost use Rattle.itch_codec.specs.Frames.{framed, unframed};
 
 use crate::layouts::{ADD, CANCEL, CROSS, DELETE, DIRECTORY, EXECUTED, SYSTEM, TRADE, TRADING};
+use crate::reading::FeedType;
+use wire_fields::one_message;
 
 /// The offset and the width of each field, behind the letter of the type.
 pub fn published_layouts()
@@ -25,11 +27,27 @@ pub fn published_layouts()
     ensures cross { places CROSS 1 ≡ (1, 2) ∷ (3, 2) ∷ (5, 6) ∷ (11, 8) ∷ (19, 8) ∷ (27, 4) ∷ (31, 8) ∷ (39, 1) ∷ [] }
 {}
 
+/// The letter of each type.
+pub fn published_types()
+    ensures system { feed_layout 83 ≡ Some SYSTEM }
+    ensures directory { feed_layout 82 ≡ Some DIRECTORY }
+    ensures trading { feed_layout 72 ≡ Some TRADING }
+    ensures add { feed_layout 65 ≡ Some ADD }
+    ensures executed { feed_layout 69 ≡ Some EXECUTED }
+    ensures cancel { feed_layout 88 ≡ Some CANCEL }
+    ensures delete { feed_layout 68 ≡ Some DELETE }
+    ensures trade { feed_layout 80 ≡ Some TRADE }
+    ensures cross { feed_layout 81 ≡ Some CROSS }
+    ensures unknown { feed_layout 70 ≡ None }
+{}
+
 /// Each value has one spelling, and bytes spell one value.
 pub fn one_spelling()
     ensures bytes { (a b : List ℕ) (m : Feed) → IsSpelled a (feed_wire m) → IsSpelled b (feed_wire m) → a ≡ b }
     ensures message { (bytes : List ℕ) (a b : Feed) → IsSpelled bytes (feed_wire a) → IsSpelled bytes (feed_wire b) → a ≡ b }
-{}
+{
+    one_message::<FeedType>();
+}
 
 /// An order of 999,999 shares at 10.00 dollars is added, and the start of the messages, byte by byte.
 pub fn added_order()

@@ -51,16 +51,16 @@ pub fn encode_cancel(m: &Cancel) -> [u8; 19]
     )
 }
 
-/// The types of orders.
+// The types of orders.
 #[derive(Clone, Copy)]
-enum OrderType {
+pub(crate) enum OrderType {
     Enter,
     Cancel,
 }
 
 impl MessageType for OrderType {
-    ghost use Rattle.std.specs.Prelude.{map};
-    ghost use Rattle.ouch_codec.specs.Inbound.{inbound_wire, inbound_of, inbound_layout, order_letter, order_kinds, inbound_told, inbound_back};
+    ghost use Rattle.ouch_codec.specs.Inbound.{inbound_wire, inbound_layout};
+    ghost use Rattle.ouch_codec.specs.InboundBack.{inbound_of, order_letter, order_kinds, inbound_told, inbound_back};
 
     type Message = Inbound;
 

@@ -1,6 +1,6 @@
 //! Laws of the messages, and their definitions on worked examples.
 
-ghost use Rattle.std.specs.Prelude.{◌≡◌, ℕ, ◌+◌, List, [], ◌∷◌, ◌++◌, codes, Some};
+ghost use Rattle.std.specs.Prelude.{◌≡◌, ℕ, ◌+◌, List, [], ◌∷◌, ◌++◌, codes, Some, None};
 ghost use Rattle.market_types.specs.declared.order.Inbound.{Inbound};
 ghost use Rattle.market_types.specs.declared.order.Inbound.TheVariants as inbound;
 ghost use Rattle.market_types.specs.declared.order.Side.TheVariants as side;
@@ -10,7 +10,10 @@ ghost use Rattle.wire_fields.specs.Wire.{places, total_width, spelling, IsSpelle
 ghost use Rattle.ouch_codec.specs.Inbound.{inbound_wire, inbound_layout};
 ghost use Rattle.ouch_codec.specs.Outbound.{reply_wire, reply_layout};
 
+use crate::inbound::OrderType;
 use crate::layouts::{ACCEPTED, CANCEL, CANCELED, ENTER, EXECUTED, REJECTED, SYSTEM};
+use crate::outbound::ReplyType;
+use wire_fields::one_message;
 
 /// The offset and the width of each field, behind the letter of the type.
 pub fn published_layouts()
@@ -25,13 +28,29 @@ pub fn published_layouts()
     ensures rejected { places REJECTED 1 ≡ (1, 8) ∷ (9, 14) ∷ (23, 1) ∷ [] }
 {}
 
+/// The letter of each type, of orders and of replies.
+pub fn published_types()
+    ensures enter { inbound_layout 79 ≡ Some ENTER }
+    ensures cancel { inbound_layout 88 ≡ Some CANCEL }
+    ensures system { reply_layout 83 ≡ Some SYSTEM }
+    ensures accepted { reply_layout 65 ≡ Some ACCEPTED }
+    ensures canceled { reply_layout 67 ≡ Some CANCELED }
+    ensures executed { reply_layout 69 ≡ Some EXECUTED }
+    ensures rejected { reply_layout 74 ≡ Some REJECTED }
+    ensures no_order { inbound_layout 65 ≡ None }
+    ensures no_reply { reply_layout 79 ≡ None }
+{}
+
 /// Each value has one spelling, and bytes spell one value.
 pub fn one_spelling()
     ensures order_bytes { (a b : List ℕ) (m : Inbound) → IsSpelled a (inbound_wire m) → IsSpelled b (inbound_wire m) → a ≡ b }
     ensures order { (bytes : List ℕ) (a b : Inbound) → IsSpelled bytes (inbound_wire a) → IsSpelled bytes (inbound_wire b) → a ≡ b }
     ensures reply_bytes { (a b : List ℕ) (m : Reply) → IsSpelled a (reply_wire m) → IsSpelled b (reply_wire m) → a ≡ b }
     ensures reply { (bytes : List ℕ) (a b : Reply) → IsSpelled bytes (reply_wire a) → IsSpelled bytes (reply_wire b) → a ≡ b }
-{}
+{
+    one_message::<OrderType>();
+    one_message::<ReplyType>();
+}
 
 /// An Enter Order of 999,999 shares at 10.00 dollars, byte by byte.
 pub fn entered_order()
