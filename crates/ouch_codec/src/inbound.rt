@@ -9,9 +9,7 @@ ghost use Rattle.market_types.specs.declared.order.Inbound.{Inbound};
 
 use crate::layouts::{CANCEL, CANCEL_TYPE, ENTER, ENTER_TYPE};
 use market_types::{Cancel, CodecError, Enter, Inbound, Symbol, Token};
-use wire_fields::{
-    Kind, MessageType, Value, array_at, byte_at, decode, message, side_at, u32_at,
-};
+use wire_fields::{Kind, MessageType, Value, array_at, byte_at, decode, message, side_at, u32_at};
 
 /// The 49 bytes of an Enter Order. A field out of its range is written as it stands.
 pub fn encode_enter(m: &Enter) -> [u8; 49]
