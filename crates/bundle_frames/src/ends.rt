@@ -9,12 +9,7 @@ use market_types::Memory;
 
 /// Appends the header of a bundle, for so many agents with the exchange, stocks and branches.
 #[tactic(auto, unfolding(crate::specs::Frames::header_frame))]
-pub fn put_header(
-    out: &mut Vec<u8>,
-    agents: u16,
-    stocks: u16,
-    branches: u16,
-) -> Result<(), Memory>
+pub fn put_header(out: &mut Vec<u8>, agents: u16, stocks: u16, branches: u16) -> Result<(), Memory>
     ensures appended { OnOk result (out.new.items ≡ out.old.items ++ header_frame agents stocks branches) }
     ensures refused { OnErr result (out.new.items ≡ out.old.items) }
 {

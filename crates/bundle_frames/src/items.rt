@@ -154,10 +154,8 @@ impl Written for i64 {
     ghost fits = { λ p. Unit {0} };
 
     fn put(&self, out: &mut Vec<u8>) -> Result<(), Memory> {
-        match out.extend_from_slice(&frames::position(*self)) {
-            Ok(()) => Ok(()),
-            Err(_) => Err(Memory),
-        }
+        out.extend_from_slice(&frames::position(*self))?;
+        Ok(())
     }
 }
 

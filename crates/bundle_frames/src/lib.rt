@@ -15,5 +15,8 @@ pub use items::{put_event, put_mark};
 pub use layouts::{
     AGENT, ASK, BRANCH, COUNTS, EDIT, END, EVENT, HEADER, ORDER, POSITION, QUOTE, STOCK,
 };
-pub use worked::{one_of_each, published_layouts};
+pub use worked::{one_of_each, published_kinds, published_layouts};
 pub use written::{Written, put_all};
+
+#[cfg(test)]
+mod tests;

@@ -6,10 +6,11 @@ ghost use Rattle.market_types.specs.declared.order.Inbound.TheVariants as inboun
 ghost use Rattle.market_types.specs.declared.reply.Reply.TheVariants as reply;
 ghost use Rattle.wire_fields.specs.Wire.{places};
 ghost use Rattle.bundle_frames.specs.Frames.{header_frame, branch_frame, event_frame, edit_frame, counts_frame, stock_frame, order_frame, agent_frame, end_frame};
+ghost use Rattle.bundle_frames.specs.Layouts.{header_kinds, branch_kinds, event_kinds, ask_kinds, quote_kinds, edit_kinds, counts_kinds, stock_kinds, order_kinds, agent_kinds, position_kinds, end_kinds};
 ghost use Rattle.bundle_frames.specs.Worked.{worked_token, worked_order, worked_event, worked_quote, worked_edit, worked_counts, worked_stock, worked_live_order, worked_agent};
 
 use crate::layouts::{
-    AGENT, BRANCH, COUNTS, EDIT, END, EVENT, HEADER, ORDER, POSITION, QUOTE, STOCK,
+    AGENT, ASK, BRANCH, COUNTS, EDIT, END, EVENT, HEADER, ORDER, POSITION, QUOTE, STOCK,
 };
 
 /// The offset and the width of each fixed field of each frame, behind its letter, and of a quote and a position.
@@ -26,6 +27,22 @@ pub fn published_layouts()
         ∷ (56, 8) ∷ (64, 2) ∷ (66, 4) ∷ [] }
     ensures position { places POSITION 0 ≡ (0, 8) ∷ [] }
     ensures end { places END 1 ≡ (1, 2) ∷ [] }
+{}
+
+/// What stands in each field: the ranges that reading will test.
+pub fn published_kinds()
+    ensures header { HEADER ≡ header_kinds }
+    ensures branch { BRANCH ≡ branch_kinds }
+    ensures event { EVENT ≡ event_kinds }
+    ensures ask { ASK ≡ ask_kinds }
+    ensures quote { QUOTE ≡ quote_kinds }
+    ensures edit { EDIT ≡ edit_kinds }
+    ensures counts { COUNTS ≡ counts_kinds }
+    ensures stock { STOCK ≡ stock_kinds }
+    ensures order { ORDER ≡ order_kinds }
+    ensures agent { AGENT ≡ agent_kinds }
+    ensures position { POSITION ≡ position_kinds }
+    ensures end { END ≡ end_kinds }
 {}
 
 /// One of each frame, and of each body, with a value other than zero in each field, byte by byte.

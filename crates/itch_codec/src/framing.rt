@@ -24,9 +24,7 @@ pub fn frame_of_two(head: &[u8], rest: &[u8], out: &mut Vec<u8>) -> Result<(), M
     ensures refused { OnErr result (out.new.items ≡ out.old.items) }
 {
     let size = head.len() + rest.len();
-    if out.reserve(2 + size).is_err() {
-        return Err(Memory);
-    }
+    out.reserve(2 + size)?;
     let len = (size as u16).to_be_bytes();
     if out.extend_from_slice(&len).is_err()
         || out.extend_from_slice(head).is_err()

@@ -43,12 +43,7 @@ fn branch_bytes(alloc: Global, name: &[u8], run: &BranchRun) -> Result<Vec<u8>, 
 }
 
 /// Appends the frames of a branch of this name, of at most 255 bytes. After want of memory the bytes are as before.
-pub fn put_run(
-    out: &mut Vec<u8>,
-    alloc: Global,
-    name: &[u8],
-    run: &BranchRun,
-) -> Result<(), Memory>
+pub fn put_run(out: &mut Vec<u8>, alloc: Global, name: &[u8], run: &BranchRun) -> Result<(), Memory>
     requires name { length name.now < 256 }
     requires opening { AreTimely run.now.opening.list }
     requires entries { All IsTimely run.now.entries.list }
@@ -58,10 +53,8 @@ pub fn put_run(
     ensures refused { OnErr result (out.new.items ≡ out.old.items) }
 {
     let bytes = branch_bytes(alloc, name, run)?;
-    match out.extend_from_slice(&bytes) {
-        Ok(()) => Ok(()),
-        Err(_) => Err(Memory),
-    }
+    out.extend_from_slice(&bytes)?;
+    Ok(())
 }
 
 /// The bundle of a study whose one branch has this name, of at most 255 bytes: so many agents with the exchange, so many
