@@ -1,6 +1,6 @@
 //! The frames of what happens and of a closing.
 
-ghost use Rattle.std.specs.Prelude.{◌≡◌, ◌<◌, ◌≤◌, ◌+◌, ◌++◌, length, OnOk};
+ghost use Rattle.std.specs.Prelude.{◌≡◌, ◌<◌, ◌≤◌, ◌+◌, ◌++◌, length, OnOk, OnErr};
 ghost use Rattle.market_types.specs.Told.{event_told, edit_told};
 ghost use Rattle.itch_codec.specs.Frames.{framed};
 ghost use Rattle.bundle_frames.specs.Wires.{body_bytes};
@@ -30,7 +30,8 @@ impl Written for Feed {
 // Appends a frame that ends in a body.
 fn put_with_body(out: &mut Vec<u8>, head: &[u8], body: &Body) -> Result<(), Memory>
     requires { length head.now < 65000 }
-    ensures { OnOk result (out.new.items ≡ out.old.items ++ framed (head.now ++ body_bytes body.now)) }
+    ensures appended { OnOk result (out.new.items ≡ out.old.items ++ framed (head.now ++ body_bytes body.now)) }
+    ensures refused { OnErr result (out.new.items ≡ out.old.items) }
 {
     match body {
         Body::Wake => frame_of_two(head, &[], out),
@@ -45,7 +46,8 @@ fn put_with_body(out: &mut Vec<u8>, head: &[u8], body: &Body) -> Result<(), Memo
 /// Appends an event without its feed.
 #[tactic(auto, unfolding(crate::specs::Frames::event_frame))]
 pub fn put_event(out: &mut Vec<u8>, event: &Record) -> Result<(), Memory>
-    ensures { OnOk result (out.new.items ≡ out.old.items ++ event_frame (event_told event.now)) }
+    ensures appended { OnOk result (out.new.items ≡ out.old.items ++ event_frame (event_told event.now)) }
+    ensures refused { OnErr result (out.new.items ≡ out.old.items) }
 {
     put_with_body(out, &frames::event_head(event), &event.body)
 }
@@ -53,7 +55,8 @@ pub fn put_event(out: &mut Vec<u8>, event: &Record) -> Result<(), Memory>
 /// Appends an edit without its feed.
 #[tactic(auto, unfolding(crate::specs::Frames::edit_frame))]
 pub fn put_mark(out: &mut Vec<u8>, mark: &EditMark) -> Result<(), Memory>
-    ensures { OnOk result (out.new.items ≡ out.old.items ++ edit_frame (edit_told mark.now)) }
+    ensures appended { OnOk result (out.new.items ≡ out.old.items ++ edit_frame (edit_told mark.now)) }
+    ensures refused { OnErr result (out.new.items ≡ out.old.items) }
 {
     frame(&frames::edit_frame(mark), out)
 }

@@ -13,13 +13,14 @@ pub trait Written {
     /// What has to hold of it to be written.
     ghost fits: { Self → Type 0 };
 
-    /// Appends its bytes. After want of memory the bytes so far and a first part of its own may stand there.
+    /// Appends its bytes. What stands in `out` after want of memory is left open: who keeps `out` then makes the bytes
+    /// in a vector of its own first.
     fn put(&self, out: &mut Vec<u8>) -> Result<(), Memory>
         requires { fits self.now }
         ensures { OnOk result (out.new.items ≡ out.old.items ++ bytes self.now) };
 }
 
-/// Appends the bytes of items in order. After want of memory the bytes of the first of them may stand there.
+/// Appends the bytes of items in order. What stands in `out` after want of memory is left open, as in `put`.
 pub fn put_all<W: Written>(out: &mut Vec<u8>, items: &[W]) -> Result<(), Memory>
     requires { All W.fits items.now }
     ensures { OnOk result (out.new.items ≡ out.old.items ++ flat_map W.bytes items.now) }

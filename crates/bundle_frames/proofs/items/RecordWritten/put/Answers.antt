@@ -10,5 +10,5 @@ returns c =
     let before = feed_frames e.before.list in
     let here = event_frame (event_told e) in
     then_last _ _ _ _ (before ++ here) (feed_frames e.after.list)
-    (then_part _ _ _ before here (rw c.as_slice.ensures at c.in_ok-put_all.ensures) c.in_ok-put_event.ensures)
+    (then_part _ _ _ before here (rw c.as_slice.ensures at c.in_ok-put_all.ensures) c.in_ok-put_event.ensures.appended)
     (rw c.as_slice-2.ensures at c.put_all-2.ensures)
