@@ -15,7 +15,7 @@ put_all-requires-2 c =
 pub returns : goal.returns
 returns c =
     let r = c.args.run.now in
-    let named = rw c.new.ensures at c.in_ok-put_branch.ensures.appended in
+    let named = rw c.new-out.ensures.items at c.in_ok-put_branch.ensures.appended in
     let opened = rw c.as_slice.ensures at c.in_ok-put_all.ensures in
     let happened = appended_told entry_told entry_frames _ _ _ _ c.as_slice-2.ensures c.in_ok-put_all-2.ensures in
     c.in_ok-put-2.ensures ∙ ap (λ (l : List ℕ). l ++ closing_frames r.closing)

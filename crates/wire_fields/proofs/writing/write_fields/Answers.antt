@@ -1,4 +1,4 @@
-use Rattle.std.proofs.Common.{ℕ, ◌+◌, arith}
+use Rattle.std.proofs.Common.{arith}
 use Rattle.wire_fields.specs.Wire.{total_width}
 use Rattle.wire_fields.proofs.Tables.{write_first, write_at, write_all, width_there}
 use Rattle.wire_fields.proofs.writing.write_fields.Goals as goal
