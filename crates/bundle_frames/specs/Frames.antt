@@ -1,5 +1,5 @@
 -- The frames of a bundle, each behind its length.
-use Rattle.std.specs.Prelude.{ℕ, ◌≤◌, ◌<◌, ◌^◌, All, List, ◌++◌, length}
+use Rattle.std.specs.Prelude.{ℕ, ◌≤◌, List, ◌++◌, length}
 use Rattle.std.specs.List.{flat_map}
 use Rattle.market_types.specs.declared.feed.Feed.{Feed}
 use Rattle.market_types.specs.Told.{EntryTold, EventTold, EditTold, event, edit}

@@ -1,5 +1,5 @@
 -- One of each frame, with a value other than zero in each field.
-use Rattle.std.specs.Prelude.{ℕ, pos, negsuc, ◌+◌, ◌^◌, true, List, [], ◌∷◌, codes}
+use Rattle.std.specs.Prelude.{pos, negsuc, ◌+◌, ◌^◌, true, [], ◌∷◌, codes}
 use Rattle.market_types.specs.declared.order.Side.TheVariants as side
 use Rattle.market_types.specs.declared.order.Enter.{Enter}
 use Rattle.market_types.specs.declared.order.Token.{Token}

@@ -1,9 +1,7 @@
 ghost use Rattle.std.specs.Prelude.{◌≡◌, [], IfOk, length};
 
 use super::*;
-use market_types::{
-    Body, EditMark, Entry, Feed, FeedList, Record, Sequence, Side, Token, What,
-};
+use market_types::{Body, EditMark, Entry, Feed, FeedList, Record, Sequence, Side, Token, What};
 use std::alloc::Global;
 use std::test::*;
 
