@@ -6,7 +6,8 @@ use Rattle.std.proofs.lemmas.Bool.{cases_Bool}
 use Rattle.std.proofs.lemmas.Bool.Decides.{nat_tests}
 use Rattle.std.proofs.lemmas.List.Elements.{All-append, All-cons, All-head, All-map, All-nil, All-tail}
 use Rattle.std.proofs.lemmas.Option.{same_Some}
-use Rattle.market_types.specs.declared.message.Body.TheVariants.{Ask}
+use Rattle.market_types.specs.declared.message.Body.{Body}
+use Rattle.market_types.specs.declared.message.Body.TheVariants.{Wake, Order, Answer, Ask, Quote as QuoteBody}
 use Rattle.market_types.specs.declared.message.Quote.{Quote}
 use Rattle.market_types.specs.declared.order.Symbol.{Symbol}
 use Rattle.market_types.specs.declared.order.Token.{Token}
@@ -18,7 +19,7 @@ use Rattle.agent_shell.specs.declared.setting.Kind.TheVariants.{Watcher, Noise, 
 use Rattle.agent_shell.specs.declared.shell.OwnOrder.{OwnOrder}
 use Rattle.agent_shell.specs.declared.wish.Wish.{Wish}
 use Rattle.agent_shell.specs.Bounds.{IsSending, AreSendings}
-use Rattle.agent_shell.specs.Decide.{choice_of, chosen, quoted, woken}
+use Rattle.agent_shell.specs.Decide.{choice_of, chosen, decided, heard_of, quoted, woken}
 use Rattle.agent_shell.specs.Ordered.{all_ordered, ordered, sent_at, sent_price}
 use Rattle.agent_shell.specs.Own.{OwnList, most_own}
 use Rattle.agent_shell.specs.Parameters.{IsBetween}
@@ -108,3 +109,17 @@ woken-sent v t sound =
       few = omega (arith, length-append cancels rest, cancels-length back, back-few t.setting.kind t.orders.own, sound.orders.few);
       each = All-append (IsSending v t) _ _ (cancels-each v t back) last;
     }
+
+pub heard-sent : (v : Sight) (t : Trader) (body : Body) → IsTrader t → AreSendings v t (heard_of v t body).sends
+heard-sent v t Wake sound = none-sent v t
+heard-sent v t (Order inbound) sound = none-sent v t
+heard-sent v t (Answer reply) sound = none-sent v t
+heard-sent v t (Ask stock) sound = none-sent v t
+heard-sent v t (QuoteBody q) sound = quoted-sent v t q sound
+
+pub decided-sent : (v : Sight) (t : Trader) (body : Body) → IsTrader t → AreSendings v t (decided v t body).sends
+decided-sent v t Wake sound = woken-sent v t sound
+decided-sent v t (Order inbound) sound = none-sent v t
+decided-sent v t (Answer reply) sound = none-sent v t
+decided-sent v t (Ask stock) sound = none-sent v t
+decided-sent v t (QuoteBody q) sound = quoted-sent v t q sound

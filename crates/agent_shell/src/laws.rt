@@ -1,7 +1,8 @@
 //! Laws of the definitions.
 
 ghost use Rattle.std.specs.Prelude.{◌≡◌, ◌≢◌, ◌<◌, ◌≤◌, ◌+◌, ◌*◌, ◌^◌, ◌+ℤ◌, ◌-ℤ◌, pos, ℕ, ℤ, List, All};
-ghost use Rattle.agent_shell.specs.Bounds.{IsAfter, IsMoved};
+ghost use Rattle.agent_shell.specs.Bounds.{AreSendings, IsAfter, IsMoved};
+ghost use Rattle.agent_shell.specs.Decide.{decided};
 ghost use Rattle.agent_shell.specs.Fills.{after_replies, fills_of, net_paid, net_shares};
 ghost use Rattle.agent_shell.specs.Maker.{above_centre, below_centre};
 ghost use Rattle.agent_shell.specs.Noise.{noise_choice};
@@ -9,14 +10,14 @@ ghost use Rattle.agent_shell.specs.Ordered.{all_ordered};
 ghost use Rattle.agent_shell.specs.Parameters.{IsBetween, IsOwnParam, kind_with};
 ghost use Rattle.agent_shell.specs.Shell.{IsModest, Orders, replied};
 ghost use Rattle.agent_shell.specs.Sight.{Sight};
-ghost use Rattle.agent_shell.specs.Sound.{IsOwn};
+ghost use Rattle.agent_shell.specs.Sound.{IsOwn, IsTrader};
 ghost use Rattle.agent_shell.specs.Tokens.{AreNext, token_of};
 ghost use Rattle.agent_shell.specs.Trader.{IsReady, Trader, trader_with};
 
 use crate::setting::{Kind, Levels};
 use crate::wish::Wish;
 use market_rules::Param;
-use market_types::{Quote, Reply, Symbol};
+use market_types::{Body, Quote, Reply, Symbol};
 
 /// A trader gives each token once, and the tokens of the orders that it sends are the next ones in order.
 pub fn tokens_are_given_once()
@@ -46,6 +47,11 @@ pub fn quotes_are_symmetric()
 /// A noise trader's shares are from 1 to its size.
 pub fn noise_shares_are_within_its_size()
     ensures { (v : Sight) (t : Trader) (q : Quote) (size : ℕ) → 1 ≤ size → All (λ (w : Wish). IsBetween 1 size w.shares) (noise_choice v t q size).wishes }
+{}
+
+/// What a trader sends is little and well-formed.
+pub fn sendings_are_few_and_well_formed()
+    ensures { (v : Sight) (t : Trader) (body : Body) → IsTrader t → AreSendings v t (decided v t body).sends }
 {}
 
 /// A parameter that belongs to a kind still does once another one was replaced.

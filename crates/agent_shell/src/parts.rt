@@ -32,7 +32,7 @@ pub struct Parts {
     pub quotes: u32,
 }
 
-/// Whether a kind takes its open orders back when it wakes.
+// Whether a kind takes its open orders back when it wakes.
 fn takes_back(kind: &Kind) -> bool
     ensures { (own : OwnList) → takes_back kind.now own ≡ if result then own else [] }
 {
@@ -42,7 +42,7 @@ fn takes_back(kind: &Kind) -> bool
     }
 }
 
-/// Takes the open orders back, the first sent first.
+// Takes the open orders back, the first sent first.
 fn take_back(shell: &Shell, out: &mut Sends)
     requires { length shell.now.orders.own ≤ out.old.spare }
     ensures sends { out.new.list ≡ out.old.list ++ map (λ e. cancel_of e.0) shell.now.orders.own }
@@ -84,7 +84,7 @@ impl Parts {
         self.stream.draw(view.key, place)
     }
 
-    /// When the trader wakes next.
+    // When the trader wakes next.
     fn next_wakeup(&mut self, view: &View) -> Time
         requires time { view.now.time < 2 ^ 62 }
         requires every { self.old.setting.every ≤ 3600000000000 }

@@ -9,7 +9,7 @@ use crate::shell::{MOST_OWN, Shell};
 use crate::wish::{Wish, sent_price};
 use market_types::{Body, Enter, Inbound, Memory, Symbol, Token};
 
-/// The order that is sent for a wish.
+// The order that is sent for a wish.
 fn enter_of(symbol: Symbol, token: Token, wish: &Wish, price: u32) -> Enter
     ensures { result ≡ enter_of symbol token wish.now price }
 {

@@ -70,7 +70,7 @@ pub struct TraderSetting {
 }
 
 impl Kind {
-    /// The kind with one of its parameters replaced.
+    // The kind with one of its parameters replaced.
     fn with(self, name: Param, value: u64) -> Kind
         requires { IsOwnParam self name value }
         ensures { result ≡ kind_with self name value }

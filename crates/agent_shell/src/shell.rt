@@ -14,7 +14,7 @@ use market_types::{Account, AgentNo, Memory, Money, Reply, Side, Token};
 use std::alloc::Global;
 use std::marker::Model;
 
-/// An own list has at most so many orders.
+// An own list has at most so many orders.
 pub(crate) const MOST_OWN: usize = 64;
 
 /// An open order of a trader's own list.
@@ -46,7 +46,7 @@ impl Model for Shell {
     } };
 }
 
-/// What so many shares cost at a price, in millionths of a dollar.
+// What so many shares cost at a price, in millionths of a dollar.
 fn cost_of(price: u32, shares: u32) -> Money
     ensures value { result ≡ cost_of price shares }
     ensures low { pos 0 ≤ℤ result }
@@ -55,7 +55,7 @@ fn cost_of(price: u32, shares: u32) -> Money
     (100 * u128::from(price) * u128::from(shares)) as i128
 }
 
-/// The account after so many shares were traded at a price.
+// The account after so many shares were traded at a price.
 fn traded(account: Account, side: Side, price: u32, shares: u32) -> Account
     requires { IsModest account }
     ensures value { result ≡ traded side price shares account }
@@ -76,7 +76,7 @@ fn traded(account: Account, side: Side, price: u32, shares: u32) -> Account
     }
 }
 
-/// The open shares of the order of a token fall, to 0 at least; at 0 it is removed.
+// The open shares of the order of a token fall, to 0 at least; at 0 it is removed.
 fn lower(own: &mut IndexMap<Token, OwnOrder>, token: &Token, shares: u32)
     ensures { own.new.entries ≡ lowered token.now shares own.old.entries }
 {

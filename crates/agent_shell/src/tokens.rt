@@ -12,7 +12,7 @@ fn digit(number: u32) -> u8
     b'0' + (number % 10) as u8
 }
 
-/// The n-th token of an agent: `T`, the agent in four digits and n in nine.
+// The n-th token of an agent: `T`, the agent in four digits and n in nine.
 pub(crate) fn token_of(agent: AgentNo, n: u32) -> Token
     ensures { result ≡ token_of agent n }
 {

@@ -18,10 +18,10 @@ pub struct Wish {
     pub extra: Time,
 }
 
-/// The greatest price of an order.
+// The greatest price of an order.
 const MOST_PRICE: i64 = 1_999_999_900;
 
-/// The price at which an order is sent.
+// The price at which an order is sent.
 pub(crate) fn sent_price(price: i64) -> Option<u32>
     ensures { result ≡ sent_price price }
 {
