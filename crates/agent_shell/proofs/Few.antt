@@ -44,6 +44,12 @@ noise-wish v q coin shares size =
       | inr tails ↦ rw tails (record { shares = size; extra = omega arith })
     ]
 
+within : (n size : ℕ) → n < size → IsBetween 1 size (1 + n)
+within n size low = record { not_below = omega arith; not_above = omega arith }
+
+picked : (n size : ℕ) → n < size → size ≤ 999999 → IsBetween 1 999999 (1 + n)
+picked n size low high = record { not_below = omega arith; not_above = omega arith }
+
 noise-between : (v : Sight) (q : Quote) (coin shares size : ℕ) → IsBetween 1 size shares → IsBetween 1 size (noise_wish v q coin shares).shares
 noise-between v q coin shares size is =
     elim (cases_Bool (coin == 0)) [
@@ -57,7 +63,7 @@ noise-few v t q size is =
     record {
       draws = omega arith;
       orders = omega arith;
-      each = one _ (noise-wish v q _ _ (record { not_below = omega arith; not_above = omega (arith, low, is.not_above) }));
+      each = one _ (noise-wish v q _ _ (picked _ size low is.not_above));
     }
 
 one-order : (draws : ℕ) (past : List ℕ) (w : Wish) → draws ≤ 2 → IsWish w → IsFew (record { draws = draws; past = past; wishes = w ∷ [] })
@@ -129,4 +135,4 @@ pub noise-shares : (v : Sight) (t : Trader) (q : Quote) (size : ℕ) → 1 ≤ s
 noise-shares v t q size some =
     let P : Wish → Type 0 = λ w. IsBetween 1 size w.shares in
     let low = below-low (trader_word v t (t.draws + 1)) size (word-low v.key t.orders.agent (t.draws + 1)) some in
-    All-cons P _ [] (noise-between v q _ _ size (record { not_below = omega arith; not_above = omega (arith, low) })) (All-nil P)
+    All-cons P _ [] (noise-between v q _ _ size (within _ size low)) (All-nil P)

@@ -9,7 +9,7 @@ use Rattle.agent_shell.specs.declared.wish.Wish.{Wish}
 use Rattle.agent_shell.specs.Ordered.{all_ordered, ordered, sent_at, sent_price}
 use Rattle.agent_shell.specs.Own.{most_own}
 use Rattle.agent_shell.specs.Shell.{Orders}
-use Rattle.agent_shell.specs.Tokens.{AreNext, next_tokens, token_of, tokens_in}
+use Rattle.agent_shell.specs.Tokens.{AreNext, next_tokens, token_in, token_of, tokens_in}
 
 none-next : (agent given : ℕ) → AreNext agent given given []
 none-next agent given = record { count = 0; counted = omega arith; tokens = refl }
@@ -38,7 +38,7 @@ ordered-agent symbol w o =
 
 tokens-append : (xs ys : List Sending) → tokens_in (xs ++ ys) ≡ tokens_in xs ++ tokens_in ys
 tokens-append [] ys = refl
-tokens-append (x ∷ xs) ys = ap (λ ts. _ ++ ts) (tokens-append xs ys) ∙ sym (append_assoc _ (tokens_in xs) (tokens_in ys))
+tokens-append (x ∷ xs) ys = ap (λ ts. token_in x ++ ts) (tokens-append xs ys) ∙ sym (append_assoc (token_in x) (tokens_in xs) (tokens_in ys))
 
 next-append : (agent given m n : ℕ) → next_tokens agent given m ++ next_tokens agent (given + m) n ≡ next_tokens agent given (m + n)
 next-append agent given zero n = ap₂ (λ g k. next_tokens agent g k) (omega arith) (omega arith)

@@ -6,6 +6,7 @@ use Rattle.std.proofs.lemmas.Bool.{cases_Bool}
 use Rattle.std.proofs.lemmas.Bool.Decides.{nat_tests}
 use Rattle.std.proofs.lemmas.List.Elements.{All-append, All-cons, All-head, All-map, All-nil, All-tail}
 use Rattle.std.proofs.lemmas.Option.{same_Some}
+use Rattle.market_types.specs.Limits.{highest_price}
 use Rattle.market_types.specs.declared.message.Body.{Body}
 use Rattle.market_types.specs.declared.message.Body.TheVariants.{Wake, Order, Answer, Ask, Quote as QuoteBody}
 use Rattle.market_types.specs.declared.message.Quote.{Quote}
@@ -34,13 +35,13 @@ pub none-sent : (v : Sight) (t : Trader) → AreSendings v t []
 none-sent v t = record { few = omega arith; each = All-nil (IsSending v t) }
 
 -- an order that is sent has a price
-price-is : (p : ℤ) (price : ℕ) → sent_price p ≡ Some price → IsBetween 1 1999999900 price
+price-is : (p : ℤ) (price : ℕ) → sent_price p ≡ Some price → IsBetween 1 highest_price price
 price-is (negsuc n) price e = absurd (cc e)
 price-is (pos n) price e =
-    elim (cases_Bool (is_in_range 1 1999999900 n)) [
+    elim (cases_Bool (is_in_range 1 highest_price n)) [
       | inl within ↦
           let same : n ≡ price = same_Some _ _ (rw within at e) in
-          subst (IsBetween 1 1999999900) same (record { not_below = grind (arith, nat_tests, within); not_above = grind (arith, nat_tests, within) })
+          subst (IsBetween 1 highest_price) same (record { not_below = grind (arith, nat_tests, within); not_above = grind (arith, nat_tests, within) })
       | inr outside ↦ absurd (cc (rw outside at e))
     ]
 
@@ -96,6 +97,9 @@ back-few (Value size noise margin) own = omega arith
 back-few (Momentum size short long) own = omega arith
 back-few (Maker size half step levels pause) own = omega arith
 
+ahead : (now every extra wobble : ℕ) → 1 ≤ every → extra < wobble + 1 → (now < now + every + extra) × (now + every + extra ≤ now + every + wobble)
+ahead now every extra wobble often low = (omega arith, omega arith)
+
 pub woken-sent : (v : Sight) (t : Trader) → IsTrader t → AreSendings v t (woken v t).sends
 woken-sent v t sound =
     let back = takes_back t.setting.kind t.orders.own in
@@ -104,7 +108,7 @@ woken-sent v t sound =
     let low = below-low (trader_word v t t.draws) (t.setting.wobble + 1) (word-low v.key t.orders.agent t.draws) (omega arith) in
     let often = sound.setting.every.not_below in
     let last : All (IsSending v t) rest = All-cons (IsSending v t) _ _ (refl, refl)
-        (All-cons (IsSending v t) _ _ (omega (arith, often), omega (arith, low)) (All-nil (IsSending v t))) in
+        (All-cons (IsSending v t) _ _ (ahead v.time t.setting.every _ t.setting.wobble often low) (All-nil (IsSending v t))) in
     record {
       few = omega (arith, length-append cancels rest, cancels-length back, back-few t.setting.kind t.orders.own, sound.orders.few);
       each = All-append (IsSending v t) _ _ (cancels-each v t back) last;

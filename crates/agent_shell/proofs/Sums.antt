@@ -1,5 +1,5 @@
 -- The own account is the sum over executed replies.
-use Rattle.std.proofs.Common.{◌≡◌, ℕ, List, [], ◌∷◌, ◌++◌, refl, arith, sym, ◌∙◌, ap, Option, Some, None, ℤ, pos}
+use Rattle.std.proofs.Common.{◌≡◌, ◌*◌, ℕ, List, [], ◌∷◌, ◌++◌, refl, arith, sym, ◌∙◌, ap, Option, Some, None, ℤ, pos}
 use Rattle.std.specs.Prelude.{◌+ℤ◌, ◌-ℤ◌}
 use Rattle.std.proofs.lemmas.Int.{ints}
 use Rattle.market_types.specs.declared.order.Side.{Side}
@@ -30,14 +30,20 @@ shares-at (Some r) token price shares o = by r.side
     by Buy = omega (arith, ints)
     by Sell = omega (arith, ints)
 
+lost : (cash : ℤ) (n : ℕ) → cash -ℤ pos n ≡ cash -ℤ (pos n +ℤ pos 0)
+lost cash n = omega (arith, ints)
+
+gained : (cash : ℤ) (n : ℕ) → cash +ℤ pos n ≡ cash -ℤ ((pos 0 -ℤ pos n) +ℤ pos 0)
+gained cash n = omega (arith, ints)
+
 paid-at : (r : Option OwnOrder) (token : Token) (price shares : ℕ) (o : Orders)
     → (executed r token price shares o).account.cash ≡ o.account.cash -ℤ net_paid (fill_at r price shares)
 paid-at None token price shares o = omega (arith, ints)
 paid-at (Some r) token price shares o = by r.side
   where
     by : (side : Side) → (traded side price shares o.account).cash ≡ o.account.cash -ℤ (signed side (100 * price * shares) +ℤ pos 0)
-    by Buy = omega (arith, ints)
-    by Sell = omega (arith, ints)
+    by Buy = lost o.account.cash (100 * price * shares)
+    by Sell = gained o.account.cash (100 * price * shares)
 
 shares-step : (r : Reply) (o : Orders) → (replied r o).account.position ≡ o.account.position +ℤ net_shares (fill_of r o.own)
 shares-step (System time code) o = omega (arith, ints)

@@ -1,5 +1,6 @@
 -- How far one message moves a trader, where a trader is after so many, and what a trader's sendings look like.
 use Rattle.std.specs.Prelude.{◌≡◌, ◌<◌, ◌≤◌, ◌+◌, ◌*◌, ◌^◌, ℕ, ℤ, pos, ◌+ℤ◌, ◌≤ℤ◌, List, length, All}
+use Rattle.market_types.specs.Limits.{highest_price}
 use Rattle.market_types.specs.declared.message.Body.TheVariants.{Wake, Order, Answer, Ask, Quote}
 use Rattle.market_types.specs.declared.order.Enter.{Enter}
 use Rattle.market_types.specs.declared.order.Inbound.TheVariants.{Enter as NewOrder, Cancel}
@@ -36,7 +37,7 @@ pub record IsAfter (messages : ℕ) (t : Trader) : Type 0 where
 -- an order in the trader's stock, at most seven pauses of an hour after the end of the computation
 pub record IsOrder (v : Sight) (e : Enter) (extra : ℕ) : Type 0 where
   pub stock : e.stock ≡ v.symbol
-  pub price : IsBetween 1 1999999900 e.price
+  pub price : IsBetween 1 highest_price e.price
   pub shares : IsBetween 1 999999 e.shares
   pub soon : extra ≤ 25200000000000
 

@@ -1,6 +1,7 @@
 -- How the orders that a decision calls for are sent.
 use Rattle.std.specs.Prelude.{ℕ, ◌+◌, nat_lt, ℤ, pos, negsuc, if◌then◌else◌, List, [], ◌∷◌, ◌++◌, length, Option, None, Some, codes}
 use Rattle.std.specs.Int.{is_in_range}
+use Rattle.market_types.specs.Limits.{highest_price}
 use Rattle.market_types.specs.declared.message.Body.TheVariants.{Order}
 use Rattle.market_types.specs.declared.order.Enter.{Enter}
 use Rattle.market_types.specs.declared.order.Inbound.TheVariants.{Enter as NewOrder}
@@ -15,7 +16,7 @@ use Rattle.agent_shell.specs.Tokens.{token_of}
 
 -- the price at which an order is sent, where it is one
 abbrev pub sent_price : ℤ → Option ℕ
-sent_price (pos price) = if is_in_range 1 1999999900 price then Some price else None
+sent_price (pos price) = if is_in_range 1 highest_price price then Some price else None
 sent_price (negsuc n) = None
 
 -- the order that is sent: firm `ABID`, display `Y`, capacity `P`, sweep `N`, minimum 0, cross `N`, customer `N`

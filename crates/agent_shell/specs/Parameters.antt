@@ -1,5 +1,6 @@
 -- The parameters of a trader: their ranges, and how an edit replaces one.
 use Rattle.std.specs.Prelude.{◌≡◌, ◌≤◌, ◌<◌, ℕ, ⊤}
+use Rattle.market_types.specs.Limits.{longest_delay}
 use Rattle.agent_shell.specs.declared.setting.Kind.{Kind}
 use Rattle.agent_shell.specs.declared.setting.Kind.TheVariants.{Watcher, Noise, Value, Momentum, Maker}
 use Rattle.agent_shell.specs.declared.setting.TraderSetting.{TraderSetting}
@@ -20,7 +21,7 @@ IsDistance n = n ≤ 1000000000
 
 -- up to an hour, in nanoseconds
 abbrev pub IsHour : ℕ → Type 0
-IsHour n = n ≤ 3600000000000
+IsHour n = n ≤ longest_delay
 
 -- the ranges of a kind's own parameters
 abbrev pub IsKind : Kind → Type 0
@@ -33,7 +34,7 @@ IsKind (Maker size half step levels pause) = IsSize size × IsDistance half × I
 -- the ranges of a setting
 pub record IsSetting (s : TraderSetting) : Type 0 where
   pub kind : IsKind s.kind
-  pub every : IsBetween 1 3600000000000 s.every
+  pub every : IsBetween 1 longest_delay s.every
   pub delay : IsHour s.delay
 
 -- Whether a value is one for a parameter of a kind: the kind has the parameter, and the value is in its range.
@@ -48,7 +49,7 @@ IsOwnParam (Maker size half step levels pause) Half value = IsDistance value
 IsOwnParam (Maker size half step levels pause) Step value = IsDistance value
 IsOwnParam (Maker size half step levels pause) Levels value = IsBetween 1 8 value
 IsOwnParam (Maker size half step levels pause) Pause value = IsHour value
-IsOwnParam kind Every value = IsBetween 1 3600000000000 value
+IsOwnParam kind Every value = IsBetween 1 longest_delay value
 IsOwnParam kind Wobble value = value ≤ 4294967295
 IsOwnParam kind Delay value = IsHour value
 IsOwnParam kind name value = ⊥

@@ -1,5 +1,6 @@
 -- What a trader on value makes of a quote.
 use Rattle.std.specs.Prelude.{ℕ, ◌+◌, ◌==◌, not, ◌&&◌, nat_le, min, max, ℤ, pos, negsuc, ◌+ℤ◌, ◌-ℤ◌, if◌then◌else◌, List, [], ◌∷◌}
+use Rattle.market_types.specs.Limits.{highest_price}
 use Rattle.market_types.specs.declared.message.Quote.{Quote}
 use Rattle.market_types.specs.declared.order.Side.TheVariants.{Buy, Sell}
 use Rattle.market_rules.specs.Nearest.{down_of, up_of}
@@ -11,7 +12,7 @@ use Rattle.agent_shell.specs.Trader.{Trader, trader_word}
 
 -- the price nearest to a number
 abbrev pub clamped : ℤ → ℕ
-clamped (pos n) = max 1 (min n 1999999900)
+clamped (pos n) = max 1 (min n highest_price)
 clamped (negsuc n) = 1
 
 -- what it takes for the value, which is off by as much as a word picks

@@ -6,7 +6,7 @@ use Rattle.market_types.specs.declared.order.Inbound.TheVariants.{Enter as NewOr
 use Rattle.market_types.specs.declared.order.Side.{Side}
 use Rattle.market_types.specs.declared.order.Symbol.{Symbol}
 use Rattle.market_types.specs.declared.order.Token.{Token}
-use Rattle.market_rules.specs.Known.{band}
+use Rattle.market_rules.specs.declared.bands.Band.{Band}
 use Rattle.agent_shell.specs.declared.sending.Sending.{Sending}
 use Rattle.agent_shell.specs.declared.sending.Sending.TheVariants.{To}
 use Rattle.agent_shell.specs.declared.setting.Kind.{Kind}
@@ -17,9 +17,13 @@ use Rattle.agent_shell.specs.Trader.{Trader, trader_at_opening}
 abbrev pub abm : Symbol
 abm = record { 0 = codes "ABM     " }
 
+-- ticks of a cent at each price
+abbrev pub cents : List Band
+cents = record { from = 0; tick = 100 } ∷ []
+
 -- at time 1000 under the zero key, with a value of 10 dollars and ticks of a cent
 abbrev pub ten_dollars : Sight
-ten_dollars = record { time = 1000; key = replicate 32 0; symbol = abm; value = 100000; bands = band 0 100 ∷ [] }
+ten_dollars = record { time = 1000; key = replicate 32 0; symbol = abm; value = 100000; bands = cents }
 
 -- a trader of a kind that wakes each 500 nanoseconds and up to 9 more, at the opening
 abbrev pub opened : ℕ → Kind → Trader

@@ -101,18 +101,16 @@ impl Shell {
     pub fn open(alloc: Global, agent: AgentNo, cash: i64) -> Result<Shell, Memory>
         ensures { IfOk result (λ s. s.orders ≡ orders_at_opening agent cash) }
     {
-        match IndexMap::with_capacity(alloc, MOST_OWN) {
-            Ok(own) => Ok(Shell {
-                agent,
-                tokens: 0,
-                account: Account {
-                    position: 0,
-                    cash: Money::from(cash),
-                },
-                own,
-            }),
-            Err(_) => Err(Memory),
-        }
+        let own = IndexMap::with_capacity(alloc, MOST_OWN)?;
+        Ok(Shell {
+            agent,
+            tokens: 0,
+            account: Account {
+                position: 0,
+                cash: Money::from(cash),
+            },
+            own,
+        })
     }
 
     /// Gives the next token.
@@ -214,10 +212,8 @@ impl Shell {
         ensures room { OnOk result (n ≤ self.new.spare) }
         ensures never_falls { self.old.spare ≤ self.new.spare }
     {
-        match self.own.reserve(n) {
-            Ok(()) => Ok(()),
-            Err(_) => Err(Memory),
-        }
+        self.own.reserve(n)?;
+        Ok(())
     }
 
     /// An order joins the list as its last. It can't be refused where a place is kept.
@@ -240,14 +236,12 @@ impl Shell {
     pub fn copy(&self) -> Result<Shell, Memory>
         ensures { IfOk result (λ s. s.orders ≡ self.now.orders) }
     {
-        match self.own.clone() {
-            Ok(own) => Ok(Shell {
-                agent: self.agent,
-                tokens: self.tokens,
-                account: self.account,
-                own,
-            }),
-            Err(_) => Err(Memory),
-        }
+        let own = self.own.clone()?;
+        Ok(Shell {
+            agent: self.agent,
+            tokens: self.tokens,
+            account: self.account,
+            own,
+        })
     }
 }

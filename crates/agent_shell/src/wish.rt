@@ -3,7 +3,7 @@
 ghost use Rattle.std.specs.Prelude.{◌≡◌};
 ghost use Rattle.agent_shell.specs.Ordered.{sent_price};
 
-use market_types::{Side, Time};
+use market_types::{HIGHEST_PRICE, Side, Time};
 
 /// An order that is to be sent where its price is one.
 #[derive(Clone, Copy, PartialEq, Eq, Debug)]
@@ -18,14 +18,11 @@ pub struct Wish {
     pub extra: Time,
 }
 
-// The greatest price of an order.
-const MOST_PRICE: i64 = 1_999_999_900;
-
 // The price at which an order is sent.
 pub(crate) fn sent_price(price: i64) -> Option<u32>
     ensures { result ≡ sent_price price }
 {
-    if 1 <= price && price <= MOST_PRICE {
+    if 1 <= price && price <= i64::from(HIGHEST_PRICE) {
         Some(price as u32)
     } else {
         None

@@ -44,10 +44,7 @@ impl History {
         ensures remembered { OnOk result (self.new ≡ remembered long middle self.old) }
         ensures refused { OnErr result (self.new ≡ self.old) }
     {
-        match self.middles.push(middle) {
-            Ok(()) => {}
-            Err(_) => return Err(Memory),
-        }
+        self.middles.push(middle)?;
         if self.middles.len() > long as usize {
             self.middles.remove(0);
         }
@@ -58,10 +55,8 @@ impl History {
     pub fn copy(&self) -> Result<History, Memory>
         ensures { IfOk result (λ h. h ≡ self.now) }
     {
-        match self.middles.clone() {
-            Ok(middles) => Ok(History { middles }),
-            Err(_) => Err(Memory),
-        }
+        let middles = self.middles.clone()?;
+        Ok(History { middles })
     }
 }
 

@@ -14,7 +14,7 @@ ghost use Rattle.taker_agents.specs.Taker.{IsTakerKind};
 use agent_shell::{Kind, Parts, Wish};
 use draw_streams::{below, centred};
 use market_rules::View;
-use market_types::{Quote, Side};
+use market_types::{HIGHEST_PRICE, Quote, Side};
 
 /// How many draws a quote takes, and the order that it calls for.
 #[derive(Clone, Copy, PartialEq, Eq, Debug)]
@@ -22,9 +22,6 @@ pub struct Choice {
     pub draws: u64,
     pub wish: Option<Wish>,
 }
-
-const LEAST_PRICE: i64 = 1;
-const MOST_PRICE: i64 = 1_999_999_900;
 
 fn day_order(side: Side, shares: u32, price: i64) -> Wish
     ensures { result ≡ day_order side shares price 0 }
@@ -50,10 +47,10 @@ fn clamped(price: i64) -> u32
     ensures value { result ≡ clamped price }
     ensures high { result ≤ 1999999900 }
 {
-    if price < LEAST_PRICE {
+    if price < 1 {
         1
-    } else if price > MOST_PRICE {
-        1_999_999_900
+    } else if price > i64::from(HIGHEST_PRICE) {
+        HIGHEST_PRICE
     } else {
         price as u32
     }
