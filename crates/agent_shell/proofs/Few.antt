@@ -77,12 +77,12 @@ value-few v t q size margin guess coin is =
     elim (cases_Bool (not (q.ask == 0) && nat_le (q.ask + margin) guess)) [
       | inl buys ↦ rw buys (one-order 1 t.past _ (omega arith) (record { shares = is; extra = omega arith }))
       | inr dear ↦ rw dear (elim (cases_Bool (not (q.bid == 0) && nat_le (guess + margin) q.bid)) [
-          | inl sells ↦ rw sells (one-order 1 t.past _ (omega arith) (record { shares = is; extra = omega arith }))
-          | inr cheap ↦ rw cheap (elim (cases_Bool (coin == 0)) [
-              | inl heads ↦ rw heads (one-order 2 t.past _ (omega arith) (record { shares = is; extra = omega arith }))
-              | inr tails ↦ rw tails (one-order 2 t.past _ (omega arith) (record { shares = is; extra = omega arith }))
-            ])
+        | inl sells ↦ rw sells (one-order 1 t.past _ (omega arith) (record { shares = is; extra = omega arith }))
+        | inr cheap ↦ rw cheap (elim (cases_Bool (coin == 0)) [
+          | inl heads ↦ rw heads (one-order 2 t.past _ (omega arith) (record { shares = is; extra = omega arith }))
+          | inr tails ↦ rw tails (one-order 2 t.past _ (omega arith) (record { shares = is; extra = omega arith }))
         ])
+      ])
     ]
 
 momentum-few : (t : Trader) (q : Quote) (size short long : ℕ) → IsSize size → IsFew (momentum_choice t q size short long)
@@ -90,15 +90,15 @@ momentum-few t q size short long is =
     let past = remembered long (middle q) t.past in
     elim (cases_Bool (has_both q)) [
       | inl both ↦ rw both (elim (cases_Bool (nat_lt (length past) long)) [
-          | inl early ↦ rw early (no-order past)
-          | inr full ↦ rw full (elim (cases_Bool (nat_lt (sum past * short) (sum (last_of short past) * long))) [
-              | inl rises ↦ rw rises (one-order 0 past _ (omega arith) (record { shares = is; extra = omega arith }))
-              | inr not_up ↦ rw not_up (elim (cases_Bool (nat_lt (sum (last_of short past) * long) (sum past * short))) [
-                  | inl falls ↦ rw falls (one-order 0 past _ (omega arith) (record { shares = is; extra = omega arith }))
-                  | inr still ↦ rw still (no-order past)
-                ])
-            ])
+        | inl early ↦ rw early (no-order past)
+        | inr full ↦ rw full (elim (cases_Bool (nat_lt (sum past * short) (sum (last_of short past) * long))) [
+          | inl rises ↦ rw rises (one-order 0 past _ (omega arith) (record { shares = is; extra = omega arith }))
+          | inr not_up ↦ rw not_up (elim (cases_Bool (nat_lt (sum (last_of short past) * long) (sum past * short))) [
+            | inl falls ↦ rw falls (one-order 0 past _ (omega arith) (record { shares = is; extra = omega arith }))
+            | inr still ↦ rw still (no-order past)
+          ])
         ])
+      ])
       | inr absent ↦ rw absent (no-order t.past)
     ]
 
@@ -112,7 +112,7 @@ levels-each m bands centre i (suc n) size pause high =
     let far : i ≤ 7 = omega arith in
     let late : i * m.pause ≤ 7 * 3600000000000 = mul-le-mul far pause in
     All-cons IsWish _ _ (record { shares = size; extra = omega arith })
-        (All-cons IsWish _ _ (record { shares = size; extra = omega arith }) (levels-each m bands centre (suc i) n size pause (omega arith)))
+    (All-cons IsWish _ _ (record { shares = size; extra = omega arith }) (levels-each m bands centre (suc i) n size pause (omega arith)))
 
 maker-few : (v : Sight) (t : Trader) (q : Quote) (levels : ℕ) (m : Levels) → IsSize m.size → IsHour m.pause → levels ≤ 8 → IsFew (maker_choice v t q levels m)
 maker-few v t q levels m size pause high = record {

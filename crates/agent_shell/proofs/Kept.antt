@@ -23,9 +23,9 @@ lowered-all P t k (e ∷ es) h =
     let Q : Token × OwnOrder → Type 0 = λ x. P x.0 in
     elim (cases_Bool (same_token t e.0)) [
       | inl here ↦ elim (cases_Bool (nat_le e.1.left k)) [
-          | inl gone ↦ rw (here, gone) (All-tail Q e es h)
-          | inr stays ↦ rw (here, stays) (All-cons Q _ es (All-head Q e es h) (All-tail Q e es h))
-        ]
+        | inl gone ↦ rw (here, gone) (All-tail Q e es h)
+        | inr stays ↦ rw (here, stays) (All-cons Q _ es (All-head Q e es h) (All-tail Q e es h))
+      ]
       | inr other ↦ rw other (All-cons Q e _ (All-head Q e es h) (lowered-all P t k es (All-tail Q e es h)))
     ]
 
@@ -34,9 +34,9 @@ lowered-length t k [] = omega arith
 lowered-length t k (e ∷ es) =
     elim (cases_Bool (same_token t e.0)) [
       | inl here ↦ elim (cases_Bool (nat_le e.1.left k)) [
-          | inl gone ↦ rw (here, gone) (omega arith)
-          | inr stays ↦ rw (here, stays) (omega arith)
-        ]
+        | inl gone ↦ rw (here, gone) (omega arith)
+        | inr stays ↦ rw (here, stays) (omega arith)
+      ]
       | inr other ↦ rw other (omega (arith, lowered-length t k es))
     ]
 

@@ -55,6 +55,24 @@ unmoved-moved t = record {
   cash = near-same _ _;
 }
 
+-- what a call that may be refused did
+pub moved-by : {A E : Type 0} (r : Result A E) (inside old new step : Trader) → inside ≡ old → OnOk r (new ≡ step) → OnErr r (new ≡ inside)
+    → IsMoved inside step → IsMoved old new
+moved-by (Ok a) inside old new step seen ok err is = subst (λ t. IsMoved t new) seen (subst (IsMoved inside) (sym ok) is)
+moved-by (Err e) inside old new step seen ok err is = subst (λ t. IsMoved t new) seen (subst (IsMoved inside) (sym err) (unmoved-moved inside))
+
+-- the middles that momentum remembers are of no account here
+pub moved-past : (past : List ℕ) (a b old : Trader) → record a { past = past } ≡ old → IsMoved a b → IsMoved old (record b { past = past })
+moved-past past a b old seen is = subst (λ t. IsMoved t (record b { past = past })) seen (record {
+  setting = is.setting;
+  agent = is.agent;
+  tokens = is.tokens;
+  draws = is.draws;
+  quotes = is.quotes;
+  position = is.position;
+  cash = is.cash;
+})
+
 pub woken-moved : (v : Sight) (t : Trader) → IsMoved t (woken v t).trader
 woken-moved v t = record {
   setting = refl;
@@ -85,14 +103,14 @@ quoted-moved v t q sound =
     elim (cases_Bool (q.state == 84)) [
       | inl trades ↦ rw trades (chosen-moved v t q sound)
       | inr halted ↦ rw halted (record {
-          setting = refl;
-          agent = refl;
-          tokens = omega arith;
-          draws = omega arith;
-          quotes = omega arith;
-          position = near-same _ _;
-          cash = near-same _ _;
-        })
+        setting = refl;
+        agent = refl;
+        tokens = omega arith;
+        draws = omega arith;
+        quotes = omega arith;
+        position = near-same _ _;
+        cash = near-same _ _;
+      })
     ]
 
 pub answered-moved : (reply : Reply) (t : Trader) → (replied reply t.orders).agent ≡ t.orders.agent → (replied reply t.orders).tokens ≡ t.orders.tokens

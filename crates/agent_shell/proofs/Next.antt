@@ -59,6 +59,6 @@ all-next symbol (w ∷ ws) o =
       count = first.count + rest.count;
       counted = omega (arith, first.counted, rest.counted);
       tokens = tokens-append (ordered symbol w o).sends (all_ordered symbol ws next).sends
-        ∙ ap₂ (λ a b. a ++ b) first.tokens (rest.tokens ∙ ap₂ (λ a g. next_tokens a g rest.count) agent first.counted)
-        ∙ next-append o.agent o.tokens first.count rest.count;
+          ∙ ap₂ (λ a b. a ++ b) first.tokens (rest.tokens ∙ ap₂ (λ a g. next_tokens a g rest.count) agent first.counted)
+          ∙ next-append o.agent o.tokens first.count rest.count;
     }

@@ -108,7 +108,7 @@ woken-sent v t sound =
     let low = below-low (trader_word v t t.draws) (t.setting.wobble + 1) (word-low v.key t.orders.agent t.draws) (omega arith) in
     let often = sound.setting.every.not_below in
     let last : All (IsSending v t) rest = All-cons (IsSending v t) _ _ (refl, refl)
-        (All-cons (IsSending v t) _ _ (ahead v.time t.setting.every _ t.setting.wobble often low) (All-nil (IsSending v t))) in
+    (All-cons (IsSending v t) _ _ (ahead v.time t.setting.every _ t.setting.wobble often low) (All-nil (IsSending v t))) in
     record {
       few = omega (arith, length-append cancels rest, cancels-length back, back-few t.setting.kind t.orders.own, sound.orders.few);
       each = All-append (IsSending v t) _ _ (cancels-each v t back) last;

@@ -136,7 +136,9 @@ impl Shell {
         match reply {
             Reply::System { .. } | Reply::Accepted { .. } => {}
             Reply::Canceled {
-                token, decrement, ..
+                token,
+                decrement,
+                ..
             } => lower(&mut self.own, token, *decrement),
             Reply::Executed {
                 token,

@@ -39,14 +39,25 @@ fn replies_move_the_account_and_the_own_list(rt: HostRuntime) -> Result<(), Fail
     let first = shell.next_token();
     let second = shell.next_token();
     let unknown = Token(*b"T0037000000003");
-    assert_eq!(rt; (first, second), (Token(*b"T0037000000001"), Token(*b"T0037000000002")));
+    assert_eq!(rt;
+        (first, second),
+        (Token(*b"T0037000000001"), Token(*b"T0037000000002"))
+    );
     shell.join(first, Side::Buy, 100)?;
     shell.join(second, Side::Sell, 50)?;
     for (reply, len, position, cash) in [
         (executed(unknown, 10, 10_000), 2, 0, 1_000),
         (canceled(unknown, 10), 2, 0, 1_000),
         (rejected(unknown), 2, 0, 1_000),
-        (Reply::System { time: 5, code: b'S' }, 2, 0, 1_000),
+        (
+            Reply::System {
+                time: 5,
+                code: b'S',
+            },
+            2,
+            0,
+            1_000,
+        ),
         (executed(first, 10, 10_000), 2, 10, -9_999_000),
         (executed(second, 20, 10_000), 2, -10, 10_001_000),
         (canceled(second, 29), 2, -10, 10_001_000),
@@ -56,7 +67,11 @@ fn replies_move_the_account_and_the_own_list(rt: HostRuntime) -> Result<(), Fail
     ] {
         shell.take_reply(&reply);
         assert_eq!(rt; shell.open_len(), len, "after {reply:?}");
-        assert_eq!(rt; (shell.account().position, shell.account().cash), (position, cash), "after {reply:?}");
+        assert_eq!(rt;
+            (shell.account().position, shell.account().cash),
+            (position, cash),
+            "after {reply:?}"
+        );
     }
     Ok(())
 }
@@ -107,7 +122,10 @@ fn one_parameter_is_replaced(rt: HostRuntime) {
     let every = setting.with(Param::Every, 8);
     let wobble = setting.with(Param::Wobble, 8);
     let delay = setting.with(Param::Delay, 9);
-    assert_eq!(rt; (every.every, every.wobble, every.delay, every.kind), (8, 7, 8, MAKER));
+    assert_eq!(rt;
+        (every.every, every.wobble, every.delay, every.kind),
+        (8, 7, 8, MAKER)
+    );
     assert_eq!(rt; (wobble.every, wobble.wobble, wobble.delay), (6, 8, 8));
     assert_eq!(rt; (delay.every, delay.wobble, delay.delay), (6, 7, 9));
     let value = TraderSetting {
@@ -115,5 +133,12 @@ fn one_parameter_is_replaced(rt: HostRuntime) {
         ..setting
     };
     let margin = value.with(Param::Margin, 9);
-    assert_eq!(rt; margin.kind, Kind::Value { size: 1, noise: 2, margin: 9 });
+    assert_eq!(rt;
+        margin.kind,
+        Kind::Value {
+            size: 1,
+            noise: 2,
+            margin: 9
+        }
+    );
 }

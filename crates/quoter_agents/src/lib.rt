@@ -2,10 +2,10 @@
 #![tactic(auto)]
 
 mod history;
-pub mod worked;
 mod levels;
 mod momentum;
 mod quoter;
+pub mod worked;
 
 pub use quoter::Quoter;
 

@@ -217,11 +217,13 @@ impl Quoter {
         ensures moved { IsMoved self.old self.new }
     {
         match body {
-            Body::Answer(reply) => self.parts.shell.take_reply(reply),
-            Body::Quote(quote) => return take_quote(&mut self.parts, &mut self.past, view, quote, out),
-            Body::Wake | Body::Order(_) | Body::Ask(_) => {}
+            Body::Answer(reply) => {
+                self.parts.shell.take_reply(reply);
+                Ok(())
+            }
+            Body::Quote(quote) => take_quote(&mut self.parts, &mut self.past, view, quote, out),
+            Body::Wake | Body::Order(_) | Body::Ask(_) => Ok(()),
         }
-        Ok(())
     }
 
     /// What the trader does with any message: `wake` at a wakeup, else `hear`.
@@ -241,7 +243,9 @@ impl Quoter {
     {
         match body {
             Body::Wake => self.wake(view, out),
-            Body::Order(_) | Body::Answer(_) | Body::Ask(_) | Body::Quote(_) => self.hear(view, body, out),
+            Body::Order(_) | Body::Answer(_) | Body::Ask(_) | Body::Quote(_) => self.hear(
+                view, body, out,
+            ),
         }
     }
 

@@ -62,10 +62,12 @@ fn quote(state: u8, bid: u32, ask: u32, last: u32) -> Body {
 // Side, price, time in force and extra time of the order at a place.
 fn order_at(out: &Sends, place: usize) -> Option<(Side, u32, u32, u64)> {
     match out.as_slice().get(place) {
-        Some(Sending::To {
-            body: Body::Order(Inbound::Enter(order)),
-            extra,
-        }) => Some((order.side, order.price, order.tif, *extra)),
+        Some(
+            Sending::To {
+                body: Body::Order(Inbound::Enter(order)),
+                extra,
+            },
+        ) => Some((order.side, order.price, order.tif, *extra)),
         _ => None,
     }
 }
@@ -103,7 +105,14 @@ fn a_maker_quotes_round_its_centre(rt: HostRuntime) -> Result<(), Fail> {
     {
         assert_eq!(rt; order_at(&out, place), Some(*wanted), "at {place}");
     }
-    assert_eq!(rt; (out.as_slice().len(), maker.told().tokens, maker.told().quotes), (9, 9, 5));
+    assert_eq!(rt;
+        (
+            out.as_slice().len(),
+            maker.told().tokens,
+            maker.told().quotes
+        ),
+        (9, 9, 5)
+    );
     Ok(())
 }
 
@@ -119,7 +128,10 @@ fn an_own_list_is_full_at_64(rt: HostRuntime) -> Result<(), Fail> {
     for _ in 0..5 {
         maker.hear(&view, &quote(b'T', 0, 0, 0), &mut out)?;
     }
-    assert_eq!(rt; (out.as_slice().len(), maker.told().live, maker.told().tokens), (64, 64, 64));
+    assert_eq!(rt;
+        (out.as_slice().len(), maker.told().live, maker.told().tokens),
+        (64, 64, 64)
+    );
     maker.wake(&view, &mut out)?;
     assert_eq!(rt; out.as_slice().len(), 64 + 64 + 2);
     let rejected = Reply::Rejected {
@@ -130,7 +142,10 @@ fn an_own_list_is_full_at_64(rt: HostRuntime) -> Result<(), Fail> {
     maker.hear(&view, &Body::Answer(rejected), &mut out)?;
     assert_eq!(rt; maker.told().live, 63);
     maker.hear(&view, &quote(b'T', 0, 0, 0), &mut out)?;
-    assert_eq!(rt; (out.as_slice().len(), maker.told().live, maker.told().tokens), (64 + 64 + 3, 64, 65));
+    assert_eq!(rt;
+        (out.as_slice().len(), maker.told().live, maker.told().tokens),
+        (64 + 64 + 3, 64, 65)
+    );
     assert_eq!(rt; order_at(&out, 130), Some((Side::Buy, 99_800, 99_999, 0)));
     Ok(())
 }
@@ -165,6 +180,13 @@ fn momentum_follows_its_middles(rt: HostRuntime) -> Result<(), Fail> {
     }
     momentum.wake(&view, &mut out)?;
     assert_eq!(rt; out.as_slice().last().copied(), Some(Sending::WakeAt(1500)));
-    assert_eq!(rt; (momentum.told().draws, momentum.told().quotes, momentum.delay()), (1, 5, 12));
+    assert_eq!(rt;
+        (
+            momentum.told().draws,
+            momentum.told().quotes,
+            momentum.delay()
+        ),
+        (1, 5, 12)
+    );
     Ok(())
 }

@@ -39,7 +39,11 @@ fn day_order(side: Side, shares: u32, price: i64) -> Wish
 fn price_or(quoted: u32, other: i64) -> i64
     ensures { result ≡ price_or quoted other }
 {
-    if quoted == 0 { other } else { i64::from(quoted) }
+    if quoted == 0 {
+        other
+    } else {
+        i64::from(quoted)
+    }
 }
 
 // The price nearest to a number.

@@ -2,8 +2,8 @@
 #![tactic(auto)]
 
 mod choice;
-pub mod worked;
 mod taker;
+pub mod worked;
 
 pub use taker::Taker;
 

@@ -29,7 +29,6 @@ fn cents(alloc: Global) -> Result<TickTable, Fail> {
     }
 }
 
-
 fn view_of(ticks: &TickTable, value: u32) -> View<'_> {
     View {
         time: 1000,
@@ -55,10 +54,12 @@ fn quote(state: u8, bid: u32, ask: u32) -> Body {
 // Side, shares and price of the last order that was sent.
 fn last_order(out: &Sends) -> Option<(Side, u32, u32)> {
     match out.as_slice().last() {
-        Some(Sending::To {
-            body: Body::Order(Inbound::Enter(order)),
-            ..
-        }) => Some((order.side, order.shares, order.price)),
+        Some(
+            Sending::To {
+                body: Body::Order(Inbound::Enter(order)),
+                ..
+            },
+        ) => Some((order.side, order.shares, order.price)),
         _ => None,
     }
 }
@@ -86,7 +87,10 @@ fn noise_trades_by_the_toss_of_a_coin(rt: HostRuntime) -> Result<(), Fail> {
         assert_eq!(rt; last_order(&out), Some(wanted));
     }
     let told = noise.told();
-    assert_eq!(rt; (told.tokens, told.draws, told.live, told.quotes), (4, 9, 4, 5));
+    assert_eq!(rt;
+        (told.tokens, told.draws, told.live, told.quotes),
+        (4, 9, 4, 5)
+    );
     Ok(())
 }
 
@@ -124,7 +128,10 @@ fn value_trades_on_its_guess(rt: HostRuntime) -> Result<(), Fail> {
         })),
         extra: 0,
     };
-    assert_eq!(rt; (out.as_slice().len(), out.as_slice().get(sent).copied()), (sent + 5, Some(first_canceled)));
+    assert_eq!(rt;
+        (out.as_slice().len(), out.as_slice().get(sent).copied()),
+        (sent + 5, Some(first_canceled))
+    );
     value.hear(&view, &quote(b'T', 0, 0), &mut out)?;
     assert_eq!(rt; last_order(&out), Some((Side::Sell, 10, 99_300)));
     Ok(())
@@ -149,8 +156,14 @@ fn a_copy_goes_on_where_it_was_taken(rt: HostRuntime) -> Result<(), Fail> {
     noise.hear(&view, &Body::Answer(executed), &mut out)?;
     let mut copy = noise.copy()?;
     let told = copy.told();
-    assert_eq!(rt; (told.tokens, told.draws, told.live, told.quotes), (1, 2, 0, 1));
-    assert_eq!(rt; (told.account.position, told.account.cash), (-57, 1000 + 57 * 99_900 * 100));
+    assert_eq!(rt;
+        (told.tokens, told.draws, told.live, told.quotes),
+        (1, 2, 0, 1)
+    );
+    assert_eq!(rt;
+        (told.account.position, told.account.cash),
+        (-57, 1000 + 57 * 99_900 * 100)
+    );
     assert_eq!(rt; copy.delay(), 12);
     copy.wake(&view, &mut out)?;
     assert_eq!(rt; out.as_slice().last().copied(), Some(Sending::WakeAt(1508)));

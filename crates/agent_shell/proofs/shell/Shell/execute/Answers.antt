@@ -12,4 +12,4 @@ returns-in_default-clause-value c =
 pub returns-clause-value : goal.returns-clause-value
 returns-clause-value c =
     let some : lookup (same_token c.args.token.now) c.self.inside.own.entries ≡ Some c.in-Some.order = sym c.get.ensures.value ∙ sym c.copied.ensures ∙ c.in-Some.is in
-    rw (← c.self.view_is, some) (ap₂ (λ account own. record { agent = c.self.inside.agent; tokens = c.self.inside.tokens; account = account; own = own }) c.traded-self-inside.ensures c.lower.ensures)
+    rw (← c.self.view_is, some) (ap₂ (λ account own. record { agent = c.self.inside.agent; tokens = c.self.inside.tokens; account = account; own = own }) c.traded-self-inside.ensures.value c.lower.ensures)
