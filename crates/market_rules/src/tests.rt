@@ -1,4 +1,5 @@
 use crate::{Band, Change, Dated, DatedList, Edit, FeeTable, Param, RuleError, TickTable, View};
+use market_types::Symbol;
 use std::alloc::Global;
 use std::process::Abort;
 
@@ -29,6 +30,7 @@ fn prices_move_to_their_ticks(rt: HostRuntime) {
     let view = View {
         time: 5,
         key: &key,
+        symbol: Symbol(*b"ABM     "),
         value: 100_000,
         ticks: &table,
     };
