@@ -9,8 +9,8 @@ use rand_core::SeedableRng;
 use rand_core::utils::NextWord;
 use std::marker::Model;
 
-/// A stream of draws, seen as its number. It keeps the words round its last draw, so that draws at places that follow
-/// one another are made from one block: an answer never depends on what is kept.
+/// A stream of draws, seen as its number. It keeps the words round its last draw, so that draws at
+/// places that follow one another are made from one block: an answer never depends on what is kept.
 #[derive(Drop)]
 pub struct Stream {
     number: u64,

@@ -8,8 +8,8 @@ ghost use Rattle.event_queue.specs.Rising.{IsRising};
 ghost use Rattle.event_queue.specs.Waiting.{before, least, IsNew, joined, without};
 
 use crate::due::Due;
-use market_types::{Memory, Message};
-use std::alloc::{AllocError, Global};
+use market_types::{Memory, Message, copied};
+use std::alloc::Global;
 use std::collections::BinaryHeap;
 use std::marker::Model;
 
@@ -74,13 +74,9 @@ impl Queue {
         if n <= self.spare {
             return Ok(());
         }
-        match self.heap.reserve(n) {
-            Ok(()) => {
-                self.spare = n;
-                Ok(())
-            }
-            Err(_) => Err(Memory),
-        }
+        self.heap.reserve(n)?;
+        self.spare = n;
+        Ok(())
     }
 
     /// A message joins. A place was kept for it, and no waiting message has its number.
@@ -147,24 +143,10 @@ impl Queue {
     }
 }
 
-// The same messages in the order in which the heap holds them.
-fn copied(alloc: Global, dues: &[Due]) -> Result<Vec<Due>, Memory>
-    ensures { IfOk result (λ v. v.items ≡ dues.now) }
-{
-    let mut copy = Vec::new(alloc);
-    match copy.extend_from_slice(dues) {
-        Ok(()) => Ok(copy),
-        Err(_) => Err(Memory),
-    }
-}
-
 // The messages in the order in which the heap holds them.
 fn messages_of(alloc: Global, dues: &[Due]) -> Result<Vec<Message>, Memory>
     ensures { IfOk result (λ v. v.items ≡ messages_of dues.now) }
 {
-    let made: Result<Vec<Message>, AllocError> = dues.iter().map(|due| due.message).collect(alloc);
-    match made {
-        Ok(messages) => Ok(messages),
-        Err(_) => Err(Memory),
-    }
+    let messages: Vec<Message> = dues.iter().map(|due| due.message).collect(alloc)?;
+    Ok(messages)
 }

@@ -23,6 +23,5 @@ pub use changes::{Change, Dated, DatedList};
 pub use edit::{Edit, Param};
 pub use error::RuleError;
 pub use fees::FeeTable;
-pub use refusals::refusal_of;
 pub use ticks::TickTable;
 pub use view::View;

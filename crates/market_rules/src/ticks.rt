@@ -8,7 +8,7 @@ ghost use Rattle.market_rules.specs.Ticks.{tick_of, is_allowed};
 use crate::bands::{Band, greatest, least, place_of};
 use crate::error::RuleError;
 use crate::refusals::refusal_of;
-use market_types::Memory;
+use market_types::{Memory, copied};
 use std::alloc::Global;
 use std::marker::Model;
 
@@ -125,16 +125,5 @@ impl TickTable {
     {
         let bands = copied(alloc, self.bands.as_slice())?;
         Ok(TickTable { bands })
-    }
-}
-
-// The same bands.
-fn copied(alloc: Global, bands: &[Band]) -> Result<Vec<Band>, Memory>
-    ensures { IfOk result (λ v. v.items ≡ bands.now) }
-{
-    let mut copy = Vec::new(alloc);
-    match copy.extend_from_slice(bands) {
-        Ok(()) => Ok(copy),
-        Err(_) => Err(Memory),
     }
 }

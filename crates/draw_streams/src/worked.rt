@@ -1,4 +1,4 @@
-//! What the definitions give on known keys and words.
+//! What the definitions give on worked examples: known keys and words.
 //!
 //! The words are those of the block function in RFC 8439 (its section on test vectors and its
 //! worked block). There the nonce has 96 bits and the block counter 32, here both have 64: the
@@ -21,7 +21,7 @@ pub const COUNTING_KEY: [u8; 32] = [
 
 /// Words of the standard: two of block 0 and one of block 1 under the zero key, the first of a
 /// block under a nonce whose last byte is 2, and the first and the last of the worked block.
-pub fn known_draws()
+pub fn words_of_the_standard()
     ensures first { draw_of ZERO_KEY 0 0 ≡ 0xade0b876 }
     ensures second { draw_of ZERO_KEY 0 1 ≡ 0x903df1a0 }
     ensures next_block { draw_of ZERO_KEY 0 16 ≡ 0xbee7079f }
@@ -30,8 +30,8 @@ pub fn known_draws()
     ensures worked_last { draw_of COUNTING_KEY 0x4a000000 0x900000000000001f ≡ 0x4e3c50a2 }
 {}
 
-/// Words scaled: to ten numbers, to one, to all words, and to the numbers round zero.
-pub fn known_scales()
+/// Words scaled: to ten numbers, to one, to all words, and to numbers above and below zero.
+pub fn scaled_words()
     ensures tenth { below_of 0x903df1a0 10 ≡ 5 }
     ensures one { below_of 0xffffffff 1 ≡ 0 }
     ensures whole { below_of 0xffffffff (2 ^ 32) ≡ 0xffffffff }
