@@ -48,7 +48,7 @@ fn leave(queue: &mut Queue, next: u64) -> Option<Message>
     queue.pop_least()
 }
 
-// The queue as a plain program: a list in order of number, which each call walks.
+// The queue as a plain program: a list that each call walks.
 #[derive(Drop)]
 struct PlainQueue {
     messages: Vec<Message>,
@@ -61,30 +61,24 @@ fn is_before(a: &Message, b: &Message) -> bool {
 
 impl PlainQueue {
     fn push(&mut self, rt: &impl Abort, m: Message) {
-        let mut at = self.messages.len();
-        while at > 0 && self.messages[at - 1].seq > m.seq {
-            at -= 1;
-        }
-        assert!(rt; self.messages.insert(at, m).is_ok());
+        assert!(rt; self.messages.push(m).is_ok());
     }
 
-    fn place_of_least(&self) -> usize {
-        let mut least = 0;
-        for i in 1..self.messages.len() {
-            if is_before(&self.messages[i], &self.messages[least]) {
-                least = i;
+    fn least(&self) -> Option<Message> {
+        let mut least: Option<Message> = None;
+        for m in &self.messages {
+            match least {
+                Some(x) if is_before(&x, m) => {}
+                _ => least = Some(*m),
             }
         }
         least
     }
 
     fn pop_least(&mut self) -> Option<Message> {
-        let at = self.place_of_least();
-        if at < self.messages.len() {
-            Some(self.messages.remove(at))
-        } else {
-            None
-        }
+        let least = self.least()?;
+        let at = self.messages.iter().position(|m| m.seq == least.seq)?;
+        Some(self.messages.remove(at))
     }
 }
 

@@ -1,5 +1,6 @@
 pub mod Breaks
 pub mod Changes
+pub mod EditRanges
 pub mod Edits
 pub mod Fees
 pub mod Nearest

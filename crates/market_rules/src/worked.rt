@@ -2,6 +2,7 @@
 
 ghost use Rattle.std.specs.Prelude.{◌≡◌, ◌∷◌, [], None, Some, true, false, pos, negsuc};
 ghost use Rattle.market_rules.specs.Changes.{dates_refusal, dated_by};
+ghost use Rattle.market_rules.specs.EditRanges.{is_among, is_in_range};
 ghost use Rattle.market_rules.specs.Edits.{letter_of};
 ghost use Rattle.market_rules.specs.Fees.{fee_of};
 ghost use Rattle.market_rules.specs.Nearest.{down_of, up_of};
@@ -16,7 +17,7 @@ ghost use Rattle.market_rules.specs.Worked.{
   rebate_and_charge,
 };
 
-use crate::edit::Edit;
+use crate::edit::{Edit, Param};
 use crate::error::RuleError;
 
 /// Ticks at the edge of a band, and the allowed prices next to a number.
@@ -71,4 +72,21 @@ pub fn letters_of_edits()
     ensures latency { letter_of (Edit.Latency 0 1 500 0) ≡ 108 }
     ensures silence { letter_of (Edit.Silence 1) ≡ 115 }
     ensures series { letter_of (Edit.Series 0 (negsuc 4)) ≡ 118 }
+{}
+
+/// Edits at the ends of their ranges, in a market of one stock, three traders and two groups.
+pub fn edits_at_their_ends()
+    ensures table { is_in_range (Edit.Tick 0 two_bands) ≡ true }
+    ensures no_table { is_in_range (Edit.Tick 0 []) ≡ false }
+    ensures fees { is_in_range (Edit.Fee 0 rebate_and_charge) ≡ true }
+    ensures hour { is_in_range (Edit.Latency 0 1 3600000000000 0) ≡ true }
+    ensures past_an_hour { is_in_range (Edit.Latency 0 1 3600000000001 0) ≡ false }
+    ensures levels { is_in_range (Edit.Agent 1 Param.Levels 8) ≡ true }
+    ensures no_shares { is_in_range (Edit.Agent 1 Param.Size 0) ≡ false }
+    ensures least_offset { is_in_range (Edit.Series 0 (negsuc 1999999999)) ≡ true }
+    ensures lower_offset { is_in_range (Edit.Series 0 (negsuc 2000000000)) ≡ false }
+    ensures last_trader { is_among 1 3 2 (Edit.Silence 3) ≡ true }
+    ensures exchange { is_among 1 3 2 (Edit.Silence 0) ≡ false }
+    ensures other_stock { is_among 1 3 2 (Edit.Halt 1) ≡ false }
+    ensures other_group { is_among 1 3 2 (Edit.Latency 0 2 0 0) ≡ false }
 {}
