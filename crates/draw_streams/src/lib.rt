@@ -14,7 +14,6 @@ ghost use Rattle.draw_streams.specs.Draw.{draw_of};
 use rand_chacha::ChaCha20Rng;
 use rand_core::SeedableRng;
 use rand_core::utils::NextWord;
-
 pub use stream::Stream;
 
 pub mod laws;

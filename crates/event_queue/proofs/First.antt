@@ -1,6 +1,6 @@
 -- The least message is one of those that wait, and none is due before it.
-use Rattle.std.proofs.Common.{◌≡◌, ℕ, ◌≤◌, ◌+◌, Bool, false, All, Option, Some, List, [], ◌∷◌, length, sym, subst, arith}
-use Rattle.std.specs.List.{AllByRecursion, best_of}
+use Rattle.std.proofs.Common.{◌≡◌, ◌≤◌, ◌+◌, false, All, Some, List, [], ◌∷◌, length, sym, subst, arith}
+use Rattle.std.specs.List.{best_of}
 use Rattle.std.proofs.lemmas.Bool.Decides.{nat_tests}
 use Rattle.std.proofs.lemmas.List.Elements.{All-from_recursion, All-weaker}
 use Rattle.market_types.specs.declared.message.Message.{Message}

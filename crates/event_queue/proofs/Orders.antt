@@ -1,12 +1,12 @@
 -- Lemmas on waiting messages in order of number.
-use Rattle.std.proofs.Common.{◌≡◌, ◌≢◌, ℕ, ◌+◌, ◌-◌, ◌<◌, ◌≤◌, Bool, true, false, not, cond, ltb, eqb, List, [], ◌∷◌, Some, length, get_or, refl, sym, ap, ◌∙◌, arith, inl, inr, suc, zero, subst, filter}
+use Rattle.std.proofs.Common.{◌≡◌, ◌≢◌, ℕ, ◌+◌, ◌-◌, ◌<◌, Bool, true, false, not, cond, ltb, eqb, List, [], ◌∷◌, length, get_or, refl, sym, ap, arith, inl, inr, suc, zero, filter}
 use Rattle.std.specs.Cmp.{IsStrictWeakOrder}
 use Rattle.std.specs.List.{AllByRecursion}
 use Rattle.std.proofs.lemmas.Bool.{cases_lt, lt-ltb, le-ltb}
 use Rattle.std.proofs.lemmas.Bool.Decides.{nat_tests}
 use Rattle.std.proofs.lemmas.List.Elements.{All-from_recursion, All-weaker, filter_passes}
 use Rattle.market_types.specs.declared.message.Message.{Message}
-use Rattle.event_queue.specs.Waiting.{before, least, IsNew, without, joined}
+use Rattle.event_queue.specs.Waiting.{before, IsNew, without, joined}
 use Rattle.event_queue.specs.Rising.{IsRising}
 
 -- (time, number) ranks messages

@@ -1,4 +1,4 @@
-ghost use Rattle.std.specs.Prelude.{◌≡◌, ◌∷◌, [], ◌<◌, ◌≤◌, ◌-◌, ◌/◌, IfOk};
+ghost use Rattle.std.specs.Prelude.{◌≡◌, ◌<◌, ◌≤◌, ◌-◌, ◌/◌, IfOk};
 ghost use Rattle.fundamental_series.specs.Made.{by_rows, first_time_of};
 ghost use Rattle.fundamental_series.specs.Worked.{two_rows};
 

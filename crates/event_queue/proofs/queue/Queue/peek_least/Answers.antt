@@ -1,4 +1,4 @@
-use Rattle.std.proofs.Common.{◌≡◌, ◌<◌, length, sym, ap, ◌∙◌, arith, refl}
+use Rattle.std.proofs.Common.{◌<◌, length, sym, ap, ◌∙◌, arith, refl}
 use Rattle.std.specs.BinaryHeap.{heap_items}
 use Rattle.market_types.specs.Room.{Room}
 use Rattle.market_types.specs.declared.message.Message.{Message}

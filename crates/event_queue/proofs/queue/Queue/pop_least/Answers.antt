@@ -1,4 +1,4 @@
-use Rattle.std.proofs.Common.{◌≡◌, ◌∷◌, length, List, sym, ap, subst, ◌∙◌, refl, arith, rules}
+use Rattle.std.proofs.Common.{◌∷◌, length, sym, ap, ◌∙◌, refl, arith, rules}
 use Rattle.std.specs.BinaryHeap.{heap_items}
 use Rattle.std.proofs.lemmas.List.Sorted.{length_permutation}
 use Rattle.market_types.specs.Room.{Room}
