@@ -15,7 +15,7 @@ use Rattle.agent_shell.specs.declared.setting.Levels.{Levels}
 use Rattle.agent_shell.specs.declared.wish.Wish.{Wish}
 use Rattle.agent_shell.specs.Choice.{Choice, has_both, middle}
 use Rattle.agent_shell.specs.Decide.{choice_by, choice_of}
-use Rattle.agent_shell.specs.Maker.{levels_from, maker_choice}
+use Rattle.agent_shell.specs.Maker.{buy_at, centre_of, levels_from, maker_choice, sell_at}
 use Rattle.agent_shell.specs.Momentum.{last_of, momentum_choice, momentum_wishes, remembered}
 use Rattle.agent_shell.specs.Noise.{noise_choice, noise_wish}
 use Rattle.agent_shell.specs.Parameters.{IsBetween, IsKind, IsSize, IsHour}
@@ -111,14 +111,17 @@ levels-each m bands centre i zero size pause high = All-nil IsWish
 levels-each m bands centre i (suc n) size pause high =
     let far : i ≤ 7 = omega arith in
     let late : i * m.pause ≤ 7 * 3600000000000 = mul-le-mul far pause in
-    All-cons IsWish _ _ (record { shares = size; extra = omega arith })
-    (All-cons IsWish _ _ (record { shares = size; extra = omega arith }) (levels-each m bands centre (suc i) n size pause (omega arith)))
+    let rest = levels_from m bands centre (suc i) n in
+    let buy : IsWish (buy_at m bands centre i) = record { shares = size; extra = omega arith } in
+    let sell : IsWish (sell_at m bands centre i) = record { shares = size; extra = omega arith } in
+    All-cons IsWish (buy_at m bands centre i) (sell_at m bands centre i ∷ rest) buy
+    (All-cons IsWish (sell_at m bands centre i) rest sell (levels-each m bands centre (suc i) n size pause (omega arith)))
 
 maker-few : (v : Sight) (t : Trader) (q : Quote) (levels : ℕ) (m : Levels) → IsSize m.size → IsHour m.pause → levels ≤ 8 → IsFew (maker_choice v t q levels m)
 maker-few v t q levels m size pause high = record {
   draws = omega arith;
-  orders = omega (arith, levels-length m v.bands _ 0 levels);
-  each = levels-each m v.bands _ 0 levels size pause (omega arith);
+  orders = omega (arith, levels-length m v.bands (centre_of q v.value) 0 levels);
+  each = levels-each m v.bands (centre_of q v.value) 0 levels size pause (omega arith);
 }
 
 by-few : (kind : Kind) (v : Sight) (t : Trader) (q : Quote) → IsKind kind → IsFew (choice_by kind v t q)
