@@ -72,15 +72,15 @@ one-order draws past w few is = record { draws = few; orders = omega arith; each
 no-order : (past : List ℕ) → IsFew (record { draws = 0; past = past; wishes = [] })
 no-order past = record { draws = omega arith; orders = omega arith; each = All-nil IsWish }
 
-value-few : (v : Sight) (t : Trader) (q : Quote) (size margin guess coin : ℕ) → IsSize size → IsFew (value_by v t q size margin guess coin)
-value-few v t q size margin guess coin is =
+value-few : (v : Sight) (past : List ℕ) (q : Quote) (size margin guess coin : ℕ) → IsSize size → IsFew (value_by v past q size margin guess coin)
+value-few v past q size margin guess coin is =
     elim (cases_Bool (not (q.ask == 0) && nat_le (q.ask + margin) guess)) [
-      | inl buys ↦ rw buys (one-order 1 t.past _ (omega arith) (record { shares = is; extra = omega arith }))
+      | inl buys ↦ rw buys (one-order 1 past _ (omega arith) (record { shares = is; extra = omega arith }))
       | inr dear ↦ rw dear (elim (cases_Bool (not (q.bid == 0) && nat_le (guess + margin) q.bid)) [
-        | inl sells ↦ rw sells (one-order 1 t.past _ (omega arith) (record { shares = is; extra = omega arith }))
+        | inl sells ↦ rw sells (one-order 1 past _ (omega arith) (record { shares = is; extra = omega arith }))
         | inr cheap ↦ rw cheap (elim (cases_Bool (coin == 0)) [
-          | inl heads ↦ rw heads (one-order 2 t.past _ (omega arith) (record { shares = is; extra = omega arith }))
-          | inr tails ↦ rw tails (one-order 2 t.past _ (omega arith) (record { shares = is; extra = omega arith }))
+          | inl heads ↦ rw heads (one-order 2 past _ (omega arith) (record { shares = is; extra = omega arith }))
+          | inr tails ↦ rw tails (one-order 2 past _ (omega arith) (record { shares = is; extra = omega arith }))
         ])
       ])
     ]
@@ -127,7 +127,7 @@ maker-few v t q levels m size pause high = record {
 by-few : (kind : Kind) (v : Sight) (t : Trader) (q : Quote) → IsKind kind → IsFew (choice_by kind v t q)
 by-few Watcher v t q is = no-order t.past
 by-few (Noise size) v t q is = noise-few v t q size is
-by-few (Value size noise margin) v t q is = value-few v t q size margin _ _ is.0
+by-few (Value size noise margin) v t q is = value-few v t.past q size margin _ _ is.0
 by-few (Momentum size short long) v t q is = momentum-few t q size short long is.0
 by-few (Maker size half step levels pause) v t q is = maker-few v t q levels _ is.0 is.4 is.3.not_above
 
