@@ -15,7 +15,7 @@ use Rattle.agent_shell.specs.declared.setting.Levels.{Levels}
 use Rattle.agent_shell.specs.declared.wish.Wish.{Wish}
 use Rattle.agent_shell.specs.Choice.{Choice, has_both, middle}
 use Rattle.agent_shell.specs.Decide.{choice_by, choice_of}
-use Rattle.agent_shell.specs.Maker.{levels_from, maker_choice}
+use Rattle.agent_shell.specs.Maker.{buy_at, centre_of, levels_from, maker_choice, sell_at}
 use Rattle.agent_shell.specs.Momentum.{last_of, momentum_choice, momentum_wishes, remembered}
 use Rattle.agent_shell.specs.Noise.{noise_choice, noise_wish}
 use Rattle.agent_shell.specs.Parameters.{IsBetween, IsKind, IsSize, IsHour}
@@ -72,15 +72,15 @@ one-order draws past w few is = record { draws = few; orders = omega arith; each
 no-order : (past : List ℕ) → IsFew (record { draws = 0; past = past; wishes = [] })
 no-order past = record { draws = omega arith; orders = omega arith; each = All-nil IsWish }
 
-value-few : (v : Sight) (t : Trader) (q : Quote) (size margin guess coin : ℕ) → IsSize size → IsFew (value_by v t q size margin guess coin)
-value-few v t q size margin guess coin is =
+value-few : (v : Sight) (past : List ℕ) (q : Quote) (size margin guess coin : ℕ) → IsSize size → IsFew (value_by v past q size margin guess coin)
+value-few v past q size margin guess coin is =
     elim (cases_Bool (not (q.ask == 0) && nat_le (q.ask + margin) guess)) [
-      | inl buys ↦ rw buys (one-order 1 t.past _ (omega arith) (record { shares = is; extra = omega arith }))
+      | inl buys ↦ rw buys (one-order 1 past _ (omega arith) (record { shares = is; extra = omega arith }))
       | inr dear ↦ rw dear (elim (cases_Bool (not (q.bid == 0) && nat_le (guess + margin) q.bid)) [
-        | inl sells ↦ rw sells (one-order 1 t.past _ (omega arith) (record { shares = is; extra = omega arith }))
+        | inl sells ↦ rw sells (one-order 1 past _ (omega arith) (record { shares = is; extra = omega arith }))
         | inr cheap ↦ rw cheap (elim (cases_Bool (coin == 0)) [
-          | inl heads ↦ rw heads (one-order 2 t.past _ (omega arith) (record { shares = is; extra = omega arith }))
-          | inr tails ↦ rw tails (one-order 2 t.past _ (omega arith) (record { shares = is; extra = omega arith }))
+          | inl heads ↦ rw heads (one-order 2 past _ (omega arith) (record { shares = is; extra = omega arith }))
+          | inr tails ↦ rw tails (one-order 2 past _ (omega arith) (record { shares = is; extra = omega arith }))
         ])
       ])
     ]
@@ -111,20 +111,23 @@ levels-each m bands centre i zero size pause high = All-nil IsWish
 levels-each m bands centre i (suc n) size pause high =
     let far : i ≤ 7 = omega arith in
     let late : i * m.pause ≤ 7 * 3600000000000 = mul-le-mul far pause in
-    All-cons IsWish _ _ (record { shares = size; extra = omega arith })
-    (All-cons IsWish _ _ (record { shares = size; extra = omega arith }) (levels-each m bands centre (suc i) n size pause (omega arith)))
+    let rest = levels_from m bands centre (suc i) n in
+    let buy : IsWish (buy_at m bands centre i) = record { shares = size; extra = omega arith } in
+    let sell : IsWish (sell_at m bands centre i) = record { shares = size; extra = omega arith } in
+    All-cons IsWish (buy_at m bands centre i) (sell_at m bands centre i ∷ rest) buy
+    (All-cons IsWish (sell_at m bands centre i) rest sell (levels-each m bands centre (suc i) n size pause (omega arith)))
 
 maker-few : (v : Sight) (t : Trader) (q : Quote) (levels : ℕ) (m : Levels) → IsSize m.size → IsHour m.pause → levels ≤ 8 → IsFew (maker_choice v t q levels m)
 maker-few v t q levels m size pause high = record {
   draws = omega arith;
-  orders = omega (arith, levels-length m v.bands _ 0 levels);
-  each = levels-each m v.bands _ 0 levels size pause (omega arith);
+  orders = omega (arith, levels-length m v.bands (centre_of q v.value) 0 levels);
+  each = levels-each m v.bands (centre_of q v.value) 0 levels size pause (omega arith);
 }
 
 by-few : (kind : Kind) (v : Sight) (t : Trader) (q : Quote) → IsKind kind → IsFew (choice_by kind v t q)
 by-few Watcher v t q is = no-order t.past
 by-few (Noise size) v t q is = noise-few v t q size is
-by-few (Value size noise margin) v t q is = value-few v t q size margin _ _ is.0
+by-few (Value size noise margin) v t q is = value-few v t.past q size margin _ _ is.0
 by-few (Momentum size short long) v t q is = momentum-few t q size short long is.0
 by-few (Maker size half step levels pause) v t q is = maker-few v t q levels _ is.0 is.4 is.3.not_above
 

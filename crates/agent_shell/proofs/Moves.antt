@@ -1,6 +1,6 @@
 -- How far one message moves a trader.
 use Rattle.std.proofs.Common.{◌≡◌, ℕ, suc, ◌+◌, ◌*◌, ◌≤◌, ◌<◌, ◌^◌, ◌∙◌, true, false, List, [], ◌∷◌, length, refl, inl, inr, arith, subst, sym, Option, Some, None, ℤ, pos, Result, Ok, Err}
-use Rattle.std.specs.Prelude.{nat_lt, OnOk, OnErr}
+use Rattle.std.specs.Prelude.{◌==◌, nat_lt, OnOk, OnErr}
 use Rattle.std.proofs.lemmas.Bool.{cases_Bool}
 use Rattle.std.proofs.lemmas.Int.{ints}
 use Rattle.market_types.specs.declared.message.Quote.{Quote}

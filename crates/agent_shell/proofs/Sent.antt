@@ -10,8 +10,10 @@ use Rattle.market_types.specs.Limits.{highest_price}
 use Rattle.market_types.specs.declared.message.Body.{Body}
 use Rattle.market_types.specs.declared.message.Body.TheVariants.{Wake, Order, Answer, Ask, Quote as QuoteBody}
 use Rattle.market_types.specs.declared.message.Quote.{Quote}
+use Rattle.market_types.specs.declared.order.Inbound.TheVariants.{Enter as NewOrder}
 use Rattle.market_types.specs.declared.order.Symbol.{Symbol}
 use Rattle.market_types.specs.declared.order.Token.{Token}
+use Rattle.draw_streams.specs.Below.{below_of}
 use Rattle.draw_streams.proofs.Words.{below-low, word-low}
 use Rattle.agent_shell.specs.declared.sending.Sending.{Sending}
 use Rattle.agent_shell.specs.declared.sending.Sending.TheVariants.{To, WakeAt}
@@ -19,9 +21,9 @@ use Rattle.agent_shell.specs.declared.setting.Kind.{Kind}
 use Rattle.agent_shell.specs.declared.setting.Kind.TheVariants.{Watcher, Noise, Value, Momentum, Maker}
 use Rattle.agent_shell.specs.declared.shell.OwnOrder.{OwnOrder}
 use Rattle.agent_shell.specs.declared.wish.Wish.{Wish}
-use Rattle.agent_shell.specs.Bounds.{IsSending, AreSendings}
+use Rattle.agent_shell.specs.Bounds.{IsOrder, IsSending, AreSendings}
 use Rattle.agent_shell.specs.Decide.{choice_of, chosen, decided, heard_of, quoted, woken}
-use Rattle.agent_shell.specs.Ordered.{all_ordered, ordered, sent_at, sent_price}
+use Rattle.agent_shell.specs.Ordered.{all_ordered, enter_of, ordered, sent_at, sent_price}
 use Rattle.agent_shell.specs.Own.{OwnList, most_own}
 use Rattle.agent_shell.specs.Parameters.{IsBetween}
 use Rattle.agent_shell.specs.Shell.{Orders}
@@ -29,6 +31,7 @@ use Rattle.agent_shell.specs.Sight.{Sight}
 use Rattle.agent_shell.specs.Sound.{IsTrader}
 use Rattle.agent_shell.specs.Trader.{Trader, trader_word}
 use Rattle.agent_shell.specs.Wakeup.{cancel_of, next_wakeup, takes_back}
+use Rattle.agent_shell.specs.Tokens.{token_of}
 use Rattle.agent_shell.proofs.Few.{IsFew, IsWish, choice-few}
 
 pub none-sent : (v : Sight) (t : Trader) → AreSendings v t []
@@ -49,7 +52,9 @@ at-sent : (v : Sight) (t : Trader) (p : Option ℕ) (w : Wish) (o : Orders) → 
     → (length (sent_at p v.symbol w o).sends ≤ 1) × All (IsSending v t) (sent_at p v.symbol w o).sends
 at-sent v t None w o e is = (omega arith, All-nil (IsSending v t))
 at-sent v t (Some price) w o e is =
-    (omega arith, All-cons (IsSending v t) _ _ (record { stock = refl; price = price-is w.price price e; shares = is.shares; soon = is.extra }) (All-nil (IsSending v t)))
+    let enter = enter_of v.symbol (token_of o.agent (o.tokens + 1)) w price in
+    let order : IsOrder v enter w.extra = record { stock = refl; price = price-is w.price price e; shares = is.shares; soon = is.extra } in
+    (omega arith, All-cons (IsSending v t) (To (Order (NewOrder enter)) w.extra) [] order (All-nil (IsSending v t)))
 
 ordered-sent : (v : Sight) (t : Trader) (w : Wish) (o : Orders) → IsWish w
     → (length (ordered v.symbol w o).sends ≤ 1) × All (IsSending v t) (ordered v.symbol w o).sends
@@ -107,11 +112,14 @@ woken-sent v t sound =
     let rest : List Sending = To (Ask t.setting.stock) 0 ∷ WakeAt (next_wakeup v t) ∷ [] in
     let low = below-low (trader_word v t t.draws) (t.setting.wobble + 1) (word-low v.key t.orders.agent t.draws) (omega arith) in
     let often = sound.setting.every.not_below in
-    let last : All (IsSending v t) rest = All-cons (IsSending v t) _ _ (refl, refl)
-    (All-cons (IsSending v t) _ _ (ahead v.time t.setting.every _ t.setting.wobble often low) (All-nil (IsSending v t))) in
+    let extra = below_of (trader_word v t t.draws) (t.setting.wobble + 1) in
+    let wakeup : List Sending = WakeAt (next_wakeup v t) ∷ [] in
+    let later : All (IsSending v t) wakeup =
+    All-cons (IsSending v t) (WakeAt (next_wakeup v t)) [] (ahead v.time t.setting.every extra t.setting.wobble often low) (All-nil (IsSending v t)) in
+    let last : All (IsSending v t) rest = All-cons (IsSending v t) (To (Ask t.setting.stock) 0) wakeup (refl, refl) later in
     record {
       few = omega (arith, length-append cancels rest, cancels-length back, back-few t.setting.kind t.orders.own, sound.orders.few);
-      each = All-append (IsSending v t) _ _ (cancels-each v t back) last;
+      each = All-append (IsSending v t) cancels rest (cancels-each v t back) last;
     }
 
 pub heard-sent : (v : Sight) (t : Trader) (body : Body) → IsTrader t → AreSendings v t (heard_of v t body).sends

@@ -1,7 +1,10 @@
 use super::{Kind, Shell, TraderSetting};
 use market_rules::Param;
 use market_types::{Reply, Side, Token};
+use std::process::Abort;
 use std::test::Fail;
+
+const UNKNOWN: Token = Token(*b"T0037000000002");
 
 fn canceled(token: Token, decrement: u32) -> Reply {
     Reply::Canceled {
@@ -31,65 +34,42 @@ fn rejected(token: Token) -> Reply {
     }
 }
 
-// The first buys 100, the second sells 50. Cash is in millionths of a dollar: 10 shares at 1 dollar (10,000) take
-// 100 * 10,000 * 10 = 10,000,000. The executed 200 count in full, also where 90 are open.
+// Takes a reply where the account is small.
+fn take(rt: &impl Abort, shell: &mut Shell, reply: &Reply) {
+    let account = shell.account();
+    let position = account.position;
+    let cash = account.cash;
+    assert!(rt; -1_000_000 < position);
+    assert!(rt; position < 1_000_000);
+    assert!(rt; -1_000_000_000_000 < cash);
+    assert!(rt; cash < 1_000_000_000_000);
+    shell.take_reply(reply);
+}
+
+// The order buys 100. Cash is in millionths of a dollar: 10 shares at 1 dollar (10,000) take 100 * 10,000 * 10 =
+// 10,000,000. The executed 200 count in full, also where 61 are open.
 #[test]
 fn replies_move_the_account_and_the_own_list(rt: HostRuntime) -> Result<(), Fail> {
     let mut shell = Shell::open(rt.alloc(), 37, 1_000)?;
-    let first = shell.next_token();
-    let second = shell.next_token();
-    let unknown = Token(*b"T0037000000003");
-    assert_eq!(rt;
-        (first, second),
-        (Token(*b"T0037000000001"), Token(*b"T0037000000002"))
-    );
-    shell.join(first, Side::Buy, 100)?;
-    shell.join(second, Side::Sell, 50)?;
+    shell.reserve(1)?;
+    let token = shell.next_token();
+    assert_eq!(rt; token, Token(*b"T0037000000001"));
+    shell.join(token, Side::Buy, 100)?;
     for (reply, len, position, cash) in [
-        (executed(unknown, 10, 10_000), 2, 0, 1_000),
-        (canceled(unknown, 10), 2, 0, 1_000),
-        (rejected(unknown), 2, 0, 1_000),
-        (
-            Reply::System {
-                time: 5,
-                code: b'S',
-            },
-            2,
-            0,
-            1_000,
-        ),
-        (executed(first, 10, 10_000), 2, 10, -9_999_000),
-        (executed(second, 20, 10_000), 2, -10, 10_001_000),
-        (canceled(second, 29), 2, -10, 10_001_000),
-        (canceled(second, 1), 1, -10, 10_001_000),
-        (executed(first, 200, 1), 0, 190, 9_981_000),
-        (executed(first, 1, 1), 0, 190, 9_981_000),
+        (executed(UNKNOWN, 10, 10_000), 1, 0, 1_000),
+        (canceled(UNKNOWN, 100), 1, 0, 1_000),
+        (rejected(UNKNOWN), 1, 0, 1_000),
+        (executed(token, 10, 10_000), 1, 10, -9_999_000),
+        (canceled(token, 29), 1, 10, -9_999_000),
+        (executed(token, 200, 1), 0, 210, -10_019_000),
+        (executed(token, 1, 1), 0, 210, -10_019_000),
     ] {
-        shell.take_reply(&reply);
-        assert_eq!(rt; shell.open_len(), len, "after {reply:?}");
-        assert_eq!(rt;
-            (shell.account().position, shell.account().cash),
-            (position, cash),
-            "after {reply:?}"
-        );
+        take(&rt, &mut shell, &reply);
+        let account = shell.account();
+        assert_eq!(rt; (shell.open_len(), account.position, account.cash), (len, position, cash));
     }
-    Ok(())
-}
-
-#[test]
-fn the_own_list_is_in_order_of_sending(rt: HostRuntime) -> Result<(), Fail> {
-    let mut shell = Shell::open(rt.alloc(), 1, 0)?;
-    shell.reserve(3)?;
-    let tokens = [shell.next_token(), shell.next_token(), shell.next_token()];
-    for token in tokens {
-        shell.join(token, Side::Buy, 1)?;
-    }
-    shell.take_reply(&rejected(tokens[1]));
     let copy = shell.copy()?;
-    assert_eq!(rt; (copy.agent(), copy.tokens(), copy.open_len()), (1, 3, 2));
-    assert_eq!(rt; copy.open_token(0), Some(tokens[0]));
-    assert_eq!(rt; copy.open_token(1), Some(tokens[2]));
-    assert_eq!(rt; copy.open_token(2), None);
+    assert_eq!(rt; (copy.agent(), copy.tokens(), copy.open_token(0)), (37, 1, None));
     Ok(())
 }
 
@@ -122,10 +102,7 @@ fn one_parameter_is_replaced(rt: HostRuntime) {
     let every = setting.with(Param::Every, 8);
     let wobble = setting.with(Param::Wobble, 8);
     let delay = setting.with(Param::Delay, 9);
-    assert_eq!(rt;
-        (every.every, every.wobble, every.delay, every.kind),
-        (8, 7, 8, MAKER)
-    );
+    assert_eq!(rt; (every.every, every.wobble, every.delay, every.kind), (8, 7, 8, MAKER));
     assert_eq!(rt; (wobble.every, wobble.wobble, wobble.delay), (6, 8, 8));
     assert_eq!(rt; (delay.every, delay.wobble, delay.delay), (6, 7, 9));
     let value = TraderSetting {
@@ -133,12 +110,5 @@ fn one_parameter_is_replaced(rt: HostRuntime) {
         ..setting
     };
     let margin = value.with(Param::Margin, 9);
-    assert_eq!(rt;
-        margin.kind,
-        Kind::Value {
-            size: 1,
-            noise: 2,
-            margin: 9
-        }
-    );
+    assert_eq!(rt; margin.kind, Kind::Value { size: 1, noise: 2, margin: 9 });
 }

@@ -8,7 +8,6 @@ ghost use Rattle.agent_shell.specs.Parameters.{IsKind};
 ghost use Rattle.agent_shell.specs.Parts.{trader_of};
 ghost use Rattle.agent_shell.specs.Sight.{sight_of};
 ghost use Rattle.agent_shell.specs.Value.{clamped, guess_of, value_by};
-ghost use Rattle.agent_shell.specs.Trader.{Trader};
 ghost use Rattle.taker_agents.specs.Taker.{IsTakerKind};
 
 use agent_shell::{Kind, Parts, Wish};
@@ -97,7 +96,7 @@ fn value_choice(view: &View, quote: &Quote, size: u32, margin: u32, guess: u32, 
     requires size { 0 < size }
     requires margin { margin ≤ 1000000000 }
     requires guess { guess ≤ 1999999900 }
-    ensures value { (t : Trader) → value_by (sight_of view.now) t quote.now size margin guess coin ≡ record { draws = result.draws; past = t.past; wishes = wishes_of result.wish } }
+    ensures value { value_by (sight_of view.now) [] quote.now size margin guess coin ≡ record { draws = result.draws; past = []; wishes = wishes_of result.wish } }
     ensures few { result.draws ≤ 2 }
     ensures shares { IfSome result.wish (λ w. 0 < w.shares) }
 {

@@ -4,11 +4,11 @@ use Rattle.agent_shell.specs.Parts.{trader_of}
 use Rattle.agent_shell.specs.Sight.{sight_of}
 use Rattle.agent_shell.specs.Sound.{IsTrader}
 use Rattle.agent_shell.proofs.Moves.{moved-by, quoted-moved}
-use Rattle.agent_shell.proofs.Sent.{quoted-sent}
+use Rattle.agent_shell.proofs.Sent.{heard-sent}
 use Rattle.taker_agents.proofs.taker.Taker.hear.Goals as goal
 
 pub returns-in-Quote-clause-sendings : goal.returns-in-Quote-clause-sendings
-returns-in-Quote-clause-sendings c = quoted-sent (sight_of c.args.view.now) c.args.self.now _ (subst IsTrader c.self.view_is c.self.invariant.taker.sound)
+returns-in-Quote-clause-sendings c = heard-sent (sight_of c.args.view.now) c.args.self.now c.args.body.now (subst IsTrader c.self.view_is c.self.invariant.taker.sound)
 
 pub returns-in-Quote-clause-moved : goal.returns-in-Quote-clause-moved
 returns-in-Quote-clause-moved c =
