@@ -6,7 +6,6 @@ ghost use Rattle.exchange_agent.specs.Changes.{changed_by, turned};
 use crate::exchange::Exchange;
 use market_rules::Change;
 use market_types::{Feed, FeedList, Memory, StockNo, Time, What};
-use std::alloc::Global;
 
 impl Exchange {
     // The stock's trading state becomes this one.
@@ -40,7 +39,6 @@ impl Exchange {
     /// unless the state stands already. After want of memory the exchange and the feed are as they were.
     pub fn apply_change(
         &mut self,
-        alloc: Global,
         time: Time,
         stock: StockNo,
         change: &Change,
@@ -58,7 +56,7 @@ impl Exchange {
     {
         match change {
             Change::Tick(table) => {
-                let table = table.copy(alloc)?;
+                let table = table.copy(*self.stocks.allocator())?;
                 self.stocks[usize::from(stock)].ticks = table;
                 Ok(())
             }

@@ -284,7 +284,8 @@ impl Exchange {
             &taking,
             e,
             out,
-        )
+        )?;
+        Ok(())
     }
 
     // An Enter is ignored.
