@@ -1,5 +1,6 @@
 pub mod Accepts
 pub mod Knowns
+pub mod Numbers
 pub mod Pairs
 pub mod States
 pub mod Tellings

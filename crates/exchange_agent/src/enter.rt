@@ -1,6 +1,6 @@
 //! Enters.
 
-ghost use Rattle.std.specs.Prelude.{◌≡◌, ◌<◌, ◌≤◌, ◌+◌, ◌*◌, ◌++◌, ◌∷◌, ◌^◌, [], pos, false, OnOk, OnErr, All, map, length};
+ghost use Rattle.std.specs.Prelude.{◌≡◌, ◌<◌, ◌≤◌, ◌+◌, ◌*◌, ◌++◌, ◌∷◌, ◌^◌, [], pos, false, OnOk, OnErr, All, map, length, position, bytes_eq};
 ghost use Rattle.exchange_agent.specs.Enter.{acceptance_of, accepted, entered, is_remembered, price_is_refused, shares_are_refused, terms_are_refused, rejection_of, remembering, verdict_of, verdict_there, way_of};
 ghost use Rattle.exchange_agent.specs.Pairs.{has_pair, pair_of, with_pair};
 ghost use Rattle.exchange_agent.specs.Sound.{IsSoundStock, IsWithin};
@@ -44,11 +44,18 @@ fn has_strange_price(listing: &Listing, e: &Enter) -> bool
     e.price == 0 || e.price > 1_999_999_900 || !listing.ticks.allowed(e.price)
 }
 
+// The place of the first stock with a symbol.
+fn place_of(stocks: &[Listing], symbol: &Symbol) -> Option<usize>
+    ensures { result ≡ position (λ k. bytes_eq k.symbol.0 symbol.now.0) stocks.now }
+{
+    stocks.iter().position(|k| k.symbol == *symbol)
+}
+
 // The number of the stock with a symbol.
 fn stock_number(stocks: &[Listing], symbol: &Symbol) -> Option<usize>
     ensures { result ≡ stock_number_of symbol.now (map stock_of stocks.now) }
 {
-    stocks.iter().position(|k| k.symbol == *symbol)
+    place_of(stocks, symbol)
 }
 
 // How many orders rest over all stocks.
