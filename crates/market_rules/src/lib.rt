@@ -10,17 +10,19 @@ mod changes;
 mod edit;
 mod error;
 mod fees;
-pub mod known;
+pub mod laws;
 mod refusals;
 #[cfg(test)]
 mod tests;
 mod ticks;
 mod view;
+pub mod worked;
 
 pub use bands::Band;
 pub use changes::{Change, Dated, DatedList};
 pub use edit::{Edit, Param};
 pub use error::RuleError;
 pub use fees::FeeTable;
+pub use refusals::refusal_of;
 pub use ticks::TickTable;
 pub use view::View;

@@ -64,7 +64,7 @@ fn place_off_tick(bands: &[Band]) -> Option<usize>
     }
 }
 
-// Why bands are no tick table.
+/// Why bands are no tick table, and `None` where they are one. It takes no memory.
 pub fn refusal_of(bands: &[Band]) -> Option<RuleError>
     ensures { result ≡ table_refusal bands.now }
 {

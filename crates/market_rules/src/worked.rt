@@ -1,17 +1,26 @@
-//! What the definitions give on known rules.
+//! What the definitions give on worked examples.
 
 ghost use Rattle.std.specs.Prelude.{◌≡◌, ◌∷◌, [], None, Some, true, false, pos, negsuc};
 ghost use Rattle.market_rules.specs.Changes.{dates_refusal, dated_by};
+ghost use Rattle.market_rules.specs.Edits.{letter_of};
 ghost use Rattle.market_rules.specs.Fees.{fee_of};
-ghost use Rattle.market_rules.specs.Known.{band, two_bands, uneven_bands, halt_at};
 ghost use Rattle.market_rules.specs.Nearest.{down_of, up_of};
 ghost use Rattle.market_rules.specs.Refusals.{table_refusal};
 ghost use Rattle.market_rules.specs.Ticks.{tick_of, is_allowed};
+ghost use Rattle.market_rules.specs.Worked.{
+  band,
+  two_bands,
+  uneven_bands,
+  halt_at,
+  three_halts,
+  rebate_and_charge,
+};
 
+use crate::edit::Edit;
 use crate::error::RuleError;
 
 /// Ticks at the edge of a band, and the allowed prices next to a number.
-pub fn known_ticks()
+pub fn ticks_of_two_bands()
     ensures below { tick_of two_bands 999999 ≡ 100 }
     ensures edge { tick_of two_bands 1000000 ≡ 500 }
     ensures on_tick { is_allowed two_bands 999900 ≡ true }
@@ -26,26 +35,40 @@ pub fn known_ticks()
 {}
 
 /// Refused bands: the first reason of the list, and of it the least index.
-pub fn known_refusals()
+pub fn refused_bands()
     ensures none { table_refusal two_bands ≡ None }
     ensures no_band { table_refusal [] ≡ Some (RuleError.BandsNotRising 0) }
     ensures equal_starts { table_refusal (band 0 0 ∷ band 0 100 ∷ []) ≡ Some (RuleError.BandsNotRising 1) }
-    ensures falling { table_refusal (band 0 1 ∷ band 5 1 ∷ band 4 1 ∷ band 3 1 ∷ []) ≡ Some (RuleError.BandsNotRising 2) }
+    ensures falling { table_refusal (band 0 1 ∷ band 5 1 ∷ band 4 1 ∷ []) ≡ Some (RuleError.BandsNotRising 2) }
     ensures zero_tick { table_refusal (band 7 100 ∷ band 100 0 ∷ []) ≡ Some (RuleError.ZeroTick 1) }
-    ensures first_band { table_refusal (band 100 100 ∷ band 150 100 ∷ []) ≡ Some (RuleError.BandOffTick 0) }
+    ensures first_band { table_refusal (band 100 100 ∷ []) ≡ Some (RuleError.BandOffTick 0) }
     ensures off_tick { table_refusal (band 0 100 ∷ band 150 100 ∷ []) ≡ Some (RuleError.BandOffTick 1) }
 {}
 
 /// Dates may be equal, and a change counts from its own nanosecond on.
-pub fn known_dates()
-    ensures equal { dates_refusal (halt_at 5 ∷ halt_at 5 ∷ []) ≡ None }
+pub fn changes_at_their_dates()
+    ensures equal { dates_refusal three_halts ≡ None }
     ensures earlier { dates_refusal (halt_at 5 ∷ halt_at 6 ∷ halt_at 4 ∷ []) ≡ Some (RuleError.DatesNotRising 2) }
-    ensures before { dated_by (halt_at 5 ∷ halt_at 5 ∷ halt_at 7 ∷ []) 4 ≡ 0 }
-    ensures at { dated_by (halt_at 5 ∷ halt_at 5 ∷ halt_at 7 ∷ []) 5 ≡ 2 }
+    ensures before { dated_by three_halts 4 ≡ 0 }
+    ensures at { dated_by three_halts 5 ≡ 2 }
+    ensures between { dated_by three_halts 6 ≡ 2 }
+    ensures all { dated_by three_halts 7 ≡ 3 }
 {}
 
-/// A rebate of 20 millionths a share for liquidity that is added, and 30 for liquidity that is taken.
-pub fn known_fees()
-    ensures added { fee_of (record { add = negsuc 19; take = pos 30 }) 65 100 ≡ negsuc 1999 }
-    ensures taken { fee_of (record { add = negsuc 19; take = pos 30 }) 82 100 ≡ pos 3000 }
+/// A rebate of 20 millionths a share for liquidity that is added (flag `A`), and 30 for liquidity that is taken
+/// (flag `R`).
+pub fn fees_of_a_hundred_shares()
+    ensures added { fee_of rebate_and_charge 65 100 ≡ negsuc 1999 }
+    ensures taken { fee_of rebate_and_charge 82 100 ≡ pos 3000 }
+{}
+
+/// The letters of edits in ASCII.
+pub fn letters_of_edits()
+    ensures tick { letter_of (Edit.Tick 0 two_bands) ≡ 116 }
+    ensures fee { letter_of (Edit.Fee 0 rebate_and_charge) ≡ 102 }
+    ensures halt { letter_of (Edit.Halt 0) ≡ 104 }
+    ensures resume { letter_of (Edit.Resume 0) ≡ 114 }
+    ensures latency { letter_of (Edit.Latency 0 1 500 0) ≡ 108 }
+    ensures silence { letter_of (Edit.Silence 1) ≡ 115 }
+    ensures series { letter_of (Edit.Series 0 (negsuc 4)) ≡ 118 }
 {}

@@ -1,6 +1,6 @@
 use Rattle.std.proofs.Common.{refl}
 use Rattle.market_rules.specs.Nearest.{greatest_allowed, allowed_among}
-use Rattle.market_rules.proofs.known.known_ticks.Goals as goal
+use Rattle.market_rules.proofs.worked.ticks_of_two_bands.Goals as goal
 
 pub returns : goal.returns
 unfolding greatest_allowed allowed_among
