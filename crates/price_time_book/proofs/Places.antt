@@ -37,7 +37,7 @@ find-some p w i e =
     nowhere h = let k : cond (ltb (position_or_len p w) (length w)) (Some (position_or_len p w)) None ≡ Some i = e in (let m : cond false (Some (position_or_len p w)) None ≡ Some i = rw h at k in cc)
 
 -- what holds of all orders holds of one that is found
-each_found : (P : Resting → Type 0) (p : Resting → Bool) (w : List Resting) (o : Resting) → AllByRecursion P w → find p w ≡ Some o → P o
+pub each_found : (P : Resting → Type 0) (p : Resting → Bool) (w : List Resting) (o : Resting) → AllByRecursion P w → find p w ≡ Some o → P o
 each_found P p [] o a e = absurd (cc e)
 each_found P p (x ∷ w) o a e =
     elim (cases_Bool (p x)) [

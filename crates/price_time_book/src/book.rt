@@ -1,13 +1,14 @@
 //! The book.
 
-ghost use Rattle.std.specs.Prelude.{◌≡◌, ◌<◌, ◌≤◌, ◌-◌, ◌∷◌, ◌++◌, [], OnErr, OnOk, IfOk, IfSome, IfNone, All, Some, None, length, option_map, slice_get};
+ghost use Rattle.std.specs.Prelude.{◌≡◌, ◌<◌, ◌≤◌, ◌-◌, ◌∷◌, ◌++◌, ◌↔◌, [], IsTrue, OnErr, OnOk, IfOk, IfSome, IfNone, All, Some, None, length, option_map, slice_get};
 ghost use Rattle.price_time_book.specs.Matched.{fill_of, after_fill};
-ghost use Rattle.price_time_book.specs.Next.{best_at, next_of};
+ghost use Rattle.price_time_book.specs.Next.{best_at, crossing_of, next_of};
+ghost use Rattle.price_time_book.specs.Orderly.{IsOrderly};
 ghost use Rattle.price_time_book.specs.Orders.{order_of, order_with, changed, reduced};
 ghost use Rattle.price_time_book.specs.Sides.{depth_of};
 
 use crate::resting::{Best, Fill, Resting};
-use crate::search::{held_at, is_within, opposite, order_of, shares_at, top_of};
+use crate::search::{crossing_in, held_at, is_within, opposite, order_of, shares_at, top_of};
 use market_types::{AgentNo, Memory, Side, Token};
 use std::alloc::Global;
 use std::marker::Model;
@@ -162,6 +163,35 @@ impl Book {
         ensures { result ≡ depth_of side self.now.list }
     {
         self.orders.iter().filter(|o| o.side == side).count()
+    }
+
+    /// How many orders cross an incoming order of `side` with this limit: no match has more fills.
+    pub fn crossing(&self, side: Side, limit: u32) -> usize
+        ensures { result ≡ crossing_of side limit self.now.list }
+    {
+        crossing_in(self.orders.as_slice(), side, limit)
+    }
+
+    /// How many orders rest in the book.
+    pub fn len(&self) -> usize
+        ensures { result ≡ length self.now.list }
+    {
+        self.orders.len()
+    }
+
+    /// Whether no order rests in the book.
+    pub fn is_empty(&self) -> bool
+        ensures { IsTrue result ↔ (self.now.list ≡ []) }
+    {
+        self.orders.is_empty()
+    }
+
+    /// What holds of the orders of each book: their references rise, each has open shares and no more
+    /// than its intended size, and they are few.
+    pub fn is_orderly(&self)
+        ensures { IsOrderly self.now.list }
+    {
+        let _orders = &self.orders;
     }
 
     /// The orders in order of arrival.

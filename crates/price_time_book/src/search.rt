@@ -1,7 +1,7 @@
 //! Searches in a list of orders.
 
 ghost use Rattle.std.specs.Prelude.{◌≡◌, ◌==◌, ◌≤◌, ◌^◌, IfSome, Some, length, option_map, position, slice_get};
-ghost use Rattle.price_time_book.specs.Next.{shares_at, top_of};
+ghost use Rattle.price_time_book.specs.Next.{crosses, crossing_of, shares_at, top_of};
 ghost use Rattle.price_time_book.specs.Orders.{order_of, order_with};
 ghost use Rattle.price_time_book.specs.Search.{goes_first};
 ghost use Rattle.price_time_book.specs.Sides.{is_better, is_within, opposite};
@@ -37,6 +37,20 @@ pub fn is_within(side: Side, limit: u32, price: u32) -> bool
         Side::Buy => price <= limit,
         Side::Sell => limit <= price,
     }
+}
+
+// Whether an order crosses an incoming order of this side with this limit.
+fn crosses(side: Side, limit: u32, order: &Resting) -> bool
+    ensures { result ≡ crosses side limit order.now }
+{
+    order.side == opposite(side) && is_within(side, limit, order.price)
+}
+
+// How many orders cross an incoming order of this side with this limit.
+pub fn crossing_in(orders: &[Resting], side: Side, limit: u32) -> usize
+    ensures { result ≡ crossing_of side limit orders.now }
+{
+    orders.iter().filter(|o| crosses(side, limit, o)).count()
 }
 
 // Whether an order comes before the first one so far.
