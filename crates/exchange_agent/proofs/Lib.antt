@@ -1,9 +1,13 @@
 pub mod Accepts
+pub mod Crossings
+pub mod Ends
 pub mod Knowns
 pub mod Numbers
 pub mod Pairs
 pub mod States
+pub mod Steps
 pub mod Tellings
+pub mod Totals
 pub mod Verdicts
 pub mod Ways
 pub mod Withins

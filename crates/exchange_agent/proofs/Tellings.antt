@@ -5,6 +5,7 @@ use Rattle.std.proofs.lemmas.Bool.Decides.{nat_tests}
 use Rattle.std.proofs.lemmas.List.Elements.{All-append, All-cons, All-head, All-nil, All-tail}
 use Rattle.std.proofs.lemmas.List.Quantifiers.{position-Some}
 use Rattle.market_types.specs.declared.feed.Feed.{Feed}
+use Rattle.market_types.specs.declared.feed.What.TheVariants as what
 use Rattle.market_types.specs.declared.message.Body.{Body}
 use Rattle.market_types.specs.declared.message.Body.TheVariants as body
 use Rattle.market_types.specs.declared.order.Cancel.{Cancel}
@@ -22,15 +23,17 @@ use Rattle.exchange_agent.specs.declared.settle.Taking.{Taking}
 use Rattle.exchange_agent.specs.declared.verdict.Verdict.{Verdict}
 use Rattle.exchange_agent.specs.declared.verdict.Verdict.TheVariants.{Ignored, Forgotten, Refused, Accepted}
 use Rattle.exchange_agent.specs.Cancel.{cancel_of, canceled, found_from, unheard}
-use Rattle.exchange_agent.specs.Changes.{changed_by, turned}
+use Rattle.exchange_agent.specs.Changes.{Changed, changed_by}
 use Rattle.exchange_agent.specs.Enter.{entered, entered_by, remainder, remembering, taking_of, verdict_of, way_from, way_of}
 use Rattle.exchange_agent.specs.Market.{market}
 use Rattle.exchange_agent.specs.Outcome.{IsToTrader, Outcome}
 use Rattle.exchange_agent.specs.Settle.{Way, all_settled, settled}
 use Rattle.exchange_agent.specs.Sound.{IsSound, is_trader}
-use Rattle.exchange_agent.specs.State.{State, Stock, no_stock, stock_at, stock_number_of}
+use Rattle.exchange_agent.specs.State.{State, Stock, no_stock, stock_at, stock_number_of, with_stock}
 use Rattle.exchange_agent.proofs.Accepts.{traders-known}
 use Rattle.exchange_agent.proofs.Verdicts.{acceptable}
+use Rattle.exchange_agent.proofs.Ways.{settled-cash}
+use Rattle.std.proofs.lemmas.List.{length-set}
 
 abbrev pub IsAt : ℕ → Feed → Type 0
 IsAt time f = f.time ≡ time
@@ -128,3 +131,77 @@ at-time s time agent (body.Ask k) = All-nil (IsAt time)
 at-time s time agent body.Wake = All-nil (IsAt time)
 at-time s time agent (body.Answer r) = All-nil (IsAt time)
 at-time s time agent (body.Quote q) = All-nil (IsAt time)
+
+-- What a message leaves of the sizes of a state: as many stocks and traders, at most one ignored enter and cancel more.
+pub record KeepsSize (s after : State) : Type 0 where
+  pub stocks : length after.stocks ≡ length s.stocks
+  pub cash : length after.cash ≡ length s.cash
+  pub enters : after.counts.enters ≤ s.counts.enters + 1
+  pub cancels : after.counts.cancels ≤ s.counts.cancels + 1
+
+keeps-all : (s : State) → KeepsSize s s
+keeps-all s = record { stocks = refl; cash = refl; enters = omega arith; cancels = omega arith }
+
+size-all : (t : Taking) (fills : List Fill) (w : Way) → length (all_settled t fills w).cash ≡ length w.cash
+size-all t [] w = refl
+size-all t (f ∷ fs) w = size-all t fs (settled t f w) ∙ settled-cash t f w
+
+size-remainder : (t : Taking) (e : Enter) (reference left n : ℕ) (w : Way) → length w.cash ≡ n → length (remainder t e reference left w).cash ≡ n
+size-remainder t e reference left n w h =
+    if-both (left == 0) (λ (v : Way). length v.cash ≡ n) w _ h (if-both (e.tif == 0) (λ (v : Way). length v.cash ≡ n) _ _ h h)
+
+keeps-entered : (s : State) (time agent : ℕ) (e : Enter) (v : Verdict) → KeepsSize s (entered_by s time agent e v).state
+keeps-entered s time agent e Ignored = record { stocks = refl; cash = refl; enters = omega arith; cancels = omega arith }
+keeps-entered s time agent e (Forgotten reason) = record { stocks = refl; cash = refl; enters = omega arith; cancels = omega arith }
+keeps-entered s time agent e (Refused reason) = record { stocks = refl; cash = refl; enters = omega arith; cancels = omega arith }
+keeps-entered s time agent e (Accepted k) = record {
+  stocks = length-set s.stocks k _;
+  cash = size-remainder (taking_of time agent e k) e _ _ (length s.cash) _ (size-all (taking_of time agent e k) _ (way_from (remembering s agent e) time agent e k));
+  enters = omega arith;
+  cancels = omega arith;
+}
+
+keeps-cancel-by : (b : Bool) (s : State) (time agent : ℕ) (c : Cancel) (f : Found) → KeepsSize s (cancel-by b s time agent c f).state
+keeps-cancel-by true s time agent c f = record { stocks = length-set s.stocks f.stock _; cash = refl; enters = omega arith; cancels = omega arith }
+keeps-cancel-by false s time agent c f = record { stocks = refl; cash = refl; enters = omega arith; cancels = omega arith }
+
+keeps-cancel : (s : State) (time agent : ℕ) (c : Cancel) (f : Option Found) → KeepsSize s (cancel_of s time agent c f).state
+keeps-cancel s time agent c None = record { stocks = refl; cash = refl; enters = omega arith; cancels = omega arith }
+keeps-cancel s time agent c (Some f) = keeps-cancel-by (nat_lt c.shares f.order.intended) s time agent c f
+
+pub keeps-size : (s : State) (time agent : ℕ) (b : Body) → KeepsSize s (market s time agent b).state
+keeps-size s time agent (body.Order (inbound.Enter e)) = keeps-entered s time agent e (verdict_of s agent e)
+keeps-size s time agent (body.Order (inbound.Cancel c)) = keeps-cancel s time agent c (found_from 0 agent c.token s.stocks)
+keeps-size s time agent (body.Ask k) = keeps-all s
+keeps-size s time agent body.Wake = keeps-all s
+keeps-size s time agent (body.Answer r) = keeps-all s
+keeps-size s time agent (body.Quote q) = keeps-all s
+
+-- a change's feed has its time
+abbrev turned-by : Bool → State → ℕ → ℕ → ℕ → Changed
+turned-by b s time k letter =
+    if b then record { state = s; feed = [] }
+    else record {
+      state = with_stock s k (record (stock_at s k) { trading = letter });
+      feed = record { locate = k + 1; tracking = 0; time = time; what = what.Trading (stock_at s k).symbol letter 32 (32 ∷ 32 ∷ 32 ∷ 32 ∷ []) } ∷ [];
+    }
+
+at-turned : (b : Bool) (s : State) (time k letter : ℕ) → All (IsAt time) (turned-by b s time k letter).feed
+at-turned true s time k letter = All-nil (IsAt time)
+at-turned false s time k letter = one-at time _ refl
+
+pub at-change : (s : State) (time k : ℕ) (c : Change) → All (IsAt time) (changed_by s time k c).feed
+at-change s time k (change.Tick bands) = All-nil (IsAt time)
+at-change s time k (change.Fee fees) = All-nil (IsAt time)
+at-change s time k change.Halt = at-turned ((stock_at s k).trading == 72) s time k 72
+at-change s time k change.Resume = at-turned ((stock_at s k).trading == 84) s time k 84
+
+keeps-turned : (b : Bool) (s : State) (time k letter : ℕ) → KeepsSize s (turned-by b s time k letter).state
+keeps-turned true s time k letter = keeps-all s
+keeps-turned false s time k letter = record { stocks = length-set s.stocks k _; cash = refl; enters = omega arith; cancels = omega arith }
+
+pub keeps-change : (s : State) (time k : ℕ) (c : Change) → KeepsSize s (changed_by s time k c).state
+keeps-change s time k (change.Tick bands) = record { stocks = length-set s.stocks k _; cash = refl; enters = omega arith; cancels = omega arith }
+keeps-change s time k (change.Fee fees) = record { stocks = length-set s.stocks k _; cash = refl; enters = omega arith; cancels = omega arith }
+keeps-change s time k change.Halt = keeps-turned ((stock_at s k).trading == 72) s time k 72
+keeps-change s time k change.Resume = keeps-turned ((stock_at s k).trading == 84) s time k 84

@@ -15,7 +15,7 @@ use Rattle.market_rules.specs.declared.fees.FeeTable.{FeeTable}
 use Rattle.price_time_book.specs.declared.resting.Fill.{Fill}
 use Rattle.price_time_book.specs.declared.resting.Resting.{Resting}
 use Rattle.price_time_book.specs.Matched.{after_fill}
-use Rattle.price_time_book.specs.Sides.{opposite}
+use Rattle.market_types.specs.Sides.{opposite_of}
 use Rattle.exchange_agent.specs.declared.handled.Outgoing.{Outgoing}
 use Rattle.exchange_agent.specs.declared.settle.Taking.{Taking}
 use Rattle.exchange_agent.specs.Runs.{accepted_shares, canceled_shares, executed_shares, removed_shares, total, total_of}
@@ -34,11 +34,11 @@ pub total-gained : (agent : ℕ) (n : ℤ) (xs : List ℤ) → 1 ≤ agent → a
 total-gained agent n xs a b = total-set xs (agent - 1) (pos 0) n (omega (arith, a, b))
 
 -- one side's money is the other's
-opposite-money : (side : Side) (amount : ℕ) → money_gained (opposite side) amount ≡ neg_ℤ (money_gained side amount)
+opposite-money : (side : Side) (amount : ℕ) → money_gained (opposite_of side) amount ≡ neg_ℤ (money_gained side amount)
 opposite-money Buy amount = omega (arith, ints)
 opposite-money Sell amount = omega (arith, ints)
 
-opposite-shares : (side : Side) (shares : ℕ) → shares_gained (opposite side) shares ≡ neg_ℤ (shares_gained side shares)
+opposite-shares : (side : Side) (shares : ℕ) → shares_gained (opposite_of side) shares ≡ neg_ℤ (shares_gained side shares)
 opposite-shares Buy shares = omega (arith, ints)
 opposite-shares Sell shares = omega (arith, ints)
 
@@ -54,7 +54,7 @@ balance x y m a b c d t e f g = omega (arith, ints, e, f, g)
 -- a match moves money, and what both sides lose are its fees
 pub money-settled : (n : ℕ) (t : Taking) (f : Fill) (w : Way) → length w.cash ≡ n → 1 ≤ t.agent → t.agent ≤ n → is_trader n f.resting ≡ true → total (settled t f w).cash +ℤ (settled t f w).stock.tally.taken ≡ total w.cash +ℤ w.stock.tally.taken
 money-settled n t f w long a b e =
-    let m = money_gained (opposite t.side) (worth_of f) in
+    let m = money_gained (opposite_of t.side) (worth_of f) in
     let added = fee_added w.stock.fees f in
     let taken = fee_taken w.stock.fees f in
     let once = gained f.resting.agent (m +ℤ neg_ℤ added) w.cash in
@@ -67,7 +67,7 @@ money-settled n t f w long a b e =
 
 pub positions-settled : (n : ℕ) (t : Taking) (f : Fill) (w : Way) → length w.stock.tally.positions ≡ n → 1 ≤ t.agent → t.agent ≤ n → is_trader n f.resting ≡ true → total (settled t f w).stock.tally.positions ≡ total w.stock.tally.positions
 positions-settled n t f w long a b e =
-    let m = shares_gained (opposite t.side) f.shares in
+    let m = shares_gained (opposite_of t.side) f.shares in
     let once = gained f.resting.agent m w.stock.tally.positions in
     let first : total once ≡ total w.stock.tally.positions +ℤ m = total-gained f.resting.agent m w.stock.tally.positions (trader-low n f.resting e) (omega (arith, long, trader-high n f.resting e)) in
     let long-once : length once ≡ length w.stock.tally.positions = length-gained f.resting.agent m w.stock.tally.positions in

@@ -14,7 +14,7 @@ use Rattle.market_rules.specs.declared.fees.FeeTable.{FeeTable}
 use Rattle.market_rules.specs.Fees.{fee_of}
 use Rattle.price_time_book.specs.declared.resting.Fill.{Fill}
 use Rattle.price_time_book.specs.declared.resting.Resting.{Resting}
-use Rattle.price_time_book.specs.Sides.{opposite}
+use Rattle.market_types.specs.Sides.{opposite_of}
 use Rattle.price_time_book.specs.Matched.{after_fill}
 use Rattle.exchange_agent.specs.declared.handled.Outgoing.{Outgoing}
 use Rattle.exchange_agent.specs.declared.settle.Taking.{Taking}
@@ -59,12 +59,12 @@ both_fees_of fees f = fee_added fees f +ℤ fee_taken fees f
 abbrev pub cash_after : FeeTable → ℕ → Side → Fill → List ℤ → List ℤ
 cash_after fees agent side f cash =
     gained agent (money_gained side (worth_of f) +ℤ neg_ℤ (fee_taken fees f))
-      (gained f.resting.agent (money_gained (opposite side) (worth_of f) +ℤ neg_ℤ (fee_added fees f)) cash)
+      (gained f.resting.agent (money_gained (opposite_of side) (worth_of f) +ℤ neg_ℤ (fee_added fees f)) cash)
 
 -- settled positions after it
 abbrev pub positions_after : ℕ → Side → Fill → List ℤ → List ℤ
 positions_after agent side f positions =
-    gained agent (shares_gained side f.shares) (gained f.resting.agent (shares_gained (opposite side) f.shares) positions)
+    gained agent (shares_gained side f.shares) (gained f.resting.agent (shares_gained (opposite_of side) f.shares) positions)
 
 -- the tally after it: the last price is that of the resting order
 abbrev pub tally_after : FeeTable → ℕ → Side → Fill → Tally → Tally

@@ -15,6 +15,7 @@ use crate::settle::Taking;
 use crate::told::Counts;
 use crate::verdict::Verdict;
 use market_types::{AgentNo, Body, Enter, Memory, Money, Reply, Symbol, Time};
+use price_time_book::keeping::changes_keep;
 use std::collections::BTreeSet;
 
 // How many pairs are remembered at most.
@@ -150,10 +151,8 @@ impl Exchange {
             agent,
             token: e.token.0,
         };
-        match self.pairs.insert(pair) {
-            Ok(_) => Ok(()),
-            Err(_) => Err(Memory),
-        }
+        self.pairs.insert(pair)?;
+        Ok(())
     }
 
     // An Enter is rejected, and the pair is remembered.
@@ -236,6 +235,7 @@ fn admit(
     ensures feed_refused { OnErr result (out.new.feed.list ≡ out.old.feed.list) }
     ensures fee_refused { OnErr result (out.new.fee ≡ out.old.fee) }
 {
+    changes_keep();
     let most = listing.book.crossing(e.side, e.price);
     out.reserve(2 * most + 2, most + 1)?;
     listing.book.reserve(1)?;
@@ -243,9 +243,7 @@ fn admit(
         agent: taking.agent,
         token: e.token.0,
     };
-    if pairs.insert(pair).is_err() {
-        return Err(Memory);
-    }
+    pairs.insert(pair)?;
     counts.orders += 1;
     out.reply(
         taking.agent,

@@ -41,9 +41,7 @@ fn listings(alloc: Global, stocks: &[StockRules], traders: usize) -> Result<Vec<
     let mut listings = Vec::new(alloc);
     for rules in stocks {
         let listing = Listing::open(alloc, rules, traders)?;
-        if listings.push(listing).is_err() {
-            return Err(Memory);
-        }
+        listings.push(listing)?;
     }
     Ok(listings)
 }
@@ -55,9 +53,7 @@ fn copies(alloc: Global, stocks: &[Listing]) -> Result<Vec<Listing>, Memory>
     let mut listings = Vec::new(alloc);
     for listing in stocks {
         let listing = listing.copy(alloc)?;
-        if listings.push(listing).is_err() {
-            return Err(Memory);
-        }
+        listings.push(listing)?;
     }
     Ok(listings)
 }
@@ -77,9 +73,7 @@ fn accounts(alloc: Global, cash: &[i64]) -> Result<Vec<Money>, Memory>
 {
     let mut accounts = Vec::new(alloc);
     for amount in cash {
-        if accounts.push(money_of(*amount)).is_err() {
-            return Err(Memory);
-        }
+        accounts.push(money_of(*amount))?;
     }
     Ok(accounts)
 }
@@ -111,13 +105,8 @@ impl Exchange {
     {
         let stocks = copies(alloc, self.stocks.as_slice())?;
         let mut cash = Vec::new(alloc);
-        if cash.extend_from_slice(self.cash.as_slice()).is_err() {
-            return Err(Memory);
-        }
-        let pairs = match self.pairs.clone() {
-            Ok(pairs) => pairs,
-            Err(_) => return Err(Memory),
-        };
+        cash.extend_from_slice(self.cash.as_slice())?;
+        let pairs = self.pairs.clone()?;
         Ok(Exchange {
             stocks,
             cash,

@@ -45,10 +45,7 @@ impl Listing {
         ensures { IfOk result (λ k. stock_of k ≡ listed traders rules.now) }
     {
         let ticks = rules.ticks.copy(alloc)?;
-        let positions = match vec![in alloc; 0; traders] {
-            Ok(positions) => positions,
-            Err(_) => return Err(Memory),
-        };
+        let positions = vec![in alloc; 0; traders]?;
         Ok(Listing {
             symbol: rules.symbol,
             ticks,
@@ -69,12 +66,7 @@ impl Listing {
         let ticks = self.ticks.copy(alloc)?;
         let book = self.book.copy(alloc)?;
         let mut positions = Vec::new(alloc);
-        if positions
-            .extend_from_slice(self.positions.as_slice())
-            .is_err()
-        {
-            return Err(Memory);
-        }
+        positions.extend_from_slice(self.positions.as_slice())?;
         Ok(Listing {
             symbol: self.symbol,
             ticks,

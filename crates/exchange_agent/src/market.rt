@@ -24,6 +24,33 @@ impl Exchange {
         Ok(())
     }
 
+    // What each message does.
+    fn answer(&mut self, time: Time, from: AgentNo, body: &Body, out: &mut Handled) -> Result<(), Memory>
+        requires trader { 1 ≤ from }
+        requires exists { from ≤ length self.old.cash }
+        requires askable { IsAskable (length self.old.stocks) body.now }
+        requires enters { self.old.counts.enters < 2 ^ 63 }
+        requires cancels { self.old.counts.cancels < 2 ^ 63 }
+        requires no_replies { out.old.replies.list ≡ [] }
+        requires no_feed { out.old.feed.list ≡ [] }
+        requires no_fee { out.old.fee ≡ pos 0 }
+        ensures state { OnOk result (self.new ≡ (market self.old time from body.now).state) }
+        ensures replies { OnOk result (out.new.replies.list ≡ (market self.old time from body.now).replies) }
+        ensures feed { OnOk result (out.new.feed.list ≡ (market self.old time from body.now).feed) }
+        ensures fee { OnOk result (out.new.fee ≡ (market self.old time from body.now).fee) }
+        ensures exchange_refused { OnErr result (self.new ≡ self.old) }
+        ensures replies_refused { OnErr result (out.new.replies.list ≡ out.old.replies.list) }
+        ensures feed_refused { OnErr result (out.new.feed.list ≡ out.old.feed.list) }
+        ensures fee_refused { OnErr result (out.new.fee ≡ out.old.fee) }
+    {
+        match body {
+            Body::Order(Inbound::Enter(e)) => self.enter(time, from, e, out),
+            Body::Order(Inbound::Cancel(c)) => self.cancel(time, from, c, out),
+            Body::Ask(stock) => self.ask(from, *stock, out),
+            Body::Wake | Body::Answer(_) | Body::Quote(_) => Ok(()),
+        }
+    }
+
     /// Handles a message from a trader at a time, in nanoseconds past midnight. Orders, cancels and questions are
     /// answered in `out`, which is empty before; every other message changes nothing. Each refusal of an order is a
     /// reply. After want of memory the exchange and `out` are as they were.
@@ -52,11 +79,6 @@ impl Exchange {
         ensures fee_refused { OnErr result (out.new.fee ≡ out.old.fee) }
     {
         fills_add_up();
-        match body {
-            Body::Order(Inbound::Enter(e)) => self.enter(time, from, e, out),
-            Body::Order(Inbound::Cancel(c)) => self.cancel(time, from, c, out),
-            Body::Ask(stock) => self.ask(from, *stock, out),
-            Body::Wake | Body::Answer(_) | Body::Quote(_) => Ok(()),
-        }
+        self.answer(time, from, body, out)
     }
 }

@@ -160,6 +160,7 @@ impl Listing {
         requires feed_room { 0 < out.old.feed.spare }
         ensures way { (cash : List ℤ) (matches : ℕ) → way_at self.new cash matches out.new ≡ remainder taking.now e.now reference left (way_at self.old cash matches out.old) }
         ensures few { length self.new.book.list ≤ length self.old.book.list + 1 }
+        ensures positions { self.new.positions.items ≡ self.old.positions.items }
         ensures tested { (p : Resting → Bool) → p (resting_of reference taking.now.agent e.now left) ≡ true → All (λ o. p o ≡ true) self.old.book.list → All (λ o. p o ≡ true) self.new.book.list }
     {
         if left == 0 {

@@ -4,7 +4,6 @@ ghost use Rattle.std.specs.Prelude.{◌≡◌, ◌<◌, ◌≤◌, ◌+◌, ◌*
 ghost use Rattle.exchange_agent.specs.Settle.{added, removed, both_fees_of, cash_after, execution_of, fed, gained, money_gained, positions_after, shares_gained, settled, tally_after, worth_of};
 ghost use Rattle.exchange_agent.specs.Sound.{IsFar, IsSmall, IsWithin};
 ghost use Rattle.market_rules.specs.Fees.{each_of, fee_of};
-ghost use Rattle.price_time_book.specs.Sides.{opposite};
 ghost use Rattle.exchange_agent.specs.View.{stock_of, way_at};
 
 use crate::handled::Handled;
@@ -21,16 +20,6 @@ pub struct Taking {
     pub locate: u16,
     pub side: Side,
     pub token: Token,
-}
-
-// The other side.
-pub fn other_side(side: Side) -> Side
-    ensures { result ≡ opposite side }
-{
-    match side {
-        Side::Buy => Side::Sell,
-        Side::Sell => Side::Buy,
-    }
 }
 
 // A trader's cash gains so much.
@@ -136,7 +125,7 @@ fn settle_money(cash: &mut Vec<Money>, taking: &Taking, fill: &Fill, fees: &FeeT
     ensures moves { (b : ℕ) → All (IsWithin b) cash.old.items → All (IsWithin (b + 2 ^ 41 * fill.now.shares)) cash.new.items }
 {
     let added = fee(fees, b'A', fill.shares);
-    let gain = net_for(other_side(taking.side), fill, added);
+    let gain = net_for(taking.side.opposite(), fill, added);
     gain_money(cash, fill.resting.agent, gain);
     let removed = fee(fees, b'R', fill.shares);
     let gain = net_for(taking.side, fill, removed);
@@ -154,7 +143,7 @@ fn settle_shares(positions: &mut Vec<i64>, taking: &Taking, fill: &Fill)
     ensures value { positions.new.items ≡ positions_after taking.now.agent taking.now.side fill.now positions.old.items }
     ensures moves { (b : ℕ) → All (IsWithin b) positions.old.items → All (IsWithin (b + 2 * fill.now.shares)) positions.new.items }
 {
-    let gain = shares_for(other_side(taking.side), fill.shares);
+    let gain = shares_for(taking.side.opposite(), fill.shares);
     gain_shares(positions, fill.resting.agent, gain);
     let gain = shares_for(taking.side, fill.shares);
     gain_shares(positions, taking.agent, gain);

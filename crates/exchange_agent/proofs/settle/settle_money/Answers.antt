@@ -13,6 +13,6 @@ pub returns-clause-moves : goal.returns-clause-moves
 returns-clause-moves c = λ b all.
     let n = c.args.fill.now.shares in
     gained-twice b (2 ^ 40 * n) (b + 2 ^ 41 * n) c.args.fill.now.resting.agent c.args.taking.now.agent c.net_for-gain.result c.net_for-gain-2.result c.args.cash.now.items c.gain_money.new.accounts.items c.gain_money-2.new.accounts.items
-      c.gain_money.ensures c.gain_money-2.ensures
+      (search (rules, c.gain_money.ensures)) (search (rules, c.gain_money-2.ensures))
       (omega (arith, c.requires.resting_trader, c.requires.resting_exists)) (omega (arith, c.requires.trader, c.requires.exists))
       c.net_for-gain.ensures.size c.net_for-gain-2.ensures.size (omega arith) all

@@ -1,4 +1,4 @@
-use Rattle.std.proofs.Common.{◌≡◌, ◌≢◌, ◌≤◌, ◌<◌, ◌+◌, ◌-◌, ◌*◌, ℕ, ℤ, List, All, length, subst, [], Option, Some, None, IfSome, IfNone, rules, arith, ap, ◌∙◌, sym, refl, inl, inr, true}
+use Rattle.std.proofs.Common.{◌≡◌, ◌≢◌, ◌≤◌, ◌<◌, ◌+◌, ◌-◌, ◌*◌, ℕ, ℤ, List, All, length, subst, [], ◌∷◌, Option, Some, None, IfSome, IfNone, rules, arith, ap, ◌∙◌, sym, refl, inl, inr, true}
 use Rattle.std.specs.Prelude.{min}
 use Rattle.price_time_book.specs.declared.resting.Resting.{Resting}
 use Rattle.price_time_book.specs.Matched.{Matching, fill_of, matched, after_fill}
@@ -105,9 +105,6 @@ meet-requires-clause-feed_room c =
     let nz : left ≢ 0 = search (rules, c.fills-test.true) in
     if-some (next_of book t.side limit) (1 ≤ c.fills.out.feed.spare)
       (λ o e. let one : length (matched book t.side limit left).fills ≡ length (fill_of left o ∷ (matched (after_fill (fill_of left o) book) t.side limit (left - min o.left left)).fills) = ap (λ (m : Matching). length m.fills) (c.matching_goes_on.ensures.begins book t.side limit left o e nz) in omega (arith, one, c.fills.invariant.feed_room, c.requires.feed_room))
-
-ended : (c : goal.After-fills) → c.fills.left ≡ 0 → matched c.fills.self.book.list c.args.taking.now.side c.args.limit c.fills.left ≡ record { fills = []; book = c.fills.self.book.list; shares = c.fills.left }
-ended c zero = c.matching_ends.ensures.stays c.args.taking.now.side c.args.limit (record { fills = []; book = c.fills.self.book.list; shares = c.fills.left }) (inl zero)
 
 pub returns-clause-way : goal.returns-clause-way
 returns-clause-way c =

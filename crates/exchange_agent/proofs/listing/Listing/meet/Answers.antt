@@ -1,4 +1,4 @@
-use Rattle.std.proofs.Common.{◌≡◌, ◌≤◌, ◌<◌, ◌+◌, ◌-◌, ℕ, List, length, rules, arith, ap, ◌∙◌, sym, refl, All, Option, Some, None, IfSome, option_map, true, subst}
+use Rattle.std.proofs.Common.{◌≡◌, ◌≤◌, ◌<◌, ◌+◌, ◌-◌, ◌+ℤ◌, ℕ, List, length, rules, arith, ap, ◌∙◌, sym, refl, All, Option, Some, None, IfSome, option_map, true, subst}
 use Rattle.std.specs.Prelude.{min}
 use Rattle.std.proofs.lemmas.Bool.Decides.{nat_tests}
 use Rattle.price_time_book.specs.declared.resting.Resting.{Resting}
@@ -6,6 +6,14 @@ use Rattle.price_time_book.specs.declared.resting.Fill.{Fill}
 use Rattle.price_time_book.specs.Matched.{fill_of}
 use Rattle.price_time_book.specs.Next.{next_of}
 use Rattle.exchange_agent.specs.Sound.{is_trader}
+use Rattle.price_time_book.specs.Matched.{after_fill}
+use Rattle.exchange_agent.specs.declared.listing.Listing.{Listing}
+use Rattle.exchange_agent.specs.declared.settle.Taking.{Taking}
+use Rattle.exchange_agent.specs.Settle.{Way, both_fees_of, cash_after, settled, tally_after}
+use Rattle.exchange_agent.specs.Sound.{IsSmall}
+use Rattle.exchange_agent.specs.State.{Stock, Tally}
+use Rattle.exchange_agent.specs.View.{stock_of, way_at}
+use Rattle.exchange_agent.proofs.Ways.{way-made}
 use Rattle.exchange_agent.proofs.listing.Listing.meet.Goals as goal
 
 -- the order that gave a fill is the next one
@@ -39,3 +47,40 @@ settle-requires-clause-resting_trader c = at_least (length c.args.cash.now.items
 
 pub settle-requires-clause-resting_exists : goal.settle-requires-clause-resting_exists
 settle-requires-clause-resting_exists c = at_most (length c.args.cash.now.items) c.in_ok-fill.fill.resting (trader c)
+
+met-by : (t : Taking) (wanted : ℕ) (f : Fill) (q : Option Resting) (w v : Way) → Some f ≡ option_map (fill_of wanted) q → v ≡ settled t f w → IfSome q (λ (o : Resting). v ≡ settled t (fill_of wanted o) w)
+met-by t wanted f None w v e h = tt
+met-by t wanted f (Some o) w v e h = let same : f ≡ fill_of wanted o = grind arith in h ∙ ap (λ (g : Fill). settled t g w) same
+
+pub returns-clause-met : goal.returns-clause-met
+returns-clause-met c =
+    let t = c.args.taking.now in
+    let f = c.in_ok-fill.fill in
+    let old = c.args.self.now in
+    let mid = c.next_fill.new.self in
+    let new = c.settle.new.self in
+    let w = way_at old c.args.cash.now.items c.args.matches.now c.args.out.now in
+    let v = way_at new c.settle.new.cash.items c.settle.new.matches c.settle.new.out in
+    let filled : mid ≡ record old { book = record { list = after_fill f old.book.list; spare = mid.book.spare } } = c.in_ok-fill.ensures.filled in
+    let stock : stock_of new ≡ (settled t f w).stock =
+    c.settle.ensures.rest ∙ ap (λ (x : Tally). record (stock_of mid) { tally = x }) c.settle.ensures.tally
+    ∙ ap (λ (m : Listing). record (stock_of m) { tally = tally_after m.fees t.agent t.side f (stock_of m).tally }) filled in
+    met-by t c.args.wanted f (next_of old.book.list t.side c.args.limit) w v (search rules)
+      (way-made t f w v stock
+        (c.settle.ensures.cash ∙ ap (λ (m : Listing). cash_after m.fees t.agent t.side f c.args.cash.now.items) filled)
+        c.settle.ensures.matches
+        (ap (λ r. r.list) c.settle.ensures.replies)
+        (ap (λ r. r.list) c.settle.ensures.feed)
+        (c.settle.ensures.fee ∙ ap (λ (m : Listing). c.args.out.now.fee +ℤ both_fees_of m.fees f) filled))
+
+pub returns-clause-small : goal.returns-clause-small
+returns-clause-small c = λ orders shares h.
+    let f = c.in_ok-fill.fill in
+    let old = c.args.self.now in
+    let mid = c.next_fill.new.self in
+    let v = way_at c.settle.new.self c.settle.new.cash.items c.settle.new.matches c.settle.new.out in
+    let filled : mid ≡ record old { book = record { list = after_fill f old.book.list; spare = mid.book.spare } } = c.in_ok-fill.ensures.filled in
+    let start : IsSmall orders shares (way_at mid c.args.cash.now.items c.args.matches.now c.args.out.now) =
+    subst (λ (m : Listing). IsSmall orders shares (way_at m c.args.cash.now.items c.args.matches.now c.args.out.now)) (sym filled) (record { cash = h.cash; matches = h.matches; matched = h.matched; taken = h.taken; positions = h.positions; fee = h.fee }) in
+    let same : f.shares ≡ c.args.wanted - (c.args.wanted - f.shares) = omega (arith, c.in_ok-fill.ensures.within) in
+    subst (λ (n : ℕ). IsSmall orders (shares + n) v) same (c.settle.ensures.small orders shares (omega (arith, c.in_ok-fill.ensures.gives)) start)
