@@ -8,8 +8,8 @@ ghost use Rattle.price_time_book.specs.Orders.{order_of, order_with, changed, re
 ghost use Rattle.price_time_book.specs.Sides.{depth_of};
 
 use crate::resting::{Best, Fill, Resting};
-use crate::search::{crossing_in, held_at, is_within, opposite, order_of, shares_at, top_of};
-use market_types::{AgentNo, Memory, Side, Token};
+use crate::search::{crossing_in, held_at, is_within, order_of, shares_at, top_of};
+use market_types::{AgentNo, Memory, Side, Token, copied};
 use std::alloc::Global;
 use std::marker::Model;
 
@@ -57,13 +57,9 @@ impl Book {
         if n <= self.spare {
             return Ok(());
         }
-        match self.orders.reserve(n) {
-            Ok(()) => {
-                self.spare = n;
-                Ok(())
-            }
-            Err(_) => Err(Memory),
-        }
+        self.orders.reserve(n)?;
+        self.spare = n;
+        Ok(())
     }
 
     /// A book with the same orders, which may keep any number of places.
@@ -98,7 +94,7 @@ impl Book {
         ensures unmatched { IfNone result (self.new.list ≡ self.old.list) }
         ensures room { self.old.spare ≤ self.new.spare }
     {
-        let (at, resting) = top_of(self.orders.as_slice(), opposite(side))?;
+        let (at, resting) = top_of(self.orders.as_slice(), side.opposite())?;
         if !is_within(side, limit, resting.price) {
             return None;
         }
@@ -213,16 +209,5 @@ impl Book {
         } else {
             self.orders[at] = order;
         }
-    }
-}
-
-// The same orders.
-fn copied(alloc: Global, orders: &[Resting]) -> Result<Vec<Resting>, Memory>
-    ensures { IfOk result (λ v. v.items ≡ orders.now) }
-{
-    let mut copy = Vec::new(alloc);
-    match copy.extend_from_slice(orders) {
-        Ok(()) => Ok(copy),
-        Err(_) => Err(Memory),
     }
 }

@@ -4,20 +4,10 @@ ghost use Rattle.std.specs.Prelude.{◌≡◌, ◌==◌, ◌≤◌, ◌^◌, IfS
 ghost use Rattle.price_time_book.specs.Next.{crosses, crossing_of, shares_at, top_of};
 ghost use Rattle.price_time_book.specs.Orders.{order_of, order_with};
 ghost use Rattle.price_time_book.specs.Search.{goes_first};
-ghost use Rattle.price_time_book.specs.Sides.{is_better, is_within, opposite};
+ghost use Rattle.price_time_book.specs.Sides.{is_better, is_within};
 
 use crate::resting::Resting;
 use market_types::{AgentNo, Side, Token};
-
-// The side that an order of this side meets.
-pub fn opposite(side: Side) -> Side
-    ensures { result ≡ opposite side }
-{
-    match side {
-        Side::Buy => Side::Sell,
-        Side::Sell => Side::Buy,
-    }
-}
 
 // Whether a price is better than another for orders that rest on this side.
 fn is_better(side: Side, a: u32, b: u32) -> bool
@@ -43,7 +33,7 @@ pub fn is_within(side: Side, limit: u32, price: u32) -> bool
 fn crosses(side: Side, limit: u32, order: &Resting) -> bool
     ensures { result ≡ crosses side limit order.now }
 {
-    order.side == opposite(side) && is_within(side, limit, order.price)
+    order.side == side.opposite() && is_within(side, limit, order.price)
 }
 
 // How many orders cross an incoming order of this side with this limit.
