@@ -1,5 +1,5 @@
 -- An order that is accepted: what it needs of a sound stock, and the state that it leaves.
-use Rattle.std.proofs.Common.{◌≡◌, ℕ, ◌+◌, ◌<◌, ◌≤◌, ◌*◌, ◌^◌, Bool, true, false, ◌&&◌, ◌==◌, ℤ, pos, List, [], ◌∷◌, ◌++◌, map, length, slice_index_or, slice_set, All, arith, ap, subst, sym, ◌∙◌, refl}
+use Rattle.std.proofs.Common.{◌≡◌, ℕ, zero, suc, ◌+◌, ◌<◌, ◌≤◌, ◌*◌, ◌^◌, Bool, true, false, ◌&&◌, ◌==◌, ℤ, pos, List, [], ◌∷◌, ◌++◌, map, length, slice_index_or, slice_set, All, arith, ap, subst, sym, ◌∙◌, refl}
 use Rattle.std.specs.Prelude.{nat_le, bytes_eq}
 use Rattle.std.proofs.lemmas.Bool.Decides.{nat_tests}
 use Rattle.std.proofs.lemmas.List.{map-set}
@@ -95,3 +95,25 @@ state-accepted s stocks cash cash-after pairs pairs-after counts counts-after ti
     ∙ ap (λ (ps : List Pair). record { stocks = slice_set (map stock_of stocks) k v.stock; cash = v.cash; pairs = ps; counts = counts-after }) is-pairs
     ∙ ap (λ (n : Counts). record { stocks = slice_set (map stock_of stocks) k v.stock; cash = v.cash; pairs = with_pair (pair_of agent e.token) pairs; counts = n }) is-counts in
     here ∙ ap (λ (q : State). made v q) (sym is-s) ∙ ap (λ (w : Way). made w s) way
+
+-- a way that starts with nothing told
+pub way-clean : (t : Taking) (e : Enter) (n : ℕ) (stock : Stock) (cash : List ℤ) (matches : ℕ) (reply : Outgoing) (replies : List Outgoing) (feed : List Feed) (fee : ℤ) → replies ≡ [] → feed ≡ [] → fee ≡ pos 0 → way_of t e n (record { stock = stock; cash = cash; matches = matches; replies = replies ++ reply ∷ []; feed = feed; fee = fee }) ≡ way_of t e n (record { stock = stock; cash = cash; matches = matches; replies = reply ∷ []; feed = []; fee = pos 0 })
+way-clean t e n stock cash matches reply replies feed fee no-replies no-feed no-fee =
+    ap (λ (rs : List Outgoing). way_of t e n (record { stock = stock; cash = cash; matches = matches; replies = rs ++ reply ∷ []; feed = feed; fee = fee })) no-replies
+    ∙ ap (λ (fs : List Feed). way_of t e n (record { stock = stock; cash = cash; matches = matches; replies = reply ∷ []; feed = fs; fee = fee })) no-feed
+    ∙ ap (λ (x : ℤ). way_of t e n (record { stock = stock; cash = cash; matches = matches; replies = reply ∷ []; feed = []; fee = x })) no-fee
+
+set-same : (xs : List Listing) (k : ℕ) (r : Listing) → r ≡ slice_index_or xs k r → slice_set xs k r ≡ xs
+set-same [] k r e = refl
+set-same (x ∷ xs) zero r e = ap (λ (y : Listing). y ∷ xs) e
+set-same (x ∷ xs) (suc k) r e = ap (λ (ys : List Listing). x ∷ ys) (set-same xs k r e)
+
+-- the state where all parts are as they were
+pub state-refused : (stocks : List Listing) (cash cash-after : List ℤ) (pairs pairs-after : List Pair) (counts counts-after : Counts) (k : ℕ) (r l : Listing) → r ≡ slice_index_or stocks k r → stock_of l ≡ stock_of r → cash-after ≡ cash → pairs-after ≡ pairs → counts-after ≡ counts → state_of (slice_set stocks k l) cash-after pairs-after counts-after ≡ state_of stocks cash pairs counts
+state-refused stocks cash cash-after pairs pairs-after counts counts-after k r l at is-stock is-cash is-pairs is-counts =
+    let stocks-are : map stock_of (slice_set stocks k l) ≡ map stock_of stocks =
+    map-set stock_of stocks k l ∙ ap (λ (x : Stock). slice_set (map stock_of stocks) k x) is-stock ∙ sym (map-set stock_of stocks k r) ∙ ap (λ (xs : List Listing). map stock_of xs) (set-same stocks k r at) in
+    ap (λ (xs : List Stock). record { stocks = xs; cash = cash-after; pairs = pairs-after; counts = counts-after }) stocks-are
+    ∙ ap (λ (xs : List ℤ). record { stocks = map stock_of stocks; cash = xs; pairs = pairs-after; counts = counts-after }) is-cash
+    ∙ ap (λ (ps : List Pair). record { stocks = map stock_of stocks; cash = cash; pairs = ps; counts = counts-after }) is-pairs
+    ∙ ap (λ (n : Counts). record { stocks = map stock_of stocks; cash = cash; pairs = pairs; counts = n }) is-counts

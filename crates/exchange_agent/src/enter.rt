@@ -274,6 +274,7 @@ impl Exchange {
         ensures feed_refused { OnErr result (out.new.feed.list ≡ out.old.feed.list) }
         ensures fee_refused { OnErr result (out.new.fee ≡ out.old.fee) }
     {
+        let listing = &mut self.stocks[stock];
         let taking = Taking {
             time,
             agent: from,
@@ -282,7 +283,7 @@ impl Exchange {
             token: e.token,
         };
         admit(
-            &mut self.stocks[stock],
+            listing,
             &mut self.cash,
             &mut self.pairs,
             &mut self.counts,
