@@ -24,10 +24,10 @@ use Rattle.exchange_agent.specs.declared.verdict.Verdict.{Verdict}
 use Rattle.exchange_agent.specs.declared.verdict.Verdict.TheVariants.{Ignored, Forgotten, Refused, Accepted}
 use Rattle.exchange_agent.specs.Cancel.{cancel_of, canceled, found_from, unheard}
 use Rattle.exchange_agent.specs.Changes.{Changed, changed_by}
-use Rattle.exchange_agent.specs.Enter.{entered, entered_by, remainder, remembering, taking_of, verdict_of, way_from, way_of}
+use Rattle.exchange_agent.specs.Enter.{acceptance_of, entered, entered_by, remainder, remembering, taking_of, verdict_of, way_from, way_of}
 use Rattle.exchange_agent.specs.Market.{market}
 use Rattle.exchange_agent.specs.Outcome.{IsToTrader, Outcome}
-use Rattle.exchange_agent.specs.Settle.{Way, all_settled, settled}
+use Rattle.exchange_agent.specs.Settle.{Way, added, all_settled, execution_of, removed, settled}
 use Rattle.exchange_agent.specs.Sound.{IsSound, is_trader}
 use Rattle.exchange_agent.specs.State.{State, Stock, no_stock, stock_at, stock_number_of, with_stock}
 use Rattle.exchange_agent.proofs.Accepts.{traders-known}
@@ -51,7 +51,9 @@ trader-range n o e = (grind (arith, nat_tests), grind (arith, nat_tests))
 to-settled : (n : ℕ) (t : Taking) (f : Fill) (w : Way) → 1 ≤ t.agent → t.agent ≤ n → is_trader n f.resting ≡ true → All (IsToTrader n) w.replies → All (IsToTrader n) (settled t f w).replies
 to-settled n t f w a b e h =
     let r = trader-range n f.resting e in
-    All-append (IsToTrader n) w.replies _ h (All-cons (IsToTrader n) _ _ (record { trader = r.0; exists = r.1 }) (one-to n _ a b))
+    let first : Outgoing = record { to = f.resting.agent; body = execution_of t.time f.resting.token added (w.matches + 1) f } in
+    let second : Outgoing = record { to = t.agent; body = execution_of t.time t.token removed (w.matches + 1) f } in
+    All-append (IsToTrader n) w.replies (first ∷ second ∷ []) h (All-cons (IsToTrader n) first (second ∷ []) (record { trader = r.0; exists = r.1 }) (one-to n second a b))
 
 to-all : (n : ℕ) (t : Taking) (fills : List Fill) (w : Way) → 1 ≤ t.agent → t.agent ≤ n → All (λ (f : Fill). is_trader n f.resting ≡ true) fills → All (IsToTrader n) w.replies → All (IsToTrader n) (all_settled t fills w).replies
 to-all n t [] w a b es h = h
@@ -92,14 +94,21 @@ to-entered s time agent e (Accepted k) h law a b is =
     let stock = h.stocks k no_stock place.0 in
     let traders = traders-known n s.counts.orders s.pairs (stock_at s k).book stock.known in
     let t = taking_of time agent e k in
-    to-remainder n t e _ _ _ a b
-      (to-all n t _ _ a b (law (stock_at s k).book e.side e.price e.shares traders) (one-to n _ a b))
+    let w = way_from (remembering s agent e) time agent e k in
+    let m = matched w.stock.book e.side e.price e.shares in
+    let accepted : Outgoing = record { to = agent; body = body.Answer (acceptance_of time e (s.counts.orders + 1)) } in
+    to-remainder n t e (s.counts.orders + 1) m.shares (all_settled t m.fills w) a b
+      (to-all n t m.fills w a b (law (stock_at s k).book e.side e.price e.shares traders) (one-to n accepted a b))
 
 at-entered : (s : State) (time agent : ℕ) (e : Enter) (v : Verdict) → All (IsAt time) (entered_by s time agent e v).feed
 at-entered s time agent e Ignored = All-nil (IsAt time)
 at-entered s time agent e (Forgotten reason) = All-nil (IsAt time)
 at-entered s time agent e (Refused reason) = All-nil (IsAt time)
-at-entered s time agent e (Accepted k) = at-remainder (taking_of time agent e k) e _ _ _ (at-all (taking_of time agent e k) _ _ (All-nil (IsAt time)))
+at-entered s time agent e (Accepted k) =
+    let t = taking_of time agent e k in
+    let w = way_from (remembering s agent e) time agent e k in
+    let m = matched w.stock.book e.side e.price e.shares in
+    at-remainder t e (s.counts.orders + 1) m.shares (all_settled t m.fills w) (at-all t m.fills w (All-nil (IsAt time)))
 
 abbrev cancel-by : Bool → State → ℕ → ℕ → Cancel → Found → Outcome
 cancel-by t s time agent c f = if t then canceled s time agent c f.stock f.order else unheard s
@@ -139,7 +148,7 @@ pub record KeepsSize (s after : State) : Type 0 where
   pub enters : after.counts.enters ≤ s.counts.enters + 1
   pub cancels : after.counts.cancels ≤ s.counts.cancels + 1
 
-keeps-all : (s : State) → KeepsSize s s
+pub keeps-all : (s : State) → KeepsSize s s
 keeps-all s = record { stocks = refl; cash = refl; enters = omega arith; cancels = omega arith }
 
 size-all : (t : Taking) (fills : List Fill) (w : Way) → length (all_settled t fills w).cash ≡ length w.cash
@@ -154,12 +163,16 @@ keeps-entered : (s : State) (time agent : ℕ) (e : Enter) (v : Verdict) → Kee
 keeps-entered s time agent e Ignored = record { stocks = refl; cash = refl; enters = omega arith; cancels = omega arith }
 keeps-entered s time agent e (Forgotten reason) = record { stocks = refl; cash = refl; enters = omega arith; cancels = omega arith }
 keeps-entered s time agent e (Refused reason) = record { stocks = refl; cash = refl; enters = omega arith; cancels = omega arith }
-keeps-entered s time agent e (Accepted k) = record {
-  stocks = length-set s.stocks k _;
-  cash = size-remainder (taking_of time agent e k) e _ _ (length s.cash) _ (size-all (taking_of time agent e k) _ (way_from (remembering s agent e) time agent e k));
-  enters = omega arith;
-  cancels = omega arith;
-}
+keeps-entered s time agent e (Accepted k) =
+    let t = taking_of time agent e k in
+    let w = way_from (remembering s agent e) time agent e k in
+    let m = matched w.stock.book e.side e.price e.shares in
+    record {
+      stocks = length-set s.stocks k (way_of t e (s.counts.orders + 1) w).stock;
+      cash = size-remainder t e (s.counts.orders + 1) m.shares (length s.cash) (all_settled t m.fills w) (size-all t m.fills w);
+      enters = omega arith;
+      cancels = omega arith;
+    }
 
 keeps-cancel-by : (b : Bool) (s : State) (time agent : ℕ) (c : Cancel) (f : Found) → KeepsSize s (cancel-by b s time agent c f).state
 keeps-cancel-by true s time agent c f = record { stocks = length-set s.stocks f.stock _; cash = refl; enters = omega arith; cancels = omega arith }

@@ -21,10 +21,10 @@ pub data Act : Type 0 where
   message : ℕ → ℕ → Body → Act
   change : ℕ → ℕ → Change → Act
 
--- a message is from one of so many traders
-abbrev pub IsFromTrader : ℕ → Act → Type 0
-IsFromTrader traders (message time from b) = (1 ≤ from) × (from ≤ traders)
-IsFromTrader traders (change time stock c) = Unit {0}
+-- a message is from one of so many traders, and a change is of one of so many stocks
+abbrev pub IsPossible : ℕ → ℕ → Act → Type 0
+IsPossible traders stocks (message time from b) = (1 ≤ from) × (from ≤ traders)
+IsPossible traders stocks (change time stock c) = stock < stocks
 
 abbrev pub state_after : State → Act → State
 state_after s (message time from b) = (market s time from b).state
@@ -67,14 +67,15 @@ canceled_shares _ = 0
 abbrev pub total_of : (Body → ℕ) → List Outgoing → ℕ
 total_of shares replies = sum_by (λ r. shares r.body) replies
 
+-- whether a number is this one
+abbrev pub is_number : ℕ → Option ℕ → Bool
+is_number k None = false
+is_number k (Some n) = n == k
+
 -- whether an Enter is for the stock of a number
 abbrev pub is_for : State → ℕ → Act → Bool
 is_for s k (message time from (body.Order (inbound.Enter e))) = is_number k (stock_number_of e.stock s.stocks)
 is_for s k _ = false
-
-abbrev pub is_number : ℕ → Option ℕ → Bool
-is_number k None = false
-is_number k (Some n) = n == k
 
 -- the shares executed with flag 'R' on the way by orders for the stock of a number
 abbrev pub removed_over : State → ℕ → List Act → ℕ

@@ -3,6 +3,7 @@
 ghost use Rattle.std.specs.Prelude.{◌≡◌, ◌<◌, ◌≤◌, ◌+◌, ◌++◌, ◌^◌, [], pos, OnOk, OnErr, All, length};
 ghost use Rattle.exchange_agent.specs.Market.{IsAskable, asked, market};
 ghost use Rattle.exchange_agent.specs.Outcome.{IsToTrader};
+ghost use Rattle.exchange_agent.specs.Sound.{IsSound};
 
 use crate::exchange::Exchange;
 use crate::handled::Handled;
@@ -22,6 +23,13 @@ impl Exchange {
         let quote = self.stocks[usize::from(stock)].quote(stock);
         out.reply(from, Body::Quote(quote));
         Ok(())
+    }
+
+    // What holds of each exchange.
+    fn is_sound(&self)
+        ensures { IsSound self.now }
+    {
+        let _counts = &self.counts;
     }
 
     // What each message does.
@@ -79,6 +87,7 @@ impl Exchange {
         ensures fee_refused { OnErr result (out.new.fee ≡ out.old.fee) }
     {
         fills_add_up();
+        self.is_sound();
         self.answer(time, from, body, out)
     }
 }
