@@ -11,10 +11,12 @@ use Rattle.market_types.specs.declared.order.Enter.{Enter}
 use Rattle.market_types.specs.declared.order.Side.{Side}
 use Rattle.price_time_book.specs.declared.resting.Fill.{Fill}
 use Rattle.price_time_book.specs.declared.resting.Resting.{Resting}
-use Rattle.price_time_book.specs.Kept.{IsKeptByFills}
+use Rattle.price_time_book.specs.Kept.{IsKeptByFills, IsKeptByReduce}
 use Rattle.price_time_book.specs.Matched.{IsEnded, Matching, after_fill, completed, fill_of, matched, matched_by, with_fill, with_next}
 use Rattle.price_time_book.specs.Next.{crosses, next_of}
 use Rattle.price_time_book.specs.Orderly.{IsOrderly}
+use Rattle.price_time_book.specs.Orders.{changed, order_of, order_with, reduced}
+use Rattle.market_types.specs.declared.order.Token.{Token}
 use Rattle.exchange_agent.specs.declared.settle.Taking.{Taking}
 use Rattle.exchange_agent.specs.Enter.{remainder, resting_of, way_of}
 use Rattle.exchange_agent.specs.Settle.{Way, all_settled, settled}
@@ -89,13 +91,18 @@ pub record BookLaws : Type 0 where
   pub few : (side : Side) (limit : ℕ) (m : Matching) → length (completed side limit m).book ≤ length m.book
   pub ends : (side : Side) (limit : ℕ) (m : Matching) → IsEnded side limit (completed side limit m)
   pub none : (book : List Resting) (side : Side) (limit : ℕ) → next_of book side limit ≡ None → All (λ o. crosses side limit o ≡ false) book
+  pub lower-tested : (p : Resting → Bool) → IsKeptByReduce p → (reference left : ℕ) (book : List Resting) (o : Resting) → order_with reference book ≡ Some o → left ≤ o.left → All (λ x. p x ≡ true) book → All (λ x. p x ≡ true) (changed (reduced left o) book)
+  pub lower-references : (n reference left : ℕ) (book : List Resting) (o : Resting) → order_with reference book ≡ Some o → left ≤ o.left → All (λ x. x.reference < n) book → All (λ x. x.reference < n) (changed (reduced left o) book)
+  pub lowered : (reference left : ℕ) (book : List Resting) (o : Resting) → IsOrderly book → order_with reference book ≡ Some o → left < o.left → IsOrderly (changed (reduced left o) book)
+  pub lowered-shares : (reference left : ℕ) (book : List Resting) (o : Resting) → IsOrderly book → order_with reference book ≡ Some o → left < o.left → sum_by (λ x. x.left) (changed (reduced left o) book) + (o.left - left) ≡ sum_by (λ x. x.left) book
+  pub by-reference : (agent : ℕ) (token : Token) (book : List Resting) (o : Resting) → IsOrderly book → order_of agent token book ≡ Some o → order_with o.reference book ≡ Some o
   pub rested : (book : List Resting) (o : Resting) → IsOrderly book → All (λ x. x.reference < o.reference) book → 0 < o.left → o.left ≤ o.intended → length book < 4294967296 → IsOrderly (book ++ o ∷ [])
 
 -- An order of so many shares whose matches are done, of which so many are left.
 pub record IsCrossed (n reference : ℕ) (w v : Way) (moved left shares : ℕ) : Type 0 where
   pub on : IsOnWay n w v moved
   pub sum : moved + left ≡ shares
-  pub open : sum_by (λ o. o.left) v.stock.book + moved ≡ sum_by (λ o. o.left) w.stock.book
+  pub opens : sum_by (λ o. o.left) v.stock.book + moved ≡ sum_by (λ o. o.left) w.stock.book
   pub orderly : IsOrderly v.stock.book
   pub traders : All (λ o. is_trader n o ≡ true) v.stock.book
   pub references : All (λ o. o.reference < reference) v.stock.book
@@ -103,7 +110,7 @@ pub record IsCrossed (n reference : ℕ) (w v : Way) (moved left shares : ℕ) :
   pub few : length v.stock.book < 4294967296
 
 -- The end of an order's way, at which so many of its shares have matched.
-pub record IsEnd (n reference : ℕ) (w z : Way) (moved shares : ℕ) : Type 0 where
+pub record IsEnd (n reference : ℕ) (w z : Way) (moved wanted : ℕ) : Type 0 where
   pub cash : length z.cash ≡ n
   pub accounts : length z.stock.tally.positions ≡ n
   pub money : total z.cash +ℤ z.stock.tally.taken ≡ total w.cash +ℤ w.stock.tally.taken
@@ -111,7 +118,7 @@ pub record IsEnd (n reference : ℕ) (w z : Way) (moved shares : ℕ) : Type 0 w
   pub matched : z.stock.tally.matched ≡ w.stock.tally.matched + moved
   pub removed : total_of removed_shares z.replies ≡ total_of removed_shares w.replies + moved
   pub accepted : total_of accepted_shares z.replies ≡ total_of accepted_shares w.replies
-  pub shares : sum_by (λ o. o.left) z.stock.book + total_of executed_shares z.replies + total_of canceled_shares z.replies ≡ sum_by (λ o. o.left) w.stock.book + total_of executed_shares w.replies + total_of canceled_shares w.replies + shares
+  pub shares : sum_by (λ o. o.left) z.stock.book + total_of executed_shares z.replies + total_of canceled_shares z.replies ≡ sum_by (λ o. o.left) w.stock.book + total_of executed_shares w.replies + total_of canceled_shares w.replies + wanted
   pub orderly : IsOrderly z.stock.book
   pub traders : All (λ o. is_trader n o ≡ true) z.stock.book
   pub references : All (λ o. o.reference < reference + 1) z.stock.book
@@ -121,7 +128,7 @@ less-more : (reference : ℕ) (book : List Resting) → All (λ o. o.reference <
 less-more reference book h = All-weaker (λ (o : Resting). o.reference < reference) (λ (o : Resting). o.reference < reference + 1) (λ o lt. omega (arith, lt)) book h
 
 end-whole : (n reference : ℕ) (w v : Way) (moved left shares : ℕ) → IsCrossed n reference w v moved left shares → left ≡ 0 → IsEnd n reference w v moved shares
-end-whole n reference w v moved left shares h zero = record {
+end-whole n reference w v moved left shares h none = record {
   cash = h.on.cash;
   accounts = h.on.accounts;
   money = h.on.money;
@@ -129,7 +136,7 @@ end-whole n reference w v moved left shares h zero = record {
   matched = h.on.matched;
   removed = h.on.removed;
   accepted = h.on.accepted;
-  shares = omega (arith, h.open, h.sum, h.on.executed, h.on.canceled, zero);
+  shares = omega (arith, h.opens, h.sum, h.on.executed, h.on.canceled, none);
   orderly = h.orderly;
   traders = h.traders;
   references = less-more reference v.stock.book h.references;
@@ -139,9 +146,9 @@ end-whole n reference w v moved left shares h zero = record {
 end-canceled : (n reference : ℕ) (w v : Way) (moved left shares : ℕ) (t : Taking) (e : Enter) → IsCrossed n reference w v moved left shares → IsEnd n reference w (record v { replies = v.replies ++ record { to = t.agent; body = Answer (Canceled t.time e.token left 73) } ∷ [] }) moved shares
 end-canceled n reference w v moved left shares t e h =
     let reply : Outgoing = record { to = t.agent; body = Answer (Canceled t.time e.token left 73) } in
-    let told : (of : Body → ℕ) → total_of of (v.replies ++ reply ∷ []) ≡ total_of of v.replies + (of reply.body + 0) = λ of. sum_by-append (λ (r : Outgoing). of r.body) v.replies (reply ∷ []) in
+    let told : (of : Body → ℕ) → total_of of (v.replies ++ reply ∷ []) ≡ total_of of v.replies + (0 + of reply.body) = λ of. sum_by-append (λ (r : Outgoing). of r.body) v.replies (reply ∷ []) in
     let executed : total_of executed_shares (v.replies ++ reply ∷ []) ≡ total_of executed_shares v.replies + 0 = told executed_shares in
-    let canceled : total_of canceled_shares (v.replies ++ reply ∷ []) ≡ total_of canceled_shares v.replies + (left + 0) = told canceled_shares in
+    let canceled : total_of canceled_shares (v.replies ++ reply ∷ []) ≡ total_of canceled_shares v.replies + (0 + left) = told canceled_shares in
     let removed : total_of removed_shares (v.replies ++ reply ∷ []) ≡ total_of removed_shares v.replies + 0 = told removed_shares in
     let accepted : total_of accepted_shares (v.replies ++ reply ∷ []) ≡ total_of accepted_shares v.replies + 0 = told accepted_shares in
     record {
@@ -152,7 +159,7 @@ end-canceled n reference w v moved left shares t e h =
       matched = h.on.matched;
       removed = omega (arith, removed, h.on.removed);
       accepted = omega (arith, accepted, h.on.accepted);
-      shares = omega (arith, executed, canceled, h.open, h.sum, h.on.executed, h.on.canceled);
+      shares = omega (arith, executed, canceled, h.opens, h.sum, h.on.executed, h.on.canceled);
       orderly = h.orderly;
       traders = h.traders;
       references = less-more reference v.stock.book h.references;
@@ -161,7 +168,7 @@ end-canceled n reference w v moved left shares t e h =
 
 end-rested : (laws : BookLaws) (n reference : ℕ) (w v : Way) (moved left shares : ℕ) (o : Resting) (feed : List Feed) → IsCrossed n reference w v moved left shares → o.reference ≡ reference → o.left ≡ left → left ≢ 0 → left ≤ o.intended → is_trader n o ≡ true → All (λ x. crosses o.side o.price x ≡ false) v.stock.book → IsEnd n reference w (record v { stock = record v.stock { book = v.stock.book ++ o ∷ [] }; feed = feed }) moved shares
 end-rested laws n reference w v moved left shares o feed h is-reference is-left some within trader none =
-    let sum : sum_by (λ x. x.left) (v.stock.book ++ o ∷ []) ≡ sum_by (λ x. x.left) v.stock.book + (o.left + 0) = sum_by-append (λ (x : Resting). x.left) v.stock.book (o ∷ []) in
+    let sum : sum_by (λ x. x.left) (v.stock.book ++ o ∷ []) ≡ sum_by (λ x. x.left) v.stock.book + (0 + o.left) = sum_by-append (λ (x : Resting). x.left) v.stock.book (o ∷ []) in
     let before : All (λ (x : Resting). x.reference < o.reference) v.stock.book = subst (λ (m : ℕ). All (λ (x : Resting). x.reference < m) v.stock.book) (sym is-reference) h.references in
     record {
       cash = h.on.cash;
@@ -171,7 +178,7 @@ end-rested laws n reference w v moved left shares o feed h is-reference is-left 
       matched = h.on.matched;
       removed = h.on.removed;
       accepted = h.on.accepted;
-      shares = omega (arith, sum, is-left, h.open, h.sum, h.on.executed, h.on.canceled);
+      shares = omega (arith, sum, is-left, h.opens, h.sum, h.on.executed, h.on.canceled);
       orderly = laws.rested v.stock.book o h.orderly before (omega (arith, is-left, some)) (omega (arith, is-left, within)) h.few;
       traders = All-push (λ (x : Resting). is_trader n x ≡ true) v.stock.book o h.traders trader;
       references = All-push (λ (x : Resting). x.reference < reference + 1) v.stock.book o (less-more reference v.stock.book h.references) (omega (arith, is-reference));
@@ -185,7 +192,7 @@ some-from : (m : ℕ) → (m == 0) ≡ false → m ≢ 0
 some-from m e = λ z. absurd (false≢true (sym e ∙ subst (λ (k : ℕ). (k == 0) ≡ true) (sym z) refl))
 
 nothing-crosses : (laws : BookLaws) (side : Side) (limit : ℕ) (m : Matching) → IsEnded side limit m → m.shares ≢ 0 → All (λ (o : Resting). crosses side limit o ≡ false) m.book
-nothing-crosses laws side limit m (inl zero) some = absurd (some zero)
+nothing-crosses laws side limit m (inl none) some = absurd (some none)
 nothing-crosses laws side limit m (inr none) some = laws.none m.book side limit none
 
 abbrev tif-by : Bool → Taking → Enter → ℕ → ℕ → Way → Way
@@ -220,7 +227,7 @@ ended-way laws n reference t e w cash accounts low high traders references order
     let h : IsCrossed n reference w v moved k.shares e.shares = record {
       on = on-all n t k.fills w cash accounts low high (laws.fills (is_trader n) (λ o left le q. q) w.stock.book e.side e.price e.shares traders);
       sum = omega (arith, adds);
-      open = omega (arith, opens, opens-here);
+      opens = omega (arith, opens, opens-here);
       orderly = subst (λ (b : List Resting). IsOrderly b) (sym is-book) (laws.orderly e.side e.price m orderly);
       traders = subst (λ (b : List Resting). All (λ o. is_trader n o ≡ true) b) (sym is-book) (laws.tested (is_trader n) (λ o left le q. q) e.side e.price m traders);
       references = subst (λ (b : List Resting). All (λ o. o.reference < reference) b) (sym is-book) (laws.references reference e.side e.price m references);

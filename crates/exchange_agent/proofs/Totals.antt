@@ -87,8 +87,12 @@ pub record IsOnWay (n : ℕ) (w v : Way) (shares : ℕ) : Type 0 where
   pub accepted : total_of accepted_shares v.replies ≡ total_of accepted_shares w.replies
   pub canceled : total_of canceled_shares v.replies ≡ total_of canceled_shares w.replies
 
-told-settled : (of : Body → ℕ) (t : Taking) (f : Fill) (w : Way) (k : ℕ) → of (Answer (Executed t.time f.resting.token f.shares f.resting.price 65 (w.matches + 1))) + (of (Answer (Executed t.time t.token f.shares f.resting.price 82 (w.matches + 1))) + 0) ≡ k → total_of of (settled t f w).replies ≡ total_of of w.replies + k
-told-settled of t f w k e = sum_by-append (λ (r : Outgoing). of r.body) w.replies _ ∙ ap (λ (j : ℕ). total_of of w.replies + j) e
+told-settled : (of : Body → ℕ) (t : Taking) (f : Fill) (w : Way) (k : ℕ) → 0 + of (Answer (Executed t.time f.resting.token f.shares f.resting.price 65 (w.matches + 1))) + of (Answer (Executed t.time t.token f.shares f.resting.price 82 (w.matches + 1))) ≡ k → total_of of (settled t f w).replies ≡ total_of of w.replies + k
+told-settled of t f w k e =
+    let both : List Outgoing = record { to = f.resting.agent; body = Answer (Executed t.time f.resting.token f.shares f.resting.price 65 (w.matches + 1)) } ∷ record { to = t.agent; body = Answer (Executed t.time t.token f.shares f.resting.price 82 (w.matches + 1)) } ∷ [] in
+    let here : sum_by (λ (r : Outgoing). of r.body) (w.replies ++ both) ≡ sum_by (λ (r : Outgoing). of r.body) w.replies + sum_by (λ (r : Outgoing). of r.body) both = sum_by-append (λ (r : Outgoing). of r.body) w.replies both in
+    let same : sum_by (λ (r : Outgoing). of r.body) both ≡ k = e in
+    omega (arith, here, same)
 
 pub on-settled : (n : ℕ) (t : Taking) (f : Fill) (w : Way) → length w.cash ≡ n → length w.stock.tally.positions ≡ n → 1 ≤ t.agent → t.agent ≤ n → is_trader n f.resting ≡ true → IsOnWay n w (settled t f w) f.shares
 on-settled n t f w cash accounts a b e = record {
@@ -135,4 +139,5 @@ on-all n t (f ∷ fs) w cash accounts a b es =
     let P : Fill → Type 0 = λ (g : Fill). is_trader n g.resting ≡ true in
     let one = on-settled n t f w cash accounts a b (All-head P f fs es) in
     let rest = on-all n t fs (settled t f w) one.cash one.accounts a b (All-tail P f fs es) in
-    on-more n w (settled t f w) (all_settled t fs (settled t f w)) f.shares (sum_by (λ g. g.shares) fs) one rest
+    subst (λ (m : ℕ). IsOnWay n w (all_settled t fs (settled t f w)) m) (sym (sum_by-cons (λ (g : Fill). g.shares) f fs))
+      (on-more n w (settled t f w) (all_settled t fs (settled t f w)) f.shares (sum_by (λ g. g.shares) fs) one rest)

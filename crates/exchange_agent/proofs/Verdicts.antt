@@ -1,5 +1,5 @@
 -- What a verdict says of the lines before it.
-use Rattle.std.proofs.Common.{◌≡◌, ℕ, zero, suc, ◌+◌, ◌<◌, ◌≤◌, Bool, true, false, List, [], ◌∷◌, length, Option, Some, None, arith, refl, ◌||◌, subst}
+use Rattle.std.proofs.Common.{◌≡◌, ℕ, zero, suc, ◌+◌, ◌<◌, ◌≤◌, Bool, true, false, List, [], ◌∷◌, length, Option, Some, None, arith, ap, refl, ◌||◌, subst}
 use Rattle.std.specs.Prelude.{nat_lt, nat_le, ◌==◌, if◌then◌else◌, position}
 use Rattle.std.proofs.lemmas.Bool.Decides.{nat_tests}
 use Rattle.market_types.specs.declared.order.Enter.{Enter}
@@ -30,8 +30,9 @@ pub record IsAcceptable (s : State) (agent : ℕ) (e : Enter) (k : ℕ) : Type 0
   pub room : length s.pairs < 131072
   pub few : e.shares < 1000000
   pub number : stock_number_of e.stock s.stocks ≡ Some k
+  pub place : is_full s ≡ false
 
-there : (s : State) (e : Enter) (j k : ℕ) → verdict_there s e j ≡ Accepted k → (shares_are_refused e ≡ false) × (j ≡ k)
+there : (s : State) (e : Enter) (j k : ℕ) → verdict_there s e j ≡ Accepted k → (shares_are_refused e ≡ false) × (j ≡ k) × (is_full s ≡ false)
 there s e j k is =
     let w5 = if is_full s then Refused 79 else Accepted j in
     let w4 = if price_is_refused (stock_at s j) e then Refused 88 else w5 in
@@ -43,15 +44,15 @@ there s e j k is =
     let fourth = past (price_is_refused (stock_at s j) e) (Refused 88) w5 (Accepted k) (λ (q : Refused 88 ≡ Accepted k). cc) third.1 in
     let fifth = past (is_full s) (Refused 79) (Accepted j) (Accepted k) (λ (q : Refused 79 ≡ Accepted k). cc) fourth.1 in
     let last : Accepted j ≡ Accepted k = fifth.1 in
-    (third.0, cc)
+    (third.0, cc, fifth.0)
 
-numbered : (s : State) (e : Enter) (o : Option ℕ) (k : ℕ) → verdict_at s e o ≡ Accepted k → (shares_are_refused e ≡ false) × (o ≡ Some k)
+numbered : (s : State) (e : Enter) (o : Option ℕ) (k : ℕ) → verdict_at s e o ≡ Accepted k → (shares_are_refused e ≡ false) × (o ≡ Some k) × (is_full s ≡ false)
 numbered s e None k is = absurd cc
-numbered s e (Some j) k is = let h = there s e j k is in let same : j ≡ k = h.1 in (h.0, cc)
+numbered s e (Some j) k is = let h = there s e j k is in let same : j ≡ k = h.1 in (h.0, ap (λ (n : ℕ). Some n) same, h.2)
 
 pub acceptable : (s : State) (agent : ℕ) (e : Enter) (k : ℕ) → verdict_of s agent e ≡ Accepted k → IsAcceptable s agent e k
 acceptable s agent e k is =
     let first = past (is_remembered s agent e) Ignored (if is_memory_full s then Forgotten 79 else verdict_at s e (stock_number_of e.stock s.stocks)) (Accepted k) (λ (q : Ignored ≡ Accepted k). cc) is in
     let second = past (is_memory_full s) (Forgotten 79) (verdict_at s e (stock_number_of e.stock s.stocks)) (Accepted k) (λ (q : Forgotten 79 ≡ Accepted k). cc) first.1 in
     let third = numbered s e (stock_number_of e.stock s.stocks) k second.1 in
-    record { new = first.0; room = room-from (length s.pairs) second.0; few = few-from e.shares third.0; number = third.1 }
+    record { new = first.0; room = room-from (length s.pairs) second.0; few = few-from e.shares third.0; number = third.1; place = third.2 }

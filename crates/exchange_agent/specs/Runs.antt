@@ -13,7 +13,9 @@ use Rattle.price_time_book.specs.declared.resting.Resting.{Resting}
 use Rattle.price_time_book.specs.Sides.{is_on}
 use Rattle.exchange_agent.specs.declared.handled.Outgoing.{Outgoing}
 use Rattle.exchange_agent.specs.Changes.{changed_by}
+use Rattle.exchange_agent.specs.declared.told.StockRules.{StockRules}
 use Rattle.exchange_agent.specs.Market.{market}
+use Rattle.exchange_agent.specs.Open.{opened}
 use Rattle.exchange_agent.specs.State.{State, Stock, stock_at, stock_number_of}
 
 -- What an exchange meets: a message from a trader at a time, or a change of a stock's rules at a time.
@@ -98,10 +100,15 @@ open_shares stocks = sum_by (λ k. sum_by (λ o. o.left) k.book) stocks
 abbrev pub IsUncrossed : List Resting → Type 0
 IsUncrossed book = All (λ b. All (λ s. b.side ≡ Buy → s.side ≡ Sell → b.price < s.price) book) book
 
--- What stays constant over a run from a state to another with these acts.
-pub record IsConserved (s : State) (acts : List Act) : Type 0 where
-  pub money : total (run s acts).cash +ℤ fees_taken (run s acts).stocks ≡ total s.cash +ℤ fees_taken s.stocks
-  pub positions : All (λ k. total k.tally.positions ≡ pos 0) (run s acts).stocks
-  pub matched : (k : ℕ) → (stock_at (run s acts) k).tally.matched ≡ (stock_at s k).tally.matched + removed_over s k acts
-  pub shares : open_shares (run s acts).stocks + total_of executed_shares (replies_over s acts) + total_of canceled_shares (replies_over s acts) ≡ open_shares s.stocks + total_of accepted_shares (replies_over s acts)
-  pub uncrossed : All (λ k. IsUncrossed k.book) (run s acts).stocks
+-- What stays constant over a run from an opening with these stocks and this cash.
+pub record IsConserved (rules : List StockRules) (cash : List ℤ) (acts : List Act) : Type 0 where
+  -- the settled cash of all traders and all fees are together the opening cash
+  pub money : total (run (opened rules cash) acts).cash +ℤ fees_taken (run (opened rules cash) acts).stocks ≡ total cash
+  -- the positions of each stock sum to zero
+  pub positions : All (λ k. total k.tally.positions ≡ pos 0) (run (opened rules cash) acts).stocks
+  -- the matched shares of a stock are those executed with flag 'R' by orders for it
+  pub matched : (k : ℕ) → (stock_at (run (opened rules cash) acts) k).tally.matched ≡ removed_over (opened rules cash) k acts
+  -- what was accepted is open, or was executed (on either side) or canceled
+  pub shares : open_shares (run (opened rules cash) acts).stocks + total_of executed_shares (replies_over (opened rules cash) acts) + total_of canceled_shares (replies_over (opened rules cash) acts) ≡ total_of accepted_shares (replies_over (opened rules cash) acts)
+  -- no two live orders of a stock cross
+  pub uncrossed : All (λ k. IsUncrossed k.book) (run (opened rules cash) acts).stocks

@@ -3,7 +3,7 @@
 ghost use Rattle.std.specs.Prelude.{◌≡◌, ℤ, List, length};
 ghost use Rattle.std.specs.List.{AllByRecursion};
 ghost use Rattle.exchange_agent.specs.declared.told.StockRules.{StockRules};
-ghost use Rattle.exchange_agent.specs.Open.{IsOpening, opened};
+ghost use Rattle.exchange_agent.specs.Open.{IsOpening};
 ghost use Rattle.exchange_agent.specs.Runs.{Act, IsConserved, IsPossible};
 
 use price_time_book::keeping::{a_match_keeps, a_reduce_keeps, fills_add_up, orderly_books_stay};
@@ -18,7 +18,7 @@ pub fn runs_are_conserved()
         (rules : List StockRules) (cash : List ℤ) (acts : List Act) →
         IsOpening rules cash →
         AllByRecursion (IsPossible (length cash) (length rules)) acts →
-        IsConserved (opened rules cash) acts
+        IsConserved rules cash acts
     }
 {
     a_match_keeps();

@@ -9,6 +9,7 @@ mod changes;
 mod enter;
 mod exchange;
 mod handled;
+pub mod laws;
 mod listing;
 mod market;
 mod meet;
