@@ -14,7 +14,7 @@ each-weaker P Q f [] a = tt
 each-weaker P Q f (x ∷ w) a = (f x a.0, each-weaker P Q f w a.1)
 
 -- ---- an order leaves
-each-filter : (P : Resting → Type 0) (p : Resting → Bool) (w : List Resting) → AllByRecursion P w → AllByRecursion P (filter p w)
+pub each-filter : (P : Resting → Type 0) (p : Resting → Bool) (w : List Resting) → AllByRecursion P w → AllByRecursion P (filter p w)
 each-filter P p [] a = tt
 each-filter P p (x ∷ w) a = elim (p x) as (λ b. AllByRecursion P (cond b (x ∷ filter p w) (filter p w))) [ true ↦ (a.0, each-filter P p w a.1) | false ↦ each-filter P p w a.1 ]
 
@@ -35,11 +35,11 @@ orderly-without n w h = record {
 }
 
 -- ---- an order stands in another's place
-each-with : (P : Resting → Type 0) (o : Resting) (w : List Resting) → P o → AllByRecursion P w → AllByRecursion P (with_order o w)
+pub each-with : (P : Resting → Type 0) (o : Resting) (w : List Resting) → P o → AllByRecursion P w → AllByRecursion P (with_order o w)
 each-with P o [] p a = tt
 each-with P o (x ∷ w) p a = (elim (eqb x.reference o.reference) as (λ b. P (cond b o x)) [ true ↦ p | false ↦ a.0 ], each-with P o w p a.1)
 
-same_reference : (o x : Resting) → (cond (eqb x.reference o.reference) o x).reference ≡ x.reference
+pub same_reference : (o x : Resting) → (cond (eqb x.reference o.reference) o x).reference ≡ x.reference
 same_reference o x =
     elim (cases_eq x.reference o.reference) [
       | inl e ↦ rw (eq-eqb x.reference o.reference e) (sym e)
@@ -66,7 +66,7 @@ orderly-with o w some le h = record {
   few = omega (arith, length-with o w, h.few);
 }
 
-orderly-changed : (o : Resting) (w : List Resting) → o.left ≤ o.intended → IsOrderly w → IsOrderly (changed o w)
+pub orderly-changed : (o : Resting) (w : List Resting) → o.left ≤ o.intended → IsOrderly w → IsOrderly (changed o w)
 orderly-changed o w le h =
     elim (cases_eq o.left 0) [
       | inl none ↦ (let b : eqb o.left 0 ≡ true = eq-eqb o.left 0 none in subst (λ c. IsOrderly (cond c (without o.reference w) (with_order o w))) (sym b) (orderly-without o.reference w h))
@@ -89,11 +89,11 @@ pub length-changed : (o : Resting) (w : List Resting) → length (changed o w) �
 length-changed o w = elim (eqb o.left 0) as (λ b. length (cond b (without o.reference w) (with_order o w)) ≤ length w) [ true ↦ filter_le (λ (x : Resting). not (eqb x.reference o.reference)) w | false ↦ omega (arith, length-with o w) ]
 
 -- ---- the same at a place
-keep_all : (n : ℕ) (w : List Resting) → AllByRecursion (λ (y : Resting). n < y.reference) w → without n w ≡ w
+pub keep_all : (n : ℕ) (w : List Resting) → AllByRecursion (λ (y : Resting). n < y.reference) w → without n w ≡ w
 keep_all n [] a = refl
 keep_all n (x ∷ w) a = let e : eqb x.reference n ≡ false = grind (arith, nat_tests, a.0) in rw e (ap (λ r. x ∷ r) (keep_all n w a.1))
 
-leave_all : (o : Resting) (w : List Resting) → AllByRecursion (λ (y : Resting). o.reference < y.reference) w → with_order o w ≡ w
+pub leave_all : (o : Resting) (w : List Resting) → AllByRecursion (λ (y : Resting). o.reference < y.reference) w → with_order o w ≡ w
 leave_all o [] a = refl
 leave_all o (x ∷ w) a = let e : eqb x.reference o.reference ≡ false = grind (arith, nat_tests, a.0) in rw e (ap (λ r. x ∷ r) (leave_all o w a.1))
 
@@ -154,7 +154,7 @@ pub orderly-changed_to : (o : Resting) (w v u : List Resting) → w ≡ v → u 
 orderly-changed_to o w v u same is le h = subst IsOrderly (sym is) (orderly-changed o v le (subst IsOrderly same h))
 
 -- ---- an order comes to rest
-each-push : (P : Resting → Type 0) (w : List Resting) (o : Resting) → AllByRecursion P w → P o → AllByRecursion P (w ++ o ∷ [])
+pub each-push : (P : Resting → Type 0) (w : List Resting) (o : Resting) → AllByRecursion P w → P o → AllByRecursion P (w ++ o ∷ [])
 each-push P [] o a p = (p, tt)
 each-push P (x ∷ w) o a p = (a.0, each-push P w o a.1 p)
 
@@ -184,12 +184,8 @@ intended_at s w i o same h e = each_at (λ (x : Resting). x.left ≤ x.intended)
 pub live_at : (s w : List Resting) (i : ℕ) (o : Resting) → s ≡ w → IsOrderly w → slice_get s i ≡ Some o → 0 < o.left
 live_at s w i o same h e = each_at (λ (x : Resting). 0 < x.left) w i o h.live (subst (λ (u : List Resting). slice_get u i ≡ Some o) same e)
 
--- ---- the same after a call that may change an order
-pub below-kept : {X : Type 0} (g : X → Resting) (n : ℕ) (r : Option X) (old new : List Resting) → IfSome r (λ x. new ≡ changed (g x) old) → IfNone r (new ≡ old) → All (λ (o : Resting). o.reference < n) old → All (λ (o : Resting). o.reference < n) new
-below-kept g n None old new some none a = subst (λ (w : List Resting). All (λ (o : Resting). o.reference < n) w) (sym none) a
-below-kept g n (Some x) old new some none a =
-    subst (λ (w : List Resting). All (λ (o : Resting). o.reference < n) w) (sym some) (below-changed n (g x) old a)
-
-pub length-kept : {X : Type 0} (g : X → Resting) (r : Option X) (old new : List Resting) → IfSome r (λ x. new ≡ changed (g x) old) → IfNone r (new ≡ old) → length new ≤ length old
-length-kept g None old new some none = omega (arith, ap (λ (w : List Resting). length w) none)
-length-kept g (Some x) old new some none = omega (arith, ap (λ (w : List Resting). length w) some, length-changed (g x) old)
+-- ---- a call that may change an order
+-- what holds of the book, however an order of it changes, holds after the call
+pub kept : {X : Type 0} (P : List Resting → Type 0) (g : X → Resting) (r : Option X) (old new : List Resting) → IfSome r (λ x. new ≡ changed (g x) old) → IfNone r (new ≡ old) → ((o : Resting) → P (changed o old)) → P old → P new
+kept P g None old new some none f a = subst P (sym none) a
+kept P g (Some x) old new some none f a = subst P (sym some) (f (g x))

@@ -2,5 +2,6 @@ pub mod Bests
 pub mod Changes
 pub mod Matching
 pub mod Places
-pub mod Tops
 pub mod Shares
+pub mod Stays
+pub mod Tops

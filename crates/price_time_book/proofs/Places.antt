@@ -37,7 +37,7 @@ find-some p w i e =
     nowhere h = let k : cond (ltb (position_or_len p w) (length w)) (Some (position_or_len p w)) None ≡ Some i = e in (let m : cond false (Some (position_or_len p w)) None ≡ Some i = rw h at k in cc)
 
 -- what holds of all orders holds of one that is found
-each_found : (P : Resting → Type 0) (p : Resting → Bool) (w : List Resting) (o : Resting) → AllByRecursion P w → find p w ≡ Some o → P o
+pub each_found : (P : Resting → Type 0) (p : Resting → Bool) (w : List Resting) (o : Resting) → AllByRecursion P w → find p w ≡ Some o → P o
 each_found P p [] o a e = absurd (cc e)
 each_found P p (x ∷ w) o a e =
     elim (cases_Bool (p x)) [
@@ -52,7 +52,7 @@ each_found P p (x ∷ w) o a e =
     tail h = let k : cond (p x) (Some x) (find p w) ≡ Some o = e in (let m : cond false (Some x) (find p w) ≡ Some o = rw h at k in m)
 
 -- where references rise, an order that is found is the one with its reference
-found_by_reference : (p : Resting → Bool) (w : List Resting) (o : Resting) → IsRising w → find p w ≡ Some o → order_with o.reference w ≡ Some o
+pub found_by_reference : (p : Resting → Bool) (w : List Resting) (o : Resting) → IsRising w → find p w ≡ Some o → order_with o.reference w ≡ Some o
 found_by_reference p [] o r e = absurd (cc e)
 found_by_reference p (x ∷ w) o r e =
     elim (cases_Bool (p x)) [

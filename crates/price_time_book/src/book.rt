@@ -1,14 +1,15 @@
 //! The book.
 
-ghost use Rattle.std.specs.Prelude.{◌≡◌, ◌<◌, ◌≤◌, ◌-◌, ◌∷◌, ◌++◌, [], OnErr, OnOk, IfOk, IfSome, IfNone, All, Some, None, length, option_map, slice_get};
+ghost use Rattle.std.specs.Prelude.{◌≡◌, ◌<◌, ◌≤◌, ◌-◌, ◌∷◌, ◌++◌, ◌↔◌, [], IsTrue, OnErr, OnOk, IfOk, IfSome, IfNone, All, Some, None, length, option_map, slice_get};
 ghost use Rattle.price_time_book.specs.Matched.{fill_of, after_fill};
-ghost use Rattle.price_time_book.specs.Next.{best_at, next_of};
+ghost use Rattle.price_time_book.specs.Next.{best_at, crossing_of, next_of};
+ghost use Rattle.price_time_book.specs.Orderly.{IsOrderly};
 ghost use Rattle.price_time_book.specs.Orders.{order_of, order_with, changed, reduced};
 ghost use Rattle.price_time_book.specs.Sides.{depth_of};
 
 use crate::resting::{Best, Fill, Resting};
-use crate::search::{held_at, is_within, opposite, order_of, shares_at, top_of};
-use market_types::{AgentNo, Memory, Side, Token};
+use crate::search::{crossing_in, held_at, is_within, order_of, shares_at, top_of};
+use market_types::{AgentNo, Memory, Side, Token, copied};
 use std::alloc::Global;
 use std::marker::Model;
 
@@ -56,13 +57,9 @@ impl Book {
         if n <= self.spare {
             return Ok(());
         }
-        match self.orders.reserve(n) {
-            Ok(()) => {
-                self.spare = n;
-                Ok(())
-            }
-            Err(_) => Err(Memory),
-        }
+        self.orders.reserve(n)?;
+        self.spare = n;
+        Ok(())
     }
 
     /// A book with the same orders, which may keep any number of places.
@@ -97,7 +94,7 @@ impl Book {
         ensures unmatched { IfNone result (self.new.list ≡ self.old.list) }
         ensures room { self.old.spare ≤ self.new.spare }
     {
-        let (at, resting) = top_of(self.orders.as_slice(), opposite(side))?;
+        let (at, resting) = top_of(self.orders.as_slice(), side.opposite())?;
         if !is_within(side, limit, resting.price) {
             return None;
         }
@@ -164,6 +161,35 @@ impl Book {
         self.orders.iter().filter(|o| o.side == side).count()
     }
 
+    /// How many orders cross an incoming order of `side` with this limit: no match has more fills.
+    pub fn crossing(&self, side: Side, limit: u32) -> usize
+        ensures { result ≡ crossing_of side limit self.now.list }
+    {
+        crossing_in(self.orders.as_slice(), side, limit)
+    }
+
+    /// How many orders rest in the book.
+    pub fn len(&self) -> usize
+        ensures { result ≡ length self.now.list }
+    {
+        self.orders.len()
+    }
+
+    /// Whether no order rests in the book.
+    pub fn is_empty(&self) -> bool
+        ensures { IsTrue result ↔ (self.now.list ≡ []) }
+    {
+        self.orders.is_empty()
+    }
+
+    /// What holds of the orders of each book: their references rise, each has open shares and no more
+    /// than its intended size, and they are few.
+    pub fn is_orderly(&self)
+        ensures { IsOrderly self.now.list }
+    {
+        let _orders = &self.orders;
+    }
+
     /// The orders in order of arrival.
     pub fn orders(&self, alloc: Global) -> Result<Vec<Resting>, Memory>
         ensures { IfOk result (λ v. v.items ≡ self.now.list) }
@@ -183,16 +209,5 @@ impl Book {
         } else {
             self.orders[at] = order;
         }
-    }
-}
-
-// The same orders.
-fn copied(alloc: Global, orders: &[Resting]) -> Result<Vec<Resting>, Memory>
-    ensures { IfOk result (λ v. v.items ≡ orders.now) }
-{
-    let mut copy = Vec::new(alloc);
-    match copy.extend_from_slice(orders) {
-        Ok(()) => Ok(copy),
-        Err(_) => Err(Memory),
     }
 }

@@ -6,12 +6,13 @@
 #![tactic(auto)]
 
 mod book;
-pub mod known;
+pub mod keeping;
 pub mod laws;
 mod resting;
 mod search;
 #[cfg(test)]
 mod tests;
+pub mod worked;
 
 pub use book::Book;
 pub use resting::{Best, Fill, Resting};

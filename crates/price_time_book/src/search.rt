@@ -1,23 +1,13 @@
 //! Searches in a list of orders.
 
 ghost use Rattle.std.specs.Prelude.{◌≡◌, ◌==◌, ◌≤◌, ◌^◌, IfSome, Some, length, option_map, position, slice_get};
-ghost use Rattle.price_time_book.specs.Next.{shares_at, top_of};
+ghost use Rattle.price_time_book.specs.Next.{crosses, crossing_of, shares_at, top_of};
 ghost use Rattle.price_time_book.specs.Orders.{order_of, order_with};
 ghost use Rattle.price_time_book.specs.Search.{goes_first};
-ghost use Rattle.price_time_book.specs.Sides.{is_better, is_within, opposite};
+ghost use Rattle.price_time_book.specs.Sides.{is_better, is_within};
 
 use crate::resting::Resting;
 use market_types::{AgentNo, Side, Token};
-
-// The side that an order of this side meets.
-pub fn opposite(side: Side) -> Side
-    ensures { result ≡ opposite side }
-{
-    match side {
-        Side::Buy => Side::Sell,
-        Side::Sell => Side::Buy,
-    }
-}
 
 // Whether a price is better than another for orders that rest on this side.
 fn is_better(side: Side, a: u32, b: u32) -> bool
@@ -37,6 +27,20 @@ pub fn is_within(side: Side, limit: u32, price: u32) -> bool
         Side::Buy => price <= limit,
         Side::Sell => limit <= price,
     }
+}
+
+// Whether an order crosses an incoming order of this side with this limit.
+fn crosses(side: Side, limit: u32, order: &Resting) -> bool
+    ensures { result ≡ crosses side limit order.now }
+{
+    order.side == side.opposite() && is_within(side, limit, order.price)
+}
+
+// How many orders cross an incoming order of this side with this limit.
+pub fn crossing_in(orders: &[Resting], side: Side, limit: u32) -> usize
+    ensures { result ≡ crossing_of side limit orders.now }
+{
+    orders.iter().filter(|o| crosses(side, limit, o)).count()
 }
 
 // Whether an order comes before the first one so far.

@@ -1,5 +1,6 @@
 ghost use Rattle.std.specs.Prelude.{◌≡◌, ◌<◌, ◌≤◌, ◌+◌, ◌^◌, All, length};
 
+use super::keeping::changes_keep;
 use super::{Best, Book, Fill, Resting};
 use market_types::{AgentNo, Side, Token};
 use std::process::Abort;
@@ -40,6 +41,7 @@ fn take(book: &mut Book, side: Side, limit: u32, wanted: u32, next: u64) -> Opti
     if wanted == 0 {
         return None;
     }
+    changes_keep();
     book.match_next(side, limit, wanted)
 }
 
@@ -50,6 +52,7 @@ fn halve(book: &mut Book, agent: AgentNo, token: &Token, next: u64) -> Option<Re
     ensures few { length book.new.list ≤ length book.old.list }
     ensures room { book.old.spare ≤ book.new.spare }
 {
+    changes_keep();
     let held = *book.find(agent, token)?;
     book.reduce(held.reference, held.left / 2)
 }
@@ -160,6 +163,14 @@ fn sum(plain: &[Resting], side: Side, wanted: u32) -> u64 {
     shares
 }
 
+// Whether an order crosses one of this side with this limit.
+fn crosses(order: &Resting, side: Side, limit: u32) -> bool {
+    match side {
+        Side::Buy => order.side == Side::Sell && order.price <= limit,
+        Side::Sell => order.side == Side::Buy && order.price >= limit,
+    }
+}
+
 // So many shares of the order with this reference leave.
 fn lower(plain: &mut Vec<Resting>, reference: u64, shares: u32, intended: u32) -> Option<Resting> {
     let at = plain.iter().position(|o| o.reference == reference)?;
@@ -179,6 +190,12 @@ fn assert_same_side(rt: &impl Abort, book: &Book, plain: &[Resting], side: Side)
         book.depth(side),
         plain.iter().filter(|o| o.side == side).count()
     );
+    assert_eq!(rt;
+        book.crossing(side, 100_300),
+        plain.iter().filter(|o| crosses(o, side, 100_300)).count()
+    );
+    assert_eq!(rt; book.len(), plain.len());
+    assert_eq!(rt; book.is_empty(), plain.is_empty());
 }
 
 // An order to buy takes up to 25 shares of the first order to sell.
