@@ -243,7 +243,10 @@ impl System {
 
 impl ShelfPlan {
     /// An equal plan.
-    fn copy(&self, alloc: Global) -> Result<ShelfPlan, Memory>
+    ///
+    /// # Errors
+    /// `Memory`.
+    pub fn copy(&self, alloc: Global) -> Result<ShelfPlan, Memory>
         ensures { IfOk result (λ plan. plan ≡ self.now) }
     {
         Ok(ShelfPlan {

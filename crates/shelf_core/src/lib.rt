@@ -12,6 +12,7 @@ mod run;
 mod seat;
 mod system;
 mod views;
+pub mod worked;
 mod words;
 
 pub use event::Event;

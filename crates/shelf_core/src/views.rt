@@ -3,7 +3,7 @@
 ghost use Rattle.std.specs.Prelude.{◌≡◌, ◌+◌, ◌<◌, ◌≤◌, ◌^◌, ◌++◌, ◌∷◌, [], IfOk, Some, take};
 ghost use Rattle.shelf_core.specs.Orderly.{IsSmall};
 ghost use Rattle.shelf_core.specs.Views.{new_view, spent_view, other_turns};
-ghost use Rattle.shelf_core.specs.After.{knowing, with_claim, with_turn, without_turn, having_published, with_loan, having_returned, with_count, having_stopped, learning, having_loaded, joined_with};
+ghost use Rattle.shelf_core.specs.After.{knowing, with_claim, with_turn, without_turn, having_published, with_loan, having_returned, with_count, having_stopped, known_from, done_from, stopped_from, having_loaded, joined_with};
 
 use crate::places::is_sole_in;
 use crate::{Key, Listed, PlaceWord, SeatView, Seen, ShelfPlan};
@@ -149,30 +149,6 @@ impl SeatView {
         Ok(view)
     }
 
-    /// The view with what it learns from a word that it sees.
-    fn learning(
-        &self,
-        alloc: Global,
-        plan: &Option<ShelfPlan>,
-        seen: Seen,
-    ) -> Result<SeatView, Memory>
-        requires small { IsSmall plan.now }
-        ensures { IfOk result (λ view. view ≡ learning plan.now seen self.now) }
-    {
-        let mut view = self.copy(alloc)?;
-        match seen {
-            Seen::Claim(_, _) => {}
-            Seen::Place(_, PlaceWord::Free | PlaceWord::Writing(_)) => {}
-            Seen::Place(_, PlaceWord::Ready(key)) => learn(plan, key, &mut view.known)?,
-            Seen::Place(_, PlaceWord::Lent(key, _)) => learn(plan, key, &mut view.known)?,
-            Seen::Done(number, bit) => {
-                view.done_seen = number;
-                view.stopped = bit;
-            }
-        }
-        Ok(view)
-    }
-
     /// The view after a load.
     pub(crate) fn having_loaded(
         &self,
@@ -183,7 +159,10 @@ impl SeatView {
         requires small { IsSmall plan.now }
         ensures { IfOk result (λ view. view ≡ having_loaded plan.now (Some seen) self.now) }
     {
-        let mut view = self.learning(alloc, plan, seen)?;
+        let mut view = self.copy(alloc)?;
+        learn_from(plan, seen, &mut view.known)?;
+        view.done_seen = done_from(seen, self.done_seen);
+        view.stopped = stopped_from(seen, self.stopped);
         view.loads = self.loads.wrapping_add(1);
         view.saw = last_two(alloc, seen, self.saw.as_slice())?;
         Ok(view)
@@ -215,6 +194,38 @@ fn learn(plan: &Option<ShelfPlan>, key: Key, known: &mut Listed<Key>) -> Result<
         known.push(key)?;
     }
     Ok(())
+}
+
+/// Adds the key that a seat learns from a word that it sees.
+fn learn_from(plan: &Option<ShelfPlan>, seen: Seen, known: &mut Listed<Key>) -> Result<(), Memory>
+    requires small { IsSmall plan.now }
+    ensures { IfOk result (λ _. known.new ≡ known_from plan.now seen known.old) }
+{
+    match seen {
+        Seen::Place(_, PlaceWord::Ready(key) | PlaceWord::Lent(key, _)) => learn(plan, key, known),
+        Seen::Place(_, PlaceWord::Free | PlaceWord::Writing(_)) => Ok(()),
+        Seen::Claim(_, _) | Seen::Done(_, _) => Ok(()),
+    }
+}
+
+/// The done number that a seat saw last.
+fn done_from(seen: Seen, before: u32) -> u32
+    ensures { result ≡ done_from seen before }
+{
+    match seen {
+        Seen::Done(number, _) => number,
+        Seen::Claim(_, _) | Seen::Place(_, _) => before,
+    }
+}
+
+/// The stop bit that a seat saw last.
+fn stopped_from(seen: Seen, before: bool) -> bool
+    ensures { result ≡ stopped_from seen before }
+{
+    match seen {
+        Seen::Done(_, bit) => bit,
+        Seen::Claim(_, _) | Seen::Place(_, _) => before,
+    }
 }
 
 /// The turns but for those of a key.
