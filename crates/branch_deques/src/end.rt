@@ -5,7 +5,7 @@ ghost use Rattle.crossbeam_deque.specs.Handles.{view, IsPassOf, stealer_deque, s
 ghost use Rattle.branch_deques.specs.Lanes.{fresh, Pushed, Took, WasEmpty};
 ghost use Rattle.branch_deques.specs.Told.{fresh_end};
 
-use crate::memory::Memory;
+use plain_lists::Memory;
 use crate::rule::{Owner, Pushes, Room, Takes, Thief, ThiefPass};
 use crossbeam_deque::Steal;
 use std::alloc::Global;

@@ -6,7 +6,7 @@ ghost use Rattle.branch_deques.specs.Told.{fresh_end, round, AreOpened};
 
 use crate::end::{OtherLane, OwnLane};
 use crate::lane::Lane;
-use crate::memory::Memory;
+use plain_lists::Memory;
 use crate::rule::Room;
 use std::alloc::Global;
 

@@ -5,14 +5,13 @@
 mod end;
 mod lane;
 mod lanes;
-mod memory;
 mod rule;
 pub mod worked;
 
 pub use end::{OtherLane, OwnLane};
 pub use lane::Lane;
 pub use lanes::open_lanes;
-pub use memory::Memory;
+pub use plain_lists::Memory;
 pub use rule::{LaneView, Room};
 
 #[cfg(test)]

@@ -14,7 +14,7 @@ use crate::law::Aim;
 use crate::seat::ShelfSeat;
 use crate::shelf::Shelf;
 use crate::steps::{Inner, InnerSeat, give_back, lend};
-use outside::Memory;
+use plain_lists::Memory;
 use shelf_core::Key;
 use std::marker::Brand;
 use std::sync::Arc;

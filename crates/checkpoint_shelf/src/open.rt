@@ -13,7 +13,7 @@ use crate::seat::ShelfSeat;
 use crate::shelf::Shelf;
 use crate::steps::{Inner, InnerSeat};
 use atomic_table::Table;
-use outside::Memory;
+use plain_lists::Memory;
 use shelf_core::ShelfPlan;
 use std::alloc::Global;
 use std::snapshot::Snapshot;

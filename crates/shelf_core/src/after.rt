@@ -7,8 +7,8 @@ ghost use Rattle.shelf_core.specs.After.{after, put, key_place};
 ghost use Rattle.shelf_core.specs.Orderly.{Orderly, IsSmall, IsSmallEvent};
 
 use crate::places::place_in;
-use crate::{ClaimWord, Event, Key, Listed, PlaceWord, SeatView, ShelfPlan, System, Word};
-use outside::Memory;
+use crate::{ClaimWord, Event, Key, PlaceWord, SeatView, ShelfPlan, System, Word};
+use plain_lists::{Memory, Sequence};
 use std::alloc::Global;
 
 impl System {
@@ -54,9 +54,9 @@ impl System {
         ensures refused { OnErr result (self.new ≡ self.old) }
     {
         let count = plan.forks.len() + plan.places as usize;
-        let claims = Listed::filled(alloc, ClaimWord::Open, plan.segments as usize)?;
-        let places = Listed::filled(alloc, PlaceWord::Free, count)?;
-        let home = Listed::filled(alloc, None, count)?;
+        let claims = Sequence::filled(alloc, ClaimWord::Open, plan.segments as usize)?;
+        let places = Sequence::filled(alloc, PlaceWord::Free, count)?;
+        let home = Sequence::filled(alloc, None, count)?;
         let plan = plan.copy(alloc)?;
         self.plan = Some(plan);
         self.claims = claims;

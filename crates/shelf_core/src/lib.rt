@@ -4,7 +4,6 @@
 mod after;
 mod event;
 pub mod laws;
-mod listed;
 mod places;
 mod plan;
 mod possible;
@@ -16,7 +15,6 @@ pub mod worked;
 mod words;
 
 pub use event::Event;
-pub use listed::Listed;
 pub use plan::{Key, ShelfPlan};
 pub use run::{law, step};
 pub use seat::SeatView;

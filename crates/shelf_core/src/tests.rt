@@ -6,8 +6,8 @@ ghost use Rattle.shelf_core.specs.Orderly.{Orderly, IsSmall, IsSmallEvent};
 
 mod plain;
 
-use crate::{Event, Key, Listed, ShelfPlan, System, Word, law, step};
-use outside::Memory;
+use crate::{Event, Key, ShelfPlan, System, Word, law, step};
+use plain_lists::{Memory, Sequence};
 use plain::Plain;
 use std::alloc::Global;
 use std::process::Abort;
@@ -53,8 +53,8 @@ fn key(segment: u32, event: u32) -> Key {
 }
 
 /// A list of these keys.
-fn keys(alloc: Global, keys: &[(u32, u32)]) -> Result<Listed<Key>, Memory> {
-    let mut list = Listed::new(alloc);
+fn keys(alloc: Global, keys: &[(u32, u32)]) -> Result<Sequence<Key>, Memory> {
+    let mut list = Sequence::empty(alloc);
     for (segment, event) in keys {
         list.push(key(*segment, *event))?;
     }
@@ -66,7 +66,7 @@ fn fork_plan(alloc: Global) -> Result<ShelfPlan, Memory> {
     Ok(ShelfPlan {
         segments: 2,
         forks: keys(alloc, &[(0, 2)])?,
-        grid: Listed::new(alloc),
+        grid: Sequence::empty(alloc),
         places: 0,
     })
 }
@@ -82,9 +82,9 @@ fn shared_plan(alloc: Global) -> Result<ShelfPlan, Memory> {
 }
 
 /// Eighteen events of two seats at one fork's place, each with its answer.
-fn two_seats(alloc: Global) -> Result<Listed<(Event, bool)>, Memory> {
+fn two_seats(alloc: Global) -> Result<Sequence<(Event, bool)>, Memory> {
     let k = key(0, 2);
-    let mut events = Listed::new(alloc);
+    let mut events = Sequence::empty(alloc);
     events.push((Event::Lay(fork_plan(alloc)?), true))?;
     events.push((Event::Lay(fork_plan(alloc)?), false))?;
     for (event, answer) in [

@@ -6,8 +6,8 @@ ghost use Rattle.shelf_core.specs.Views.{new_view, spent_view, other_turns};
 ghost use Rattle.shelf_core.specs.After.{knowing, with_claim, with_turn, without_turn, having_published, with_loan, having_returned, with_count, having_stopped, known_from, done_from, stopped_from, having_loaded, joined_with};
 
 use crate::places::is_sole_in;
-use crate::{Key, Listed, PlaceWord, SeatView, Seen, ShelfPlan};
-use outside::Memory;
+use crate::{Key, PlaceWord, SeatView, Seen, ShelfPlan};
+use plain_lists::{Memory, Sequence};
 use std::alloc::Global;
 
 impl SeatView {
@@ -26,18 +26,18 @@ impl SeatView {
         ensures { result ≡ spent_view }
     {
         SeatView {
-            numbers: Listed::new(alloc),
+            numbers: Sequence::empty(alloc),
             spent: true,
-            claims: Listed::new(alloc),
+            claims: Sequence::empty(alloc),
             counts: 0,
-            turns: Listed::new(alloc),
+            turns: Sequence::empty(alloc),
             loan: None,
-            known: Listed::new(alloc),
+            known: Sequence::empty(alloc),
             done_seen: 0,
             stopped: false,
-            found: Listed::new(alloc),
+            found: Sequence::empty(alloc),
             loads: 0,
-            saw: Listed::new(alloc),
+            saw: Sequence::empty(alloc),
         }
     }
 
@@ -186,7 +186,7 @@ impl SeatView {
 }
 
 /// Adds a key to those that are known, where it is sole.
-fn learn(plan: &Option<ShelfPlan>, key: Key, known: &mut Listed<Key>) -> Result<(), Memory>
+fn learn(plan: &Option<ShelfPlan>, key: Key, known: &mut Sequence<Key>) -> Result<(), Memory>
     requires small { IsSmall plan.now }
     ensures { IfOk result (λ _. known.new ≡ knowing plan.now key known.old) }
 {
@@ -197,7 +197,7 @@ fn learn(plan: &Option<ShelfPlan>, key: Key, known: &mut Listed<Key>) -> Result<
 }
 
 /// Adds the key that a seat learns from a word that it sees.
-fn learn_from(plan: &Option<ShelfPlan>, seen: Seen, known: &mut Listed<Key>) -> Result<(), Memory>
+fn learn_from(plan: &Option<ShelfPlan>, seen: Seen, known: &mut Sequence<Key>) -> Result<(), Memory>
     requires small { IsSmall plan.now }
     ensures { IfOk result (λ _. known.new ≡ known_from plan.now seen known.old) }
 {
@@ -229,7 +229,7 @@ fn stopped_from(seen: Seen, before: bool) -> bool
 }
 
 /// The turns but for those of a key.
-fn other_turns(alloc: Global, turns: &[(u32, Key)], key: Key) -> Result<Listed<(u32, Key)>, Memory>
+fn other_turns(alloc: Global, turns: &[(u32, Key)], key: Key) -> Result<Sequence<(u32, Key)>, Memory>
     ensures { IfOk result (λ others. others ≡ other_turns key turns.now) }
 {
     match turns
@@ -238,16 +238,16 @@ fn other_turns(alloc: Global, turns: &[(u32, Key)], key: Key) -> Result<Listed<(
         .filter(|turn| turn.1 != key)
         .collect(alloc)
     {
-        Ok(others) => Ok(Listed::from_vec(others)),
+        Ok(others) => Ok(Sequence::new(others)),
         Err(_) => Err(Memory),
     }
 }
 
 /// A load, and the newest of those before it.
-fn last_two(alloc: Global, seen: Seen, before: &[Seen]) -> Result<Listed<Seen>, Memory>
+fn last_two(alloc: Global, seen: Seen, before: &[Seen]) -> Result<Sequence<Seen>, Memory>
     ensures { IfOk result (λ list. list ≡ take 2 (seen ∷ before.now)) }
 {
-    let mut list = Listed::new(alloc);
+    let mut list = Sequence::empty(alloc);
     list.push(seen)?;
     if let Some(last) = before.first() {
         list.push(*last)?;

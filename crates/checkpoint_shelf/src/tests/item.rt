@@ -1,8 +1,8 @@
 //! A value of the tests' own, and small plans.
 
 use crate::{Kept, Key, ShelfPlan};
-use outside::Memory;
-use shelf_core::Listed;
+
+use plain_lists::{Memory, Sequence};
 use std::alloc::Global;
 
 // A value that is its key and its course.
@@ -34,12 +34,12 @@ pub fn key(segment: u32, event: u32) -> Key {
 
 // Five segments, of which the first is forked at event 2.
 pub fn fork_plan(alloc: Global) -> Result<ShelfPlan, Memory> {
-    let mut forks = Listed::new(alloc);
+    let mut forks = Sequence::empty(alloc);
     forks.push(key(0, 2))?;
     Ok(ShelfPlan {
         segments: 5,
         forks,
-        grid: Listed::new(alloc),
+        grid: Sequence::empty(alloc),
         places: 0,
     })
 }

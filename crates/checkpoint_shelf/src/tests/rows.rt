@@ -6,7 +6,7 @@ ghost use Rattle.shelf_core.specs.Views.{times, has_turn};
 
 use super::item::{Item, fork_plan, key};
 use crate::{Begun, ClosedShelf, Found, Key, PlaceWord, Progress, Shelf, ShelfSeat};
-use outside::Memory;
+use plain_lists::Memory;
 use std::alloc::Global;
 use std::sync::Arc;
 use std::test::Fail;

@@ -1,8 +1,8 @@
 //! The table of events, read once more over the plan with two forks and three grid keys: who has which segment, what
 //! stands at each of the four places, and what each seat has there.
 
-use crate::{ClaimWord, Event, Key, Listed, PlaceWord, SeatView, Seen, System, Word};
-use outside::Memory;
+use crate::{ClaimWord, Event, Key, PlaceWord, SeatView, Seen, System, Word};
+use plain_lists::{Memory, Sequence};
 use std::alloc::Global;
 
 #[derive(Clone, Copy)]
@@ -26,7 +26,7 @@ pub struct Plain {
     places: [PlaceWord; 4],
     done: u32,
     stopped: bool,
-    seats: Listed<Seat>,
+    seats: Sequence<Seat>,
 }
 
 const NEW: Seat = Seat {
@@ -90,7 +90,7 @@ impl Seat {
 
 impl Plain {
     pub fn opening(alloc: Global) -> Result<Plain, Memory> {
-        let mut seats = Listed::new(alloc);
+        let mut seats = Sequence::empty(alloc);
         seats.push(NEW)?;
         Ok(Plain {
             owner: [None; 3],
