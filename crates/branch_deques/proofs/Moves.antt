@@ -57,7 +57,7 @@ puts room pass v s low held views h at =
     (w, after, record { held = held; views = views; pass = pass; before = h; had = at_place views pass v at; after = after; is = refl })
 
 pub takes : (room pass : ℕ) (v : LaneView) → Takes (Stands room) pass v 1 (λ xs w. Took room xs v w)
-takes room pass v xs held views some few h at =
+takes room pass v xs held views more few h at =
     let w : LaneView = having_taken xs v in
     let after : Stands room held (set views pass w) = record {
       balanced = λ x. let a = h.balanced x in let p = total_set (λ u. times x u.pushed) views pass v w at in let t = total_set (λ u. times x u.taken) views pass v w at in

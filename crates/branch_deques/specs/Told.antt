@@ -1,5 +1,5 @@
 -- What contracts see of a worker's lane.
-use Rattle.std.specs.Prelude.{◌≡◌, ◌×◌, ℕ, ◌+◌, All, List, [], ◌∷◌, ◌++◌, Some, slice_get, map, take, drop, length}
+use Rattle.std.specs.Prelude.{◌≡◌, ℕ, ◌+◌, All, List, [], ◌∷◌, ◌++◌, Some, slice_get, map, take, drop, length}
 use Rattle.std.specs.declared.alloc.Global.{Global}
 use Rattle.atomic_blocks.specs.Lent.{RowsId}
 use Rattle.branch_deques.specs.declared.rule.LaneView.{LaneView}

@@ -1,8 +1,8 @@
 -- The answers of `begin` and `find` by cases.
-use Rattle.std.proofs.Common.{Option, Some, None, IfNone, IfSome, IfOk, Result, Ok, Err}
+use Rattle.std.proofs.Common.{Option, Some, None, IfNone, IfSome, IfOk, OnErr, Result, Ok, Err}
 use Rattle.shelf_core.specs.declared.plan.Key.{Key}
 use Rattle.shelf_core.specs.declared.words.PlaceWord.{PlaceWord}
-use Rattle.checkpoint_shelf.specs.Answers.{MatchBegun, IfTaken, begun_of, MatchFound, IfNotYet}
+use Rattle.checkpoint_shelf.specs.Answers.{MatchBegun, IfTaken, begun_of, MatchFound, IfHere, IfNotYet}
 use Rattle.std.specs.declared.alloc.Global.{Global}
 use Rattle.std.specs.declared.sync.Arc.{Arc}
 use Rattle.checkpoint_shelf.specs.declared.begun.Found.{Found}
@@ -28,3 +28,18 @@ pub not_yet_says : {C E : Type 0} (H : Arc C Global → Type 0) (N N' : PlaceWor
 not_yet_says H N N' (Ok (Here a)) f h = tt
 not_yet_says H N N' (Ok (NotYet word)) f h = f word h
 not_yet_says H N N' (Err e) f h = tt
+
+pub here_says : {C E : Type 0} (H H' : Arc C Global → Type 0) (N : PlaceWord → Type 0) (r : Result (Found C) E) → ((a : Arc C Global) → H a → H' a) → IfOk r (λ found. MatchFound found H N) → IfOk r (λ found. IfHere found H')
+here_says H H' N (Ok (Here a)) f h = f a h
+here_says H H' N (Ok (NotYet word)) f h = tt
+here_says H H' N (Err e) f h = tt
+
+-- A fact that each answer gives.
+pub both_say : {A P : Type 0} {B : PlaceWord → Type 0} (answer : Option PlaceWord) → (A → P) → ((word : PlaceWord) → B word → P) → IfNone answer A → IfSome answer B → P
+both_say None f g a b = f a
+both_say (Some word) f g a b = g word b
+
+pub all_say : {C E P : Type 0} (H : Arc C Global → Type 0) (N : PlaceWord → Type 0) (Q : Type 0) (r : Result (Found C) E) → ((a : Arc C Global) → H a → P) → ((word : PlaceWord) → N word → P) → (Q → P) → IfOk r (λ found. MatchFound found H N) → OnErr r Q → P
+all_say H N Q (Ok (Here a)) f g k h q = f a h
+all_say H N Q (Ok (NotYet word)) f g k h q = g word h
+all_say H N Q (Err e) f g k h q = k q

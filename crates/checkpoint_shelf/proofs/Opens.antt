@@ -27,7 +27,7 @@ use Rattle.checkpoint_shelf.specs.declared.about.About.{About}
 use Rattle.checkpoint_shelf.specs.declared.about.View.{View}
 use Rattle.checkpoint_shelf.specs.Codes.{place_code, claim_code, words_of}
 use Rattle.shelf_core.specs.Views.{live_count}
-use Rattle.checkpoint_shelf.specs.Holds.{AboutFits, IsSeat, led, Knows, leader, leads_on, newcomer, both, nobody}
+use Rattle.checkpoint_shelf.specs.Holds.{AboutFits, IsSeat, led, follower, Knows, leader, leads_on, newcomer, both, nobody}
 use Rattle.checkpoint_shelf.specs.Told.{ShelfTold, SeatTold}
 use Rattle.checkpoint_shelf.specs.Seats.{NewFrom}
 use Rattle.checkpoint_shelf.proofs.Rows.{length_map, set_map}

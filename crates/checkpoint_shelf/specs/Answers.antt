@@ -20,6 +20,9 @@ abbrev pub MatchFound : {C : Type 0} → Found C → (Arc C Global → Type 0) �
 MatchFound (Here value) H N = H value
 MatchFound (NotYet word) H N = N word
 
+abbrev pub IfHere : {C : Type 0} → Found C → (Arc C Global → Type 0) → Type 0
+IfHere found H = MatchFound found H (λ _. Unit {0})
+
 abbrev pub IfNotYet : {C : Type 0} → Found C → (PlaceWord → Type 0) → Type 0
 IfNotYet found N = MatchFound found (λ _. Unit {0}) N
 

@@ -20,7 +20,7 @@ use shelf_core::ShelfPlan;
 use std::alloc::Global;
 use std::snapshot::Snapshot;
 
-/// The first seat takes in another.
+// The first seat takes in another.
 fn meet<C: Kept>(table: &Inner<C>, first: &mut InnerSeat<C>, number: u32, other: InnerSeat<C>)
     requires words { 0 < table.now.table_id.words }
     requires table { first.old.table_id ≡ table.now.table_id }
@@ -36,7 +36,7 @@ fn meet<C: Kept>(table: &Inner<C>, first: &mut InnerSeat<C>, number: u32, other:
     table.join_seat::<Meets<C>>(first, other);
 }
 
-/// The shelf without its table's threads.
+// The shelf without its table's threads.
 fn seal<C: Kept>(
     table: Table<Held<C>, View<C>, About<C>, Law<C>, Global>,
     plan: ShelfPlan,
@@ -65,7 +65,7 @@ fn seal<C: Kept>(
     }
 }
 
-/// The first seat takes in all others.
+// The first seat takes in all others.
 fn gather<C: Kept>(table: &Inner<C>, first: &mut InnerSeat<C>, mut others: Vec<ShelfSeat<C>>)
     requires words { 0 < table.now.table_id.words }
     requires table { first.old.table_id ≡ table.now.table_id }

@@ -12,7 +12,7 @@ fn key_bits(key: Key) -> u64
     u64::from(key.segment) * 16_777_216 + u64::from(key.event)
 }
 
-/// The number of a place's word.
+// The number of a place's word.
 pub(crate) fn encode(word: PlaceWord) -> u64
     requires { WordFits word }
     ensures { result ≡ place_code word }
@@ -25,7 +25,7 @@ pub(crate) fn encode(word: PlaceWord) -> u64
     }
 }
 
-/// The word that a number stands for.
+// The word that a number stands for.
 pub(crate) fn decode(n: u64) -> PlaceWord
     ensures { result ≡ place_word_in n }
 {

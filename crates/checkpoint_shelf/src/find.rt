@@ -4,9 +4,9 @@ ghost use Rattle.std.specs.Prelude.{◌≡◌, ◌≢◌, ℕ, ◌+◌, Some, No
 ghost use Rattle.std.specs.Arc.{arc_value};
 ghost use Rattle.shelf_core.specs.Plan.{place_of, place_count, is_in};
 ghost use Rattle.checkpoint_shelf.specs.Holds.{IsSeat};
-ghost use Rattle.shelf_core.specs.Made.{Same};
+ghost use Rattle.shelf_core.specs.Made.{Same, Stays};
 ghost use Rattle.shelf_core.specs.Calls.{Borrowed, Missed, LentElsewhere, LentKnown};
-ghost use Rattle.checkpoint_shelf.specs.Answers.{MatchFound, IfNotYet};
+ghost use Rattle.checkpoint_shelf.specs.Answers.{MatchFound, IfHere, IfNotYet};
 
 use crate::begun::Found;
 use crate::kept::Kept;
@@ -19,7 +19,7 @@ use shelf_core::Key;
 use std::marker::Brand;
 use std::sync::Arc;
 
-/// Shares the value of a key, where it is there.
+// Shares the value of a key, where it is there.
 fn borrow<C: Kept, B: Aim>(
     table: &Inner<C>,
     seat: &mut InnerSeat<C>,
@@ -71,7 +71,10 @@ impl<C: Kept> Shelf<C> {
             (λ word. Missed self.now.plan key word seat.old.view seat.new.view)) }
         ensures refused { OnErr result (Borrowed self.now.plan key seat.old.view seat.new.view) }
 
-        // Where the value wasn't there, the seat has what it had.
+        // The key of a value that was shared is found; but for that the seat has what it had.
+        ensures stays { Stays seat.old.view seat.new.view }
+        ensures turns { seat.new.view.turns ≡ seat.old.view.turns }
+        ensures got { IfOk result (λ found. IfHere found (λ a. is_in key seat.new.view.found ≡ true)) }
         ensures kept { IfOk result (λ found. IfNotYet found (λ word. Same seat.old.view seat.new.view)) }
         ensures elsewhere { IfOk result (λ found. IfNotYet found (λ word. LentElsewhere seat.old.view word)) }
 

@@ -11,7 +11,7 @@ use crate::kept::Kept;
 use shelf_core::{Key, PlaceWord};
 use std::sync::Arc;
 
-/// Whether a place's word is Ready of a key.
+// Whether a place's word is Ready of a key.
 fn is_ready_of(word: PlaceWord, key: Key) -> bool
     ensures { result ≡ is_ready key (Some word) }
 {

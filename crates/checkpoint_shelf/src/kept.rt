@@ -7,18 +7,18 @@ use shelf_core::Key;
 
 /// A value that a shelf keeps.
 pub trait Kept {
-    /// What the values of one shelf have in common.
+    // What the values of one shelf have in common.
     type Course;
 
     ghost key_of: { Self → TheKey };
 
     ghost course_of: { Self → Self.Course };
 
-    /// The value's key.
+    // The value's key.
     fn key(&self) -> Key
         ensures { result ≡ key_of self.now };
 
-    /// The value's course.
+    // The value's course.
     fn course(&self) -> &Self::Course
         ensures { result.now ≡ course_of self.now };
 }

@@ -5,6 +5,7 @@ use crate::kept::Kept;
 use atomic_table::{Join, Play, Split, TableRule};
 use std::marker::{Brand, PhantomData};
 
+/// The rule of the table under a shelf: what its words, values and views are at any moment.
 pub struct Law<C> {
     of: PhantomData<C>,
 }
@@ -17,8 +18,8 @@ impl<C: Kept> TableRule<Held<C>, View<C>, About<C>> for Law<C> {
     ghost first = { leader };
 }
 
-/// The first seat makes a seat.
-pub struct Cuts<C> {
+// The first seat makes a seat.
+pub(crate) struct Cuts<C> {
     of: PhantomData<C>,
 }
 
@@ -30,8 +31,8 @@ impl<C: Kept> Split<View<C>> for Cuts<C> {
     ghost right = { newcomer };
 }
 
-/// The first seat takes in another.
-pub struct Meets<C> {
+// The first seat takes in another.
+pub(crate) struct Meets<C> {
     of: PhantomData<C>,
 }
 
@@ -43,7 +44,7 @@ impl<C: Kept> Join<View<C>> for Meets<C> {
     ghost spent = { nobody };
 }
 
-pub struct Claims;
+pub(crate) struct Claims;
 
 impl<C: Kept> Play<Held<C>, View<C>> for Claims {
     ghost use Rattle.checkpoint_shelf.specs.Tells.{ClaimTold};
@@ -51,7 +52,7 @@ impl<C: Kept> Play<Held<C>, View<C>> for Claims {
     ghost then = { ClaimTold };
 }
 
-pub struct Reads;
+pub(crate) struct Reads;
 
 impl<C: Kept> Play<Held<C>, View<C>> for Reads {
     ghost use Rattle.checkpoint_shelf.specs.Tells.{DoneTold};
@@ -59,7 +60,7 @@ impl<C: Kept> Play<Held<C>, View<C>> for Reads {
     ghost then = { DoneTold };
 }
 
-pub struct Counts;
+pub(crate) struct Counts;
 
 impl<C: Kept> Play<Held<C>, View<C>> for Counts {
     ghost use Rattle.checkpoint_shelf.specs.Tells.{CountTold};
@@ -67,7 +68,7 @@ impl<C: Kept> Play<Held<C>, View<C>> for Counts {
     ghost then = { CountTold };
 }
 
-pub struct Stops;
+pub(crate) struct Stops;
 
 impl<C: Kept> Play<Held<C>, View<C>> for Stops {
     ghost use Rattle.checkpoint_shelf.specs.Tells.{StopTold};
@@ -75,8 +76,8 @@ impl<C: Kept> Play<Held<C>, View<C>> for Stops {
     ghost then = { StopTold };
 }
 
-/// The key that a step on a place's word is about, which the number in the word does not show. Each call picks it.
-pub trait Aim {
+// The key that a step on a place's word is about, which the number in the word does not show. Each call picks it.
+pub(crate) trait Aim {
     ghost use Rattle.shelf_core.specs.declared.plan.Key.{Key};
 
     ghost key: { Key };
@@ -86,7 +87,7 @@ impl Aim for Brand {
     ghost key = { record { segment = 0; event = 0 } };
 }
 
-pub struct Looks;
+pub(crate) struct Looks;
 
 impl<C: Kept> Play<Held<C>, View<C>> for Looks {
     ghost use Rattle.checkpoint_shelf.specs.Places.{LookTold};
@@ -94,7 +95,7 @@ impl<C: Kept> Play<Held<C>, View<C>> for Looks {
     ghost then = { LookTold };
 }
 
-pub struct Begins<B> {
+pub(crate) struct Begins<B> {
     of: PhantomData<B>,
 }
 
@@ -104,7 +105,7 @@ impl<C: Kept, B: Aim> Play<Held<C>, View<C>> for Begins<B> {
     ghost then = { BeginTold B.key };
 }
 
-pub struct Brings;
+pub(crate) struct Brings;
 
 impl<C: Kept> Play<Held<C>, View<C>> for Brings {
     ghost use Rattle.checkpoint_shelf.specs.Places.{BringTold};
@@ -112,7 +113,7 @@ impl<C: Kept> Play<Held<C>, View<C>> for Brings {
     ghost then = { BringTold };
 }
 
-pub struct Publishes<B> {
+pub(crate) struct Publishes<B> {
     of: PhantomData<B>,
 }
 
@@ -122,7 +123,7 @@ impl<C: Kept, B: Aim> Play<Held<C>, View<C>> for Publishes<B> {
     ghost then = { PublishTold B.key };
 }
 
-pub struct Abandons<B> {
+pub(crate) struct Abandons<B> {
     of: PhantomData<B>,
 }
 
@@ -132,7 +133,7 @@ impl<C: Kept, B: Aim> Play<Held<C>, View<C>> for Abandons<B> {
     ghost then = { AbandonTold B.key };
 }
 
-pub struct Lends<B> {
+pub(crate) struct Lends<B> {
     of: PhantomData<B>,
 }
 
@@ -142,7 +143,7 @@ impl<C: Kept, B: Aim> Play<Held<C>, View<C>> for Lends<B> {
     ghost then = { LendTold C.key_of C.course_of B.key };
 }
 
-pub struct Returns<B> {
+pub(crate) struct Returns<B> {
     of: PhantomData<B>,
 }
 

@@ -17,6 +17,7 @@ mod seat;
 mod shelf;
 mod steps;
 mod turns;
+pub mod worked;
 
 pub use about::{About, Held, View};
 pub use begun::{Begun, Found, Turn};

@@ -18,7 +18,7 @@ use shelf_core::ShelfPlan;
 use std::alloc::Global;
 use std::snapshot::Snapshot;
 
-/// Another seat, which the first seat makes.
+// Another seat, which the first seat makes.
 fn cut<C: Kept>(table: &Inner<C>, first: &mut InnerSeat<C>, number: u32) -> InnerSeat<C>
     requires words { 0 < table.now.table_id.words }
     requires table { first.old.table_id ≡ table.now.table_id }
@@ -32,7 +32,7 @@ fn cut<C: Kept>(table: &Inner<C>, first: &mut InnerSeat<C>, number: u32) -> Inne
     table.split_seat::<Cuts<C>>(first)
 }
 
-/// A shelf with its table, and the first seat.
+// A shelf with its table, and the first seat.
 fn lay<C: Kept + Drop>(alloc: Global, about: About<C>) -> Result<(Shelf<C>, InnerSeat<C>), Memory>
     requires fits { AboutFits about }
     ensures shelf { IfOk result (λ r. (r.0.plan ≡ about.plan) × (r.0.seats ≡ about.seats) × (r.0.course ≡ about.course.value)) }
@@ -55,7 +55,7 @@ fn lay<C: Kept + Drop>(alloc: Global, about: About<C>) -> Result<(Shelf<C>, Inne
     }
 }
 
-/// Puts a seat behind others.
+// Puts a seat behind others.
 fn keep<C: Kept>(all: &mut Vec<ShelfSeat<C>>, seat: ShelfSeat<C>) -> Result<(), Memory>
     ensures { OnOk result (all.new.items ≡ all.old.items ++ seat ∷ []) }
 {
@@ -65,7 +65,7 @@ fn keep<C: Kept>(all: &mut Vec<ShelfSeat<C>>, seat: ShelfSeat<C>) -> Result<(), 
     }
 }
 
-/// Puts a seat before others.
+// Puts a seat before others.
 fn keep_first<C: Kept>(all: &mut Vec<ShelfSeat<C>>, seat: ShelfSeat<C>) -> Result<(), Memory>
     ensures { OnOk result (all.new.items ≡ seat ∷ all.old.items) }
 {

@@ -7,7 +7,7 @@ ghost use Rattle.shelf_core.specs.declared.words.ClaimWord.TheVariants.{Taken as
 ghost use Rattle.shelf_core.specs.declared.words.Word.TheVariants.{Claim as claim_word, Done as done_word};
 ghost use Rattle.shelf_core.specs.declared.words.Seen.TheVariants.{Claim as claim_seen, Done as done_seen};
 ghost use Rattle.shelf_core.specs.declared.event.Event.TheVariants.{Claim as claim_event, Count as count_event, Stop as stop_event};
-ghost use Rattle.shelf_core.specs.Made.{Makes, Sees};
+ghost use Rattle.shelf_core.specs.Made.{Makes, Sees, Same, Stays};
 
 use crate::kept::Kept;
 use crate::law::{Claims, Counts, Reads, Stops};
@@ -31,6 +31,7 @@ impl<C: Kept> Shelf<C> {
         ensures same { seat.new.shelf ≡ seat.old.shelf }
         ensures claimed { IsTrue result → (seat.new.view ≡ with_claim segment seat.old.view) × (times segment seat.old.view.claims ≡ 0) × Makes self.now.plan (λ n. claim_event n segment) seat.old.view seat.new.view }
         ensures mine { IsTrue result → 0 < times segment seat.new.view.claims }
+        ensures kept { IsFalse result → Same seat.old.view seat.new.view × Stays seat.old.view seat.new.view }
         ensures refused { IsFalse result → (m : ℕ) × Sees self.now.plan (claim_word segment) (claim_seen segment (taken_word m)) seat.old.view seat.new.view }
     {
         let word = 1
@@ -71,6 +72,7 @@ impl<C: Kept> Shelf<C> {
         requires seat { seat.old.shelf ≡ Some self.now }
         ensures same { seat.new.shelf ≡ seat.old.shelf }
         ensures seen { Sees self.now.plan done_word (done_seen result.done result.stopped) seat.old.view seat.new.view }
+        ensures kept { Same seat.old.view seat.new.view × Stays seat.old.view seat.new.view }
         ensures no_less { seat.old.view.done_seen ≤ result.done }
         ensures own { seat.old.view.counts ≤ result.done }
         ensures stays { seat.old.view.stopped ≡ true → result.stopped ≡ true }

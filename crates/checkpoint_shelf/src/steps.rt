@@ -27,7 +27,7 @@ pub(crate) type Inner<C> = Shared<Held<C>, View<C>, About<C>, Law<C>>;
 
 pub(crate) type InnerSeat<C> = Seat<Held<C>, View<C>>;
 
-/// Loads the word of a place.
+// Loads the word of a place.
 pub(crate) fn look<C: Kept>(
     table: &Inner<C>,
     seat: &mut InnerSeat<C>,
@@ -48,7 +48,7 @@ pub(crate) fn look<C: Kept>(
     decode(found)
 }
 
-/// Takes the turn at a place whose word is still `want`. The answer is the word that it is in place of that.
+// Takes the turn at a place whose word is still `want`. The answer is the word that it is in place of that.
 pub(crate) fn take_turn<C: Kept + Drop, B: Aim>(
     table: &Inner<C>,
     seat: &mut InnerSeat<C>,
@@ -82,7 +82,7 @@ pub(crate) fn take_turn<C: Kept + Drop, B: Aim>(
     None
 }
 
-/// Spends a turn: the value goes to its place.
+// Spends a turn: the value goes to its place.
 pub(crate) fn hand_in<C: Kept, B: Aim>(
     table: &Inner<C>,
     seat: &mut InnerSeat<C>,
@@ -111,7 +111,7 @@ pub(crate) fn hand_in<C: Kept, B: Aim>(
     table.store::<Publishes<B>>(seat, place as usize + 1, encode(PlaceWord::Ready(key)));
 }
 
-/// Spends a turn without a value.
+// Spends a turn without a value.
 pub(crate) fn let_go<C: Kept, B: Aim>(
     table: &Inner<C>,
     seat: &mut InnerSeat<C>,
@@ -135,7 +135,7 @@ pub(crate) fn let_go<C: Kept, B: Aim>(
     table.store::<Abandons<B>>(seat, place as usize + 1, 0);
 }
 
-/// Takes the value of a key on loan. The answer is otherwise the word of its place.
+// Takes the value of a key on loan. The answer is otherwise the word of its place.
 pub(crate) fn lend<C: Kept, B: Aim>(
     table: &Inner<C>,
     seat: &mut InnerSeat<C>,
@@ -164,7 +164,7 @@ pub(crate) fn lend<C: Kept, B: Aim>(
     Ok(value)
 }
 
-/// Returns the value that the seat has on loan.
+// Returns the value that the seat has on loan.
 pub(crate) fn give_back<C: Kept, B: Aim>(
     table: &Inner<C>,
     seat: &mut InnerSeat<C>,

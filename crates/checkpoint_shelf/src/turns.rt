@@ -1,13 +1,13 @@
 //! The turns of places: to get one, and to spend it.
 
-ghost use Rattle.std.specs.Prelude.{◌≡◌, ◌≢◌, ℕ, ◌+◌, ◌<◌, ◌≤◌, Some, None, true, false, IfSome, IfNone, IsSome, length};
+ghost use Rattle.std.specs.Prelude.{◌≡◌, ◌≢◌, ℕ, ◌+◌, ◌<◌, ◌≤◌, ◌++◌, ◌∷◌, [], Some, None, true, false, IfSome, IfNone, IsSome, length};
 ghost use Rattle.std.specs.Arc.{arc_value};
 ghost use Rattle.shelf_core.specs.Plan.{place_of, place_count, is_sole, is_in};
 ghost use Rattle.shelf_core.specs.Words.{is_held};
-ghost use Rattle.shelf_core.specs.Views.{times, has_turn};
+ghost use Rattle.shelf_core.specs.Views.{times, has_turn, other_turns};
 ghost use Rattle.checkpoint_shelf.specs.Holds.{IsSeat};
 ghost use Rattle.shelf_core.specs.Possible.{allows};
-ghost use Rattle.shelf_core.specs.Made.{Same};
+ghost use Rattle.shelf_core.specs.Made.{Same, Stays};
 ghost use Rattle.shelf_core.specs.Calls.{Began, Refused, Published, Abandoned, LentElsewhere, WritingOwn};
 ghost use Rattle.checkpoint_shelf.specs.Answers.{MatchBegun, IfTaken, begun_of};
 
@@ -21,7 +21,7 @@ use shelf_core::{Key, PlaceWord, ShelfPlan};
 use std::marker::Brand;
 use std::sync::Arc;
 
-/// Whether a value of a key may be written at a place where this word stands.
+// Whether a value of a key may be written at a place where this word stands.
 fn may_write(plan: &ShelfPlan, place: u32, key: Key, word: PlaceWord) -> bool
     ensures { result ≡ allows plan.now place key word }
 {
@@ -33,7 +33,7 @@ fn may_write(plan: &ShelfPlan, place: u32, key: Key, word: PlaceWord) -> bool
     }
 }
 
-/// Takes the turn at the place of a key. The answer is otherwise the word of the place.
+// Takes the turn at the place of a key. The answer is otherwise the word of the place.
 fn begin_at<C: Kept + Drop, B: Aim>(
     table: &Inner<C>,
     seat: &mut InnerSeat<C>,
@@ -65,7 +65,7 @@ fn begin_at<C: Kept + Drop, B: Aim>(
     take_turn::<C, B>(table, seat, number, place, key, first)
 }
 
-/// The answer of `begin`.
+// The answer of `begin`.
 fn begun(key: Key, answer: Option<PlaceWord>) -> Begun
     ensures { result ≡ begun_of key answer }
 {
@@ -98,7 +98,11 @@ impl<C: Kept + Drop> Shelf<C> {
             (λ turn. (turn ≡ key) × Began self.now.plan key seat.old.view seat.new.view)
             (λ word. Refused self.now.plan key word seat.old.view seat.new.view) }
 
-        // Where the seat got no turn, it has what it had.
+        // A turn is one more, of a key of which the seat had none; but for that the seat has what it had.
+        ensures stays { Stays seat.old.view seat.new.view }
+        ensures turn { MatchBegun result
+            (λ turn. (has_turn turn seat.old.view.turns ≡ false) × (has_turn turn seat.new.view.turns ≡ true) × ((place : ℕ) × (seat.new.view.turns ≡ seat.old.view.turns ++ (place, turn) ∷ [])))
+            (λ word. seat.new.view.turns ≡ seat.old.view.turns) }
         ensures kept { IfTaken result (λ word. Same seat.old.view seat.new.view) }
         ensures elsewhere { IfTaken result (λ word. LentElsewhere seat.old.view word) }
         ensures own { IfTaken result (λ word. WritingOwn self.now.plan key seat.old.view word) }
@@ -128,6 +132,11 @@ impl<C: Kept + Drop> Shelf<C> {
         requires course { C.course_of (arc_value value) ≡ self.now.course }
         ensures same { seat.new.shelf ≡ seat.old.shelf }
         ensures published { Published self.now.plan turn seat.old.view seat.new.view }
+
+        // The turn is gone, and of a sole key the seat knows the value; but for that it has what it had.
+        ensures stays { Stays seat.old.view seat.new.view }
+        ensures spent { seat.new.view.turns ≡ other_turns turn seat.old.view.turns }
+        ensures known { is_sole self.now.plan turn ≡ true → is_in turn seat.new.view.known ≡ true }
     {
         let Turn { key } = turn;
         let number = seat.number;
@@ -150,6 +159,10 @@ impl<C: Kept + Drop> Shelf<C> {
         requires turn { has_turn turn seat.old.view.turns ≡ true }
         ensures same { seat.new.shelf ≡ seat.old.shelf }
         ensures abandoned { Abandoned self.now.plan turn seat.old.view seat.new.view }
+
+        // The turn is gone; but for that the seat has what it had.
+        ensures stays { Stays seat.old.view seat.new.view }
+        ensures spent { seat.new.view.turns ≡ other_turns turn seat.old.view.turns }
     {
         let Turn { key } = turn;
         let number = seat.number;

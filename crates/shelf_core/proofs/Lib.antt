@@ -13,3 +13,4 @@ pub mod Grown
 pub mod Rising
 pub mod Facts
 pub mod Settled
+pub mod Staying

@@ -1,8 +1,10 @@
 -- One step of a seat, as an event of the shared system.
 use Rattle.std.specs.Prelude.{◌≡◌, ℕ, true, Some, slice_get}
+use Rattle.shelf_core.specs.Plan.{is_in}
 use Rattle.shelf_core.specs.Possible.{possible, seen_at}
 use Rattle.shelf_core.specs.After.{after, having_loaded}
 use Rattle.shelf_core.specs.Orderly.{Orderly}
+use Rattle.shelf_core.specs.declared.plan.Key.{Key}
 use Rattle.shelf_core.specs.declared.plan.ShelfPlan.{ShelfPlan}
 use Rattle.shelf_core.specs.declared.words.Word.{Word}
 use Rattle.shelf_core.specs.declared.words.Seen.{Seen}
@@ -37,3 +39,11 @@ pub record Same (v w : SeatView) : Type 0 where
   pub turns : w.turns ≡ v.turns
   pub loan : w.loan ≡ v.loan
   pub found : w.found ≡ v.found
+
+-- What every call leaves as it was: the seat's numbers, claims and counts; and of what it knew and found nothing is lost.
+pub record Stays (v w : SeatView) : Type 0 where
+  pub numbers : w.numbers ≡ v.numbers
+  pub claims : w.claims ≡ v.claims
+  pub counts : w.counts ≡ v.counts
+  pub known : (key : Key) → is_in key v.known ≡ true → is_in key w.known ≡ true
+  pub found : (key : Key) → is_in key v.found ≡ true → is_in key w.found ≡ true

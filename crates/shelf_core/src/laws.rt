@@ -1,16 +1,16 @@
 //! Laws of the shared system, of every system, event and view. The functions do nothing: their clauses are for those
 //! who hold a system as a fact alone, and make its events by other means than `step`.
 
-ghost use Rattle.std.specs.Prelude.{◌≡◌, ℕ, ◌≤◌, ◌<◌, Bool, true, false, Some, None};
+ghost use Rattle.std.specs.Prelude.{◌≡◌, ℕ, ◌≤◌, ◌<◌, ◌++◌, ◌∷◌, [], List, Bool, true, false, Some, None};
 ghost use Rattle.shelf_core.specs.Plan.{is_in, is_sole, place_of};
 ghost use Rattle.shelf_core.specs.Words.{is_held};
-ghost use Rattle.shelf_core.specs.Views.{live_view, times, has_turn};
+ghost use Rattle.shelf_core.specs.Views.{live_view, times, has_turn, other_turns};
 ghost use Rattle.shelf_core.specs.Possible.{possible, seen_at};
 ghost use Rattle.shelf_core.specs.After.{after};
 ghost use Rattle.shelf_core.specs.Orderly.{Orderly};
 ghost use Rattle.shelf_core.specs.Law.{Keeps};
 ghost use Rattle.shelf_core.specs.Made.{Same, Sees};
-ghost use Rattle.shelf_core.specs.Calls.{SeesPlace, Refused, LentElsewhere, WritingOwn, LentKnown, Missed};
+ghost use Rattle.shelf_core.specs.Calls.{Began, Refused, LentElsewhere, WritingOwn, LentKnown, Missed};
 ghost use Rattle.shelf_core.specs.Settled.{IsBack, IsSettled};
 ghost use Rattle.shelf_core.specs.declared.plan.Key.{Key as TheKey};
 ghost use Rattle.shelf_core.specs.declared.plan.ShelfPlan.{ShelfPlan as ThePlan};
@@ -63,6 +63,14 @@ pub fn misses_tell()
         v.loan ≡ None → LentElsewhere v word }
     ensures known { (plan : ThePlan) (key : TheKey) (word : ThePlaceWord) (v w : TheView) → Missed plan key word v w →
         v.loan ≡ None → is_in key v.known ≡ true → LentKnown key v word }
+{}
+
+/// A turn is got once: while a seat has the turn of a key it gets no second one. And a turn that was got and spent leaves
+/// the turns that the seat had.
+pub fn turns_are_single()
+    ensures once { (plan : ThePlan) (key : TheKey) (v w : TheView) → Began plan key v w → has_turn key v.turns ≡ false }
+    ensures spent { (key : TheKey) (place : ℕ) (turns : List (ℕ × TheKey)) → has_turn key turns ≡ false →
+        other_turns key (turns ++ (place, key) ∷ []) ≡ turns }
 {}
 
 /// Once one seat took in all others and has no turn and no loan, each place is Free or Ready, all claims are its own,

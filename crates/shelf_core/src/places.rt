@@ -35,7 +35,7 @@ impl ShelfPlan {
         self.grid_place(at)
     }
 
-    /// The place that the grid key at an index has, where there are places for the grid.
+    // The place that the grid key at an index has, where there are places for the grid.
     fn grid_place(&self, at: usize) -> Option<u32>
         requires { place_count self.now < 2 ^ 32 }
         ensures { result ≡ fork_or_grid self.now None (Some at) }
@@ -60,7 +60,7 @@ impl ShelfPlan {
         }
     }
 
-    /// Whether no other grid key has this place.
+    // Whether no other grid key has this place.
     fn has_alone(&self, key: Key, place: u32) -> bool
         requires { place_count self.now < 2 ^ 32 }
         ensures { result ≡ has_alone self.now key (Some place) }
@@ -72,7 +72,7 @@ impl ShelfPlan {
     }
 }
 
-/// The place of a key under a plan that may not be laid yet: then there is none.
+// The place of a key under a plan that may not be laid yet: then there is none.
 pub(crate) fn place_in(plan: &Option<ShelfPlan>, key: Key) -> Option<u32>
     requires { IsSmall plan.now }
     ensures { result ≡ place_in plan.now key }
@@ -83,7 +83,7 @@ pub(crate) fn place_in(plan: &Option<ShelfPlan>, key: Key) -> Option<u32>
     }
 }
 
-/// Whether a key is sole under a plan that may not be laid yet: then it is not.
+// Whether a key is sole under a plan that may not be laid yet: then it is not.
 pub(crate) fn is_sole_in(plan: &Option<ShelfPlan>, key: Key) -> bool
     requires { IsSmall plan.now }
     ensures { result ≡ sole_in plan.now key }
@@ -94,7 +94,7 @@ pub(crate) fn is_sole_in(plan: &Option<ShelfPlan>, key: Key) -> bool
     }
 }
 
-/// The place at which a key first stands in a list.
+// The place at which a key first stands in a list.
 fn index_of(keys: &[Key], key: Key) -> Option<usize>
     ensures first { result ≡ index_of key keys.now }
     ensures within { IfSome result (λ i. i < length keys.now) }
@@ -102,7 +102,7 @@ fn index_of(keys: &[Key], key: Key) -> Option<usize>
     keys.iter().position(|k| *k == key)
 }
 
-/// The place at which a key stands in a list whose keys rise.
+// The place at which a key stands in a list whose keys rise.
 fn rising_index_of(keys: &[Key], key: Key) -> Option<usize>
     requires { rise keys.now ≡ true }
     ensures first { result ≡ index_of key keys.now }
@@ -115,14 +115,14 @@ fn rising_index_of(keys: &[Key], key: Key) -> Option<usize>
     None
 }
 
-/// Whether a key comes before another, by segment, and in one segment by event.
+// Whether a key comes before another, by segment, and in one segment by event.
 fn is_before(a: Key, b: Key) -> bool
     ensures { result ≡ is_before a b }
 {
     a.segment < b.segment || (a.segment == b.segment && a.event < b.event)
 }
 
-/// Whether a key stands in a list.
+// Whether a key stands in a list.
 pub(crate) fn is_in(keys: &[Key], key: Key) -> bool
     ensures { result ≡ is_in key keys.now }
 {

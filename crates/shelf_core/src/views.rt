@@ -11,7 +11,7 @@ use plain_lists::{Memory, Sequence};
 use std::alloc::Global;
 
 impl SeatView {
-    /// The view of a new seat with this number.
+    // The view of a new seat with this number.
     pub(crate) fn new(alloc: Global, number: u32) -> Result<SeatView, Memory>
         ensures { IfOk result (λ view. view ≡ new_view number) }
     {
@@ -21,7 +21,7 @@ impl SeatView {
         Ok(view)
     }
 
-    /// What is left of the view of a seat that joined another.
+    // What is left of the view of a seat that joined another.
     pub(crate) fn spent(alloc: Global) -> SeatView
         ensures { result ≡ spent_view }
     {
@@ -41,7 +41,7 @@ impl SeatView {
         }
     }
 
-    /// An equal view.
+    // An equal view.
     fn copy(&self, alloc: Global) -> Result<SeatView, Memory>
         ensures { IfOk result (λ view. view ≡ self.now) }
     {
@@ -61,7 +61,7 @@ impl SeatView {
         })
     }
 
-    /// The view with a claim.
+    // The view with a claim.
     pub(crate) fn with_claim(&self, alloc: Global, segment: u32) -> Result<SeatView, Memory>
         ensures { IfOk result (λ view. view ≡ with_claim segment self.now) }
     {
@@ -70,7 +70,7 @@ impl SeatView {
         Ok(view)
     }
 
-    /// The view with a turn.
+    // The view with a turn.
     pub(crate) fn with_turn(&self, alloc: Global, place: u32, key: Key) -> Result<SeatView, Memory>
         ensures { IfOk result (λ view. view ≡ with_turn place key self.now) }
     {
@@ -79,7 +79,7 @@ impl SeatView {
         Ok(view)
     }
 
-    /// The view without the turn of a key.
+    // The view without the turn of a key.
     pub(crate) fn without_turn(&self, alloc: Global, key: Key) -> Result<SeatView, Memory>
         ensures { IfOk result (λ view. view ≡ without_turn key self.now) }
     {
@@ -88,7 +88,7 @@ impl SeatView {
         Ok(view)
     }
 
-    /// The view once the value of its turn is there.
+    // The view once the value of its turn is there.
     pub(crate) fn having_published(
         &self,
         alloc: Global,
@@ -103,7 +103,7 @@ impl SeatView {
         Ok(view)
     }
 
-    /// The view with a loan.
+    // The view with a loan.
     pub(crate) fn with_loan(
         &self,
         alloc: Global,
@@ -120,7 +120,7 @@ impl SeatView {
         Ok(view)
     }
 
-    /// The view once the value of its loan was returned.
+    // The view once the value of its loan was returned.
     pub(crate) fn having_returned(&self, alloc: Global, key: Key) -> Result<SeatView, Memory>
         ensures { IfOk result (λ view. view ≡ having_returned key self.now) }
     {
@@ -130,7 +130,7 @@ impl SeatView {
         Ok(view)
     }
 
-    /// The view with one count more.
+    // The view with one count more.
     pub(crate) fn with_count(&self, alloc: Global) -> Result<SeatView, Memory>
         requires { self.now.counts + 1 < 2 ^ 32 }
         ensures { IfOk result (λ view. view ≡ with_count self.now) }
@@ -140,7 +140,7 @@ impl SeatView {
         Ok(view)
     }
 
-    /// The view once it has set the stop bit.
+    // The view once it has set the stop bit.
     pub(crate) fn having_stopped(&self, alloc: Global) -> Result<SeatView, Memory>
         ensures { IfOk result (λ view. view ≡ having_stopped self.now) }
     {
@@ -149,7 +149,7 @@ impl SeatView {
         Ok(view)
     }
 
-    /// The view after a load.
+    // The view after a load.
     pub(crate) fn having_loaded(
         &self,
         alloc: Global,
@@ -168,7 +168,7 @@ impl SeatView {
         Ok(view)
     }
 
-    /// The view with all that another has.
+    // The view with all that another has.
     pub(crate) fn joined_with(&self, alloc: Global, other: &SeatView) -> Result<SeatView, Memory>
         requires { self.now.counts + other.now.counts < 2 ^ 32 }
         ensures { IfOk result (λ view. view ≡ joined_with other.now self.now) }
@@ -185,7 +185,7 @@ impl SeatView {
     }
 }
 
-/// Adds a key to those that are known, where it is sole.
+// Adds a key to those that are known, where it is sole.
 fn learn(plan: &Option<ShelfPlan>, key: Key, known: &mut Sequence<Key>) -> Result<(), Memory>
     requires small { IsSmall plan.now }
     ensures { IfOk result (λ _. known.new ≡ knowing plan.now key known.old) }
@@ -196,7 +196,7 @@ fn learn(plan: &Option<ShelfPlan>, key: Key, known: &mut Sequence<Key>) -> Resul
     Ok(())
 }
 
-/// Adds the key that a seat learns from a word that it sees.
+// Adds the key that a seat learns from a word that it sees.
 fn learn_from(plan: &Option<ShelfPlan>, seen: Seen, known: &mut Sequence<Key>) -> Result<(), Memory>
     requires small { IsSmall plan.now }
     ensures { IfOk result (λ _. known.new ≡ known_from plan.now seen known.old) }
@@ -208,7 +208,7 @@ fn learn_from(plan: &Option<ShelfPlan>, seen: Seen, known: &mut Sequence<Key>) -
     }
 }
 
-/// The done number that a seat saw last.
+// The done number that a seat saw last.
 fn done_from(seen: Seen, before: u32) -> u32
     ensures { result ≡ done_from seen before }
 {
@@ -218,7 +218,7 @@ fn done_from(seen: Seen, before: u32) -> u32
     }
 }
 
-/// The stop bit that a seat saw last.
+// The stop bit that a seat saw last.
 fn stopped_from(seen: Seen, before: bool) -> bool
     ensures { result ≡ stopped_from seen before }
 {
@@ -228,7 +228,7 @@ fn stopped_from(seen: Seen, before: bool) -> bool
     }
 }
 
-/// The turns but for those of a key.
+// The turns but for those of a key.
 fn other_turns(alloc: Global, turns: &[(u32, Key)], key: Key) -> Result<Sequence<(u32, Key)>, Memory>
     ensures { IfOk result (λ others. others ≡ other_turns key turns.now) }
 {
@@ -243,7 +243,7 @@ fn other_turns(alloc: Global, turns: &[(u32, Key)], key: Key) -> Result<Sequence
     }
 }
 
-/// A load, and the newest of those before it.
+// A load, and the newest of those before it.
 fn last_two(alloc: Global, seen: Seen, before: &[Seen]) -> Result<Sequence<Seen>, Memory>
     ensures { IfOk result (λ list. list ≡ take 2 (seen ∷ before.now)) }
 {

@@ -43,7 +43,7 @@ const NEW: Seat = Seat {
     returned: 0,
 };
 
-/// The place of each key of the plan.
+// The place of each key of the plan.
 fn place(key: Key) -> Option<usize> {
     match (key.segment, key.event) {
         (0, 2) => Some(0),
@@ -62,7 +62,7 @@ fn claim_word(owner: Option<u32>) -> ClaimWord {
 }
 
 impl Seat {
-    /// Learns of a key's value: of the fork keys, and of the one grid key that shares no place.
+    // Learns of a key's value: of the fork keys, and of the one grid key that shares no place.
     fn learn(&mut self, key: Key) {
         if matches!(place(key), Some(0 | 1 | 3)) {
             self.known = self.known.wrapping_add(1);

@@ -1,4 +1,4 @@
-use Rattle.std.proofs.Common.{◌≡◌, ◌<◌, sym, ap, subst, ◌∙◌, refl, Some, true}
+use Rattle.std.proofs.Common.{◌≡◌, ◌<◌, ℕ, ◌++◌, ◌∷◌, [], sym, ap, subst, ◌∙◌, refl, Some, true, false}
 use Rattle.shelf_core.specs.Plan.{is_sole, is_in}
 use Rattle.shelf_core.specs.Words.{is_held}
 use Rattle.shelf_core.specs.Views.{has_turn, times}
@@ -9,6 +9,11 @@ use Rattle.checkpoint_shelf.specs.Answers.{MatchBegun, IfTaken}
 use Rattle.checkpoint_shelf.proofs.Calls.{one_about, shown, seat_told, same_shelf}
 use Rattle.shelf_core.proofs.Facts.{refused_same, refused_elsewhere, refused_own, refused_sole}
 use Rattle.checkpoint_shelf.proofs.Facts.{none_says, some_says, begun_says, taken_says}
+use Rattle.shelf_core.specs.Made.{Stays}
+use Rattle.shelf_core.specs.declared.plan.Key.{Key}
+use Rattle.shelf_core.specs.declared.words.PlaceWord.{PlaceWord}
+use Rattle.shelf_core.proofs.Staying.{began_stays, began_turn, began_has, began_once, refused_stays}
+use Rattle.checkpoint_shelf.proofs.Facts.{both_say}
 use Rattle.checkpoint_shelf.proofs.shelf.Shelf.begin.Goals as goal
 
 pub begin_at-answer-requires-clause-seat : goal.begin_at-answer-requires-clause-seat
@@ -63,3 +68,18 @@ returns-clause-sole g c = λ sole none.
     subst (λ b. IfTaken b (λ word. (is_held key (Some word) ≡ true) × (is_in key w.known ≡ true))) (sym c.begun.ensures)
     (taken_says key c.begin_at-answer.result _ _
     (λ word h. refused_sole _ key word _ w h (ap (λ q. is_sole q key) p ∙ sole) (subst (λ u. 0 < times key.segment u.claims) (sym v) c.requires.claim) (ap (λ u. has_turn key u.turns) v ∙ none)) c.begin_at-answer.ensures.taken)
+
+pub returns-clause-stays : goal.returns-clause-stays
+returns-clause-stays g c =
+    let v = ap (λ s. s.view) c.seat.view_is in let w = c.begin_at-answer.new.seat.me.0.seen in
+    subst (λ u. Stays u w) v (both_say c.begin_at-answer.result (λ h. began_stays _ _ _ w h) (λ word h. refused_stays _ _ word _ w h) c.begin_at-answer.ensures.turn c.begin_at-answer.ensures.taken)
+
+pub returns-clause-turn : goal.returns-clause-turn
+returns-clause-turn g c =
+    let v = ap (λ s. s.view.turns) c.seat.view_is in let key = c.args.key in let w = c.begin_at-answer.new.seat.me.0.seen in
+    let T : Key → Type 0 = λ turn. (has_turn turn c.args.seat.now.view.turns ≡ false) × (has_turn turn w.turns ≡ true) × ((place : ℕ) × (w.turns ≡ c.args.seat.now.view.turns ++ (place, turn) ∷ [])) in
+    let W : PlaceWord → Type 0 = λ word. w.turns ≡ c.args.seat.now.view.turns in
+    subst (λ b. MatchBegun b T W) (sym c.begun.ensures)
+    (begun_says key c.begin_at-answer.result T W
+    (none_says c.begin_at-answer.result (λ h. let t = began_turn _ _ _ w h in (ap (has_turn key) (sym v) ∙ began_once _ _ _ w h, began_has _ _ _ w h, (t.0, t.2 ∙ ap (λ ts. ts ++ (t.0, key) ∷ []) v))) c.begin_at-answer.ensures.turn)
+    (some_says c.begin_at-answer.result (λ word h. (refused_same _ _ word _ w h).turns ∙ v) c.begin_at-answer.ensures.taken))

@@ -7,8 +7,9 @@ use Rattle.shelf_core.specs.declared.words.ClaimWord.TheVariants.{Taken}
 use Rattle.shelf_core.specs.declared.words.Word.TheVariants.{Claim as claim_word}
 use Rattle.shelf_core.specs.declared.words.Seen.TheVariants.{Claim as claim_seen}
 use Rattle.shelf_core.specs.declared.event.Event.TheVariants.{Claim}
-use Rattle.shelf_core.specs.Made.{Makes, Sees}
+use Rattle.shelf_core.specs.Made.{Makes, Sees, Same, Stays}
 use Rattle.checkpoint_shelf.proofs.Words.{claims}
+use Rattle.shelf_core.proofs.Staying.{sees_same, sees_stays}
 use Rattle.shelf_core.proofs.Facts.{at_true, at_false}
 use Rattle.checkpoint_shelf.proofs.Calls.{one_about, claim_seat, claimed_end, shown, seat_told, same_shelf}
 use Rattle.checkpoint_shelf.proofs.shelf.Shelf.claim.Goals as goal
@@ -53,6 +54,14 @@ returns-clause-mine g c = λ is.
     let all = c.compare_exchange-found.ensures.2 c.seat.invariant.0 c.seat.invariant.1.about c.args.segment (omega arith) in
     let x = at_true _ _ _ is all in
     subst (λ (w : _). 0 < times c.args.segment w.seen.claims) (sym x.0.0) (claimed_end c.args.segment c.seat.inside.seat.me.0.seen.claims)
+
+pub returns-clause-kept : goal.returns-clause-kept
+returns-clause-kept g c = λ is.
+    let slots = c.self.invariant.3 in let forks = c.len.ensures in let count = ap place_count c.self.invariant.0 in
+    let all = c.compare_exchange-found.ensures.2 c.seat.invariant.0 c.seat.invariant.1.about c.args.segment (omega arith) in
+    let x = at_false _ _ _ is all in
+    let v = ap (λ s. s.view) c.seat.view_is in let w = c.compare_exchange-found.new.seat.me.0.seen in
+    (subst (λ u. Same u w) v (sees_same _ _ _ _ w x.2), subst (λ u. Stays u w) v (sees_stays _ _ _ _ w x.2))
 
 pub returns-clause-refused : goal.returns-clause-refused
 returns-clause-refused g c = λ is.

@@ -2,8 +2,9 @@ use Rattle.std.proofs.Common.{arith, ◌/◌, ◌%◌, ℕ, Bool, nat_eq, sym, a
 use Rattle.shelf_core.specs.declared.words.Word.TheVariants.{Done as done_word}
 use Rattle.shelf_core.specs.declared.words.Seen.TheVariants.{Done as done_seen}
 use Rattle.checkpoint_shelf.specs.Holds.{IsSeat}
-use Rattle.shelf_core.specs.Made.{Sees}
+use Rattle.shelf_core.specs.Made.{Sees, Same, Stays}
 use Rattle.checkpoint_shelf.proofs.Words.{reads}
+use Rattle.shelf_core.proofs.Staying.{sees_same, sees_stays}
 use Rattle.shelf_core.proofs.Facts.{sees_no_less, sees_few}
 use Rattle.checkpoint_shelf.proofs.Calls.{one_about, becomes_loaded, shown, halves, seat_told, same_shelf}
 use Rattle.checkpoint_shelf.proofs.shelf.Shelf.progress.Goals as goal
@@ -39,6 +40,11 @@ returns-clause-seen g c = let x = c.load-found.ensures.2 c.seat.invariant.0 c.se
     let e = seat_told _ _ _ _ _ c.seat.invariant.1 (ap (λ s. s.shelf) c.seat.view_is ∙ c.requires.seat) in
     shown (λ p u. Sees p done_word (done_seen (c.load-found.result / 2) (nat_eq (c.load-found.result % 2) 1)) u c.load-found.new.seat.me.0.seen) _ _ _ _ (ap (λ s. s.plan) e) (ap (λ s. s.view) c.seat.view_is)
     (subst (λ (z : ℕ × Bool). Sees c.seat.invariant.0.plan done_word (done_seen z.0 z.1) c.seat.inside.seat.me.0.seen c.load-found.new.seat.me.0.seen) (λ j. (sym h.0 j, sym h.1 j)) x.4)
+
+pub returns-clause-kept : goal.returns-clause-kept
+returns-clause-kept g c = let x = c.load-found.ensures.2 c.seat.invariant.0 c.seat.invariant.1.about in
+    let v = ap (λ s. s.view) c.seat.view_is in let w = c.load-found.new.seat.me.0.seen in
+    (subst (λ u. Same u w) v (sees_same _ _ _ _ w x.4), subst (λ u. Stays u w) v (sees_stays _ _ _ _ w x.4))
 
 pub returns-clause-no_less : goal.returns-clause-no_less
 returns-clause-no_less g c = let x = c.load-found.ensures.2 c.seat.invariant.0 c.seat.invariant.1.about in
