@@ -14,6 +14,8 @@ use Rattle.shelf_core.specs.Views.{spent_view, times, turns_at}
 use Rattle.shelf_core.specs.After.{joined_with}
 use Rattle.shelf_core.specs.Sound.{ForViews}
 use Rattle.shelf_core.specs.Orderly.{Orderly}
+use Rattle.shelf_core.specs.Settled.{IsSettled}
+use Rattle.shelf_core.proofs.Settled.{settled}
 use Rattle.shelf_core.specs.declared.plan.Key.{Key}
 use Rattle.shelf_core.specs.declared.plan.ShelfPlan.{ShelfPlan}
 use Rattle.shelf_core.specs.declared.words.ClaimWord.{ClaimWord}
@@ -131,6 +133,25 @@ module _ {C Co Z : Type 0} (k : About C Co) (number : ℕ) (me : Rattle.atomic_t
 pub gathered_end : (view other : SeatView) (others : List SeatView) → gathered view (others ++ other ∷ []) ≡ gathered (joined_with other view) others
 gathered_end view other [] = refl
 gathered_end view other (x ∷ xs) = ap (joined_with x) (gathered_end view other xs)
+
+-- The seat that took in the others has the turns and the loan that it had.
+pub gathered_same : (view : SeatView) (others : List SeatView) → ((gathered view others).spent ≡ view.spent) × ((gathered view others).turns ≡ view.turns) × ((gathered view others).loan ≡ view.loan)
+gathered_same view [] = (refl, refl, refl)
+gathered_same view (x ∷ xs) = gathered_same view xs
+
+none_more : (n : ℕ) → live_count (replicate n spent_view) ≡ 0
+none_more zero = refl
+none_more (suc n) = let r = none_more n in omega arith
+
+pub back_settled : (s : System) (view : SeatView) (n : ℕ) → Orderly s → s.views ≡ view ∷ replicate n spent_view → view.spent ≡ false → view.turns ≡ [] → view.loan ≡ None → IsSettled s view
+back_settled s view n orderly views live turns loan = settled s view orderly (record {
+  seat = 0;
+  there = ap (λ l. slice_get l 0) views;
+  live = live;
+  alone = ap live_count views ∙ (let w : weight view.spent ≡ 1 = ap weight live in let r = none_more n in omega arith);
+  turns = turns;
+  loan = loan;
+})
 
 module _ {A : Type 0} where
   last_at : (l : List A) (a : A) → slice_get (l ++ a ∷ []) (length l) ≡ Some a

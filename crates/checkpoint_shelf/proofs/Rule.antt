@@ -25,6 +25,7 @@ use Rattle.shelf_core.specs.declared.event.Event.{Event}
 use Rattle.shelf_core.specs.declared.event.Event.TheVariants.{Load}
 use Rattle.shelf_core.proofs.Lists.{some_same, changed_is_set, total_set, set_here}
 use Rattle.shelf_core.proofs.Steps.{live_is, after_orderly}
+use Rattle.shelf_core.proofs.Facts.{loaded}
 use Rattle.checkpoint_shelf.specs.declared.about.About.{About}
 use Rattle.checkpoint_shelf.specs.declared.about.View.{View}
 use Rattle.checkpoint_shelf.specs.Codes.{claim_code, place_code, words_of}

@@ -4,6 +4,7 @@ ghost use Rattle.std.specs.Prelude.{◌≡◌, ℕ, ◌+◌, ◌-◌, ◌<◌, [
 ghost use Rattle.shelf_core.specs.Plan.{place_count};
 ghost use Rattle.shelf_core.specs.Views.{spent_view};
 ghost use Rattle.shelf_core.specs.Orderly.{Orderly};
+ghost use Rattle.shelf_core.specs.Settled.{IsSettled};
 ghost use Rattle.checkpoint_shelf.specs.Holds.{AboutFits, IsSeat, both};
 ghost use Rattle.checkpoint_shelf.specs.Told.{told_of};
 ghost use Rattle.checkpoint_shelf.specs.Seats.{AllBack, AreLater, all_in, gathered};
@@ -94,6 +95,9 @@ impl<C: Kept> Shelf<C> {
         ensures plan { result.system.plan ≡ Some self.plan }
         ensures views { result.system.views ≡ all_in (map (λ s. s.view) seats.items) ∷ replicate (self.seats - 1) spent_view }
         ensures orderly { Orderly result.system }
+
+        // No seat is at work any more: each place is Free or Ready, all claims are the joined seat's, and the done number is its count.
+        ensures settled { IsSettled result.system (all_in (map (λ s. s.view) seats.items)) }
     {
         let Shelf { table, plan } = self;
         let first = seats.remove(0);

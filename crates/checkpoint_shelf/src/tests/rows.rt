@@ -46,10 +46,13 @@ fn begun_again(shelf: &Shelf<Item>, seat: &mut ShelfSeat<Item>, k: Key) -> Answe
     ensures stays { Stays seat.old.view seat.new.view }
     ensures turns { seat.new.view.turns ≡ seat.old.view.turns }
 {
-    let Begun::Taken(word) = shelf.begin(seat, k) else {
-        unreachable!()
-    };
-    Answer::Word(word)
+    match shelf.begin(seat, k) {
+        Begun::Taken(word) => Answer::Word(word),
+        Begun::Turn(turn) => {
+            shelf.abandon(seat, turn);
+            unreachable!()
+        }
+    }
 }
 
 // The calls from the first `begin` to the last: what each answers.

@@ -2,6 +2,7 @@ use Rattle.std.proofs.Common.{◌≡◌, Some, sym, ap, subst, ◌∙◌}
 use Rattle.shelf_core.specs.Plan.{place_of}
 use Rattle.shelf_core.specs.Views.{has_turn, other_turns}
 use Rattle.shelf_core.specs.Made.{Stays}
+use Rattle.shelf_core.specs.Calls.{Abandoned}
 use Rattle.checkpoint_shelf.specs.Holds.{IsSeat}
 use Rattle.checkpoint_shelf.proofs.Calls.{one_about, seat_told, same_shelf}
 use Rattle.checkpoint_shelf.proofs.Hands.{turn_has_place}
@@ -34,7 +35,7 @@ returns-clause-stays g c =
     let k = c.self.inside.table.shared.key in let key = c.turn.inside.key in let u = c.seat.inside.seat.me.0.seen in let w = c.let_go.new.seat.me.0.seen in
     let st = c.let_go.ensures.steps in
     let at : place_of k.plan key ≡ Some c.in-Some.place = ap (λ s. place_of s.plan key) c.self.view_is ∙ sym c.place_of.ensures ∙ c.in-Some.is in
-    let made = (c.in-Some.place, st.0, st.1, at, st.2, st.4, st.3) in
+    let made : Abandoned k.plan key u w = (c.in-Some.place, st.0, st.1, at, st.2, st.4, st.3) in
     subst (λ u. Stays u w) (ap (λ s. s.view) c.seat.view_is) (abandoned_stays k.plan key u w made)
 
 pub returns-clause-spent : goal.returns-clause-spent
@@ -42,5 +43,5 @@ returns-clause-spent g c =
     let k = c.self.inside.table.shared.key in let key = c.turn.inside.key in let u = c.seat.inside.seat.me.0.seen in let w = c.let_go.new.seat.me.0.seen in
     let st = c.let_go.ensures.steps in
     let at : place_of k.plan key ≡ Some c.in-Some.place = ap (λ s. place_of s.plan key) c.self.view_is ∙ sym c.place_of.ensures ∙ c.in-Some.is in
-    let made = (c.in-Some.place, st.0, st.1, at, st.2, st.4, st.3) in
+    let made : Abandoned k.plan key u w = (c.in-Some.place, st.0, st.1, at, st.2, st.4, st.3) in
     abandoned_turns k.plan key u w made ∙ ap (other_turns key) (ap (λ s. s.view.turns) c.seat.view_is) ∙ ap (λ t. other_turns t c.args.seat.now.view.turns) c.turn.view_is

@@ -72,7 +72,7 @@ returns-clause-sole g c = λ sole none.
 pub returns-clause-stays : goal.returns-clause-stays
 returns-clause-stays g c =
     let v = ap (λ s. s.view) c.seat.view_is in let w = c.begin_at-answer.new.seat.me.0.seen in
-    subst (λ u. Stays u w) v (both_say c.begin_at-answer.result (λ h. began_stays _ _ _ w h) (λ word h. refused_stays _ _ word _ w h) c.begin_at-answer.ensures.turn c.begin_at-answer.ensures.taken)
+    subst (λ u. Stays u w) v (both_say c.begin_at-answer.result (λ h. began_stays c.self.inside.table.shared.key.plan c.args.key c.seat.inside.seat.me.0.seen w h) (λ word h. refused_stays c.self.inside.table.shared.key.plan c.args.key word c.seat.inside.seat.me.0.seen w h) c.begin_at-answer.ensures.turn c.begin_at-answer.ensures.taken)
 
 pub returns-clause-turn : goal.returns-clause-turn
 returns-clause-turn g c =

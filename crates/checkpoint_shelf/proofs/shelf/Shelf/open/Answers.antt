@@ -34,6 +34,11 @@ loop-number-preserved g c = let inv = c.loop-number.invariant in let cut = c.cut
       each = subst (NewFrom shelf 1) (sym e) (new_end shelf 1 c.loop-number.all.items _ inv.each (λ j. shelf_of (t j) ((cut.new.1 j).0.about)) (ap (λ m. m.0.seen) cut.new.1 ∙ ap new_view n));
     }
 
+pub invariant_of-keep : goal.invariant_of-keep
+invariant_of-keep g c = let inv = c.loop-number.invariant in let e = c.in_ok-shelf.ensures in let k = c.shelf.inside.table.shared.key in
+    let low = c.loop-number-test.true in let x = ap (λ s. s.seats) c.shelf.view_is ∙ e.shelf.1 in let l = inv.len in
+    (k, subst (IsSeat k c.loop-number.number) (sym c.cut-seat.ensures.new.1) (follower_seat _ k c.loop-number.number c.shelf.invariant.1 (omega arith) (omega arith)))
+
 pub invariant_of-seat : goal.invariant_of-seat
 invariant_of-seat g c = let inv = c.loop-number.invariant in let e = c.in_ok-shelf.ensures in let some = c.requires.seats.0 in
     let most = c.loop-number.auto.number-end (omega arith) in let least = c.loop-number-test.false in

@@ -2,6 +2,7 @@ use Rattle.std.proofs.Common.{◌≡◌, Some, sym, ap, subst, ◌∙◌}
 use Rattle.shelf_core.specs.Plan.{place_of, is_in, is_sole}
 use Rattle.shelf_core.specs.Views.{has_turn, other_turns}
 use Rattle.shelf_core.specs.Made.{Stays}
+use Rattle.shelf_core.specs.Calls.{Published}
 use Rattle.checkpoint_shelf.specs.Holds.{IsSeat}
 use Rattle.checkpoint_shelf.proofs.Calls.{one_about, seat_told, same_shelf}
 use Rattle.checkpoint_shelf.proofs.Hands.{turn_has_place}
@@ -34,7 +35,7 @@ returns-clause-stays g c =
     let k = c.self.inside.table.shared.key in let key = c.turn.inside.key in let u = c.seat.inside.seat.me.0.seen in let w = c.hand_in.new.seat.me.0.seen in
     let st = c.hand_in.ensures.steps in
     let at : place_of k.plan key ≡ Some c.in-Some.place = ap (λ s. place_of s.plan key) c.self.view_is ∙ sym c.place_of.ensures ∙ c.in-Some.is in
-    let made = (c.in-Some.place, st.0, st.1, at, st.2, st.4, st.3) in
+    let made : Published k.plan key u w = (c.in-Some.place, st.0, st.1, at, st.2, st.4, st.3) in
     subst (λ u. Stays u w) (ap (λ s. s.view) c.seat.view_is) (published_stays k.plan key u w made)
 
 pub returns-clause-spent : goal.returns-clause-spent
@@ -42,7 +43,7 @@ returns-clause-spent g c =
     let k = c.self.inside.table.shared.key in let key = c.turn.inside.key in let u = c.seat.inside.seat.me.0.seen in let w = c.hand_in.new.seat.me.0.seen in
     let st = c.hand_in.ensures.steps in
     let at : place_of k.plan key ≡ Some c.in-Some.place = ap (λ s. place_of s.plan key) c.self.view_is ∙ sym c.place_of.ensures ∙ c.in-Some.is in
-    let made = (c.in-Some.place, st.0, st.1, at, st.2, st.4, st.3) in
+    let made : Published k.plan key u w = (c.in-Some.place, st.0, st.1, at, st.2, st.4, st.3) in
     published_turns k.plan key u w made ∙ ap (other_turns key) (ap (λ s. s.view.turns) c.seat.view_is) ∙ ap (λ t. other_turns t c.args.seat.now.view.turns) c.turn.view_is
 
 pub returns-clause-known : goal.returns-clause-known
@@ -50,5 +51,5 @@ returns-clause-known g c = λ sole.
     let k = c.self.inside.table.shared.key in let key = c.turn.inside.key in let u = c.seat.inside.seat.me.0.seen in let w = c.hand_in.new.seat.me.0.seen in
     let st = c.hand_in.ensures.steps in
     let at : place_of k.plan key ≡ Some c.in-Some.place = ap (λ s. place_of s.plan key) c.self.view_is ∙ sym c.place_of.ensures ∙ c.in-Some.is in
-    let made = (c.in-Some.place, st.0, st.1, at, st.2, st.4, st.3) in
+    let made : Published k.plan key u w = (c.in-Some.place, st.0, st.1, at, st.2, st.4, st.3) in
     ap (λ t. is_in t w.known) (sym c.turn.view_is) ∙ published_known k.plan key u w made (ap (λ s. is_sole s.plan key) c.self.view_is ∙ ap (λ t. is_sole c.args.self.now.plan t) c.turn.view_is ∙ sole)
