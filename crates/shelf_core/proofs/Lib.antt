@@ -10,3 +10,7 @@ pub mod Steps
 pub mod Kept
 pub mod Apply
 pub mod Grown
+pub mod Rising
+pub mod Facts
+pub mod Settled
+pub mod Staying

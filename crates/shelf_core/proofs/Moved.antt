@@ -104,7 +104,7 @@ pub turns_of : ℕ → Key → List (ℕ × Key) → ℕ
 turns_of p key [] = 0
 turns_of p key (t ∷ ts) = (if (t.0 == p) && same_key t.1 key then 1 else 0) + turns_of p key ts
 
-turns_split : (p : ℕ) (key : Key) (ts : List (ℕ × Key)) → turns_at p (other_turns key ts) + turns_of p key ts ≡ turns_at p ts
+pub turns_split : (p : ℕ) (key : Key) (ts : List (ℕ × Key)) → turns_at p (other_turns key ts) + turns_of p key ts ≡ turns_at p ts
 unfolding turns_of
 turns_split p key [] = refl
 turns_split p key (t ∷ ts) = let r = turns_split p key ts in ⊎_elim
@@ -112,7 +112,7 @@ turns_split p key (t ∷ ts) = let r = turns_split p key ts in ⊎_elim
     (λ (y : same_key t.1 key ≡ false). ⊎_elim (λ (z : (t.0 == p) ≡ true). rw (y, z) (omega arith)) (λ (z : (t.0 == p) ≡ false). rw (y, z) (omega arith)) (bool_cases (t.0 == p)))
     (bool_cases (same_key t.1 key))
 
-turn_counts : (p : ℕ) (key : Key) (ts : List (ℕ × Key)) (i : ℕ) (t : ℕ × Key) → slice_get ts i ≡ Some t → t.0 ≡ p → same_key t.1 key ≡ true → 0 < turns_of p key ts
+pub turn_counts : (p : ℕ) (key : Key) (ts : List (ℕ × Key)) (i : ℕ) (t : ℕ × Key) → slice_get ts i ≡ Some t → t.0 ≡ p → same_key t.1 key ≡ true → 0 < turns_of p key ts
 unfolding turns_of
 turn_counts p key [] i t e at same = absurd (not_some t e)
 turn_counts p key (u ∷ ts) zero t e at same = let is = some_same u t e in
@@ -120,7 +120,7 @@ turn_counts p key (u ∷ ts) zero t e at same = let is = some_same u t e in
     let b : same_key u.1 key ≡ true = subst (λ (x : ℕ × Key). same_key x.1 key ≡ true) (sym is) same in rw (a, b) (omega arith)
 turn_counts p key (u ∷ ts) (suc i) t e at same = let r = turn_counts p key ts i t e at same in omega arith
 
-no_turns : (q : ℕ) (key : Key) (ts : List (ℕ × Key)) → ((i : ℕ) (t : ℕ × Key) → slice_get ts i ≡ Some t → same_key t.1 key ≡ true → t.0 ≢ q) → turns_of q key ts ≡ 0
+pub no_turns : (q : ℕ) (key : Key) (ts : List (ℕ × Key)) → ((i : ℕ) (t : ℕ × Key) → slice_get ts i ≡ Some t → same_key t.1 key ≡ true → t.0 ≢ q) → turns_of q key ts ≡ 0
 unfolding turns_of
 no_turns q key [] h = refl
 no_turns q key (t ∷ ts) h = let r : turns_of q key ts ≡ 0 = no_turns q key ts (λ i u e. h (suc i) u e) in ⊎_elim
@@ -129,7 +129,7 @@ no_turns q key (t ∷ ts) h = let r : turns_of q key ts ≡ 0 = no_turns q key t
     (bool_cases (same_key t.1 key))
 
 -- the turns that stay are turns
-stays : (key : Key) (ts : List (ℕ × Key)) (i : ℕ) (t : ℕ × Key) → slice_get (other_turns key ts) i ≡ Some t → (j : ℕ) × (slice_get ts j ≡ Some t)
+pub stays : (key : Key) (ts : List (ℕ × Key)) (i : ℕ) (t : ℕ × Key) → slice_get (other_turns key ts) i ≡ Some t → (j : ℕ) × (slice_get ts j ≡ Some t)
 stays key [] i t e = absurd (not_some t e)
 stays key (u ∷ ts) i t e = ⊎_elim
     (λ (y : same_key u.1 key ≡ true). let e' : slice_get (other_turns key ts) i ≡ Some t = rw y at e in let r = stays key ts i t e' in (suc r.0, r.1))
@@ -148,7 +148,7 @@ turn_of_key key (t ∷ ts) e = ⊎_elim
     (λ (y : has_turn key ts ≡ true). let r = turn_of_key key ts y in (suc r.0, r.1, r.2, r.3))
     (or_either (same_key t.1 key) (has_turn key ts) e)
 
-turned_is : (w : PlaceWord) (ns : List ℕ) → 0 < turned_by w ns → (m : ℕ) × (w ≡ Writing m) × (0 < times m ns)
+pub turned_is : (w : PlaceWord) (ns : List ℕ) → 0 < turned_by w ns → (m : ℕ) × (w ≡ Writing m) × (0 < times m ns)
 turned_is Free ns pos = absurd (omega arith)
 turned_is (Writing m) ns pos = (m, refl, pos)
 turned_is (Ready key) ns pos = absurd (omega arith)

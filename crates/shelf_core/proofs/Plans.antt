@@ -55,7 +55,7 @@ first_of_any test i (k ∷ keys) e = ⊎_elim
     (λ (no : test k ≡ false). let h : list_any test keys ≡ true = rw no at e in let r = first_of_any test (i + 1) keys h in (r.0, rw no r.1))
     (bool_cases (test k))
 
-index_found : (key : Key) (j : ℕ) (keys : List Key) → index_of key keys ≡ Some j → slice_get keys j ≡ Some key
+pub index_found : (key : Key) (j : ℕ) (keys : List Key) → index_of key keys ≡ Some j → slice_get keys j ≡ Some key
 index_found key j keys e = let r = found (λ k. same_key k key) 0 j keys e in
     let at : j ≡ r.0 = (let s = r.2 in omega arith) in
     ap (λ n. slice_get keys n) at ∙ r.3 ∙ ap Some (key_is r.1 key r.4)
@@ -71,7 +71,7 @@ all_at test (k ∷ keys) zero key all e = subst (λ x. test x ≡ true) (some_sa
 all_at test (k ∷ keys) (suc j) key all e = all_at test keys j key (and_right (test k) (list_all test keys) all) e
 
 -- Where the place of a key comes from: it is a fork, or else a grid key.
-place_cases : (plan : ShelfPlan) (a b : Option ℕ) (p : ℕ) → fork_or_grid plan a b ≡ Some p
+pub place_cases : (plan : ShelfPlan) (a b : Option ℕ) (p : ℕ) → fork_or_grid plan a b ≡ Some p
     → (a ≡ Some p) ⊎ ((j : ℕ) × (b ≡ Some j) × (plan.places ≢ 0) × (p ≡ length plan.forks + j % plan.places))
 place_cases plan (Some i) b p e = inl e
 place_cases plan None None p e = absurd (not_some p e)

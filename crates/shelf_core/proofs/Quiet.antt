@@ -7,7 +7,7 @@ use Rattle.shelf_core.specs.Plan.{is_in, place_in}
 use Rattle.shelf_core.specs.Words.{is_held, taken_count}
 use Rattle.shelf_core.specs.Views.{times, total}
 use Rattle.shelf_core.specs.Possible.{word_in, seen_at}
-use Rattle.shelf_core.specs.After.{with_claim, with_count, having_stopped, having_loaded, learning, knowing}
+use Rattle.shelf_core.specs.After.{with_claim, with_count, having_stopped, having_loaded, knowing}
 use Rattle.shelf_core.specs.Sound.{ForViews, IsKept}
 use Rattle.shelf_core.specs.Orderly.{Orderly, HasShape, IsBare, IsLaid}
 use Rattle.shelf_core.specs.declared.plan.Key.{Key}

@@ -97,7 +97,7 @@ pub turn_place : (s : System) (n : ℕ) (key : Key) (v : SeatView) → Orderly s
 turn_place s n key v h e has = let r = turn_of_key key v.turns has in let k = h.sound.places.turn_keys n v e r.0 r.1 r.2 in
     (r.1.0, ap (λ x. place_in s.plan x) (sym (key_is r.1.1 key r.3)) ∙ k.0)
 
-seen_place : (s : System) (word : Word) (seen : Seen) → seen_at s word ≡ Some seen → (p : ℕ) (w : PlaceWord) → seen ≡ place_seen p w → slice_get s.places p ≡ Some w
+pub seen_place : (s : System) (word : Word) (seen : Seen) → seen_at s word ≡ Some seen → (p : ℕ) (w : PlaceWord) → seen ≡ place_seen p w → slice_get s.places p ≡ Some w
 seen_place s (claim_word g) seen e p w is = claim (slice_get s.claims g) (e ∙ ap Some is)
   where
     claim : (o : Option ClaimWord) → option_map (claim_seen g) o ≡ Some (place_seen p w) → slice_get s.places p ≡ Some w
@@ -125,7 +125,7 @@ seen_place s done_word seen e p w is = done s.plan (e ∙ ap Some is)
     done None x = absurd (not_some _ x)
     done (Some plan) x = let y : done_seen s.done s.stopped ≡ place_seen p w = some_same _ _ x in cc
 
-seen_done : (s : System) (word : Word) (seen : Seen) → seen_at s word ≡ Some seen → (d : ℕ) (b : Bool) → seen ≡ done_seen d b → (d ≡ s.done) × (b ≡ s.stopped)
+pub seen_done : (s : System) (word : Word) (seen : Seen) → seen_at s word ≡ Some seen → (d : ℕ) (b : Bool) → seen ≡ done_seen d b → (d ≡ s.done) × (b ≡ s.stopped)
 seen_done s (claim_word g) seen e d b is = claim (slice_get s.claims g) (e ∙ ap Some is)
   where
     claim : (o : Option ClaimWord) → option_map (claim_seen g) o ≡ Some (done_seen d b) → (d ≡ s.done) × (b ≡ s.stopped)

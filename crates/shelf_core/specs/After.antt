@@ -9,7 +9,7 @@ use Rattle.shelf_core.specs.declared.words.ClaimWord.TheVariants.{Open, Taken}
 use Rattle.shelf_core.specs.declared.words.PlaceWord.{PlaceWord}
 use Rattle.shelf_core.specs.declared.words.PlaceWord.TheVariants.{Free, Writing, Ready, Lent}
 use Rattle.shelf_core.specs.declared.words.Seen.{Seen}
-use Rattle.shelf_core.specs.declared.words.Seen.TheVariants.{Claim as claim_seen, Place as place_seen, Done as done_seen}
+use Rattle.shelf_core.specs.declared.words.Seen.TheVariants.{Claim as claim_seen, Place as place_seen, Done as done_word}
 use Rattle.shelf_core.specs.declared.seat.SeatView.{SeatView}
 use Rattle.shelf_core.specs.declared.system.System.{System}
 use Rattle.shelf_core.specs.declared.event.Event.{Event}
@@ -69,21 +69,37 @@ with_count view = record view { counts = view.counts + 1 }
 abbrev pub having_stopped : SeatView → SeatView
 having_stopped view = record view { stopped = true }
 
--- What a seat learns from a word that it sees: at the done word the done number and the stop bit, and at a place
--- with Ready or Lent of a sole key that key.
-abbrev pub learning : Option ShelfPlan → Seen → SeatView → SeatView
-learning plan (claim_seen segment word) view = view
-learning plan (place_seen place Free) view = view
-learning plan (place_seen place (Writing m)) view = view
-learning plan (place_seen place (Ready key)) view = record view { known = knowing plan key view.known }
-learning plan (place_seen place (Lent key m)) view = record view { known = knowing plan key view.known }
-learning plan (done_seen number bit) view = record view { done_seen = number; stopped = bit }
+-- What a seat knows once it saw a word: at a place with Ready or Lent of a sole key that key too.
+abbrev pub known_from : Option ShelfPlan → Seen → List Key → List Key
+known_from plan (claim_seen segment word) known = known
+known_from plan (place_seen place Free) known = known
+known_from plan (place_seen place (Writing m)) known = known
+known_from plan (place_seen place (Ready key)) known = knowing plan key known
+known_from plan (place_seen place (Lent key m)) known = knowing plan key known
+known_from plan (done_word number bit) known = known
 
--- A view after a load: one load more, modulo 2^64, and the last two of them, the newest first.
+-- The done number and the stop bit that a seat saw last: those of the done word, where it saw that.
+abbrev pub done_from : Seen → ℕ → ℕ
+done_from (claim_seen segment word) before = before
+done_from (place_seen place word) before = before
+done_from (done_word number bit) before = number
+
+abbrev pub stopped_from : Seen → Bool → Bool
+stopped_from (claim_seen segment word) before = before
+stopped_from (place_seen place word) before = before
+stopped_from (done_word number bit) before = bit
+
+-- A view after a load: what it learns from the word, one load more, modulo 2^64, and the last two of them, the newest
+-- first.
 abbrev pub having_loaded : Option ShelfPlan → Option Seen → SeatView → SeatView
 having_loaded plan None view = view
-having_loaded plan (Some seen) view =
-    record (learning plan seen view) { loads = (view.loads + 1) % 2 ^ 64; saw = take 2 (seen ∷ view.saw) }
+having_loaded plan (Some seen) view = record view {
+  known = known_from plan seen view.known;
+  done_seen = done_from seen view.done_seen;
+  stopped = stopped_from seen view.stopped;
+  loads = (view.loads + 1) % 2 ^ 64;
+  saw = take 2 (seen ∷ view.saw);
+}
 
 -- A view that took in another: all that the other has, its own last loads.
 abbrev pub joined_with : SeatView → SeatView → SeatView

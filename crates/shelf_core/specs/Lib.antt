@@ -6,4 +6,7 @@ pub mod After
 pub mod Sound
 pub mod Orderly
 pub mod Law
+pub mod Made
+pub mod Calls
+pub mod Settled
 pub mod Example

@@ -1,4 +1,4 @@
-use Rattle.std.specs.Prelude.{ℕ, ◌+◌, ◌%◌, ◌==◌, ◌&&◌, ◌||◌, not, Bool, true, false, List, [], ◌∷◌, Option, Some, None, length, nat_le, if◌then◌else◌}
+use Rattle.std.specs.Prelude.{ℕ, ◌+◌, ◌%◌, ◌==◌, ◌&&◌, ◌||◌, not, Bool, true, false, List, [], ◌∷◌, Option, Some, None, length, nat_le, nat_lt, if◌then◌else◌}
 use Rattle.std.specs.List.{list_any, list_all, position_from}
 use Rattle.shelf_core.specs.declared.plan.Key.{Key}
 use Rattle.shelf_core.specs.declared.plan.ShelfPlan.{ShelfPlan}
@@ -15,6 +15,15 @@ is_in key keys = list_any (λ k. same_key k key) keys
 abbrev pub are_distinct : List Key → Bool
 are_distinct [] = true
 are_distinct (key ∷ keys) = not (is_in key keys) && are_distinct keys
+
+-- One key comes before another: by segment, and in one segment by event.
+abbrev pub is_before : Key → Key → Bool
+is_before a b = nat_lt a.segment b.segment || ((a.segment == b.segment) && nat_lt a.event b.event)
+
+-- The keys of a list rise: each comes before all that stand behind it.
+abbrev pub rise : List Key → Bool
+rise [] = true
+rise (key ∷ keys) = list_all (λ k. is_before key k) keys && rise keys
 
 -- The place at which a key first stands in a list, counted from 0.
 abbrev pub index_of : Key → List Key → Option ℕ

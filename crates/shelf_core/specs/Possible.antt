@@ -1,9 +1,10 @@
-use Rattle.std.specs.Prelude.{ℕ, ◌==◌, ◌&&◌, ◌++◌, not, Bool, true, false, List, [], ◌∷◌, Option, Some, None, slice_get, nat_lt, length, is_some, is_none, option_map}
+use Rattle.std.specs.Prelude.{ℕ, ◌==◌, ◌&&◌, ◌++◌, not, Bool, true, false, List, [], ◌∷◌, Option, Some, None, slice_get, nat_lt, nat_le, length, is_some, is_none, option_map}
 use Rattle.std.specs.List.{list_any}
 use Rattle.shelf_core.specs.Plan.{same_key, are_distinct, place_in, is_grid_place}
 use Rattle.shelf_core.specs.Words.{is_open, is_ready}
 use Rattle.shelf_core.specs.Views.{live_view, live_views, has_turn}
 use Rattle.shelf_core.specs.declared.plan.Key.{Key}
+use Rattle.shelf_core.specs.declared.plan.ShelfPlan.{ShelfPlan}
 use Rattle.shelf_core.specs.declared.words.PlaceWord.{PlaceWord}
 use Rattle.shelf_core.specs.declared.words.PlaceWord.TheVariants.{Free, Writing, Ready, Lent}
 use Rattle.shelf_core.specs.declared.words.Word.{Word}
@@ -42,6 +43,13 @@ allows_writing s key (Some Free) = true
 allows_writing s key (Some (Writing n)) = false
 allows_writing s key (Some (Ready k)) = is_replaceable s key (place_in s.plan key) && not (same_key k key)
 allows_writing s key (Some (Lent k n)) = false
+
+-- The same of a plan that is laid, at this place: a word there allows a value of the key to be written.
+abbrev pub allows : ShelfPlan → ℕ → Key → PlaceWord → Bool
+allows plan place key Free = true
+allows plan place key (Writing n) = false
+allows plan place key (Ready k) = nat_le (length plan.forks) place && not (same_key k key)
+allows plan place key (Lent k n) = false
 
 -- What a load of a word sees; none where there is no such word.
 abbrev pub seen_at : System → Word → Option Seen

@@ -78,3 +78,7 @@ other_turns key turns = filter (λ turn. not (same_key turn.1 key)) turns
 abbrev pub total : (SeatView → ℕ) → List SeatView → ℕ
 total count [] = 0
 total count (view ∷ views) = count view + total count views
+
+-- How many views aren't spent.
+abbrev pub live_count : List SeatView → ℕ
+live_count views = total (λ view. if view.spent then 0 else 1) views

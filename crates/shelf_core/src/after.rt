@@ -7,12 +7,12 @@ ghost use Rattle.shelf_core.specs.After.{after, put, key_place};
 ghost use Rattle.shelf_core.specs.Orderly.{Orderly, IsSmall, IsSmallEvent};
 
 use crate::places::place_in;
-use crate::{ClaimWord, Event, Key, Listed, PlaceWord, SeatView, ShelfPlan, System, Word};
-use outside::Memory;
+use crate::{ClaimWord, Event, Key, PlaceWord, SeatView, ShelfPlan, System, Word};
+use plain_lists::{Memory, Sequence};
 use std::alloc::Global;
 
 impl System {
-    /// The view of seat `n`.
+    // The view of seat `n`.
     fn view(&self, n: u32) -> &SeatView
         requires { n < length self.now.views }
         ensures { slice_get self.now.views n ≡ Some result.now }
@@ -20,7 +20,7 @@ impl System {
         &self.views.as_slice()[n as usize]
     }
 
-    /// The place of a key that has one.
+    // The place of a key that has one.
     fn key_place(&self, key: Key) -> u32
         requires small { IsSmall self.now.plan }
         ensures { result ≡ key_place self.now key }
@@ -28,7 +28,7 @@ impl System {
         place_in(&self.plan, key).unwrap_or(0)
     }
 
-    /// The number of segments of the plan, and 0 where nothing is laid.
+    // The number of segments of the plan, and 0 where nothing is laid.
     fn segment_count(&self) -> u32
         ensures { result ≡ segments_in self.now.plan }
     {
@@ -38,7 +38,7 @@ impl System {
         }
     }
 
-    /// Puts another word and value at a place.
+    // Puts another word and value at a place.
     fn put(&mut self, place: u32, word: PlaceWord, value: Option<Key>)
         requires word { place < length self.old.places }
         requires value { place < length self.old.home }
@@ -54,9 +54,9 @@ impl System {
         ensures refused { OnErr result (self.new ≡ self.old) }
     {
         let count = plan.forks.len() + plan.places as usize;
-        let claims = Listed::filled(alloc, ClaimWord::Open, plan.segments as usize)?;
-        let places = Listed::filled(alloc, PlaceWord::Free, count)?;
-        let home = Listed::filled(alloc, None, count)?;
+        let claims = Sequence::filled(alloc, ClaimWord::Open, plan.segments as usize)?;
+        let places = Sequence::filled(alloc, PlaceWord::Free, count)?;
+        let home = Sequence::filled(alloc, None, count)?;
         let plan = plan.copy(alloc)?;
         self.plan = Some(plan);
         self.claims = claims;
@@ -214,7 +214,7 @@ impl System {
         Ok(())
     }
 
-    /// Makes an event that is possible.
+    // Makes an event that is possible.
     pub(crate) fn apply(&mut self, alloc: Global, event: &Event) -> Result<(), Memory>
         requires orderly { Orderly self.old }
         requires small { IsSmall self.old.plan }
@@ -243,7 +243,10 @@ impl System {
 
 impl ShelfPlan {
     /// An equal plan.
-    fn copy(&self, alloc: Global) -> Result<ShelfPlan, Memory>
+    ///
+    /// # Errors
+    /// `Memory`.
+    pub fn copy(&self, alloc: Global) -> Result<ShelfPlan, Memory>
         ensures { IfOk result (λ plan. plan ≡ self.now) }
     {
         Ok(ShelfPlan {

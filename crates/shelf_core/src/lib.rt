@@ -4,7 +4,6 @@
 mod after;
 mod event;
 pub mod laws;
-mod listed;
 mod places;
 mod plan;
 mod possible;
@@ -12,10 +11,10 @@ mod run;
 mod seat;
 mod system;
 mod views;
+pub mod worked;
 mod words;
 
 pub use event::Event;
-pub use listed::Listed;
 pub use plan::{Key, ShelfPlan};
 pub use run::{law, step};
 pub use seat::SeatView;

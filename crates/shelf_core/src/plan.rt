@@ -1,6 +1,6 @@
 //! The keys of checkpoints, and the plan of their places.
 
-use crate::Listed;
+use plain_lists::Sequence;
 
 /// The key of a checkpoint: a segment and an event number of its branch.
 #[derive(Clone, Copy, PartialEq, Eq, Debug)]
@@ -17,9 +17,9 @@ pub struct ShelfPlan {
     /// The number of segments.
     pub segments: u32,
     /// The keys that have a place of their own, in the order of the places.
-    pub forks: Listed<Key>,
+    pub forks: Sequence<Key>,
     /// The keys that share the places behind those of the forks, in turn.
-    pub grid: Listed<Key>,
+    pub grid: Sequence<Key>,
     /// The number of places that the grid keys share.
     pub places: u32,
 }

@@ -34,7 +34,7 @@ impl System {
         }
     }
 
-    /// The view of seat `n`, where it isn't spent.
+    // The view of seat `n`, where it isn't spent.
     pub(crate) fn seat(&self, n: u32) -> Option<&SeatView>
         ensures { option_map (λ view. view.now) result ≡ live_view self.now.views n }
     {
@@ -42,7 +42,7 @@ impl System {
         if view.spent { None } else { Some(view) }
     }
 
-    /// The word of a key's place.
+    // The word of a key's place.
     fn word_at(&self, key: Key) -> Option<PlaceWord>
         requires small { IsSmall self.now.plan }
         ensures { result ≡ word_at self.now key }
@@ -51,7 +51,7 @@ impl System {
         self.places.get(place as usize).copied()
     }
 
-    /// Whether a value of a key may be written where this word stands.
+    // Whether a value of a key may be written where this word stands.
     fn allows_writing(&self, key: Key, word: Option<PlaceWord>) -> bool
         requires small { IsSmall self.now.plan }
         ensures { result ≡ allows_writing self.now key word }
@@ -63,7 +63,7 @@ impl System {
         }
     }
 
-    /// Whether a key's place is behind those of the forks.
+    // Whether a key's place is behind those of the forks.
     fn has_grid_place(&self, key: Key) -> bool
         requires small { IsSmall self.now.plan }
         ensures { result ≡ is_replaceable self.now key (place_in self.now.plan key) }
@@ -74,7 +74,7 @@ impl System {
         }
     }
 
-    /// What a load of a word sees, where there is such a word.
+    // What a load of a word sees, where there is such a word.
     pub(crate) fn seen_at(&self, word: Word) -> Option<Seen>
         ensures { result ≡ seen_at self.now word }
     {
@@ -209,14 +209,14 @@ impl System {
 }
 
 impl SeatView {
-    /// Whether a segment is among the claims.
+    // Whether a segment is among the claims.
     fn has_claim(&self, segment: u32) -> bool
         ensures { result ≡ list_any (λ claim. claim == segment) self.now.claims }
     {
         self.claims.as_slice().iter().any(|claim| *claim == segment)
     }
 
-    /// Whether a key is among the turns.
+    // Whether a key is among the turns.
     fn has_turn(&self, key: Key) -> bool
         ensures { result ≡ has_turn key self.now.turns }
     {
@@ -224,14 +224,14 @@ impl SeatView {
     }
 }
 
-/// How many views aren't spent.
+// How many views aren't spent.
 fn count_live(views: &[SeatView]) -> usize
     ensures { result ≡ length (live_views views.now) }
 {
     views.iter().filter(|view| !view.spent).count()
 }
 
-/// Whether a place's word is there and is Ready of this key.
+// Whether a place's word is there and is Ready of this key.
 fn is_ready(key: Key, word: Option<PlaceWord>) -> bool
     ensures { result ≡ is_ready key word }
 {
@@ -241,7 +241,7 @@ fn is_ready(key: Key, word: Option<PlaceWord>) -> bool
     }
 }
 
-/// Whether no key of a plan stands twice among its forks and grid keys.
+// Whether no key of a plan stands twice among its forks and grid keys.
 #[tactic(auto, using(crate::proofs::Plans::distinct_append))]
 fn has_distinct_keys(plan: &ShelfPlan) -> bool
     ensures { result ≡ are_distinct (plan.now.forks ++ plan.now.grid) }
@@ -250,14 +250,14 @@ fn has_distinct_keys(plan: &ShelfPlan) -> bool
     are_distinct(forks) && are_distinct(grid) && are_apart(forks, grid)
 }
 
-/// Whether no key of a list stands in another.
+// Whether no key of a list stands in another.
 fn are_apart(keys: &[Key], others: &[Key]) -> bool
     ensures { result ≡ list_all (λ key. not (is_in key others.now)) keys.now }
 {
     keys.iter().all(|key| !is_in(others, *key))
 }
 
-/// Whether no key stands twice in a list.
+// Whether no key stands twice in a list.
 fn are_distinct(keys: &[Key]) -> bool
     ensures { result ≡ are_distinct keys.now }
 {

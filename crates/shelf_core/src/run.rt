@@ -6,8 +6,8 @@ ghost use Rattle.shelf_core.specs.After.{opening, after, left_by};
 ghost use Rattle.shelf_core.specs.Orderly.{Orderly, IsSmall, IsSmallEvent};
 ghost use Rattle.shelf_core.specs.Law.{Keeps, Law};
 
-use crate::{Event, Listed, SeatView, System};
-use outside::Memory;
+use crate::{Event, SeatView, System};
+use plain_lists::{Memory, Sequence};
 use std::alloc::Global;
 
 impl System {
@@ -19,13 +19,13 @@ impl System {
         ensures opening { IfOk result (λ s. s ≡ opening) }
         ensures orderly { IfOk result (λ s. Orderly s) }
     {
-        let mut views = Listed::new(alloc);
+        let mut views = Sequence::empty(alloc);
         views.push(SeatView::new(alloc, 0)?)?;
         Ok(System {
             plan: None,
-            claims: Listed::new(alloc),
-            places: Listed::new(alloc),
-            home: Listed::new(alloc),
+            claims: Sequence::empty(alloc),
+            places: Sequence::empty(alloc),
+            home: Sequence::empty(alloc),
             done: 0,
             stopped: false,
             views,

@@ -6,8 +6,8 @@ ghost use Rattle.shelf_core.specs.Orderly.{Orderly, IsSmall, IsSmallEvent};
 
 mod plain;
 
-use crate::{Event, Key, Listed, ShelfPlan, System, Word, law, step};
-use outside::Memory;
+use crate::{Event, Key, ShelfPlan, System, Word, law, step};
+use plain_lists::{Memory, Sequence};
 use plain::Plain;
 use std::alloc::Global;
 use std::process::Abort;
@@ -37,7 +37,7 @@ fn is_small_event(event: &Event) -> bool
     }
 }
 
-/// Makes a step of a small system.
+// Makes a step of a small system.
 fn make(rt: &impl Abort, alloc: Global, s: &mut System, event: &Event) -> Result<bool, Memory>
     requires { Orderly s.old }
     ensures { Orderly s.new }
@@ -52,26 +52,26 @@ fn key(segment: u32, event: u32) -> Key {
     Key { segment, event }
 }
 
-/// A list of these keys.
-fn keys(alloc: Global, keys: &[(u32, u32)]) -> Result<Listed<Key>, Memory> {
-    let mut list = Listed::new(alloc);
+// A list of these keys.
+fn keys(alloc: Global, keys: &[(u32, u32)]) -> Result<Sequence<Key>, Memory> {
+    let mut list = Sequence::empty(alloc);
     for (segment, event) in keys {
         list.push(key(*segment, *event))?;
     }
     Ok(list)
 }
 
-/// Two segments and one fork.
+// Two segments and one fork.
 fn fork_plan(alloc: Global) -> Result<ShelfPlan, Memory> {
     Ok(ShelfPlan {
         segments: 2,
         forks: keys(alloc, &[(0, 2)])?,
-        grid: Listed::new(alloc),
+        grid: Sequence::empty(alloc),
         places: 0,
     })
 }
 
-/// Three segments, two forks, and three grid keys with two places.
+// Three segments, two forks, and three grid keys with two places.
 fn shared_plan(alloc: Global) -> Result<ShelfPlan, Memory> {
     Ok(ShelfPlan {
         segments: 3,
@@ -81,10 +81,10 @@ fn shared_plan(alloc: Global) -> Result<ShelfPlan, Memory> {
     })
 }
 
-/// Eighteen events of two seats at one fork's place, each with its answer.
-fn two_seats(alloc: Global) -> Result<Listed<(Event, bool)>, Memory> {
+// Eighteen events of two seats at one fork's place, each with its answer.
+fn two_seats(alloc: Global) -> Result<Sequence<(Event, bool)>, Memory> {
     let k = key(0, 2);
-    let mut events = Listed::new(alloc);
+    let mut events = Sequence::empty(alloc);
     events.push((Event::Lay(fork_plan(alloc)?), true))?;
     events.push((Event::Lay(fork_plan(alloc)?), false))?;
     for (event, answer) in [
@@ -136,7 +136,7 @@ fn law_of_no_events(rt: HostRuntime) -> Result<(), Fail> {
     Ok(())
 }
 
-/// The event that a number stands for: its kind, a seat, and a segment, key, word or other seat.
+// The event that a number stands for: its kind, a seat, and a segment, key, word or other seat.
 fn event_of(number: u32) -> Event {
     let (kind, n, which) = (number % 12, number / 12 % 3, number / 36);
     let k = [

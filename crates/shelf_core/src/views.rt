@@ -3,15 +3,15 @@
 ghost use Rattle.std.specs.Prelude.{◌≡◌, ◌+◌, ◌<◌, ◌≤◌, ◌^◌, ◌++◌, ◌∷◌, [], IfOk, Some, take};
 ghost use Rattle.shelf_core.specs.Orderly.{IsSmall};
 ghost use Rattle.shelf_core.specs.Views.{new_view, spent_view, other_turns};
-ghost use Rattle.shelf_core.specs.After.{knowing, with_claim, with_turn, without_turn, having_published, with_loan, having_returned, with_count, having_stopped, learning, having_loaded, joined_with};
+ghost use Rattle.shelf_core.specs.After.{knowing, with_claim, with_turn, without_turn, having_published, with_loan, having_returned, with_count, having_stopped, known_from, done_from, stopped_from, having_loaded, joined_with};
 
 use crate::places::is_sole_in;
-use crate::{Key, Listed, PlaceWord, SeatView, Seen, ShelfPlan};
-use outside::Memory;
+use crate::{Key, PlaceWord, SeatView, Seen, ShelfPlan};
+use plain_lists::{Memory, Sequence};
 use std::alloc::Global;
 
 impl SeatView {
-    /// The view of a new seat with this number.
+    // The view of a new seat with this number.
     pub(crate) fn new(alloc: Global, number: u32) -> Result<SeatView, Memory>
         ensures { IfOk result (λ view. view ≡ new_view number) }
     {
@@ -21,27 +21,27 @@ impl SeatView {
         Ok(view)
     }
 
-    /// What is left of the view of a seat that joined another.
+    // What is left of the view of a seat that joined another.
     pub(crate) fn spent(alloc: Global) -> SeatView
         ensures { result ≡ spent_view }
     {
         SeatView {
-            numbers: Listed::new(alloc),
+            numbers: Sequence::empty(alloc),
             spent: true,
-            claims: Listed::new(alloc),
+            claims: Sequence::empty(alloc),
             counts: 0,
-            turns: Listed::new(alloc),
+            turns: Sequence::empty(alloc),
             loan: None,
-            known: Listed::new(alloc),
+            known: Sequence::empty(alloc),
             done_seen: 0,
             stopped: false,
-            found: Listed::new(alloc),
+            found: Sequence::empty(alloc),
             loads: 0,
-            saw: Listed::new(alloc),
+            saw: Sequence::empty(alloc),
         }
     }
 
-    /// An equal view.
+    // An equal view.
     fn copy(&self, alloc: Global) -> Result<SeatView, Memory>
         ensures { IfOk result (λ view. view ≡ self.now) }
     {
@@ -61,7 +61,7 @@ impl SeatView {
         })
     }
 
-    /// The view with a claim.
+    // The view with a claim.
     pub(crate) fn with_claim(&self, alloc: Global, segment: u32) -> Result<SeatView, Memory>
         ensures { IfOk result (λ view. view ≡ with_claim segment self.now) }
     {
@@ -70,7 +70,7 @@ impl SeatView {
         Ok(view)
     }
 
-    /// The view with a turn.
+    // The view with a turn.
     pub(crate) fn with_turn(&self, alloc: Global, place: u32, key: Key) -> Result<SeatView, Memory>
         ensures { IfOk result (λ view. view ≡ with_turn place key self.now) }
     {
@@ -79,7 +79,7 @@ impl SeatView {
         Ok(view)
     }
 
-    /// The view without the turn of a key.
+    // The view without the turn of a key.
     pub(crate) fn without_turn(&self, alloc: Global, key: Key) -> Result<SeatView, Memory>
         ensures { IfOk result (λ view. view ≡ without_turn key self.now) }
     {
@@ -88,7 +88,7 @@ impl SeatView {
         Ok(view)
     }
 
-    /// The view once the value of its turn is there.
+    // The view once the value of its turn is there.
     pub(crate) fn having_published(
         &self,
         alloc: Global,
@@ -103,7 +103,7 @@ impl SeatView {
         Ok(view)
     }
 
-    /// The view with a loan.
+    // The view with a loan.
     pub(crate) fn with_loan(
         &self,
         alloc: Global,
@@ -120,7 +120,7 @@ impl SeatView {
         Ok(view)
     }
 
-    /// The view once the value of its loan was returned.
+    // The view once the value of its loan was returned.
     pub(crate) fn having_returned(&self, alloc: Global, key: Key) -> Result<SeatView, Memory>
         ensures { IfOk result (λ view. view ≡ having_returned key self.now) }
     {
@@ -130,7 +130,7 @@ impl SeatView {
         Ok(view)
     }
 
-    /// The view with one count more.
+    // The view with one count more.
     pub(crate) fn with_count(&self, alloc: Global) -> Result<SeatView, Memory>
         requires { self.now.counts + 1 < 2 ^ 32 }
         ensures { IfOk result (λ view. view ≡ with_count self.now) }
@@ -140,7 +140,7 @@ impl SeatView {
         Ok(view)
     }
 
-    /// The view once it has set the stop bit.
+    // The view once it has set the stop bit.
     pub(crate) fn having_stopped(&self, alloc: Global) -> Result<SeatView, Memory>
         ensures { IfOk result (λ view. view ≡ having_stopped self.now) }
     {
@@ -149,31 +149,7 @@ impl SeatView {
         Ok(view)
     }
 
-    /// The view with what it learns from a word that it sees.
-    fn learning(
-        &self,
-        alloc: Global,
-        plan: &Option<ShelfPlan>,
-        seen: Seen,
-    ) -> Result<SeatView, Memory>
-        requires small { IsSmall plan.now }
-        ensures { IfOk result (λ view. view ≡ learning plan.now seen self.now) }
-    {
-        let mut view = self.copy(alloc)?;
-        match seen {
-            Seen::Claim(_, _) => {}
-            Seen::Place(_, PlaceWord::Free | PlaceWord::Writing(_)) => {}
-            Seen::Place(_, PlaceWord::Ready(key)) => learn(plan, key, &mut view.known)?,
-            Seen::Place(_, PlaceWord::Lent(key, _)) => learn(plan, key, &mut view.known)?,
-            Seen::Done(number, bit) => {
-                view.done_seen = number;
-                view.stopped = bit;
-            }
-        }
-        Ok(view)
-    }
-
-    /// The view after a load.
+    // The view after a load.
     pub(crate) fn having_loaded(
         &self,
         alloc: Global,
@@ -183,13 +159,16 @@ impl SeatView {
         requires small { IsSmall plan.now }
         ensures { IfOk result (λ view. view ≡ having_loaded plan.now (Some seen) self.now) }
     {
-        let mut view = self.learning(alloc, plan, seen)?;
+        let mut view = self.copy(alloc)?;
+        learn_from(plan, seen, &mut view.known)?;
+        view.done_seen = done_from(seen, self.done_seen);
+        view.stopped = stopped_from(seen, self.stopped);
         view.loads = self.loads.wrapping_add(1);
         view.saw = last_two(alloc, seen, self.saw.as_slice())?;
         Ok(view)
     }
 
-    /// The view with all that another has.
+    // The view with all that another has.
     pub(crate) fn joined_with(&self, alloc: Global, other: &SeatView) -> Result<SeatView, Memory>
         requires { self.now.counts + other.now.counts < 2 ^ 32 }
         ensures { IfOk result (λ view. view ≡ joined_with other.now self.now) }
@@ -206,8 +185,8 @@ impl SeatView {
     }
 }
 
-/// Adds a key to those that are known, where it is sole.
-fn learn(plan: &Option<ShelfPlan>, key: Key, known: &mut Listed<Key>) -> Result<(), Memory>
+// Adds a key to those that are known, where it is sole.
+fn learn(plan: &Option<ShelfPlan>, key: Key, known: &mut Sequence<Key>) -> Result<(), Memory>
     requires small { IsSmall plan.now }
     ensures { IfOk result (λ _. known.new ≡ knowing plan.now key known.old) }
 {
@@ -217,8 +196,40 @@ fn learn(plan: &Option<ShelfPlan>, key: Key, known: &mut Listed<Key>) -> Result<
     Ok(())
 }
 
-/// The turns but for those of a key.
-fn other_turns(alloc: Global, turns: &[(u32, Key)], key: Key) -> Result<Listed<(u32, Key)>, Memory>
+// Adds the key that a seat learns from a word that it sees.
+fn learn_from(plan: &Option<ShelfPlan>, seen: Seen, known: &mut Sequence<Key>) -> Result<(), Memory>
+    requires small { IsSmall plan.now }
+    ensures { IfOk result (λ _. known.new ≡ known_from plan.now seen known.old) }
+{
+    match seen {
+        Seen::Place(_, PlaceWord::Ready(key) | PlaceWord::Lent(key, _)) => learn(plan, key, known),
+        Seen::Place(_, PlaceWord::Free | PlaceWord::Writing(_)) => Ok(()),
+        Seen::Claim(_, _) | Seen::Done(_, _) => Ok(()),
+    }
+}
+
+// The done number that a seat saw last.
+fn done_from(seen: Seen, before: u32) -> u32
+    ensures { result ≡ done_from seen before }
+{
+    match seen {
+        Seen::Done(number, _) => number,
+        Seen::Claim(_, _) | Seen::Place(_, _) => before,
+    }
+}
+
+// The stop bit that a seat saw last.
+fn stopped_from(seen: Seen, before: bool) -> bool
+    ensures { result ≡ stopped_from seen before }
+{
+    match seen {
+        Seen::Done(_, bit) => bit,
+        Seen::Claim(_, _) | Seen::Place(_, _) => before,
+    }
+}
+
+// The turns but for those of a key.
+fn other_turns(alloc: Global, turns: &[(u32, Key)], key: Key) -> Result<Sequence<(u32, Key)>, Memory>
     ensures { IfOk result (λ others. others ≡ other_turns key turns.now) }
 {
     match turns
@@ -227,16 +238,16 @@ fn other_turns(alloc: Global, turns: &[(u32, Key)], key: Key) -> Result<Listed<(
         .filter(|turn| turn.1 != key)
         .collect(alloc)
     {
-        Ok(others) => Ok(Listed::from_vec(others)),
+        Ok(others) => Ok(Sequence::new(others)),
         Err(_) => Err(Memory),
     }
 }
 
-/// A load, and the newest of those before it.
-fn last_two(alloc: Global, seen: Seen, before: &[Seen]) -> Result<Listed<Seen>, Memory>
+// A load, and the newest of those before it.
+fn last_two(alloc: Global, seen: Seen, before: &[Seen]) -> Result<Sequence<Seen>, Memory>
     ensures { IfOk result (λ list. list ≡ take 2 (seen ∷ before.now)) }
 {
-    let mut list = Listed::new(alloc);
+    let mut list = Sequence::empty(alloc);
     list.push(seen)?;
     if let Some(last) = before.first() {
         list.push(*last)?;

@@ -1,8 +1,8 @@
 //! The table of events, read once more over the plan with two forks and three grid keys: who has which segment, what
 //! stands at each of the four places, and what each seat has there.
 
-use crate::{ClaimWord, Event, Key, Listed, PlaceWord, SeatView, Seen, System, Word};
-use outside::Memory;
+use crate::{ClaimWord, Event, Key, PlaceWord, SeatView, Seen, System, Word};
+use plain_lists::{Memory, Sequence};
 use std::alloc::Global;
 
 #[derive(Clone, Copy)]
@@ -26,7 +26,7 @@ pub struct Plain {
     places: [PlaceWord; 4],
     done: u32,
     stopped: bool,
-    seats: Listed<Seat>,
+    seats: Sequence<Seat>,
 }
 
 const NEW: Seat = Seat {
@@ -43,7 +43,7 @@ const NEW: Seat = Seat {
     returned: 0,
 };
 
-/// The place of each key of the plan.
+// The place of each key of the plan.
 fn place(key: Key) -> Option<usize> {
     match (key.segment, key.event) {
         (0, 2) => Some(0),
@@ -62,7 +62,7 @@ fn claim_word(owner: Option<u32>) -> ClaimWord {
 }
 
 impl Seat {
-    /// Learns of a key's value: of the fork keys, and of the one grid key that shares no place.
+    // Learns of a key's value: of the fork keys, and of the one grid key that shares no place.
     fn learn(&mut self, key: Key) {
         if matches!(place(key), Some(0 | 1 | 3)) {
             self.known = self.known.wrapping_add(1);
@@ -90,7 +90,7 @@ impl Seat {
 
 impl Plain {
     pub fn opening(alloc: Global) -> Result<Plain, Memory> {
-        let mut seats = Listed::new(alloc);
+        let mut seats = Sequence::empty(alloc);
         seats.push(NEW)?;
         Ok(Plain {
             owner: [None; 3],

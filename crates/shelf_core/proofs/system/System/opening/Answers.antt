@@ -7,6 +7,6 @@ use Rattle.shelf_core.proofs.system.System.opening.Goals as goal
 
 pub returns-clause-orderly : goal.returns-clause-orderly
 returns-clause-orderly c =
-    let s : System = record { plan = None; claims = c.new-2.result; places = c.new-3.result; home = c.new-4.result; done = 0; stopped = false; views = c.push.new.self } in
+    let s : System = record { plan = None; claims = c.empty.result; places = c.empty-2.result; home = c.empty-3.result; done = 0; stopped = false; views = c.push.new.self } in
     let is : s ≡ opening = search rules in
     subst Orderly (sym is) opening_orderly

@@ -1,0 +1,67 @@
+//! Two lanes, of which the second takes from the first.
+
+ghost use Rattle.std.specs.Prelude.{◌≡◌};
+
+use crate::{Lane, Memory, Room, open_lanes};
+use std::alloc::Global;
+use std::marker::Brand;
+use std::sync::Wait;
+use std::test::Fail;
+
+// The segments 0, 1 and 2 are pushed on the first lane, which the second lane takes from until it finds none, and whose
+// owner then pops until there is none: first what came out, then how much of it the owner got.
+fn share_three<B: Room, R: Wait>(rt: &R, alloc: Global, room: u32) -> Result<(Vec<u32>, usize), Memory>
+    requires room { room ≡ B.room }
+    requires three { room ≡ 3 }
+{
+    let mut lanes = open_lanes::<B>(alloc, 2, room)?;
+    let mut got = Vec::new(alloc);
+    let (Some(mut second), Some(mut first)) = (lanes.pop(), lanes.pop()) else {
+        return Ok((got, 0));
+    };
+    for segment in 0..3 {
+        first.push(segment);
+    }
+    take_some(rt, &mut second, &mut got)?;
+    let stolen = got.len();
+    pop_some(&mut first, &mut got)?;
+    let popped = got.len() - stolen;
+    Ok((got, popped))
+}
+
+fn take_some<B: Room, R: Wait>(rt: &R, lane: &mut Lane<B>, got: &mut Vec<u32>) -> Result<(), Memory> {
+    for _ in 0..4 {
+        if let Some(segment) = lane.steal_round(rt) {
+            got.push(segment)?;
+        }
+    }
+    Ok(())
+}
+
+fn pop_some<B: Room>(lane: &mut Lane<B>, got: &mut Vec<u32>) -> Result<(), Memory> {
+    for _ in 0..4 {
+        if let Some(segment) = lane.pop() {
+            got.push(segment)?;
+        }
+    }
+    Ok(())
+}
+
+fn share_picked<R: Wait>(rt: &R, alloc: Global) -> Result<(Vec<u32>, usize), Memory> {
+    share_three::<Brand, R>(rt, alloc, 3)
+}
+
+// A lane crosses threads.
+fn crosses<T: Send>(_: &T) {}
+
+fn lanes_cross<B: Room + Send>(lane: &Lane<B>) {
+    crosses(lane);
+}
+
+#[test]
+fn a_thief_takes_each_once(rt: HostRuntime) -> Result<(), Fail> {
+    let (got, popped) = share_picked(&rt, rt.alloc())?;
+    assert_eq!(rt; got.as_slice(), [0, 1, 2].as_slice());
+    assert_eq!(rt; popped, 0);
+    Ok(())
+}

@@ -1,0 +1,13 @@
+pub mod Rows
+pub mod Rule
+pub mod Words
+pub mod Calls
+pub mod Codes
+pub mod Brought
+pub mod Places
+pub mod Spends
+pub mod Loans
+pub mod Hands
+pub mod Facts
+pub mod Opens
+pub mod Closes

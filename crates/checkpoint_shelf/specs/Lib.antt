@@ -1,0 +1,10 @@
+pub mod Codes
+pub mod Plans
+pub mod Told
+pub mod Fronts
+pub mod Holds
+pub mod Tells
+pub mod Places
+pub mod Answers
+pub mod Seats
+pub mod Closing
