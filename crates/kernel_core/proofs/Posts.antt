@@ -66,6 +66,32 @@ sent-counts o groups from leave p x =
       | false ↦ (omega arith, omega arith)
     ]
 
+-- a message that joins is one more
+pub length-joined : (m : Message) (w : List Message) → length (joined m w) ≡ length w + 1
+length-joined m [] = refl
+length-joined m (x ∷ w) = elim (ltb m.seq x.seq) as (λ b. length (cond b (m ∷ (x ∷ w)) (x ∷ joined m w)) ≡ length (x ∷ w) + 1) [ true ↦ omega arith | false ↦ omega (arith, length-joined m w) ]
+
+-- each number that is given waits
+pub sent-held : (o : Opening) (groups : Tables) (from leave : ℕ) (p : Post) (x : Sending) → (sent o groups from leave p x).next_seq + length p.waiting ≡ p.next_seq + length (sent o groups from leave p x).waiting
+sent-held o groups from leave p x =
+    let m = message_of o groups p.next_seq from leave x in
+    elim (ltb (length p.waiting) most_waiting) as (λ b. let q : Post = cond b (record { waiting = joined m p.waiting; next_seq = p.next_seq + 1; dropped = p.dropped }) (record { waiting = p.waiting; next_seq = p.next_seq; dropped = p.dropped + 1 }) in q.next_seq + length p.waiting ≡ p.next_seq + length q.waiting) [
+      | true ↦ omega (arith, length-joined m p.waiting)
+      | false ↦ omega arith
+    ]
+
+pub all_sent-held : (o : Opening) (groups : Tables) (from leave : ℕ) (p : Post) (xs : List Sending) → (all_sent o groups from leave p xs).next_seq + length p.waiting ≡ p.next_seq + length (all_sent o groups from leave p xs).waiting
+all_sent-held o groups from leave p [] = omega arith
+all_sent-held o groups from leave p (x ∷ xs) = omega (arith, all_sent-held o groups from leave (sent o groups from leave p x) xs, sent-held o groups from leave p x)
+
+-- the least message that was taken is one fewer
+pub taken : (r : Option Message) (m : Message) (old new : Post) → r ≡ Some m → IfSome r (λ (x : Message). new ≡ record old { waiting = without x.seq old.waiting }) → OnSome r (length new.waiting + 1 ≡ length old.waiting) → length (without m.seq old.waiting) + 1 ≡ length old.waiting
+taken None m old new e left shrinks = cc
+taken (Some x) m old new e left shrinks =
+    let same : x ≡ m = grind arith in
+    let w : new.waiting ≡ without x.seq old.waiting = ap (λ (q : Post). q.waiting) left in
+    subst (λ (y : Message). length (without y.seq old.waiting) + 1 ≡ length old.waiting) same (subst (λ (v : List Message). length v + 1 ≡ length old.waiting) w shrinks)
+
 -- the next sending of a list
 pub all_sent-next : (o : Opening) (groups : Tables) (from leave : ℕ) (p : Post) (xs : List Sending) (i : ℕ) (d : Sending) → i < length xs → all_sent o groups from leave p (drop i xs) ≡ all_sent o groups from leave (sent o groups from leave p (get_or xs i d)) (drop (i + 1) xs)
 all_sent-next o groups from leave p xs i d h = at_drop_more (λ (ys : List Sending). all_sent o groups from leave p ys) xs i d h
