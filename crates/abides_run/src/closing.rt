@@ -3,7 +3,7 @@
 ghost use Rattle.std.specs.Prelude.{◌≡◌, ◌≤◌, ◌<◌, ◌+◌, ◌-◌, ◌∷◌, [], pos, IfOk, length, slice_index_or, All};
 ghost use Rattle.kernel_core.specs.Agents.{told_of, nobody};
 ghost use Rattle.trace_bundle.specs.declared.closing.ClosingAgent.{ClosingAgent};
-ghost use Rattle.abides_run.specs.Closing.{end_letter as letter_of_end, counts_of, idle_stock as stock_of, exchange_told, trader_told, agents_told, closing_of as closing_at};
+ghost use Rattle.abides_run.specs.Closing.{end_letter_of, counts_of, stock_of, exchange_told, trader_told, agents_told, closing_of};
 
 use kernel_core::{Kernel, Opening};
 use market_types::{AgentNo, End, Memory, Sequence};
@@ -11,7 +11,7 @@ use std::alloc::Global;
 use trace_bundle::{Closing, ClosingAgent, ClosingCounts, ClosingStock};
 
 fn end_letter(end: Option<End>) -> u8
-    ensures { result ≡ letter_of_end end }
+    ensures { result ≡ end_letter_of end }
 {
     match end {
         None => b'-',
@@ -40,7 +40,7 @@ fn counts(o: &Opening, kernel: &Kernel) -> ClosingCounts
     }
 }
 
-fn idle_stock() -> ClosingStock
+fn stock() -> ClosingStock
     ensures { result ≡ stock_of }
 {
     ClosingStock {
@@ -54,7 +54,7 @@ fn idle_stock() -> ClosingStock
     }
 }
 
-/// The position in the one stock, of which nothing was traded.
+// The position in the one stock, of which nothing was traded.
 fn no_position(alloc: Global) -> Result<Sequence<i64>, Memory>
     ensures { IfOk result (λ s. s ≡ pos 0 ∷ []) }
 {
@@ -105,7 +105,7 @@ fn trader(alloc: Global, kernel: &Kernel, agent: AgentNo) -> Result<ClosingAgent
     })
 }
 
-/// The exchange and each trader in order.
+// The exchange and each trader in order.
 fn agents(alloc: Global, kernel: &Kernel) -> Result<Vec<ClosingAgent>, Memory>
     ensures agents { IfOk result (λ v. v.items ≡ agents_told kernel.now (length kernel.now.traders)) }
     ensures positions { IfOk result (λ v. All (λ (a : ClosingAgent). length a.positions ≤ 16) v.items) }
@@ -126,11 +126,11 @@ fn agents(alloc: Global, kernel: &Kernel) -> Result<Vec<ClosingAgent>, Memory>
 }
 
 /// The closing of a state.
-pub fn closing_of(alloc: Global, o: &Opening, kernel: &Kernel) -> Result<Closing, Memory>
-    ensures closing { IfOk result (λ c. c ≡ closing_at o.now kernel.now) }
+pub fn closing(alloc: Global, o: &Opening, kernel: &Kernel) -> Result<Closing, Memory>
+    ensures closing { IfOk result (λ c. c ≡ closing_of o.now kernel.now) }
     ensures positions { IfOk result (λ c. All (λ (a : ClosingAgent). length a.positions ≤ 16) c.agents) }
 {
-    let stocks = match vec![in alloc; idle_stock(); 1] {
+    let stocks = match vec![in alloc; stock(); 1] {
         Ok(stocks) => stocks,
         Err(_) => return Err(Memory),
     };

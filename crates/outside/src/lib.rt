@@ -6,13 +6,13 @@ mod errors;
 mod fetched;
 mod file_library;
 mod gate;
-pub mod laws;
 mod library;
 mod memory_library;
 mod memory_sink;
 mod sink;
 mod steps;
 mod stream_sink;
+pub mod worked;
 
 pub use errors::{Failed, FetchError, Memory};
 pub use fetched::Fetched;

@@ -1,7 +1,7 @@
 use Rattle.std.proofs.Common.{ap, ◌∙◌, arith}
 use Rattle.kernel_core.specs.Until.{Run}
 use Rattle.abides_run.proofs.Whole.{from_opening}
-use Rattle.abides_run.proofs.play.simulate.Goals as goal
+use Rattle.abides_run.proofs.simulation.simulate.Goals as goal
 
 pub returns-clause-run : goal.returns-clause-run
 returns-clause-run g c = c.in_ok-run_until.ensures.ran ∙ from_opening c.args.o.now _ _ c.in_ok-kernel.ensures c.new-trace.ensures
