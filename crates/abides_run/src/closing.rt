@@ -58,10 +58,8 @@ fn stock() -> ClosingStock
 fn no_position(alloc: Global) -> Result<Sequence<i64>, Memory>
     ensures { IfOk result (λ s. s ≡ pos 0 ∷ []) }
 {
-    match vec![in alloc; 0; 1] {
-        Ok(positions) => Ok(Sequence::new(positions)),
-        Err(_) => Err(Memory),
-    }
+    let positions = vec![in alloc; 0; 1]?;
+    Ok(Sequence::new(positions))
 }
 
 fn exchange(alloc: Global, kernel: &Kernel) -> Result<ClosingAgent, Memory>
@@ -113,14 +111,10 @@ fn agents(alloc: Global, kernel: &Kernel) -> Result<Vec<ClosingAgent>, Memory>
     let traders = kernel.agents() - 1;
     let mut agents = Vec::new(alloc);
     let first = exchange(alloc, kernel)?;
-    if agents.push(first).is_err() {
-        return Err(Memory);
-    }
+    agents.push(first)?;
     for i in 0..traders {
         let next = trader(alloc, kernel, i + 1)?;
-        if agents.push(next).is_err() {
-            return Err(Memory);
-        }
+        agents.push(next)?;
     }
     Ok(agents)
 }
@@ -130,10 +124,7 @@ pub fn closing(alloc: Global, o: &Opening, kernel: &Kernel) -> Result<Closing, M
     ensures closing { IfOk result (λ c. c ≡ closing_of o.now kernel.now) }
     ensures positions { IfOk result (λ c. All (λ (a : ClosingAgent). length a.positions ≤ 16) c.agents) }
 {
-    let stocks = match vec![in alloc; stock(); 1] {
-        Ok(stocks) => stocks,
-        Err(_) => return Err(Memory),
-    };
+    let stocks = vec![in alloc; stock(); 1]?;
     Ok(Closing {
         counts: counts(o, kernel),
         stocks: Sequence::new(stocks),

@@ -4,6 +4,7 @@ use Rattle.std.specs.List.{AllByRecursion, best_of}
 use Rattle.std.proofs.lemmas.Bool.Decides.{nat_tests}
 use Rattle.std.proofs.lemmas.List.{at_drop_more}
 use Rattle.std.proofs.lemmas.List.Elements.{All-from_recursion, recursion_from_All, All-filter, All-weaker, filter_passes}
+use Rattle.market_types.specs.Limits.{most_waiting}
 use Rattle.market_types.specs.Room.{Room}
 use Rattle.market_types.specs.declared.message.Message.{Message}
 use Rattle.kernel_core.specs.declared.sending.Sending.{Sending}
@@ -12,7 +13,7 @@ use Rattle.event_queue.specs.Waiting.{before, least, without, joined}
 use Rattle.kernel_core.specs.declared.opening.Opening.{Opening}
 use Rattle.kernel_core.specs.State.{Post}
 use Rattle.latency_model.specs.Tables.{Tables}
-use Rattle.kernel_core.specs.Send.{most_waiting, sent, all_sent, message_of}
+use Rattle.kernel_core.specs.Send.{sent, all_sent, message_of}
 
 each-joined : (P : Message → Type 0) (m : Message) (w : List Message) → P m → AllByRecursion P w → AllByRecursion P (joined m w)
 each-joined P m [] p a = (p, tt)

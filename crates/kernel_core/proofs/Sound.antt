@@ -5,6 +5,7 @@ use Rattle.std.proofs.lemmas.Bool.{cases_eq}
 use Rattle.std.proofs.lemmas.Bool.Decides.{nat_tests}
 use Rattle.std.proofs.lemmas.List.{length-set}
 use Rattle.std.proofs.lemmas.List.Elements.{All-from_recursion, All-weaker, All-set, All-get_or}
+use Rattle.market_types.specs.Limits.{longest_delay, most_waiting}
 use Rattle.market_types.specs.declared.message.Message.{Message}
 use Rattle.market_types.specs.declared.message.Body.{Body}
 use Rattle.market_types.specs.declared.message.Body.TheVariants.{Wake, Order, Answer, Ask, Quote}
@@ -16,8 +17,8 @@ use Rattle.kernel_core.specs.declared.sending.Sending.{Sending}
 use Rattle.kernel_core.specs.declared.sending.Sending.TheVariants.{To, WakeAt}
 use Rattle.kernel_core.specs.declared.trader.Trader.{Trader}
 use Rattle.kernel_core.specs.Agents.{decided, answered, nobody}
-use Rattle.kernel_core.specs.Opening.{IsOpening, IsWaker, longest_delay}
-use Rattle.kernel_core.specs.Send.{most_waiting, sent, all_sent, message_of}
+use Rattle.kernel_core.specs.Opening.{IsOpening, IsWaker}
+use Rattle.kernel_core.specs.Send.{sent, all_sent, message_of}
 use Rattle.kernel_core.specs.Sendable.{IsAddressed, IsGrouped}
 use Rattle.kernel_core.specs.State.{Post, State, IsSound, IsCounted, IsAmong}
 use Rattle.kernel_core.specs.Step.{Fits, Reaction, reaction, put_back, delivered}

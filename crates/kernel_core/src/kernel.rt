@@ -72,7 +72,7 @@ fn wake_all(mail: &mut Mail, o: &Opening, wakers: &[Waker])
 fn traders_of(alloc: Global, wakers: &[Waker]) -> Result<Vec<Trader>, Memory>
     ensures { IfOk result (λ v. v.items ≡ map trader_of wakers.now) }
 {
-    let made: Result<Vec<Trader>, AllocError> = wakers
+    let traders: Result<Vec<Trader>, AllocError> = wakers
         .iter()
         .map(|waker| Trader {
             every: waker.every,
@@ -81,10 +81,7 @@ fn traders_of(alloc: Global, wakers: &[Waker]) -> Result<Vec<Trader>, Memory>
             quotes: 0,
         })
         .collect(alloc);
-    match made {
-        Ok(traders) => Ok(traders),
-        Err(_) => Err(Memory),
-    }
+    Ok(traders?)
 }
 
 impl Kernel {
@@ -96,10 +93,7 @@ impl Kernel {
     {
         let mut mail = Mail::new(alloc)?;
         wake_all(&mut mail, o, o.traders.as_slice());
-        let own = match vec![in alloc; o.start; o.traders.as_slice().len() + 1] {
-            Ok(own) => own,
-            Err(_) => return Err(Memory),
-        };
+        let own = vec![in alloc; o.start; o.traders.as_slice().len() + 1]?;
         let traders = traders_of(alloc, o.traders.as_slice())?;
         let groups = o.groups.copy(alloc)?;
         Ok(Kernel {

@@ -4,9 +4,10 @@ ghost use Rattle.std.specs.Prelude.{◌≡◌, ◌<◌, ◌≤◌, ◌+◌, ◌^
 ghost use Rattle.std.specs.List.Sorted.{IsPermutation, IsSortedBy};
 ghost use Rattle.event_queue.specs.InOrder.{in_order};
 ghost use Rattle.event_queue.specs.Waiting.{before, least, without, joined};
+ghost use Rattle.market_types.specs.Limits.{most_waiting};
 ghost use Rattle.latency_model.specs.Tables.{group_count};
 ghost use Rattle.kernel_core.specs.Opening.{group_of};
-ghost use Rattle.kernel_core.specs.Send.{sent, all_sent, message_of, under_way, most_waiting};
+ghost use Rattle.kernel_core.specs.Send.{sent, all_sent, message_of, under_way};
 ghost use Rattle.kernel_core.specs.State.{nothing_waits};
 ghost use Rattle.kernel_core.specs.Sendable.{extra_of, receiver_of, IsAddressed, IsGrouped};
 
@@ -15,12 +16,9 @@ use crate::sending::Sending;
 use draw_streams::draw;
 use event_queue::Queue;
 use latency_model::{Groups, JITTER_STREAM};
-use market_types::{AgentNo, Body, Memory, Message, Time};
+use market_types::{AgentNo, Body, MOST_WAITING, Memory, Message, Time};
 use std::alloc::Global;
 use std::marker::Model;
-
-/// So many messages may wait.
-pub const MOST_WAITING: usize = 65_536;
 
 /// The waiting messages, the next number and the count of dropped messages.
 #[derive(Drop)]

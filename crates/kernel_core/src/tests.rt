@@ -30,12 +30,8 @@ fn watchers(alloc: Global, firsts: &[Time]) -> Result<Vec<Waker>, AllocError>
 fn groups(alloc: Global, base: u8, jitter: u32) -> Result<Groups, Memory>
     ensures { IfOk result (λ g. g ≡ record { base = (base ∷ []) ∷ []; jitter = (jitter ∷ []) ∷ [] }) }
 {
-    let Ok(bases) = vec![in alloc; u64::from(base); 1] else {
-        return Err(Memory);
-    };
-    let Ok(jitters) = vec![in alloc; jitter; 1] else {
-        return Err(Memory);
-    };
+    let bases = vec![in alloc; u64::from(base); 1]?;
+    let jitters = vec![in alloc; jitter; 1]?;
     Groups::new(alloc, &[bases], &[jitters])
 }
 
@@ -46,9 +42,7 @@ fn market(alloc: Global, firsts: &[Time], delay: u8, groups: Groups) -> Result<O
     requires firsts { All (λ first. first ≤ 2000) firsts.now }
     ensures { IfOk result IsOpening }
 {
-    let Ok(traders) = watchers(alloc, firsts) else {
-        return Err(Memory);
-    };
+    let traders = watchers(alloc, firsts)?;
     Ok(Opening {
         start: 1000,
         close: 2000,
