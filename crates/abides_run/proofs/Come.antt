@@ -4,12 +4,7 @@ use Rattle.outside.specs.Files.{Content, absent, too_long, whole, held, content}
 use Rattle.study_rules.specs.declared.accept.WatcherStudy.{WatcherStudy}
 use Rattle.study_rules.specs.Watchers.{study_of}
 use Rattle.abides_run.specs.Words.{asked_of}
-use Rattle.abides_run.specs.Verdict.{Verdict, verdict, verdict_on, verdict_at, judged, usage, refused, accepted, most_bytes, IsAsked}
-
-pub come_faulty : (files : Option (List (List ℕ × List ℕ))) (words : List (List ℕ)) → asked_of words ≡ None
-    → IfSome files (λ library. verdict library words ≡ usage)
-come_faulty None words none = tt
-come_faulty (Some library) words none = ap (verdict_at library) none
+use Rattle.abides_run.specs.Verdict.{Verdict, verdict, verdict_on, verdict_at, judged, refused, most_bytes, IsAsked}
 
 pub come_to : (files : Option (List (List ℕ × List ℕ))) (words : List (List ℕ)) (name : List ℕ) (answer : Content) → Some name ≡ asked_of words
     → IfSome files (λ library. answer ≡ content (held library name) 16777216)

@@ -26,8 +26,7 @@ pub fn asked_words()
     ensures faulty { verdict [] [] ≡ usage }
 {}
 
-/// The lines for a missing file and for a broken rule.
-pub fn lines()
-    ensures missing { note (codes "s") Status.NoStudy ≡ codes "no such file: s\n" }
-    ensures broken { note (codes "s") (Status.Refused 99 0) ≡ codes "study refused: rule 99, place 0\n" }
+/// The line for a missing file.
+pub fn line_of_a_missing_file()
+    ensures { note (codes "s") Status.NoStudy ≡ codes "no such file: s\n" }
 {}
