@@ -48,9 +48,9 @@ pub fn find_study<L: Library>(
     ensures steady { OnOk result (L.faults library.new ≡ L.faults library.old) }
     ensures refused { IfErr result (λ status. (writes steps : ℕ) (taken : Option (List ℕ)) →
         Answered (L.files library.old) (texts words.now)
-            (record { reads = L.faults library.old; writes = writes; taken = taken; steps = steps })
-            (record { reads = L.faults library.new; writes = writes; taken = taken; steps = steps })
-            status) }
+        (record { reads = L.faults library.old; writes = writes; taken = taken; steps = steps })
+        (record { reads = L.faults library.new; writes = writes; taken = taken; steps = steps })
+        status) }
     ensures files { L.files library.new ≡ L.files library.old }
 {
     let Some(name) = asked(words) else {

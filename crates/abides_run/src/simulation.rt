@@ -30,7 +30,11 @@ struct FinishedRun {
 }
 
 // Runs an opening to its end.
-fn simulate<D: Ledger>(alloc: Global, o: &Opening, steps: &mut Steps<D>) -> Result<FinishedRun, Memory>
+fn simulate<D: Ledger>(
+    alloc: Global,
+    o: &Opening,
+    steps: &mut Steps<D>,
+) -> Result<FinishedRun, Memory>
     requires opening { IsOpening o.now }
     requires count { steps.old + o.now.limit < 2 ^ 64 }
     ensures run { IfOk result (λ r. record { state = r.kernel; entries = r.trace.list } ≡ full o.now) }
@@ -103,9 +107,9 @@ pub fn simulate_and_write<O: Sink, D: Ledger>(
     ensures { (files : Option (List (List ℕ × List ℕ))) (words : List (List ℕ)) (reads : ℕ) →
         IfSome files (λ held. verdict held words ≡ accepted study.now) → ¬ (asked_of words ≡ None) →
         Answered files words
-            (record { reads = reads; writes = O.faults out.old; taken = O.taken out.old; steps = steps.old })
-            (record { reads = reads; writes = O.faults out.new; taken = O.taken out.new; steps = steps.new })
-            result }
+        (record { reads = reads; writes = O.faults out.old; taken = O.taken out.old; steps = steps.old })
+        (record { reads = reads; writes = O.faults out.new; taken = O.taken out.new; steps = steps.new })
+        result }
 {
     let bytes = match simulated_bundle(alloc, study, steps) {
         Ok(bytes) => bytes,
