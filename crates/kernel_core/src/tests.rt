@@ -36,13 +36,15 @@ fn groups(alloc: Global, base: u8, jitter: u32) -> Result<Groups, Memory>
 }
 
 // A market that closes at 2000, whose exchange computes for `delay` nanoseconds.
-fn market(alloc: Global, firsts: &[Time], delay: u8, groups: Groups) -> Result<Opening, Memory>
+fn market(alloc: Global, firsts: &[Time], delay: Time, groups: Groups) -> Result<Opening, Memory>
     requires one_group { length groups.base ≡ 1 }
     requires few { length firsts.now ≤ 511 }
     requires firsts { All (λ first. first ≤ 2000) firsts.now }
+    requires delay { delay ≤ 1000 }
     ensures { IfOk result IsOpening }
 {
-    let traders = watchers(alloc, firsts)?;
+    let wakers = watchers(alloc, firsts)?;
+    let traders = Sequence::new(wakers);
     Ok(Opening {
         start: 1000,
         close: 2000,
@@ -50,8 +52,8 @@ fn market(alloc: Global, firsts: &[Time], delay: u8, groups: Groups) -> Result<O
         key: [0; 32],
         groups,
         exchange_group: 0,
-        exchange_delay: u64::from(delay),
-        traders: Sequence::new(traders),
+        exchange_delay: delay,
+        traders,
     })
 }
 
