@@ -4,9 +4,9 @@ use Rattle.kernel_core.specs.Until.{advanced}
 use Rattle.trace_bundle.specs.Bundle.{message_frame, event_frame, edit_frame, counts_frame, stock_frame, order_frame, agent_frame, branch_frame, header_frame, end_frame}
 use Rattle.trace_bundle.specs.Frames.{position_bytes}
 use Rattle.abides_run.specs.Full.{full}
-use Rattle.abides_run.specs.Study.{bundle_of, events_of}
-use Rattle.abides_run.proofs.worked.empty_run.Goals as goal
+use Rattle.abides_run.specs.Study.{study_bundle, study_events}
+use Rattle.abides_run.proofs.worked.empty_bundle.Goals as goal
 
 pub returns : goal.returns
-unfolding bundle_of events_of full advanced event_of message_frame event_frame edit_frame counts_frame stock_frame order_frame agent_frame branch_frame header_frame end_frame position_bytes
+unfolding study_bundle study_events full advanced event_of message_frame event_frame edit_frame counts_frame stock_frame order_frame agent_frame branch_frame header_frame end_frame position_bytes
 returns c = record { bytes = refl; size = refl; events = refl }
