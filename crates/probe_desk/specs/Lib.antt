@@ -1,4 +1,0 @@
-pub mod Probe
-pub mod Columns
-pub mod Spans
-pub mod Worked
