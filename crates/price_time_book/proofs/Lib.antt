@@ -1,7 +1,11 @@
 pub mod Bests
 pub mod Changes
+pub mod Firsts
+pub mod Joins
+pub mod Lowers
 pub mod Matching
 pub mod Places
-pub mod Shares
+pub mod Prices
 pub mod Stays
+pub mod Takes
 pub mod Tops

@@ -1,8 +1,8 @@
+pub mod Indexed
 pub mod Kept
 pub mod Matched
 pub mod Next
 pub mod Orderly
 pub mod Orders
-pub mod Search
 pub mod Sides
 pub mod Worked

@@ -7,8 +7,9 @@ ghost use Rattle.price_time_book.specs.Orderly.{IsOrderly};
 ghost use Rattle.price_time_book.specs.Orders.{order_of, order_with, changed, reduced};
 ghost use Rattle.price_time_book.specs.Sides.{depth_of};
 
+use crate::levels::{Level, best_in, fits, join, lower_at, take_first};
 use crate::resting::{Best, Fill, Resting};
-use crate::search::{crossing_in, held_at, is_within, opposite, order_of, shares_at, top_of};
+use crate::search::{crossing_in, depth_in, held_at, open_of, order_of};
 use market_types::{AgentNo, Memory, Side, Token};
 use std::alloc::Global;
 use std::marker::Model;
@@ -17,22 +18,33 @@ use std::marker::Model;
 #[derive(Drop)]
 pub struct Book {
     orders: Vec<Resting>,
+    nexts: Vec<usize>,
+    buys: Vec<Level>,
+    sells: Vec<Level>,
     spare: usize,
 }
 
 impl Model for Book {
     ghost use Rattle.std.specs.Prelude.{◌≤◌, ◌+◌, vec_len, vec_capacity};
     ghost use Rattle.market_types.specs.Room.{Room};
+    ghost use Rattle.market_types.specs.declared.order.Side.TheVariants.{Buy, Sell};
     ghost use Rattle.price_time_book.specs.declared.resting.Resting.{Resting};
+    ghost use Rattle.price_time_book.specs.Indexed.{IsIndexed, IsSmall, open_orders};
     ghost use Rattle.price_time_book.specs.Orderly.{IsOrderly};
 
     ghost Value = { Room Resting };
 
-    ghost view = { λ b. record { list = b.orders.items; spare = b.spare } };
+    ghost view = { λ b. record { list = open_orders b.orders.items; spare = b.spare } };
 
     ghost invariant = { λ b. record {
-      room : vec_len b.orders + b.spare ≤ vec_capacity b.orders;
-      orderly : IsOrderly b.orders.items;
+      orders_room : vec_len b.orders + b.spare ≤ vec_capacity b.orders;
+      nexts_room : vec_len b.nexts + b.spare ≤ vec_capacity b.nexts;
+      buys_room : vec_len b.buys + b.spare ≤ vec_capacity b.buys;
+      sells_room : vec_len b.sells + b.spare ≤ vec_capacity b.sells;
+      buys : IsIndexed Buy b.orders.items b.nexts.items b.buys.items;
+      sells : IsIndexed Sell b.orders.items b.nexts.items b.sells.items;
+      orderly : IsOrderly (open_orders b.orders.items);
+      small : IsSmall (open_orders b.orders.items);
     } };
 }
 
@@ -43,6 +55,9 @@ impl Book {
     {
         Book {
             orders: Vec::new(alloc),
+            nexts: Vec::new(alloc),
+            buys: Vec::new(alloc),
+            sells: Vec::new(alloc),
             spare: 0,
         }
     }
@@ -57,12 +72,16 @@ impl Book {
         if n <= self.spare {
             return Ok(());
         }
-        match self.orders.reserve(n) {
-            Ok(()) => {
+        let orders = self.orders.reserve(n);
+        let nexts = self.nexts.reserve(n);
+        let buys = self.buys.reserve(n);
+        let sells = self.sells.reserve(n);
+        match (orders, nexts, buys, sells) {
+            (Ok(()), Ok(()), Ok(()), Ok(())) => {
                 self.spare = n;
                 Ok(())
             }
-            Err(_) => Err(Memory),
+            _ => Err(Memory),
         }
     }
 
@@ -71,19 +90,26 @@ impl Book {
         ensures { IfOk result (λ b. b.list ≡ self.now.list) }
     {
         let orders = copied(alloc, self.orders.as_slice())?;
-        Ok(Book { orders, spare: 0 })
+        let nexts = copied(alloc, self.nexts.as_slice())?;
+        let buys = copied(alloc, self.buys.as_slice())?;
+        let sells = copied(alloc, self.sells.as_slice())?;
+        Ok(Book {
+            orders,
+            nexts,
+            buys,
+            sells,
+            spare: 0,
+        })
     }
 
     /// The best price of a side and the open shares at it. `None` where no order rests there.
     pub fn best(&self, side: Side) -> Option<Best>
         ensures { result ≡ best_at side self.now.list }
     {
-        let (_, first) = top_of(self.orders.as_slice(), side)?;
-        let shares = shares_at(self.orders.as_slice(), side, first.price);
-        Some(Best {
-            price: first.price,
-            shares,
-        })
+        match side {
+            Side::Buy => best_in(side, self.buys.as_slice()),
+            Side::Sell => best_in(side, self.sells.as_slice()),
+        }
     }
 
     /// Matches an incoming order of `side`, which wants `shares` more and trades at no worse price than
@@ -98,14 +124,27 @@ impl Book {
         ensures unmatched { IfNone result (self.new.list ≡ self.old.list) }
         ensures room { self.old.spare ≤ self.new.spare }
     {
-        let (at, resting) = top_of(self.orders.as_slice(), opposite(side))?;
-        if !is_within(side, limit, resting.price) {
-            return None;
+        let (orders, nexts) = (&mut self.orders, self.nexts.as_slice());
+        match side {
+            Side::Buy => take_first(
+                Side::Sell,
+                orders,
+                &mut self.sells,
+                nexts,
+                side,
+                limit,
+                shares,
+            ),
+            Side::Sell => take_first(
+                Side::Buy,
+                orders,
+                &mut self.buys,
+                nexts,
+                side,
+                limit,
+                shares,
+            ),
         }
-        let shares = shares.min(resting.left);
-        let left = resting.left - shares;
-        self.change(at, Resting { left, ..resting });
-        Some(Fill { resting, shares })
     }
 
     /// An order comes to rest. A place was kept for it, its reference is greater than each that is
@@ -119,9 +158,16 @@ impl Book {
         requires fresh { order_of order.agent order.token self.old.list ≡ None }
         ensures { self.new ≡ record { list = self.old.list ++ order ∷ []; spare = self.old.spare - 1 } }
     {
-        match self.orders.push(order) {
-            Ok(()) => self.spare -= 1,
-            Err(_) => unreachable!(),
+        fits(order.left);
+        match order.side {
+            Side::Buy => {
+                join(&mut self.orders, &mut self.nexts, &mut self.buys, order);
+                self.spare -= 1;
+            }
+            Side::Sell => {
+                join(&mut self.orders, &mut self.nexts, &mut self.sells, order);
+                self.spare -= 1;
+            }
         }
     }
 
@@ -147,22 +193,32 @@ impl Book {
     {
         let (at, resting) = held_at(self.orders.as_slice(), reference)?;
         let intended = resting.intended - (resting.left - left);
-        self.change(
-            at,
-            Resting {
-                intended,
-                left,
-                ..resting
-            },
-        );
-        Some(resting)
+        let (orders, nexts) = (&mut self.orders, self.nexts.as_slice());
+        match resting.side {
+            Side::Buy => {
+                lower_at(Side::Buy, orders, &mut self.buys, nexts, at, left, intended);
+                Some(resting)
+            }
+            Side::Sell => {
+                lower_at(
+                    Side::Sell,
+                    orders,
+                    &mut self.sells,
+                    nexts,
+                    at,
+                    left,
+                    intended,
+                );
+                Some(resting)
+            }
+        }
     }
 
     /// How many orders rest on a side.
     pub fn depth(&self, side: Side) -> usize
         ensures { result ≡ depth_of side self.now.list }
     {
-        self.orders.iter().filter(|o| o.side == side).count()
+        depth_in(self.orders.as_slice(), side)
     }
 
     /// How many orders cross an incoming order of `side` with this limit: no match has more fills.
@@ -176,14 +232,14 @@ impl Book {
     pub fn len(&self) -> usize
         ensures { result ≡ length self.now.list }
     {
-        self.orders.len()
+        self.depth(Side::Buy) + self.depth(Side::Sell)
     }
 
     /// Whether no order rests in the book.
     pub fn is_empty(&self) -> bool
         ensures { IsTrue result ↔ (self.now.list ≡ []) }
     {
-        self.orders.is_empty()
+        self.len() == 0
     }
 
     /// What holds of the orders of each book: their references rise, each has open shares and no more
@@ -198,30 +254,16 @@ impl Book {
     pub fn orders(&self, alloc: Global) -> Result<Vec<Resting>, Memory>
         ensures { IfOk result (λ v. v.items ≡ self.now.list) }
     {
-        copied(alloc, self.orders.as_slice())
-    }
-
-    // The order at a place becomes another with its reference, which leaves where it has no open shares.
-    fn change(&mut self, at: usize, order: Resting)
-        requires place { option_map (λ o. o.reference) (slice_get self.old.list at) ≡ Some order.reference }
-        requires intended { order.left ≤ order.intended }
-        ensures list { self.new.list ≡ changed order self.old.list }
-        ensures room { self.old.spare ≤ self.new.spare }
-    {
-        if order.left == 0 {
-            self.orders.remove(at);
-        } else {
-            self.orders[at] = order;
-        }
+        open_of(alloc, self.orders.as_slice())
     }
 }
 
-// The same orders.
-fn copied(alloc: Global, orders: &[Resting]) -> Result<Vec<Resting>, Memory>
-    ensures { IfOk result (λ v. v.items ≡ orders.now) }
+// The same elements.
+fn copied<T: Copy>(alloc: Global, items: &[T]) -> Result<Vec<T>, Memory>
+    ensures { IfOk result (λ v. v.items ≡ items.now) }
 {
     let mut copy = Vec::new(alloc);
-    match copy.extend_from_slice(orders) {
+    match copy.extend_from_slice(items) {
         Ok(()) => Ok(copy),
         Err(_) => Err(Memory),
     }

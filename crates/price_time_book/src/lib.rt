@@ -8,6 +8,7 @@
 mod book;
 pub mod keeping;
 pub mod laws;
+mod levels;
 mod resting;
 mod search;
 #[cfg(test)]

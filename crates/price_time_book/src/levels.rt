@@ -1,0 +1,433 @@
+//! The orders of a book by levels of price.
+//!
+//! The orders stand in one vector in order of arrival. One that has left stays there at 0 open shares.
+//! Each side has its levels in order of price. A level knows where the chain of its orders begins and
+//! ends; the chain goes through all orders of its side and price, also those that have left, so an order
+//! that leaves changes no link.
+
+ghost use Rattle.std.specs.Prelude.{◌≡◌, ◌≢◌, ◌<◌, ◌≤◌, ◌+◌, ◌-◌, ◌^◌, ◌++◌, ◌∷◌, [], Some, None, IfSome, IfNone, All, length, option_map, slice_index_or, slice_set, vec_len, vec_capacity, ℕ, List};
+ghost use Rattle.market_types.specs.declared.order.Side.{Side};
+ghost use Rattle.market_types.specs.declared.order.Side.TheVariants.{Buy, Sell};
+ghost use Rattle.price_time_book.specs.declared.levels.Level.{Level};
+ghost use Rattle.price_time_book.specs.declared.resting.Resting.{Resting};
+ghost use Rattle.price_time_book.specs.Indexed.{IsClear, IsIndexed, IsOpenAt, IsRight, IsSmall, key, nothing, open_orders};
+ghost use Rattle.price_time_book.specs.Matched.{after_fill, fill_of};
+ghost use Rattle.price_time_book.specs.Next.{best_at, next_of, top_of};
+ghost use Rattle.price_time_book.specs.Orderly.{IsOrderly};
+ghost use Rattle.price_time_book.specs.Orders.{changed};
+ghost use Rattle.price_time_book.specs.Sides.{opposite};
+
+use crate::resting::{Best, Fill, Resting};
+use crate::search::is_within;
+use market_types::Side;
+
+/// A price of a side: where its chain of orders begins and ends in the vector of arrival, and its open shares.
+#[derive(Clone, Copy)]
+pub struct Level {
+    pub price: u32,
+    pub first: usize,
+    pub last: usize,
+    pub shares: u64,
+}
+
+// Where a price stands or joins.
+fn place_of(levels: &[Level], price: u32) -> usize
+    ensures within { result ≤ length levels.now }
+    ensures below { (d : Level) → 0 < result → (slice_index_or levels.now (result - 1) d).price < price }
+    ensures above { (d : Level) → result < length levels.now → price ≤ (slice_index_or levels.now result d).price }
+{
+    let mut low = 0;
+    let mut high = levels.len();
+    while low < high {
+        let middle = low + (high - low) / 2;
+        if levels[middle].price < price {
+            low = middle + 1;
+        } else {
+            high = middle;
+        }
+    }
+    low
+}
+
+// Where the best level of a side stands.
+fn place_of_best(levels: &[Level], side: Side) -> usize
+    requires { 0 < length levels.now }
+    ensures within { result < length levels.now }
+    ensures buy { side ≡ Buy → result ≡ length levels.now - 1 }
+    ensures sell { side ≡ Sell → result ≡ 0 }
+{
+    match side {
+        Side::Buy => levels.len() - 1,
+        Side::Sell => 0,
+    }
+}
+
+// The best price of a side and the open shares at it.
+pub fn best_in(side: Side, levels: &[Level]) -> Option<Best>
+    ensures { (os : List Resting) (nx : List ℕ) → IsIndexed side os nx levels.now → result ≡ best_at side (open_orders os) }
+{
+    if levels.is_empty() {
+        return None;
+    }
+    let level = levels[place_of_best(levels, side)];
+    Some(Best {
+        price: level.price,
+        shares: level.shares,
+    })
+}
+
+// An order joins the vector of arrival; none follows it.
+fn arrive(orders: &mut Vec<Resting>, nexts: &mut Vec<usize>, order: Resting)
+    requires orders_room { vec_len orders.old < vec_capacity orders.old }
+    requires nexts_room { vec_len nexts.old < vec_capacity nexts.old }
+    ensures orders { orders.new.items ≡ orders.old.items ++ order ∷ [] }
+    ensures nexts { nexts.new.items ≡ nexts.old.items ++ length orders.old.items ∷ [] }
+    ensures orders_capacity { vec_capacity orders.old ≤ vec_capacity orders.new }
+    ensures nexts_capacity { vec_capacity nexts.old ≤ vec_capacity nexts.new }
+{
+    let place = orders.len();
+    match orders.push(order) {
+        Ok(()) => {}
+        Err(_) => unreachable!(),
+    }
+    match nexts.push(place) {
+        Ok(()) => {}
+        Err(_) => unreachable!(),
+    }
+}
+
+// An order joins the end of the level at a place.
+fn extend(
+    orders: &mut Vec<Resting>,
+    nexts: &mut Vec<usize>,
+    levels: &mut Vec<Level>,
+    at: usize,
+    order: Resting,
+)
+    requires orders_room { vec_len orders.old < vec_capacity orders.old }
+    requires nexts_room { vec_len nexts.old < vec_capacity nexts.old }
+    requires open { 0 < order.left }
+    requires level { at < vec_len levels.old }
+    requires price { (d : Level) → (slice_index_or levels.old.items at d).price ≡ order.price }
+    requires small { (d : Level) → (slice_index_or levels.old.items at d).shares < 18446744069414584320 }
+    requires indexed { IsIndexed order.side orders.old.items nexts.old.items levels.old.items }
+    ensures orders { orders.new.items ≡ orders.old.items ++ order ∷ [] }
+    ensures indexed { IsIndexed order.side orders.new.items nexts.new.items levels.new.items }
+    ensures others { (t : Side) (ls : List Level) → t ≢ order.side → IsIndexed t orders.old.items nexts.old.items ls → IsIndexed t orders.new.items nexts.new.items ls }
+    ensures orders_capacity { vec_capacity orders.old ≤ vec_capacity orders.new }
+    ensures nexts_len { vec_len nexts.new ≡ vec_len nexts.old + 1 }
+    ensures nexts_capacity { vec_capacity nexts.old ≤ vec_capacity nexts.new }
+    ensures levels_len { vec_len levels.new ≤ vec_len levels.old + 1 }
+    ensures levels_capacity { vec_capacity levels.old ≤ vec_capacity levels.new }
+{
+    let level = levels[at];
+    let place = orders.len();
+    nexts[level.last] = place;
+    levels[at] = Level {
+        last: place,
+        shares: level.shares + u64::from(order.left),
+        ..level
+    };
+    arrive(orders, nexts, order);
+}
+
+// An order makes a level at a place.
+fn make(
+    orders: &mut Vec<Resting>,
+    nexts: &mut Vec<usize>,
+    levels: &mut Vec<Level>,
+    at: usize,
+    order: Resting,
+)
+    requires orders_room { vec_len orders.old < vec_capacity orders.old }
+    requires nexts_room { vec_len nexts.old < vec_capacity nexts.old }
+    requires levels_room { vec_len levels.old < vec_capacity levels.old }
+    requires open { 0 < order.left }
+    requires within { at ≤ vec_len levels.old }
+    requires below { (d : Level) → 0 < at → (slice_index_or levels.old.items (at - 1) d).price < order.price }
+    requires above { (d : Level) → at < vec_len levels.old → order.price < (slice_index_or levels.old.items at d).price }
+    requires indexed { IsIndexed order.side orders.old.items nexts.old.items levels.old.items }
+    ensures orders { orders.new.items ≡ orders.old.items ++ order ∷ [] }
+    ensures indexed { IsIndexed order.side orders.new.items nexts.new.items levels.new.items }
+    ensures others { (t : Side) (ls : List Level) → t ≢ order.side → IsIndexed t orders.old.items nexts.old.items ls → IsIndexed t orders.new.items nexts.new.items ls }
+    ensures orders_capacity { vec_capacity orders.old ≤ vec_capacity orders.new }
+    ensures nexts_len { vec_len nexts.new ≡ vec_len nexts.old + 1 }
+    ensures nexts_capacity { vec_capacity nexts.old ≤ vec_capacity nexts.new }
+    ensures levels_len { vec_len levels.new ≤ vec_len levels.old + 1 }
+    ensures levels_capacity { vec_capacity levels.old ≤ vec_capacity levels.new }
+{
+    let place = orders.len();
+    let level = Level {
+        price: order.price,
+        first: place,
+        last: place,
+        shares: u64::from(order.left),
+    };
+    match levels.insert(at, level) {
+        Ok(()) => {}
+        Err(_) => unreachable!(),
+    }
+    arrive(orders, nexts, order);
+}
+
+// An order joins the end of its level, or makes one.
+pub fn join(
+    orders: &mut Vec<Resting>,
+    nexts: &mut Vec<usize>,
+    levels: &mut Vec<Level>,
+    order: Resting,
+)
+    requires orders_room { vec_len orders.old < vec_capacity orders.old }
+    requires nexts_room { vec_len nexts.old < vec_capacity nexts.old }
+    requires levels_room { vec_len levels.old < vec_capacity levels.old }
+    requires open { 0 < order.left }
+    requires small { All (λ (l : Level). l.shares < 18446744069414584320) levels.old.items }
+    requires indexed { IsIndexed order.side orders.old.items nexts.old.items levels.old.items }
+    ensures orders { orders.new.items ≡ orders.old.items ++ order ∷ [] }
+    ensures indexed { IsIndexed order.side orders.new.items nexts.new.items levels.new.items }
+    ensures others { (t : Side) (ls : List Level) → t ≢ order.side → IsIndexed t orders.old.items nexts.old.items ls → IsIndexed t orders.new.items nexts.new.items ls }
+    ensures orders_capacity { vec_capacity orders.old ≤ vec_capacity orders.new }
+    ensures nexts_len { vec_len nexts.new ≡ vec_len nexts.old + 1 }
+    ensures nexts_capacity { vec_capacity nexts.old ≤ vec_capacity nexts.new }
+    ensures levels_len { vec_len levels.new ≤ vec_len levels.old + 1 }
+    ensures levels_capacity { vec_capacity levels.old ≤ vec_capacity levels.new }
+{
+    let at = place_of(levels.as_slice(), order.price);
+    if at < levels.len() {
+        let found = levels[at].price;
+        if found == order.price {
+            extend(orders, nexts, levels, at, order);
+            return;
+        }
+    }
+    make(orders, nexts, levels, at, order);
+}
+
+// The first open order of a level.
+fn front(side: Side, orders: &[Resting], nexts: &[usize], level: &Level) -> usize
+    requires same { length nexts.now ≡ length orders.now }
+    requires right { IsRight side orders.now nexts.now level.now }
+    ensures found { IsOpenAt orders.now (key side level.now.price) result }
+    ensures before { IsClear orders.now (key side level.now.price) 0 result }
+    ensures from { level.now.first ≤ result }
+{
+    let mut at = level.first;
+    while orders[at].left == 0 {
+        at = nexts[at];
+    }
+    let _side = side;
+    at
+}
+
+// The first order of a side: where its level stands, and where it stands itself. The level's chain then
+// begins there, so that each order that has left is passed over once.
+fn first_in(
+    side: Side,
+    orders: &[Resting],
+    nexts: &[usize],
+    levels: &mut Vec<Level>,
+) -> Option<(usize, usize)>
+    requires { IsIndexed side orders.now nexts.now levels.old.items }
+    ensures none { IfNone result (top_of side (open_orders orders.now) ≡ None) }
+    ensures level { IfSome result (λ p. p.0 < length levels.new.items) }
+    ensures placed { IfSome result (λ p. (d : Level) → IsOpenAt orders.now (key side (slice_index_or levels.new.items p.0 d).price) p.1) }
+    ensures first { IfSome result (λ p. top_of side (open_orders orders.now) ≡ Some (slice_index_or orders.now p.1 nothing)) }
+    ensures indexed { IsIndexed side orders.now nexts.now levels.new.items }
+    ensures levels_len { vec_len levels.new ≡ vec_len levels.old }
+    ensures levels_capacity { vec_capacity levels.new ≡ vec_capacity levels.old }
+{
+    if levels.is_empty() {
+        return None;
+    }
+    let at = place_of_best(levels.as_slice(), side);
+    let level = levels[at];
+    let place = front(side, orders, nexts, &level);
+    levels[at] = Level {
+        first: place,
+        ..level
+    };
+    Some((at, place))
+}
+
+// The order at a place keeps fewer open shares; its level keeps some.
+fn lower(
+    side: Side,
+    orders: &mut Vec<Resting>,
+    levels: &mut Vec<Level>,
+    nexts: &[usize],
+    at: usize,
+    place: usize,
+    left: u32,
+    intended: u32,
+)
+    requires level { at < vec_len levels.old }
+    requires place { (d : Level) → IsOpenAt orders.old.items (key side (slice_index_or levels.old.items at d).price) place }
+    requires lower { (d : Resting) → left < (slice_index_or orders.old.items place d).left }
+    requires some { (d : Level) (e : Resting) → (slice_index_or orders.old.items place e).left < (slice_index_or levels.old.items at d).shares + left }
+    requires indexed { IsIndexed side orders.old.items nexts.now levels.old.items }
+    ensures orders { orders.new.items ≡ slice_set orders.old.items place (record (slice_index_or orders.old.items place nothing) { left = left; intended = intended }) }
+    ensures indexed { IsIndexed side orders.new.items nexts.now levels.new.items }
+    ensures orders_len { vec_len orders.new ≡ vec_len orders.old }
+    ensures orders_capacity { vec_capacity orders.new ≡ vec_capacity orders.old }
+    ensures levels_len { vec_len levels.new ≤ vec_len levels.old }
+    ensures levels_capacity { vec_capacity levels.new ≡ vec_capacity levels.old }
+{
+    let order = orders[place];
+    orders[place] = Resting {
+        left,
+        intended,
+        ..order
+    };
+    let level = levels[at];
+    levels[at] = Level {
+        shares: level.shares - u64::from(order.left - left),
+        ..level
+    };
+}
+
+// The order at a place keeps fewer open shares; its level keeps none and leaves.
+fn close(
+    side: Side,
+    orders: &mut Vec<Resting>,
+    levels: &mut Vec<Level>,
+    nexts: &[usize],
+    at: usize,
+    place: usize,
+    left: u32,
+    intended: u32,
+)
+    requires level { at < vec_len levels.old }
+    requires place { (d : Level) → IsOpenAt orders.old.items (key side (slice_index_or levels.old.items at d).price) place }
+    requires lower { (d : Resting) → left < (slice_index_or orders.old.items place d).left }
+    requires none { (d : Level) (e : Resting) → (slice_index_or levels.old.items at d).shares + left ≤ (slice_index_or orders.old.items place e).left }
+    requires indexed { IsIndexed side orders.old.items nexts.now levels.old.items }
+    ensures orders { orders.new.items ≡ slice_set orders.old.items place (record (slice_index_or orders.old.items place nothing) { left = left; intended = intended }) }
+    ensures indexed { IsIndexed side orders.new.items nexts.now levels.new.items }
+    ensures orders_len { vec_len orders.new ≡ vec_len orders.old }
+    ensures orders_capacity { vec_capacity orders.new ≡ vec_capacity orders.old }
+    ensures levels_len { vec_len levels.new ≤ vec_len levels.old }
+    ensures levels_capacity { vec_capacity levels.new ≡ vec_capacity levels.old }
+{
+    let order = orders[place];
+    orders[place] = Resting {
+        left,
+        intended,
+        ..order
+    };
+    let _ = levels.remove(at);
+}
+
+// The order at a place keeps fewer open shares.
+pub fn set_left(
+    side: Side,
+    orders: &mut Vec<Resting>,
+    levels: &mut Vec<Level>,
+    nexts: &[usize],
+    at: usize,
+    place: usize,
+    left: u32,
+    intended: u32,
+)
+    requires level { at < vec_len levels.old }
+    requires place { (d : Level) → IsOpenAt orders.old.items (key side (slice_index_or levels.old.items at d).price) place }
+    requires lower { (d : Resting) → left < (slice_index_or orders.old.items place d).left }
+    requires indexed { IsIndexed side orders.old.items nexts.now levels.old.items }
+    ensures orders { orders.new.items ≡ slice_set orders.old.items place (record (slice_index_or orders.old.items place nothing) { left = left; intended = intended }) }
+    ensures indexed { IsIndexed side orders.new.items nexts.now levels.new.items }
+    ensures orders_len { vec_len orders.new ≡ vec_len orders.old }
+    ensures orders_capacity { vec_capacity orders.new ≡ vec_capacity orders.old }
+    ensures levels_len { vec_len levels.new ≤ vec_len levels.old }
+    ensures levels_capacity { vec_capacity levels.new ≡ vec_capacity levels.old }
+{
+    let had = orders[place].left;
+    let shares = levels[at].shares;
+    if shares <= u64::from(had - left) {
+        close(side, orders, levels, nexts, at, place, left, intended);
+    } else {
+        lower(side, orders, levels, nexts, at, place, left, intended);
+    }
+}
+
+// The first order of a side gives up to so many shares to an incoming order of the other, if that one's limit allows.
+pub fn take_first(
+    mine: Side,
+    orders: &mut Vec<Resting>,
+    levels: &mut Vec<Level>,
+    nexts: &[usize],
+    side: Side,
+    limit: u32,
+    shares: u32,
+) -> Option<Fill>
+    requires some { 0 < shares }
+    requires side { mine ≡ opposite side }
+    requires indexed { IsIndexed mine orders.old.items nexts.now levels.old.items }
+    requires orderly { IsOrderly (open_orders orders.old.items) }
+    ensures next { result ≡ option_map (fill_of shares) (next_of (open_orders orders.old.items) side limit) }
+    ensures gives { IfSome result (λ f. 0 < f.shares) }
+    ensures filled { IfSome result (λ f. open_orders orders.new.items ≡ after_fill f (open_orders orders.old.items)) }
+    ensures unmatched { IfNone result (orders.new.items ≡ orders.old.items) }
+    ensures indexed { IsIndexed mine orders.new.items nexts.now levels.new.items }
+    ensures others { (t : Side) (ls : List Level) → t ≢ mine → IsIndexed t orders.old.items nexts.now ls → IsIndexed t orders.new.items nexts.now ls }
+    ensures orderly { IsOrderly (open_orders orders.new.items) }
+    ensures small { IsSmall (open_orders orders.old.items) → IsSmall (open_orders orders.new.items) }
+    ensures orders_len { vec_len orders.new ≡ vec_len orders.old }
+    ensures orders_capacity { vec_capacity orders.new ≡ vec_capacity orders.old }
+    ensures levels_len { vec_len levels.new ≤ vec_len levels.old }
+    ensures levels_capacity { vec_capacity levels.new ≡ vec_capacity levels.old }
+{
+    let (at, place) = first_in(mine, orders.as_slice(), nexts, levels)?;
+    let resting = orders[place];
+    if !is_within(side, limit, resting.price) {
+        return None;
+    }
+    let taken = shares.min(resting.left);
+    set_left(
+        mine,
+        orders,
+        levels,
+        nexts,
+        at,
+        place,
+        resting.left - taken,
+        resting.intended,
+    );
+    Some(Fill {
+        resting,
+        shares: taken,
+    })
+}
+
+// The open order at a place keeps fewer open shares and another intended size.
+pub fn lower_at(
+    mine: Side,
+    orders: &mut Vec<Resting>,
+    levels: &mut Vec<Level>,
+    nexts: &[usize],
+    place: usize,
+    left: u32,
+    intended: u32,
+)
+    requires within { place < length orders.old.items }
+    requires side { (slice_index_or orders.old.items place nothing).side ≡ mine }
+    requires lower { left < (slice_index_or orders.old.items place nothing).left }
+    requires size { left ≤ intended }
+    requires indexed { IsIndexed mine orders.old.items nexts.now levels.old.items }
+    requires orderly { IsOrderly (open_orders orders.old.items) }
+    ensures list { open_orders orders.new.items ≡ changed (record (slice_index_or orders.old.items place nothing) { left = left; intended = intended }) (open_orders orders.old.items) }
+    ensures indexed { IsIndexed mine orders.new.items nexts.now levels.new.items }
+    ensures others { (t : Side) (ls : List Level) → t ≢ mine → IsIndexed t orders.old.items nexts.now ls → IsIndexed t orders.new.items nexts.now ls }
+    ensures orderly { IsOrderly (open_orders orders.new.items) }
+    ensures small { IsSmall (open_orders orders.old.items) → IsSmall (open_orders orders.new.items) }
+    ensures orders_len { vec_len orders.new ≡ vec_len orders.old }
+    ensures orders_capacity { vec_capacity orders.new ≡ vec_capacity orders.old }
+    ensures levels_len { vec_len levels.new ≤ vec_len levels.old }
+    ensures levels_capacity { vec_capacity levels.new ≡ vec_capacity levels.old }
+{
+    let at = place_of(levels.as_slice(), orders[place].price);
+    set_left(mine, orders, levels, nexts, at, place, left, intended);
+}
+
+// Open shares are a number of 32 bits.
+pub fn fits(left: u32)
+    ensures { left ≤ 4294967295 }
+{}
