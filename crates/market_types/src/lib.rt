@@ -7,28 +7,33 @@ mod entry;
 mod error;
 mod feed;
 mod feed_list;
-mod laws;
+mod limits;
 mod message;
 mod order;
 mod readers;
 mod reply;
 mod roomy;
-mod sequence;
 mod trace;
+mod worked;
 
 pub use account::{Account, TraderTold};
 pub use entry::{EditMark, End, Entry, Record};
 pub use error::{CodecError, TypeError};
 pub use feed::{Feed, What};
 pub use feed_list::FeedList;
-pub use laws::{kept_places_are_not_told, ranges_at_their_ends};
+pub use limits::{
+    HIGHEST_PRICE, LAST_TIME, LONGEST_DELAY, MOST_EVENTS, MOST_STOCKS, MOST_TRADERS, MOST_WAITING,
+};
 pub use message::{Body, Message, Quote};
 pub use order::{Cancel, Enter, Inbound, Side, Symbol, Token};
+pub use plain_lists::{Memory, Sequence, copied};
 pub use readers::{read_price, read_shares, read_symbol, read_token};
 pub use reply::Reply;
 pub use roomy::Roomy;
-pub use sequence::Sequence;
 pub use trace::Trace;
+pub use worked::{
+    kept_places_are_not_told, limits_in_numbers, opposite_sides, ranges_at_their_ends,
+};
 
 /// Nanoseconds past midnight.
 pub type Time = u64;
@@ -41,10 +46,6 @@ pub type AgentNo = u16;
 
 /// The number of a stock, from 0 in the study's order.
 pub type StockNo = u16;
-
-/// Want of memory: the one error of a call that can fail for nothing else.
-#[derive(Clone, Copy, PartialEq, Eq, Debug)]
-pub struct Memory;
 
 #[cfg(test)]
 mod tests;

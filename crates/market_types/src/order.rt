@@ -1,11 +1,14 @@
 //! Orders to the exchange, with the fields of Nasdaq OUCH 4.2.
 
+ghost use Rattle.std.specs.Prelude.{◌≡◌};
+ghost use Rattle.market_types.specs.Sides.{opposite_of};
+
 /// A stock's symbol in ASCII, padded with spaces on the right.
 #[derive(Clone, Copy, PartialEq, Eq, Debug)]
 pub struct Symbol(pub [u8; 8]);
 
 /// An order token in ASCII, which its sender chose, padded with spaces on the right.
-#[derive(Clone, Copy, PartialEq, Eq, Debug)]
+#[derive(Clone, Copy, PartialEq, Eq, Hash, Debug)]
 pub struct Token(pub [u8; 14]);
 
 /// The side of an order.
@@ -13,6 +16,18 @@ pub struct Token(pub [u8; 14]);
 pub enum Side {
     Buy,
     Sell,
+}
+
+impl Side {
+    /// The other side.
+    pub fn opposite(self) -> Side
+        ensures { result ≡ opposite_of self }
+    {
+        match self {
+            Side::Buy => Side::Sell,
+            Side::Sell => Side::Buy,
+        }
+    }
 }
 
 /// A new order: OUCH's Enter Order.

@@ -72,7 +72,7 @@ fn is_alphanumeric(text: &[u8]) -> bool
     text.iter().all(|b| b.is_ascii_alphanumeric())
 }
 
-/// The text with spaces on its right.
+// The text with spaces on its right.
 fn padded_right<const N: usize>(text: &[u8]) -> [u8; N]
     requires { length text.now ≤ N }
     ensures { result ≡ padded N text.now }

@@ -42,6 +42,11 @@ impl<T: Drop> Roomy<T> {
         self.items.as_slice()
     }
 
+    /// The allocator that the list was made with.
+    pub fn allocator(&self) -> Global {
+        *self.items.allocator()
+    }
+
     /// Makes room for `n` more.
     pub fn reserve(&mut self, n: usize) -> Result<(), Memory>
         ensures list { self.new.list ≡ self.old.list }
@@ -52,13 +57,9 @@ impl<T: Drop> Roomy<T> {
         if n <= self.spare {
             return Ok(());
         }
-        match self.items.reserve(n) {
-            Ok(()) => {
-                self.spare = n;
-                Ok(())
-            }
-            Err(_) => Err(Memory),
-        }
+        self.items.reserve(n)?;
+        self.spare = n;
+        Ok(())
     }
 
     /// Appends a value.
@@ -67,13 +68,9 @@ impl<T: Drop> Roomy<T> {
         ensures within_room { 0 < self.old.spare → IsOk result }
         ensures refused { OnErr result (self.new ≡ self.old) }
     {
-        match self.items.push(value) {
-            Ok(()) => {
-                self.spare = self.spare.saturating_sub(1);
-                Ok(())
-            }
-            Err(_) => Err(Memory),
-        }
+        self.items.push(value)?;
+        self.spare = self.spare.saturating_sub(1);
+        Ok(())
     }
 
     /// Appends a value where room was made.
@@ -92,13 +89,9 @@ impl<T: Drop> Roomy<T> {
         ensures appended { OnOk result (self.new.list ≡ self.old.list ++ other.items) }
         ensures refused { OnErr result (self.new ≡ self.old) }
     {
-        match self.items.append(&mut other) {
-            Ok(()) => {
-                self.spare = 0;
-                Ok(())
-            }
-            Err(_) => Err(Memory),
-        }
+        self.items.append(&mut other)?;
+        self.spare = 0;
+        Ok(())
     }
 }
 
@@ -108,12 +101,8 @@ impl<T: Copy + Drop> Roomy<T> {
         ensures appended { OnOk result (self.new.list ≡ self.old.list ++ values.now) }
         ensures refused { OnErr result (self.new ≡ self.old) }
     {
-        match self.items.extend_from_slice(values) {
-            Ok(()) => {
-                self.spare = 0;
-                Ok(())
-            }
-            Err(_) => Err(Memory),
-        }
+        self.items.extend_from_slice(values)?;
+        self.spare = 0;
+        Ok(())
     }
 }

@@ -1,4 +1,4 @@
-use crate::{Body, Entry, Feed, FeedList, Record, Roomy, Sequence, Trace, What};
+use crate::{Body, Entry, Feed, FeedList, Record, Roomy, Trace, What};
 use std::alloc::Global;
 use std::test::Fail;
 
@@ -46,8 +46,8 @@ fn lists_grow_and_are_copied(rt: HostRuntime) -> Result<(), Fail> {
     trace.reserve(1)?;
     trace.push(Entry::Event(event(alloc, 7, copy)))?;
     let mut longer = Trace::new(alloc);
-    longer.append_copy(alloc, &trace)?;
-    longer.append_copy(alloc, &trace)?;
+    longer.append_copy(&trace)?;
+    longer.append_copy(&trace)?;
     assert_eq!(rt; (trace.len(), longer.len()), (1, 2));
     let Some(Entry::Event(last)) = longer.get(1) else {
         return Err(Fail::from("no event"));
@@ -60,8 +60,5 @@ fn lists_grow_and_are_copied(rt: HostRuntime) -> Result<(), Fail> {
     numbers.append_slice(&[6, 7])?;
     numbers.append([8].to_vec(alloc)?)?;
     assert_eq!(rt; numbers.as_slice(), [5, 6, 7, 8].as_slice());
-    let sequence: Sequence<u32> = Sequence::new([5, 6].to_vec(alloc)?);
-    assert_eq!(rt; sequence.as_slice(), [5, 6].as_slice());
-    assert_eq!(rt; sequence.into_vec().as_slice(), [5, 6].as_slice());
     Ok(())
 }

@@ -91,30 +91,28 @@ impl Trace {
     }
 
     /// Appends copies of the entries of another trace.
-    pub fn append_copy(&mut self, alloc: Global, other: &Trace) -> Result<(), Memory>
+    pub fn append_copy(&mut self, other: &Trace) -> Result<(), Memory>
         ensures appended { OnOk result (self.new.list ≡ self.old.list ++ other.now.list) }
         ensures refused { OnErr result (self.new ≡ self.old) }
     {
-        let copies = copies_of(alloc, other.as_slice())?;
+        let copies = copies_of(self.entries.allocator(), other.as_slice())?;
         self.entries.append(copies)
     }
 }
 
-/// Equal entries.
+// Equal entries.
 fn copies_of(alloc: Global, entries: &[Entry]) -> Result<Vec<Entry>, Memory>
     ensures { IfOk result (λ copies. map entry_told copies.items ≡ map entry_told entries.now) }
 {
     let mut copies = Vec::new(alloc);
     for entry in entries {
         let copy = copy_of(alloc, entry)?;
-        if copies.push(copy).is_err() {
-            return Err(Memory);
-        }
+        copies.push(copy)?;
     }
     Ok(copies)
 }
 
-/// An equal entry.
+// An equal entry.
 fn copy_of(alloc: Global, entry: &Entry) -> Result<Entry, Memory>
     ensures { IfOk result (λ copy. entry_told copy ≡ entry_told entry.now) }
 {

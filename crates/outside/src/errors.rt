@@ -2,11 +2,6 @@
 
 use thiserror::Error;
 
-/// Want of memory: an allocation was refused.
-#[derive(Clone, Copy, PartialEq, Eq, Debug, Error)]
-#[error("out of memory")]
-pub struct Memory;
-
 /// A write that a sink did not take.
 #[derive(Clone, Copy, PartialEq, Eq, Debug, Error)]
 #[error("write failed")]

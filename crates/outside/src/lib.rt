@@ -6,15 +6,15 @@ mod errors;
 mod fetched;
 mod file_library;
 mod gate;
-pub mod laws;
 mod library;
 mod memory_library;
 mod memory_sink;
 mod sink;
 mod steps;
 mod stream_sink;
+pub mod worked;
 
-pub use errors::{Failed, FetchError, Memory};
+pub use errors::{Failed, FetchError};
 pub use fetched::Fetched;
 pub use file_library::FileLibrary;
 pub use gate::{Gate, OpenGate};
@@ -24,6 +24,8 @@ pub use memory_sink::MemorySink;
 pub use sink::{Sink, write_all};
 pub use steps::{Counted, Ledger, Steps};
 pub use stream_sink::{ErrSink, OutSink, StreamSink};
+
+pub use plain_lists::Memory;
 
 #[cfg(test)]
 mod tests;

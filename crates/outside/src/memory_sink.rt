@@ -44,17 +44,15 @@ impl MemorySink {
         ensures { IfOk result (λ sink. sink ≡
             record { bytes = []; room = room; most = most; failing = failing.items; calls = 0; faults = 0 }) }
     {
-        match Vec::with_capacity(alloc, room) {
-            Ok(bytes) => Ok(MemorySink {
-                bytes,
-                room,
-                most,
-                failing,
-                calls: 0,
-                faults: 0,
-            }),
-            Err(_) => Err(Memory),
-        }
+        let bytes = Vec::with_capacity(alloc, room)?;
+        Ok(MemorySink {
+            bytes,
+            room,
+            most,
+            failing,
+            calls: 0,
+            faults: 0,
+        })
     }
 
     /// The bytes that the sink took.

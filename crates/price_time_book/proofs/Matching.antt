@@ -8,7 +8,7 @@ use Rattle.price_time_book.specs.declared.resting.Resting.{Resting}
 use Rattle.price_time_book.specs.Matched.{Matching, IsEnded, completed, fill_of, matched_by, with_fill, with_next}
 use Rattle.price_time_book.specs.Next.{crosses, first_best, next_of}
 use Rattle.price_time_book.specs.Orders.{changed, without}
-use Rattle.price_time_book.specs.Sides.{is_better, opposite}
+use Rattle.price_time_book.specs.Sides.{is_better, opposite_of}
 
 -- ---- the next order is one of the book
 abbrev pub IsAmong : Resting → List Resting → Type 0
@@ -65,7 +65,7 @@ changed_lt o x w a same none =
 pub progress : (side : Side) (limit : ℕ) (m : Matching) (o : Resting) → next_of m.book side limit ≡ Some o → ((with_fill (fill_of m.shares o) m).shares ≡ 0) ⊎ (length (with_fill (fill_of m.shares o) m).book < length m.book)
 progress side limit m o e =
     elim (cases_lt o.left m.shares) [
-      | inl h ↦ inr (changed_lt o (record o { left = o.left - min o.left m.shares }) m.book (among-filter (crosses side limit) o m.book (first_among (opposite side) o (filter (crosses side limit) m.book) e)) refl (omega arith))
+      | inl h ↦ inr (changed_lt o (record o { left = o.left - min o.left m.shares }) m.book (among-filter (crosses side limit) o m.book (first_among (opposite_of side) o (filter (crosses side limit) m.book) e)) refl (omega arith))
       | inr h ↦ inl (omega arith)
     ]
 

@@ -52,7 +52,7 @@ each_found P p (x ∷ w) o a e =
     tail h = let k : cond (p x) (Some x) (find p w) ≡ Some o = e in (let m : cond false (Some x) (find p w) ≡ Some o = rw h at k in m)
 
 -- where references rise, an order that is found is the one with its reference
-found_by_reference : (p : Resting → Bool) (w : List Resting) (o : Resting) → IsRising w → find p w ≡ Some o → order_with o.reference w ≡ Some o
+pub found_by_reference : (p : Resting → Bool) (w : List Resting) (o : Resting) → IsRising w → find p w ≡ Some o → order_with o.reference w ≡ Some o
 found_by_reference p [] o r e = absurd (cc e)
 found_by_reference p (x ∷ w) o r e =
     elim (cases_Bool (p x)) [

@@ -14,12 +14,12 @@ use Rattle.price_time_book.specs.Kept.{IsKeptByFills, IsKeptByReduce, WasIn}
 use Rattle.price_time_book.specs.Matched.{Matching, after_fill, completed, fill_of, matched, matched_by, with_fill, with_next}
 use Rattle.price_time_book.specs.Next.{crosses, crossing_of, first_best, next_of}
 use Rattle.price_time_book.specs.Orders.{changed, order_of, order_with, reduced, with_order, without}
-use Rattle.price_time_book.specs.Sides.{depth_of, is_on, is_same_side, is_within, opposite}
-use Rattle.price_time_book.proofs.Changes.{each-filter, each-push, each-with, keep_all, leave_all, length-changed, orderly-changed, same_reference}
+use Rattle.price_time_book.specs.Sides.{depth_of, is_on, is_same_side, is_within, opposite_of}
+use Rattle.price_time_book.proofs.Changes.{each-filter, each-push, each-with, keep_all, leave_all, length-changed, orderly-changed, orderly-push, same_reference}
 use Rattle.price_time_book.specs.Orderly.{IsOrderly, IsRising}
 use Rattle.std.proofs.lemmas.Bool.Decides.{nat_tests}
 use Rattle.price_time_book.proofs.Matching.{IsAmong, among-filter, completed_goes, first_among, progress, still}
-use Rattle.price_time_book.proofs.Places.{each_found}
+use Rattle.price_time_book.proofs.Places.{each_found, found_by_reference}
 
 -- ---- the way of an incoming order
 going_on : (o : Resting) (m : Matching) → m.shares ≢ 0 → with_next (Some o) m ≡ with_fill (fill_of m.shares o) m
@@ -40,7 +40,7 @@ along I side limit f (suc n) m i = along I side limit f n (with_next (next_of m.
 
 -- ---- the next order
 next_among : (side : Side) (limit : ℕ) (w : List Resting) (o : Resting) → next_of w side limit ≡ Some o → IsAmong o w
-next_among side limit w o e = among-filter (crosses side limit) o w (first_among (opposite side) o (filter (crosses side limit) w) e)
+next_among side limit w o e = among-filter (crosses side limit) o w (first_among (opposite_of side) o (filter (crosses side limit) w) e)
 
 passes_kept : (p : Resting → Bool) (o x : Resting) (w : List Resting) → p x ≡ true → (IsAmong o (filter p w) → p o ≡ true) → IsAmong o (x ∷ filter p w) → p o ≡ true
 passes_kept p o x w h f (inl k) = subst (λ (y : Resting). p y ≡ true) k h
@@ -55,7 +55,7 @@ among_passes p o (x ∷ w) a =
     ]
 
 pub next_crosses : (side : Side) (limit : ℕ) (w : List Resting) (o : Resting) → next_of w side limit ≡ Some o → crosses side limit o ≡ true
-next_crosses side limit w o e = among_passes (crosses side limit) o w (first_among (opposite side) o (filter (crosses side limit) w) e)
+next_crosses side limit w o e = among_passes (crosses side limit) o w (first_among (opposite_of side) o (filter (crosses side limit) w) e)
 
 each_among : (P : Resting → Type 0) (o : Resting) (w : List Resting) → AllByRecursion P w → IsAmong o w → P o
 each_among P o [] a h = absurd h
@@ -227,13 +227,13 @@ pub crossing_fills : (side : Side) (limit : ℕ) (m : Matching) → length (comp
 crossing_fills side limit m = few_by (crosses side limit) side limit m (λ o h. h)
 
 -- nor than there are orders on the other side
-pub few_fills : (side : Side) (limit : ℕ) (m : Matching) → length (completed side limit m).fills ≤ length m.fills + depth_of (opposite side) m.book
-few_fills side limit m = few_by (is_on (opposite side)) side limit m (λ o h. first_true _ _ h)
+pub few_fills : (side : Side) (limit : ℕ) (m : Matching) → length (completed side limit m).fills ≤ length m.fills + depth_of (opposite_of side) m.book
+few_fills side limit m = few_by (is_on (opposite_of side)) side limit m (λ o h. first_true _ _ h)
 
 -- those that cross are some of the other side
-pub few_cross : (side : Side) (limit : ℕ) (w : List Resting) → crossing_of side limit w ≤ depth_of (opposite side) w
+pub few_cross : (side : Side) (limit : ℕ) (w : List Resting) → crossing_of side limit w ≤ depth_of (opposite_of side) w
 few_cross side limit [] = omega arith
-few_cross side limit (x ∷ w) = omega (arith, count-cons (crosses side limit) x w, count-cons (is_on (opposite side)) x w, few_cross side limit w, both (is_on (opposite side) x) (is_within side limit x.price))
+few_cross side limit (x ∷ w) = omega (arith, count-cons (crosses side limit) x w, count-cons (is_on (opposite_of side)) x w, few_cross side limit w, both (is_on (opposite_of side) x) (is_within side limit x.price))
   where
     both : (a b : Bool) → cond (a && b) 1 0 ≤ cond a 1 0
     both true true = omega arith
@@ -403,26 +403,30 @@ open-without o (x ∷ w) r (inr k) =
     let b : eqb x.reference o.reference ≡ false = apart x o w r.0 k in
     rw b (omega (arith, open-cons x w, open-cons x (without o.reference w), open-without o w r.1 k))
 
-open-with : (n : ℕ) (o : Resting) (w : List Resting) → IsRising w → IsAmong o w → open_shares (with_order (record o { left = n }) w) + o.left ≡ open_shares w + n
-open-with n o [] r a = absurd a
-open-with n o (x ∷ w) r (inl k) =
-    let b : eqb x.reference o.reference ≡ true = eq-eqb x.reference o.reference (ap (λ (y : Resting). y.reference) k) in
-    let none : with_order (record o { left = n }) w ≡ w = leave_all (record o { left = n }) w (subst (λ (y : Resting). AllByRecursion (λ (z : Resting). y.reference < z.reference) w) k r.0) in
-    rw b (omega (arith, open-cons x w, open-cons (record o { left = n }) (with_order (record o { left = n }) w), ap open_shares none, ap (λ (y : Resting). y.left) k))
-open-with n o (x ∷ w) r (inr k) =
-    let b : eqb x.reference o.reference ≡ false = apart x o w r.0 k in
-    rw b (omega (arith, open-cons x w, open-cons x (with_order (record o { left = n }) w), open-with n o w r.1 k))
+open-with : (x o : Resting) (w : List Resting) → x.reference ≡ o.reference → IsRising w → IsAmong o w → open_shares (with_order x w) + o.left ≡ open_shares w + x.left
+open-with x o [] e r a = absurd a
+open-with x o (y ∷ w) e r (inl k) =
+    let same : y.reference ≡ x.reference = ap (λ (z : Resting). z.reference) k ∙ sym e in
+    let b : eqb y.reference x.reference ≡ true = eq-eqb y.reference x.reference same in
+    let none : with_order x w ≡ w = leave_all x w (subst (λ (n : ℕ). AllByRecursion (λ (z : Resting). n < z.reference) w) same r.0) in
+    rw b (omega (arith, open-cons y w, open-cons x (with_order x w), ap open_shares none, ap (λ (z : Resting). z.left) k))
+open-with x o (y ∷ w) e r (inr k) =
+    let b : eqb y.reference x.reference ≡ false = subst (λ (n : ℕ). eqb y.reference n ≡ false) (sym e) (apart y o w r.0 k) in
+    rw b (omega (arith, open-cons y w, open-cons y (with_order x w), open-with x o w e r.1 k))
 
-open-changed : (n : ℕ) (o : Resting) (w : List Resting) → IsRising w → IsAmong o w → open_shares (changed (record o { left = n }) w) + o.left ≡ open_shares w + n
-open-changed n o w r a =
-    elim (cases_eq n 0) [
-      | inl h ↦ (let b : eqb n 0 ≡ true = eq-eqb n 0 h in rw b (omega (arith, open-without o w r a)))
-      | inr h ↦ (let b : eqb n 0 ≡ false = ne_eqb n 0 h in rw b (open-with n o w r a))
+open-changed : (x o : Resting) (w : List Resting) → x.reference ≡ o.reference → IsRising w → IsAmong o w → open_shares (changed x w) + o.left ≡ open_shares w + x.left
+open-changed x o w e r a =
+    elim (cases_eq x.left 0) [
+      | inl h ↦
+          let b : eqb x.left 0 ≡ true = eq-eqb x.left 0 h in
+          let gone : open_shares (without x.reference w) + o.left ≡ open_shares w = subst (λ (n : ℕ). open_shares (without n w) + o.left ≡ open_shares w) (sym e) (open-without o w r a) in
+          rw b (omega (arith, gone, h))
+      | inr h ↦ (let b : eqb x.left 0 ≡ false = ne_eqb x.left 0 h in rw b (open-with x o w e r a))
     ]
 
 pub open-fill : (side : Side) (limit shares : ℕ) (w : List Resting) (o : Resting) → IsOrderly w → next_of w side limit ≡ Some o → open_shares (after_fill (fill_of shares o) w) + min o.left shares ≡ open_shares w
 open-fill side limit shares w o h e =
-    omega (arith, open-changed (o.left - min o.left shares) o w h.rising (next_among side limit w o e))
+    omega (arith, open-changed (record o { left = o.left - min o.left shares }) o w refl h.rising (next_among side limit w o e))
 
 pub orderly-fill : (side : Side) (limit shares : ℕ) (w : List Resting) (o : Resting) → IsOrderly w → next_of w side limit ≡ Some o → IsOrderly (after_fill (fill_of shares o) w)
 orderly-fill side limit shares w o h e =
@@ -459,3 +463,34 @@ fills-few book side limit shares h =
       few_gifts (matched book side limit shares).fills (recursion_from_All (λ (f : Fill). 0 < f.shares) (matched book side limit shares).fills (fills-give book side limit shares h)),
       shares_add_up side limit (record { fills = []; book = book; shares = shares }),
     )
+
+-- ---- a lowered order
+found_among : (p : Resting → Bool) (w : List Resting) (o : Resting) → find p w ≡ Some o → IsAmong o w
+found_among p [] o e = absurd (cc e)
+found_among p (x ∷ w) o e = elim (cases_Bool (p x)) [
+  | inl h ↦ inl (head h)
+  | inr h ↦ inr (found_among p w o (tail h))
+]
+  where
+    head : p x ≡ true → x ≡ o
+    head h = let k : cond (p x) (Some x) (find p w) ≡ Some o = e in (let m : cond true (Some x) (find p w) ≡ Some o = rw h at k in cc)
+
+    tail : p x ≡ false → find p w ≡ Some o
+    tail h = let k : cond (p x) (Some x) (find p w) ≡ Some o = e in (let m : cond false (Some x) (find p w) ≡ Some o = rw h at k in m)
+
+abbrev has : ℕ → Resting → Bool
+has reference o = eqb o.reference reference
+
+pub orderly-lowered : (reference left : ℕ) (w : List Resting) (o : Resting) → IsOrderly w → order_with reference w ≡ Some o → left < o.left → IsOrderly (changed (reduced left o) w)
+orderly-lowered reference left w o h e less =
+    let within : o.left ≤ o.intended = each_found (λ (x : Resting). x.left ≤ x.intended) (has reference) w o h.within e in
+    orderly-changed (reduced left o) w (omega arith) h
+
+pub open-lowered : (reference left : ℕ) (w : List Resting) (o : Resting) → IsOrderly w → order_with reference w ≡ Some o → left < o.left → open_shares (changed (reduced left o) w) + (o.left - left) ≡ open_shares w
+open-lowered reference left w o h e less = omega (arith, open-changed (reduced left o) o w refl h.rising (found_among (has reference) w o e))
+
+pub orderly-rested : (w : List Resting) (o : Resting) → IsOrderly w → All (λ (x : Resting). x.reference < o.reference) w → 0 < o.left → o.left ≤ o.intended → length w < 4294967296 → IsOrderly (w ++ o ∷ [])
+orderly-rested w o h later some le few = orderly-push w o h some le few later
+
+pub by_reference : (agent : ℕ) (token : Token) (w : List Resting) (o : Resting) → IsOrderly w → order_of agent token w ≡ Some o → order_with o.reference w ≡ Some o
+by_reference agent token w o h e = found_by_reference (is_of agent token) w o h.rising e

@@ -9,8 +9,8 @@ ghost use Rattle.price_time_book.specs.Sides.{depth_of};
 
 use crate::levels::{Level, best_in, fits, join, lower_at, take_first};
 use crate::resting::{Best, Fill, Resting};
-use crate::search::{crossing_in, depth_in, held_at, open_of, order_of};
-use market_types::{AgentNo, Memory, Side, Token};
+use crate::search::{crossing_in, held_at, is_within, order_of, shares_at, top_of};
+use market_types::{AgentNo, Memory, Side, Token, copied};
 use std::alloc::Global;
 use std::marker::Model;
 
@@ -72,17 +72,9 @@ impl Book {
         if n <= self.spare {
             return Ok(());
         }
-        let orders = self.orders.reserve(n);
-        let nexts = self.nexts.reserve(n);
-        let buys = self.buys.reserve(n);
-        let sells = self.sells.reserve(n);
-        match (orders, nexts, buys, sells) {
-            (Ok(()), Ok(()), Ok(()), Ok(())) => {
-                self.spare = n;
-                Ok(())
-            }
-            _ => Err(Memory),
-        }
+        self.orders.reserve(n)?;
+        self.spare = n;
+        Ok(())
     }
 
     /// A book with the same orders, which may keep any number of places.
@@ -124,26 +116,9 @@ impl Book {
         ensures unmatched { IfNone result (self.new.list ≡ self.old.list) }
         ensures room { self.old.spare ≤ self.new.spare }
     {
-        let (orders, nexts) = (&mut self.orders, self.nexts.as_slice());
-        match side {
-            Side::Buy => take_first(
-                Side::Sell,
-                orders,
-                &mut self.sells,
-                nexts,
-                side,
-                limit,
-                shares,
-            ),
-            Side::Sell => take_first(
-                Side::Buy,
-                orders,
-                &mut self.buys,
-                nexts,
-                side,
-                limit,
-                shares,
-            ),
+        let (at, resting) = top_of(self.orders.as_slice(), side.opposite())?;
+        if !is_within(side, limit, resting.price) {
+            return None;
         }
     }
 
@@ -255,16 +230,5 @@ impl Book {
         ensures { IfOk result (λ v. v.items ≡ self.now.list) }
     {
         open_of(alloc, self.orders.as_slice())
-    }
-}
-
-// The same elements.
-fn copied<T: Copy>(alloc: Global, items: &[T]) -> Result<Vec<T>, Memory>
-    ensures { IfOk result (λ v. v.items ≡ items.now) }
-{
-    let mut copy = Vec::new(alloc);
-    match copy.extend_from_slice(items) {
-        Ok(()) => Ok(copy),
-        Err(_) => Err(Memory),
     }
 }

@@ -12,7 +12,7 @@ ghost use Rattle.price_time_book.specs.Matched.{Matching, after_fill, completed,
 ghost use Rattle.price_time_book.specs.Next.{crosses, crossing_of, next_of};
 ghost use Rattle.price_time_book.specs.Orderly.{IsOrderly};
 ghost use Rattle.price_time_book.specs.Orders.{changed, order_of, order_with, reduced, without};
-ghost use Rattle.price_time_book.specs.Sides.{depth_of, opposite};
+ghost use Rattle.price_time_book.specs.Sides.{depth_of, opposite_of};
 
 /// Once the next order gave some shares, references stay below a number, a token that no order of an
 /// agent has stays free, what a test says of all orders it says of them still, and each order is one of
@@ -104,9 +104,9 @@ pub fn fills_add_up()
     ensures crossing { (side : Side) (limit : ℕ) (m : Matching) →
         length (completed side limit m).fills ≤ length m.fills + crossing_of side limit m.book }
     ensures few { (side : Side) (limit : ℕ) (m : Matching) →
-        length (completed side limit m).fills ≤ length m.fills + depth_of (opposite side) m.book }
+        length (completed side limit m).fills ≤ length m.fills + depth_of (opposite_of side) m.book }
     ensures few_cross { (side : Side) (limit : ℕ) (book : List Resting) →
-        crossing_of side limit book ≤ depth_of (opposite side) book }
+        crossing_of side limit book ≤ depth_of (opposite_of side) book }
     ensures grow { (side : Side) (limit : ℕ) (m : Matching) → length m.fills ≤ length (completed side limit m).fills }
     ensures shares { (side : Side) (limit : ℕ) (m : Matching) →
         sum_by (λ f. f.shares) (completed side limit m).fills + (completed side limit m).shares ≡
@@ -137,8 +137,10 @@ pub fn matching_goes_on()
         record { fills = fill_of shares o ∷ rest.fills; book = rest.book; shares = rest.shares } }
 {}
 
-/// An orderly book stays so. What its orders have less of open shares the fills have, each some, so
-/// there are no more fills than shares wanted.
+/// An orderly book stays so where orders are matched, one is lowered or one comes to rest. What its
+/// orders have less of open shares the fills have, each some, so there are no more fills than shares
+/// wanted; or it is by what the one order is lowered. An order that an agent sent under a token is the
+/// only one with its reference.
 pub fn orderly_books_stay()
     ensures orderly { (side : Side) (limit : ℕ) (m : Matching) → IsOrderly m.book → IsOrderly (completed side limit m).book }
     ensures shares { (side : Side) (limit : ℕ) (m : Matching) → IsOrderly m.book →
@@ -148,4 +150,16 @@ pub fn orderly_books_stay()
         All (λ f. 0 < f.shares) (matched book side limit shares).fills }
     ensures few { (book : List Resting) (side : Side) (limit shares : ℕ) → IsOrderly book →
         length (matched book side limit shares).fills ≤ shares }
+    ensures lowered { (reference left : ℕ) (book : List Resting) (o : Resting) →
+        IsOrderly book → order_with reference book ≡ Some o → left < o.left →
+        IsOrderly (changed (reduced left o) book) }
+    ensures lowered_shares { (reference left : ℕ) (book : List Resting) (o : Resting) →
+        IsOrderly book → order_with reference book ≡ Some o → left < o.left →
+        sum_by (λ x. x.left) (changed (reduced left o) book) + (o.left - left) ≡ sum_by (λ x. x.left) book }
+    ensures rested { (book : List Resting) (o : Resting) → IsOrderly book →
+        All (λ x. x.reference < o.reference) book →
+        0 < o.left → o.left ≤ o.intended → length book < 4294967296 →
+        IsOrderly (book ++ o ∷ []) }
+    ensures by_reference { (agent : ℕ) (token : Token) (book : List Resting) (o : Resting) → IsOrderly book →
+        order_of agent token book ≡ Some o → order_with o.reference book ≡ Some o }
 {}

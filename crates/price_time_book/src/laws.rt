@@ -6,7 +6,7 @@ ghost use Rattle.market_types.specs.declared.order.Side.{Side};
 ghost use Rattle.price_time_book.specs.declared.resting.Resting.{Resting};
 ghost use Rattle.price_time_book.specs.Matched.{Matching, IsEnded, completed, fill_of, with_fill};
 ghost use Rattle.price_time_book.specs.Next.{crosses, next_of};
-ghost use Rattle.price_time_book.specs.Sides.{is_better, opposite};
+ghost use Rattle.price_time_book.specs.Sides.{is_better, opposite_of};
 
 /// An incoming order is matched until it wants no more shares or nothing crosses. So long as it wants
 /// some and an order crosses, it goes on with the next order; then it stays as it is.
@@ -29,7 +29,7 @@ pub fn next_is_best()
         next_of book side limit ≡ Some o → crosses side limit o ≡ true }
     ensures best { (book : List Resting) (side : Side) (limit : ℕ) (o : Resting) →
         next_of book side limit ≡ Some o →
-        All (λ x. crosses side limit x ≡ true → is_better (opposite side) x.price o.price ≡ false) book }
+        All (λ x. crosses side limit x ≡ true → is_better (opposite_of side) x.price o.price ≡ false) book }
     ensures none { (book : List Resting) (side : Side) (limit : ℕ) →
         next_of book side limit ≡ None → All (λ x. crosses side limit x ≡ false) book }
 {}

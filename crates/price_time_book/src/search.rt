@@ -3,12 +3,21 @@
 ghost use Rattle.std.specs.Prelude.{◌≡◌, ◌==◌, ◌&&◌, not, bytes_eq, count_by, filter, find, IfOk, IfSome, Some, option_map, position, slice_get};
 ghost use Rattle.price_time_book.specs.Indexed.{open_orders};
 ghost use Rattle.price_time_book.specs.Orders.{order_of, order_with};
-ghost use Rattle.price_time_book.specs.Next.{crosses, crossing_of};
-ghost use Rattle.price_time_book.specs.Sides.{depth_of, is_on, is_within, opposite};
+ghost use Rattle.price_time_book.specs.Search.{goes_first};
+ghost use Rattle.price_time_book.specs.Sides.{is_better, is_within};
 
 use crate::resting::Resting;
-use market_types::{AgentNo, Memory, Side, Token};
-use std::alloc::{AllocError, Global};
+use market_types::{AgentNo, Side, Token};
+
+// Whether a price is better than another for orders that rest on this side.
+fn is_better(side: Side, a: u32, b: u32) -> bool
+    ensures { result ≡ is_better side a b }
+{
+    match side {
+        Side::Buy => b < a,
+        Side::Sell => a < b,
+    }
+}
 
 // Whether an order of this side with this limit trades at a price.
 pub fn is_within(side: Side, limit: u32, price: u32) -> bool
@@ -34,7 +43,7 @@ pub fn opposite(side: Side) -> Side
 fn crosses(side: Side, limit: u32, order: &Resting) -> bool
     ensures { result ≡ crosses side limit order.now }
 {
-    order.side == opposite(side) && is_within(side, limit, order.price)
+    order.side == side.opposite() && is_within(side, limit, order.price)
 }
 
 // How many orders are open and cross an incoming order of this side with this limit.

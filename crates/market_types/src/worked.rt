@@ -1,12 +1,17 @@
 //! Laws by computation on the definitions.
 
-ghost use Rattle.std.specs.Prelude.{◌≡◌, ℕ, [], Result, codes};
+ghost use Rattle.std.specs.Prelude.{◌≡◌, ℕ, [], Result, codes, true, false};
 ghost use Rattle.market_types.specs.Readers.{price_of, shares_of, symbol_of, token_of};
+ghost use Rattle.market_types.specs.Sides.{opposite_of, is_same_side};
 ghost use Rattle.market_types.specs.Told.{event_told, edit_told};
 ghost use Rattle.market_types.specs.declared.entry.Record.{Record};
 ghost use Rattle.market_types.specs.declared.entry.EditMark.{EditMark};
 
 use crate::error::TypeError;
+use crate::limits::{
+    HIGHEST_PRICE, LAST_TIME, LONGEST_DELAY, MOST_EVENTS, MOST_STOCKS, MOST_TRADERS, MOST_WAITING,
+};
+use crate::order::Side;
 
 /// Entries that differ only in the places that their lists keep for more tell the same.
 pub fn kept_places_are_not_told()
@@ -30,4 +35,24 @@ pub fn ranges_at_their_ends()
     ensures longest_token { token_of (codes "T0001000000001") ≡ Ok (record { 0 = codes "T0001000000001" }) }
     ensures long_token { token_of (codes "T00010000000012") ≡ Err TypeError.BadToken }
     ensures dash { token_of (codes "T-1") ≡ Err TypeError.BadToken }
+{}
+
+/// The limits in numbers: what the code keeps is what the definitions say.
+pub fn limits_in_numbers()
+    ensures price { HIGHEST_PRICE ≡ 1999999900 }
+    ensures delay { LONGEST_DELAY ≡ 3600000000000 }
+    ensures time { LAST_TIME ≡ 86399999999999 }
+    ensures traders { MOST_TRADERS ≡ 511 }
+    ensures stocks { MOST_STOCKS ≡ 16 }
+    ensures events { MOST_EVENTS ≡ 1000000 }
+    ensures waiting { MOST_WAITING ≡ 65536 }
+{}
+
+/// Each side's opposite has that side as its own.
+pub fn opposite_sides()
+    ensures buy { opposite_of Side.Buy ≡ Side.Sell }
+    ensures sell { opposite_of Side.Sell ≡ Side.Buy }
+    ensures twice { (side : Side) → opposite_of (opposite_of side) ≡ side }
+    ensures unlike { (side : Side) → is_same_side side (opposite_of side) ≡ false }
+    ensures like { (side : Side) → is_same_side side side ≡ true }
 {}
