@@ -11,7 +11,7 @@ use Rattle.market_types.specs.declared.order.Side.TheVariants.{Buy, Sell}
 use Rattle.price_time_book.specs.declared.resting.Best.{Best}
 use Rattle.price_time_book.specs.declared.resting.Resting.{Resting}
 use Rattle.price_time_book.specs.declared.levels.Level.{Level}
-use Rattle.price_time_book.specs.Indexed.{bit, key, key_of, open_orders, prices, shares_by, IsAscending, nothing, IsOpenAt, IsClear, IsPlacedAt, IsFree, IsRight, IsLinked, IsIndexed}
+use Rattle.price_time_book.specs.Indexed.{bit, key, key_of, open_orders, prices, shares_by, IsImproving, IsNoBetter, IsWorse, nothing, IsOpenAt, IsClear, IsPlacedAt, IsFree, IsRight, IsLinked, IsIndexed}
 use Rattle.price_time_book.specs.Next.{best_at, first_best, shares_at, top_of}
 use Rattle.price_time_book.specs.Orderly.{IsRising}
 use Rattle.price_time_book.specs.Orders.{changed, with_order, without}
@@ -19,7 +19,7 @@ use Rattle.price_time_book.specs.Sides.{is_better, is_on, is_same_side}
 use Rattle.price_time_book.proofs.Changes.{keep_all, leave_all}
 use Rattle.price_time_book.proofs.Joins.{key_price}
 use Rattle.price_time_book.proofs.Lowers.{open_each}
-use Rattle.price_time_book.proofs.Prices.{rising_head, rising_top}
+use Rattle.price_time_book.proofs.Prices.{rising_top}
 
 -- ---- sides
 pub side_same : (a s : Side) → is_same_side a s ≡ true → a ≡ s
@@ -234,24 +234,21 @@ top_none s os nx ls x h =
 level_price : (ls : List Level) (k : ℕ) (l : Level) → k < length ls → l ≡ get_or ls k l → get_or (prices ls) k 0 ≡ l.price
 level_price ls k l h e = get_or-map (λ (m : Level). m.price) ls k l 0 h ∙ ap (λ (m : Level). m.price) (sym e)
 
--- the last level to buy is the best, and the first to sell
-pub best_to_buy : (ls : List Level) (l : Level) → IsAscending (prices ls) → 0 < length ls → l ≡ get_or ls (length ls - 1) l → IsBestLevel Buy ls l
-best_to_buy ls l r h e p c =
-    let top : get_or (prices ls) (length (prices ls) - 1) 0 ≡ l.price = ap (λ n. get_or (prices ls) (n - 1) 0) (length-map ls (λ (m : Level). m.price)) ∙ level_price ls (length ls - 1) l (omega arith) e in
-    no_more p l.price (omega (arith, top, rising_top (prices ls) p r c))
+no_more : (s : Side) (p q : ℕ) → IsNoBetter s p q → is_better s p q ≡ false
+no_more Buy p q h = way p q h
   where
-    no_more : (a b : ℕ) → a ≤ b → ltb b a ≡ false
-    no_more a b h = grind (arith, nat_tests)
-
-rising_bottom : (ps : List ℕ) (p : ℕ) → IsAscending ps → Contains ps p → get_or ps 0 0 ≤ p
-rising_bottom [] p r c = absurd (omega (arith, c.1))
-rising_bottom (q ∷ ps) p r c = omega (arith, c.2, get_or_default (q ∷ ps) c.0 p 0 c.1, rising_head q ps c.0 r c.1)
-
-pub best_to_sell : (ls : List Level) (l : Level) → IsAscending (prices ls) → 0 < length ls → l ≡ get_or ls 0 l → IsBestLevel Sell ls l
-best_to_sell ls l r h e p c = no_less p l.price (omega (arith, level_price ls 0 l h e, rising_bottom (prices ls) p r c))
+    way : (a b : ℕ) → a ≤ b → ltb b a ≡ false
+    way a b h = grind (arith, nat_tests)
+no_more Sell p q h = way q p h
   where
-    no_less : (a b : ℕ) → b ≤ a → ltb a b ≡ false
-    no_less a b h = grind (arith, nat_tests)
+    way : (a b : ℕ) → a ≤ b → ltb b a ≡ false
+    way a b h = grind (arith, nat_tests)
+
+-- the last level is the best
+pub best_level_at : (s : Side) (ls : List Level) (at : ℕ) (l : Level) → IsImproving s (prices ls) → at < length ls → at ≡ length ls - 1 → l ≡ get_or ls at l → IsBestLevel s ls l
+best_level_at s ls at l r h last e p c =
+    let top : get_or (prices ls) (length (prices ls) - 1) 0 ≡ l.price = ap (λ n. get_or (prices ls) (n - 1) 0) (length-map ls (λ (m : Level). m.price)) ∙ ap (λ n. get_or (prices ls) n 0) (sym last) ∙ level_price ls at l h e in
+    no_more s p l.price (subst (λ q. IsNoBetter s p q) top (rising_top s (prices ls) p r c))
 
 -- ---- the list after a change
 rising_rest : (o : Resting) (os : List Resting) → IsRising (open_orders (o ∷ os)) → IsRising (open_orders os)
@@ -303,11 +300,6 @@ open-changed os i x r h g e =
       | inl z ↦ (let b : eqb x.left 0 ≡ true = eq-eqb x.left 0 z in subst (λ c. open_orders (set os i x) ≡ cond c (without x.reference (open_orders os)) (with_order x (open_orders os))) (sym b) (open-without os i x z r h g e))
       | inr z ↦ (let b : eqb x.left 0 ≡ false = ne_eqb x.left 0 z in subst (λ c. open_orders (set os i x) ≡ cond c (without x.reference (open_orders os)) (with_order x (open_orders os))) (sym b) (open-with os i x z r h g e))
     ]
-
--- the level at the place that is best
-pub best_level_at : (s : Side) (ls : List Level) (at : ℕ) (l : Level) → IsAscending (prices ls) → at < length ls → (s ≡ Buy → at ≡ length ls - 1) → (s ≡ Sell → at ≡ 0) → l ≡ get_or ls at l → IsBestLevel s ls l
-best_level_at Buy ls at l r h buy sell e = best_to_buy ls l r (omega arith) (e ∙ ap (λ k. get_or ls k l) (buy refl))
-best_level_at Sell ls at l r h buy sell e = best_to_sell ls l r (omega arith) (e ∙ ap (λ k. get_or ls k l) (sell refl))
 
 pub right_at : (s : Side) (os : List Resting) (nx : List ℕ) (ls : List Level) (at : ℕ) (l : Level) → IsIndexed s os nx ls → at < length ls → l ≡ get_or ls at l → IsRight s os nx l
 right_at s os nx ls at l x h e = subst (λ (m : Level). IsRight s os nx m) (sym e) (x.right at l h)

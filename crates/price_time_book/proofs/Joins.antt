@@ -9,8 +9,8 @@ use Rattle.price_time_book.specs.declared.resting.Resting.{Resting}
 use Rattle.price_time_book.specs.declared.levels.Level.{Level}
 use Rattle.market_types.specs.declared.order.Side.{Side}
 use Rattle.market_types.specs.declared.order.Side.TheVariants.{Buy, Sell}
-use Rattle.price_time_book.specs.Indexed.{bit, key, key_of, open_orders, prices, shares_by, IsAscending, nothing, IsOpenAt, IsClear, IsPlacedAt, IsFree, IsRight, IsLinked, IsIndexed}
-use Rattle.price_time_book.proofs.Prices.{rising_head, rising_le}
+use Rattle.price_time_book.specs.Indexed.{bit, key, key_of, open_orders, prices, shares_by, IsImproving, IsNoBetter, IsWorse, nothing, IsOpenAt, IsClear, IsPlacedAt, IsFree, IsRight, IsLinked, IsIndexed}
+use Rattle.price_time_book.proofs.Prices.{rising_head, rising_le, worse_after, worse_apart, worse_before, worse-trans}
 
 -- places after a push
 pub open-push-old : (os : List Resting) (x : Resting) (p k : ℕ) → IsOpenAt os p k → IsOpenAt (os ++ x ∷ []) p k
@@ -190,43 +190,42 @@ right-push-new os nx x h same f = record {
 }
 
 -- prices
-rising_lt : (ps : List ℕ) (i j : ℕ) → IsAscending ps → i < j → j < length ps → get_or ps i 0 < get_or ps j 0
-rising_lt [] i j r h l = absurd (omega arith)
-rising_lt (p ∷ ps) zero zero r h l = absurd (omega arith)
-rising_lt (p ∷ ps) zero (suc j) r h l = All-from_recursion (λ (q : ℕ). p < q) ps r.0 j 0 (omega arith)
-rising_lt (p ∷ ps) (suc i) zero r h l = absurd (omega arith)
-rising_lt (p ∷ ps) (suc i) (suc j) r h l = rising_lt ps i j r.1 (omega arith) (omega arith)
+rising_lt : (s : Side) (ps : List ℕ) (i j : ℕ) → IsImproving s ps → i < j → j < length ps → IsWorse s (get_or ps i 0) (get_or ps j 0)
+rising_lt s [] i j r h l = absurd (omega arith)
+rising_lt s (p ∷ ps) zero zero r h l = absurd (omega arith)
+rising_lt s (p ∷ ps) zero (suc j) r h l = All-from_recursion (λ (q : ℕ). IsWorse s p q) ps r.0 j 0 (omega arith)
+rising_lt s (p ∷ ps) (suc i) zero r h l = absurd (omega arith)
+rising_lt s (p ∷ ps) (suc i) (suc j) r h l = rising_lt s ps i j r.1 (omega arith) (omega arith)
 
-each-insert : (b : ℕ) (ps : List ℕ) (at p : ℕ) → b < p → AllByRecursion (λ (q : ℕ). b < q) ps → AllByRecursion (λ (q : ℕ). b < q) (insert ps at p)
-each-insert b [] zero p h a = (h, tt)
-each-insert b [] (suc at) p h a = (h, tt)
-each-insert b (q ∷ ps) zero p h a = (h, a)
-each-insert b (q ∷ ps) (suc at) p h a = (a.0, each-insert b ps at p h a.1)
+each-insert : (P : ℕ → Type 0) (ps : List ℕ) (at p : ℕ) → P p → AllByRecursion P ps → AllByRecursion P (insert ps at p)
+each-insert P [] zero p h a = (h, tt)
+each-insert P [] (suc at) p h a = (h, tt)
+each-insert P (q ∷ ps) zero p h a = (h, a)
+each-insert P (q ∷ ps) (suc at) p h a = (a.0, each-insert P ps at p h a.1)
 
-each-above : (p q : ℕ) (ps : List ℕ) → p < q → AllByRecursion (λ (r : ℕ). q < r) ps → AllByRecursion (λ (r : ℕ). p < r) ps
-each-above p q [] h a = tt
-each-above p q (r ∷ ps) h a = (omega (arith, a.0), each-above p q ps h a.1)
+each-above : (s : Side) (p q : ℕ) (ps : List ℕ) → IsWorse s p q → AllByRecursion (λ (r : ℕ). IsWorse s q r) ps → AllByRecursion (λ (r : ℕ). IsWorse s p r) ps
+each-above s p q [] h a = tt
+each-above s p q (r ∷ ps) h a = (worse-trans s p q r h a.0, each-above s p q ps h a.1)
 
-pub rising-insert : (ps : List ℕ) (at p : ℕ) → IsAscending ps → at ≤ length ps → ((k : ℕ) → k + 1 ≡ at → get_or ps k 0 < p) → (at < length ps → p < get_or ps at 0) → IsAscending (insert ps at p)
-rising-insert [] zero p r le low high = (tt, tt)
-rising-insert [] (suc at) p r le low high = (tt, tt)
-rising-insert (q ∷ ps) zero p r le low high = ((high (omega arith), each-above p q ps (high (omega arith)) r.0), r)
-rising-insert (q ∷ ps) (suc at) p r le low high =
-    let below : q < p = omega (arith, rising_head q ps at r (omega arith), low at (omega arith)) in
-    (each-insert q ps at p below r.0, rising-insert ps at p r.1 (omega arith) (λ k e. low (suc k) (omega arith)) (λ h. high (omega arith)))
+pub rising-insert : (s : Side) (ps : List ℕ) (at p : ℕ) → IsImproving s ps → at ≤ length ps → ((k : ℕ) → k + 1 ≡ at → IsWorse s (get_or ps k 0) p) → (at < length ps → IsWorse s p (get_or ps at 0)) → IsImproving s (insert ps at p)
+rising-insert s [] zero p r le low high = (tt, tt)
+rising-insert s [] (suc at) p r le low high = (tt, tt)
+rising-insert s (q ∷ ps) zero p r le low high = ((high (omega arith), each-above s p q ps (high (omega arith)) r.0), r)
+rising-insert s (q ∷ ps) (suc at) p r le low high =
+    let below : IsWorse s q p = worse_before s q (get_or (q ∷ ps) at 0) p (rising_head s q ps at r (omega arith)) (low at (omega arith)) in
+    (each-insert (λ (r : ℕ). IsWorse s q r) ps at p below r.0, rising-insert s ps at p r.1 (omega arith) (λ k e. low (suc k) (omega arith)) (λ h. high (omega arith)))
 
 pub price_at : (ls : List Level) (k : ℕ) (d : Level) → k < length ls → get_or (prices ls) k 0 ≡ (get_or ls k d).price
 price_at ls k d h = get_or-map (λ (l : Level). l.price) ls k d 0 h
 
 -- two levels have two prices
-pub levels_differ : (ls : List Level) (i j : ℕ) (d e : Level) → IsAscending (prices ls) → i < length ls → j < length ls → i ≢ j → (get_or ls i d).price ≢ (get_or ls j e).price
-levels_differ ls i j d e r a b n q =
+pub levels_differ : (sd : Side) (ls : List Level) (i j : ℕ) (d e : Level) → IsImproving sd (prices ls) → i < length ls → j < length ls → i ≢ j → (get_or ls i d).price ≢ (get_or ls j e).price
+levels_differ sd ls i j d e r a b n q =
     let long = length-map ls (λ (l : Level). l.price) in
-    let p = price_at ls i d a in
-    let s = price_at ls j e b in
+    let same : get_or (prices ls) i 0 ≡ get_or (prices ls) j 0 = price_at ls i d a ∙ q ∙ sym (price_at ls j e b) in
     elim (cases_lt i j) [
-      | inl h ↦ omega (arith, p, s, rising_lt (prices ls) i j r h (omega (arith, long)))
-      | inr h ↦ (let g : j < i = omega arith in omega (arith, p, s, rising_lt (prices ls) j i r g (omega (arith, long))))
+      | inl h ↦ worse_apart sd (get_or (prices ls) i 0) (get_or (prices ls) j 0) (rising_lt sd (prices ls) i j r h (omega (arith, long))) same
+      | inr h ↦ (let g : j < i = omega arith in worse_apart sd (get_or (prices ls) j 0) (get_or (prices ls) i 0) (rising_lt sd (prices ls) j i r g (omega (arith, long))) (sym same))
     ]
 
 -- keys
@@ -259,14 +258,14 @@ indexed_extend os nx ls x at l v h e p live =
     let long : length (set nx l.last n) ≡ n = length-set nx l.last n ∙ v.same in
     record {
       same = length_push (set nx l.last n) n ∙ ap (λ k. k + 1) long ∙ sym (length_push os x);
-      rising = subst IsAscending (sym stays) v.rising;
+      rising = subst (IsImproving x.side) (sym stays) v.rising;
       right = λ k d w.
           let within : k < length ls = omega (arith, length-set ls at l') in
           elim (cases_eq k at) [
             | inl q ↦ subst (λ (m : Level). IsRight x.side os' nexts m) (sym (ap (λ j. get_or (set ls at l') j d) q ∙ get_or-set_same ls at l' d h)) (right-push-same x.side os nx x l live (ap (key x.side) p) v.same here)
             | inr q ↦
                 let m = get_or ls k d in
-                let apart : key x.side m.price ≢ key_of x = λ f. levels_differ ls k at d l v.rising within h q (key_price x.side m.price x.price f ∙ sym p ∙ ap (λ (m : Level). m.price) e) in
+                let apart : key x.side m.price ≢ key_of x = λ f. levels_differ x.side ls k at d l v.rising within h q (key_price x.side m.price x.price f ∙ sym p ∙ ap (λ (m : Level). m.price) e) in
                 let others : (j : ℕ) → IsPlacedAt os (key x.side m.price) j → get_or nexts j 0 ≡ get_or nx j 0 = λ j o.
                 get_or_append_left (set nx l.last n) (n ∷ []) 0 j (omega (arith, o.within, long))
                 ∙ get_or-set_other nx l.last j n 0 (λ s. apart (sym o.price ∙ ap (λ i. key_of (get_or os i nothing)) s ∙ here.last.price ∙ ap (key x.side) p)) in
@@ -279,7 +278,7 @@ indexed_extend os nx ls x at l v h e p live =
     }
 
 -- an order at a price that has no level
-pub indexed_make : (os : List Resting) (nx : List ℕ) (ls : List Level) (x : Resting) (at : ℕ) → IsIndexed x.side os nx ls → at ≤ length ls → ((d : Level) → 0 < at → (get_or ls (at - 1) d).price < x.price) → ((d : Level) → at < length ls → x.price < (get_or ls at d).price) → 0 < x.left → IsIndexed x.side (os ++ x ∷ []) (nx ++ length os ∷ []) (insert ls at (record { price = x.price; first = length os; last = length os; shares = x.left }))
+pub indexed_make : (os : List Resting) (nx : List ℕ) (ls : List Level) (x : Resting) (at : ℕ) → IsIndexed x.side os nx ls → at ≤ length ls → ((d : Level) → 0 < at → IsWorse x.side (get_or ls (at - 1) d).price x.price) → ((d : Level) → at < length ls → IsWorse x.side x.price (get_or ls at d).price) → 0 < x.left → IsIndexed x.side (os ++ x ∷ []) (nx ++ length os ∷ []) (insert ls at (record { price = x.price; first = length os; last = length os; shares = x.left }))
 indexed_make os nx ls x at v le low high live =
     let os' = os ++ x ∷ [] in
     let n = length os in
@@ -289,18 +288,18 @@ indexed_make os nx ls x at v le low high live =
     let long = length-map ls (λ (m : Level). m.price) in
     let joins : prices (insert ls at l) ≡ insert ps at x.price =
     map-append (λ (m : Level). m.price) (take at ls) (l ∷ drop at ls) ∙ ap (λ (r : List ℕ). r ++ x.price ∷ prices (drop at ls)) (sym (take-map (λ (m : Level). m.price) at ls)) ∙ ap (λ (r : List ℕ). take at ps ++ x.price ∷ r) (sym (drop-map (λ (m : Level). m.price) at ls)) in
-    let below : (k : ℕ) → k + 1 ≡ at → get_or ps k 0 < x.price = λ k e. (let j : at - 1 ≡ k = omega arith in omega (arith, price_at ls k l (omega arith), subst (λ i. (get_or ls i l).price < x.price) j (low l (omega arith)))) in
-    let above : at < length ps → x.price < get_or ps at 0 = λ h. omega (arith, price_at ls at l (omega (arith, long)), high l (omega (arith, long))) in
-    let rising : IsAscending (insert ps at x.price) = rising-insert ps at x.price v.rising (omega (arith, long)) below above in
+    let below : (k : ℕ) → k + 1 ≡ at → IsWorse x.side (get_or ps k 0) x.price = λ k e. (let j : at - 1 ≡ k = omega arith in subst (λ n. IsWorse x.side n x.price) (sym (price_at ls k l (omega arith))) (subst (λ i. IsWorse x.side (get_or ls i l).price x.price) j (low l (omega arith)))) in
+    let above : at < length ps → IsWorse x.side x.price (get_or ps at 0) = λ h. (let w : at < length ls = omega (arith, long) in subst (λ n. IsWorse x.side x.price n) (sym (price_at ls at l w)) (high l w)) in
+    let rising : IsImproving x.side (insert ps at x.price) = rising-insert x.side ps at x.price v.rising (omega (arith, long)) below above in
     let other : (k : ℕ) → k < length ps → get_or ps k 0 ≢ x.price = λ k h q. elim (cases_lt k at) [
-      | inl a ↦ omega (arith, below (at - 1) (omega arith), rising_le ps k (at - 1) v.rising (omega arith) (omega arith))
-      | inr a ↦ omega (arith, above (omega arith), rising_le ps at k v.rising a h)
+      | inl a ↦ worse_apart x.side (get_or ps k 0) x.price (worse_before x.side (get_or ps k 0) (get_or ps (at - 1) 0) x.price (rising_le x.side ps k (at - 1) v.rising (omega arith) (omega (arith, long))) (below (at - 1) (omega arith))) q
+      | inr a ↦ worse_apart x.side x.price (get_or ps k 0) (worse_after x.side x.price (get_or ps at 0) (get_or ps k 0) (above (omega arith)) (rising_le x.side ps at k v.rising a h)) (sym q)
     ] in
     let none : (k : ℕ) → IsOpenAt os (key_of x) k → ⊥ = λ k o. (let c = v.covered x.price k o in other c.0 c.1 (get_or_default ps c.0 0 x.price c.1 ∙ c.2)) in
     let kept : All (λ (m : Level). IsRight x.side os' nexts m) ls = λ k d h. right-push-other x.side os nx nexts x (get_or ls k d) live (λ q. other k (omega (arith, long)) (price_at ls k d h ∙ key_price x.side (get_or ls k d).price x.price q)) (λ j o. get_or_append_left nx (n ∷ []) 0 j (omega (arith, o.within, v.same))) (v.right k d h) in
     record {
       same = length_push nx n ∙ ap (λ k. k + 1) v.same ∙ sym (length_push os x);
-      rising = subst IsAscending (sym joins) rising;
+      rising = subst (IsImproving x.side) (sym joins) rising;
       right = All-append (λ (m : Level). IsRight x.side os' nexts m) (take at ls) (l ∷ drop at ls) (All-take (λ (m : Level). IsRight x.side os' nexts m) at ls kept) (All-cons (λ (m : Level). IsRight x.side os' nexts m) l (drop at ls) (right-push-new os nx x live v.same none) (All-drop (λ (m : Level). IsRight x.side os' nexts m) at ls kept));
       covered = λ q k o. subst (λ (r : List ℕ). Contains r q) (sym joins) (elim (open-push-cases os x (key x.side q) k o) [
         | inl old ↦ elim (Contains-append_cases (take at ps) (drop at ps) q (subst (λ (r : List ℕ). Contains r q) (sym (take-append-drop at ps)) (v.covered q k old))) [

@@ -9,7 +9,7 @@ use Rattle.price_time_book.specs.declared.resting.Resting.{Resting}
 use Rattle.price_time_book.specs.declared.levels.Level.{Level}
 use Rattle.market_types.specs.declared.order.Side.{Side}
 use Rattle.market_types.specs.declared.order.Side.TheVariants.{Buy, Sell}
-use Rattle.price_time_book.specs.Indexed.{bit, key, key_of, open_orders, prices, shares_by, IsAscending, nothing, IsOpenAt, IsClear, IsPlacedAt, IsFree, IsRight, IsLinked, IsIndexed}
+use Rattle.price_time_book.specs.Indexed.{bit, key, key_of, open_orders, prices, shares_by, IsImproving, IsNoBetter, IsWorse, nothing, IsOpenAt, IsClear, IsPlacedAt, IsFree, IsRight, IsLinked, IsIndexed}
 use Rattle.price_time_book.proofs.Prices.{rising_head, rising_le, shares_open}
 use Rattle.price_time_book.proofs.Joins.{key_price, keys_apart, levels_differ, price_at, shares-none}
 use Rattle.std.proofs.lemmas.List.Edits.{length-remove, get_or-remove_below, get_or-remove_above}
@@ -148,7 +148,7 @@ indexed_lower sd os nx ls at l i v w s x h e o g sum live =
     let stays : prices (set ls at l') ≡ prices ls = map-set (λ (m : Level). m.price) ls at l' ∙ ap (λ (q : ℕ). set (prices ls) at q) (sym price) ∙ set-get_or (prices ls) at 0 in
     record {
       same = x.same ∙ sym (length-set os i (record (get_or os i nothing) { left = v; intended = w }));
-      rising = subst IsAscending (sym stays) x.rising;
+      rising = subst (IsImproving sd) (sym stays) x.rising;
       right = λ k d below.
           let within : k < length ls = omega (arith, length-set ls at l') in
           elim (cases_eq k at) [
@@ -157,24 +157,24 @@ indexed_lower sd os nx ls at l i v w s x h e o g sum live =
             | inr q ↦
                 let m = get_or ls k d in
                 let r = x.right k d within in
-                let apart : key_of (get_or os i nothing) ≢ key sd m.price = λ f. levels_differ ls k at d l x.rising within h q (key_price sd m.price l.price (sym f ∙ o.price) ∙ ap (λ (m : Level). m.price) e) in
+                let apart : key_of (get_or os i nothing) ≢ key sd m.price = λ f. levels_differ sd ls k at d l x.rising within h q (key_price sd m.price l.price (sym f ∙ o.price) ∙ ap (λ (m : Level). m.price) e) in
                 subst (λ (m : Level). IsRight sd os' nx m) (sym (get_or-set_other ls at k l' d q))
                 (right-lower sd os nx m i v w m.shares o.within g (r.shares ∙ sym (shares-lower-other os i v w (key sd m.price) o.within apart)) r.live r)
           ];
       covered = λ q k f. subst (λ (ps : List ℕ). Contains ps q) (sym stays) (x.covered q k (open-down os i v w (key sd q) k o.within g f));
     }
 
-each-remove : (b : ℕ) (ps : List ℕ) (at : ℕ) → AllByRecursion (λ (q : ℕ). b < q) ps → AllByRecursion (λ (q : ℕ). b < q) (remove ps at)
-each-remove b [] zero a = tt
-each-remove b [] (suc at) a = tt
-each-remove b (q ∷ ps) zero a = a.1
-each-remove b (q ∷ ps) (suc at) a = (a.0, each-remove b ps at a.1)
+each-remove : (P : ℕ → Type 0) (ps : List ℕ) (at : ℕ) → AllByRecursion P ps → AllByRecursion P (remove ps at)
+each-remove P [] zero a = tt
+each-remove P [] (suc at) a = tt
+each-remove P (q ∷ ps) zero a = a.1
+each-remove P (q ∷ ps) (suc at) a = (a.0, each-remove P ps at a.1)
 
-rising-remove : (ps : List ℕ) (at : ℕ) → IsAscending ps → IsAscending (remove ps at)
-rising-remove [] zero r = tt
-rising-remove [] (suc at) r = tt
-rising-remove (p ∷ ps) zero r = r.1
-rising-remove (p ∷ ps) (suc at) r = (each-remove p ps at r.0, rising-remove ps at r.1)
+rising-remove : (s : Side) (ps : List ℕ) (at : ℕ) → IsImproving s ps → IsImproving s (remove ps at)
+rising-remove s [] zero r = tt
+rising-remove s [] (suc at) r = tt
+rising-remove s (p ∷ ps) zero r = r.1
+rising-remove s (p ∷ ps) (suc at) r = (each-remove (λ (q : ℕ). IsWorse s p q) ps at r.0, rising-remove s ps at r.1)
 
 contains-remove : (ps : List ℕ) (at q : ℕ) → at < length ps → get_or ps at 0 ≢ q → Contains ps q → Contains (remove ps at) q
 contains-remove ps at q h n c =
@@ -199,11 +199,11 @@ indexed_close sd os nx ls at l i v w x h e o g sum =
     let other : (k : ℕ) (d : Level) → k < length ls → k ≢ at → IsRight sd os' nx (get_or ls k d) = λ k d within q.
     (let m = get_or ls k d in
     let r = x.right k d within in
-    let apart : key_of (get_or os i nothing) ≢ key sd m.price = λ f. levels_differ ls k at d l x.rising within h q (key_price sd m.price l.price (sym f ∙ o.price) ∙ ap (λ (m : Level). m.price) e) in
+    let apart : key_of (get_or os i nothing) ≢ key sd m.price = λ f. levels_differ sd ls k at d l x.rising within h q (key_price sd m.price l.price (sym f ∙ o.price) ∙ ap (λ (m : Level). m.price) e) in
     right-lower sd os nx m i v w m.shares o.within g (r.shares ∙ sym (shares-lower-other os i v w (key sd m.price) o.within apart)) r.live r) in
     record {
       same = x.same ∙ sym (length-set os i (record (get_or os i nothing) { left = v; intended = w }));
-      rising = subst IsAscending (sym leaves) (rising-remove (prices ls) at x.rising);
+      rising = subst (IsImproving sd) (sym leaves) (rising-remove sd (prices ls) at x.rising);
       right = λ k d below.
           let fits : k + 1 < length ls = omega (arith, length-remove ls at h) in
           elim (cases_lt k at) [
@@ -247,7 +247,7 @@ indexed_front sd os nx ls at l k x h e le o f =
     let stays : prices (set ls at l') ≡ prices ls = map-set (λ (m : Level). m.price) ls at l' ∙ ap (λ (q : ℕ). set (prices ls) at q) (sym price) ∙ set-get_or (prices ls) at 0 in
     record {
       same = x.same;
-      rising = subst IsAscending (sym stays) x.rising;
+      rising = subst (IsImproving sd) (sym stays) x.rising;
       right = λ j d below.
           let within : j < length ls = omega (arith, length-set ls at l') in
           elim (cases_eq j at) [

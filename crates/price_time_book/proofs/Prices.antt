@@ -10,20 +10,54 @@ use Rattle.price_time_book.specs.declared.resting.Resting.{Resting}
 use Rattle.price_time_book.specs.declared.levels.Level.{Level}
 use Rattle.market_types.specs.declared.order.Side.{Side}
 use Rattle.market_types.specs.declared.order.Side.TheVariants.{Buy, Sell}
-use Rattle.price_time_book.specs.Indexed.{bit, key, key_of, open_orders, prices, shares_by, IsAscending, nothing, IsOpenAt, IsClear, IsPlacedAt, IsFree, IsRight, IsLinked, IsIndexed}
+use Rattle.price_time_book.specs.Indexed.{bit, key, key_of, open_orders, prices, shares_by, IsImproving, IsNoBetter, IsWorse, nothing, IsOpenAt, IsClear, IsPlacedAt, IsFree, IsRight, IsLinked, IsIndexed}
 
-pub rising_head : (p : ℕ) (ps : List ℕ) (k : ℕ) → IsAscending (p ∷ ps) → k < length (p ∷ ps) → p ≤ get_or (p ∷ ps) k 0
-rising_head p ps zero r h = omega arith
-rising_head p ps (suc k) r h = omega (arith, All-from_recursion (λ (q : ℕ). p < q) ps r.0 k 0 (omega arith))
+pub worse_is : (s : Side) (p q : ℕ) → IsWorse s p q → IsNoBetter s p q
+worse_is Buy p q h = omega arith
+worse_is Sell p q h = omega arith
 
-pub rising_le : (ps : List ℕ) (i j : ℕ) → IsAscending ps → i ≤ j → j < length ps → get_or ps i 0 ≤ get_or ps j 0
-rising_le [] i j r h l = absurd (omega arith)
-rising_le (p ∷ ps) zero j r h l = rising_head p ps j r l
-rising_le (p ∷ ps) (suc i) zero r h l = absurd (omega arith)
-rising_le (p ∷ ps) (suc i) (suc j) r h l = rising_le ps i j r.1 (omega arith) (omega arith)
+pub worse_apart : (s : Side) (p q : ℕ) → IsWorse s p q → p ≢ q
+worse_apart Buy p q h e = omega arith
+worse_apart Sell p q h e = omega arith
 
-pub rising_top : (ps : List ℕ) (p : ℕ) → IsAscending ps → Contains ps p → p ≤ get_or ps (length ps - 1) 0
-rising_top ps p r c = omega (arith, c.2, get_or_default ps c.0 p 0 c.1, rising_le ps c.0 (length ps - 1) r (omega (arith, c.1)) (omega (arith, c.1)))
+pub worse-trans : (s : Side) (p q r : ℕ) → IsWorse s p q → IsWorse s q r → IsWorse s p r
+worse-trans Buy p q r h k = omega arith
+worse-trans Sell p q r h k = omega arith
+
+pub worse_before : (s : Side) (p q r : ℕ) → IsNoBetter s p q → IsWorse s q r → IsWorse s p r
+worse_before Buy p q r h k = omega arith
+worse_before Sell p q r h k = omega arith
+
+pub worse_after : (s : Side) (p q r : ℕ) → IsWorse s p q → IsNoBetter s q r → IsWorse s p r
+worse_after Buy p q r h k = omega arith
+worse_after Sell p q r h k = omega arith
+
+pub no_better_both : (s : Side) (p q : ℕ) → IsNoBetter s p q → IsNoBetter s q p → p ≡ q
+no_better_both Buy p q h k = omega arith
+no_better_both Sell p q h k = omega arith
+
+pub no_better_itself : (s : Side) (p : ℕ) → IsNoBetter s p p
+no_better_itself Buy p = omega arith
+no_better_itself Sell p = omega arith
+
+pub worse_or_same : (s : Side) (p q : ℕ) → IsNoBetter s p q → p ≢ q → IsWorse s p q
+worse_or_same Buy p q h n = omega arith
+worse_or_same Sell p q h n = omega arith
+
+pub rising_head : (s : Side) (p : ℕ) (ps : List ℕ) (k : ℕ) → IsImproving s (p ∷ ps) → k < length (p ∷ ps) → IsNoBetter s p (get_or (p ∷ ps) k 0)
+rising_head s p ps zero r h = no_better_itself s p
+rising_head s p ps (suc k) r h = worse_is s p (get_or ps k 0) (All-from_recursion (λ (q : ℕ). IsWorse s p q) ps r.0 k 0 (omega arith))
+
+pub rising_le : (s : Side) (ps : List ℕ) (i j : ℕ) → IsImproving s ps → i ≤ j → j < length ps → IsNoBetter s (get_or ps i 0) (get_or ps j 0)
+rising_le s [] i j r h l = absurd (omega arith)
+rising_le s (p ∷ ps) zero j r h l = rising_head s p ps j r l
+rising_le s (p ∷ ps) (suc i) zero r h l = absurd (omega arith)
+rising_le s (p ∷ ps) (suc i) (suc j) r h l = rising_le s ps i j r.1 (omega arith) (omega arith)
+
+pub rising_top : (s : Side) (ps : List ℕ) (p : ℕ) → IsImproving s ps → Contains ps p → IsNoBetter s p (get_or ps (length ps - 1) 0)
+rising_top s ps p r c =
+    let value : get_or ps c.0 0 ≡ p = get_or_default ps c.0 0 p c.1 ∙ c.2 in
+    subst (λ q. IsNoBetter s q (get_or ps (length ps - 1) 0)) value (rising_le s ps c.0 (length ps - 1) r (omega (arith, c.1)) (omega (arith, c.1)))
 
 -- what holds of each open place holds of the open orders
 pub each_open : (P : Resting → Type 0) (os : List Resting) → ((k : ℕ) → k < length os → 0 < (get_or os k nothing).left → P (get_or os k nothing)) → AllByRecursion P (open_orders os)

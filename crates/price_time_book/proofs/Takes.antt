@@ -10,27 +10,27 @@ use Rattle.market_types.specs.declared.order.Side.{Side}
 use Rattle.market_types.specs.declared.order.Side.TheVariants.{Buy, Sell}
 use Rattle.price_time_book.specs.declared.resting.Resting.{Resting}
 use Rattle.price_time_book.specs.declared.levels.Level.{Level}
-use Rattle.price_time_book.specs.Indexed.{bit, key, key_of, open_orders, prices, shares_by, IsAscending, nothing, IsOpenAt, IsRight, IsIndexed, IsSmall}
+use Rattle.price_time_book.specs.Indexed.{bit, key, key_of, open_orders, prices, shares_by, IsImproving, IsNoBetter, IsWorse, nothing, IsOpenAt, IsRight, IsIndexed, IsSmall}
 use Rattle.price_time_book.specs.Next.{next_of, top_of}
 use Rattle.price_time_book.specs.Orderly.{IsOrderly, IsRising}
 use Rattle.price_time_book.specs.Orders.{changed, order_with}
-use Rattle.price_time_book.specs.Sides.{is_within, opposite}
+use Rattle.price_time_book.specs.Sides.{is_within, opposite_of}
 use Rattle.price_time_book.proofs.Changes.{orderly-changed}
 use Rattle.price_time_book.proofs.Firsts.{key_side, open-changed}
 use Rattle.price_time_book.proofs.Joins.{price_at}
 use Rattle.price_time_book.proofs.Lowers.{indexed_lower-other, open_each, with_left}
-use Rattle.price_time_book.proofs.Prices.{rising_le}
+use Rattle.price_time_book.proofs.Prices.{no_better_both, rising_le, worse_apart, worse_before}
 use Rattle.price_time_book.proofs.Stays.{each-changed}
 use Rattle.price_time_book.proofs.Tops.{next-beyond, next-none, next-within}
 
 -- the next order is the first of the other side, if the limit allows
-pub next_is : (side mine : Side) (limit : ℕ) (w : List Resting) (o : Resting) → mine ≡ opposite side → top_of mine w ≡ Some o → is_within side limit o.price ≡ true → next_of w side limit ≡ Some o
+pub next_is : (side mine : Side) (limit : ℕ) (w : List Resting) (o : Resting) → mine ≡ opposite_of side → top_of mine w ≡ Some o → is_within side limit o.price ≡ true → next_of w side limit ≡ Some o
 next_is side mine limit w o s top h = next-within side mine limit w w w (Some (0, o)) 0 o refl refl s (sym top) refl h
 
-pub next_none : (side mine : Side) (limit : ℕ) (w : List Resting) → mine ≡ opposite side → top_of mine w ≡ None → next_of w side limit ≡ None
+pub next_none : (side mine : Side) (limit : ℕ) (w : List Resting) → mine ≡ opposite_of side → top_of mine w ≡ None → next_of w side limit ≡ None
 next_none side mine limit w s top = next-none side mine limit w w w None refl refl s (sym top) refl
 
-pub next_beyond : (side mine : Side) (limit : ℕ) (w : List Resting) (o : Resting) → mine ≡ opposite side → top_of mine w ≡ Some o → is_within side limit o.price ≡ false → next_of w side limit ≡ None
+pub next_beyond : (side mine : Side) (limit : ℕ) (w : List Resting) (o : Resting) → mine ≡ opposite_of side → top_of mine w ≡ Some o → is_within side limit o.price ≡ false → next_of w side limit ≡ None
 next_beyond side mine limit w o s top h = next-beyond side mine limit w w w (Some (0, o)) 0 o refl refl s (sym top) refl h
 
 -- what a change of the order o at place i leaves
@@ -58,19 +58,22 @@ others_lowered mine t os new nx ls i v w p n o le is x =
     subst (λ (u : List Resting). IsIndexed t u nx ls) (sym is) (indexed_lower-other t os nx ls i v w x o.within (λ e. n (e ∙ key_side mine p (get_or os i nothing) o.price)) le)
 
 -- the level of a price that has an open order stands where the price does
-pub level_found : (s : Side) (os : List Resting) (nx : List ℕ) (ls : List Level) (at p k : ℕ) → IsIndexed s os nx ls → IsOpenAt os (key s p) k → at ≤ length ls → ((d : Level) → 0 < at → (get_or ls (at - 1) d).price < p) → ((d : Level) → at < length ls → p ≤ (get_or ls at d).price) → (at < length ls) × ((d : Level) → (get_or ls at d).price ≡ p)
+pub level_found : (s : Side) (os : List Resting) (nx : List ℕ) (ls : List Level) (at p k : ℕ) → IsIndexed s os nx ls → IsOpenAt os (key s p) k → at ≤ length ls → ((d : Level) → 0 < at → IsWorse s (get_or ls (at - 1) d).price p) → ((d : Level) → at < length ls → IsNoBetter s p (get_or ls at d).price) → (at < length ls) × ((d : Level) → (get_or ls at d).price ≡ p)
 level_found s os nx ls at p k x o le low high =
     let d : Level = record { price = 0; first = 0; last = 0; shares = 0 } in
+    let ps = prices ls in
     let c = x.covered p k o in
     let long = length-map ls (λ (l : Level). l.price) in
-    let value : get_or (prices ls) c.0 0 ≡ p = get_or_default (prices ls) c.0 0 p c.1 ∙ c.2 in
+    let value : get_or ps c.0 0 ≡ p = get_or_default ps c.0 0 p c.1 ∙ c.2 in
     let from : at ≤ c.0 = elim (cases_lt c.0 at) [
-      | inl h ↦ absurd (omega (arith, value, rising_le (prices ls) c.0 (at - 1) x.rising (omega arith) (omega (arith, long)), price_at ls (at - 1) d (omega arith), low d (omega arith)))
+      | inl h ↦
+          let worse : IsWorse s (get_or ps (at - 1) 0) p = subst (λ n. IsWorse s n p) (sym (price_at ls (at - 1) d (omega arith))) (low d (omega arith)) in
+          absurd (worse_apart s (get_or ps c.0 0) p (worse_before s (get_or ps c.0 0) (get_or ps (at - 1) 0) p (rising_le s ps c.0 (at - 1) x.rising (omega arith) (omega (arith, long))) worse) value)
       | inr h ↦ h
     ] in
     let within : at < length ls = omega (arith, from, c.1, long) in
-    let most : get_or (prices ls) at 0 ≤ p = omega (arith, value, rising_le (prices ls) at c.0 x.rising from c.1) in
-    (within, λ e. omega (arith, most, price_at ls at e within, high e within))
+    let most : IsNoBetter s (get_or ps at 0) p = subst (λ n. IsNoBetter s (get_or ps at 0) n) value (rising_le s ps at c.0 x.rising from c.1) in
+    (within, λ e. no_better_both s (get_or ls at e).price p (subst (λ n. IsNoBetter s n p) (price_at ls at e within) most) (high e within))
 
 -- ---- the fit of a level's shares
 shares_few : (p : ℕ) (w : List Resting) → IsSmall w → shares_by p w ≤ 4294967295 * length w

@@ -11,7 +11,6 @@ use Rattle.market_types.specs.declared.order.Side.{Side}
 use Rattle.market_types.specs.declared.order.Side.TheVariants.{Buy, Sell}
 use Rattle.price_time_book.specs.declared.resting.Resting.{Resting}
 use Rattle.price_time_book.specs.Next.{crosses, first_best, next_of, top_of}
-use Rattle.price_time_book.specs.Search.{goes_first}
 use Rattle.price_time_book.specs.Sides.{is_on, is_better, is_within, opposite_of}
 
 abbrev beats : Side → Resting → Resting → Bool

@@ -25,10 +25,20 @@ key_of o = key o.side o.price
 abbrev pub prices : List Level → List ℕ
 prices ls = map (λ (l : Level). l.price) ls
 
--- each number is below all that follow it
-abbrev pub IsAscending : List ℕ → Type 0
-IsAscending [] = Unit {0}
-IsAscending (p ∷ ps) = AllByRecursion (λ (q : ℕ). p < q) ps × IsAscending ps
+-- a price is worse than another for orders that rest on this side: a lower one to buy, a higher one to sell
+abbrev pub IsWorse : Side → ℕ → ℕ → Type 0
+IsWorse Buy p q = p < q
+IsWorse Sell p q = q < p
+
+-- a price is another, or worse
+abbrev pub IsNoBetter : Side → ℕ → ℕ → Type 0
+IsNoBetter Buy p q = p ≤ q
+IsNoBetter Sell p q = q ≤ p
+
+-- each price is worse than all that follow it
+abbrev pub IsImproving : Side → List ℕ → Type 0
+IsImproving s [] = Unit {0}
+IsImproving s (p ∷ ps) = AllByRecursion (λ (q : ℕ). IsWorse s p q) ps × IsImproving s ps
 
 -- the open shares at a key
 abbrev pub shares_by : ℕ → List Resting → ℕ
@@ -73,10 +83,10 @@ pub record IsRight (s : Side) (os : List Resting) (nexts : List ℕ) (l : Level)
   pub shares : l.shares ≡ shares_by (key s l.price) (open_orders os)
   pub live : 0 < l.shares
 
--- the levels of a side, their prices rising, and the links
+-- the levels of a side, the best one last, and the links
 pub record IsIndexed (s : Side) (os : List Resting) (nexts : List ℕ) (ls : List Level) : Type 0 where
   pub same : length nexts ≡ length os
-  pub rising : IsAscending (prices ls)
+  pub rising : IsImproving s (prices ls)
   pub right : All (λ (l : Level). IsRight s os nexts l) ls
   pub covered : (p k : ℕ) → IsOpenAt os (key s p) k → Contains (prices ls) p
 

@@ -1,3 +1,5 @@
+pub mod Awaited
+pub mod Index
 pub mod Indexed
 pub mod Kept
 pub mod Matched

@@ -1,15 +1,18 @@
 //! The book.
 
 ghost use Rattle.std.specs.Prelude.{◌≡◌, ◌<◌, ◌≤◌, ◌-◌, ◌∷◌, ◌++◌, ◌↔◌, [], IsTrue, OnErr, OnOk, IfOk, IfSome, IfNone, All, Some, None, length, option_map, slice_get};
+ghost use Rattle.price_time_book.specs.Awaited.{AreAwaited};
+ghost use Rattle.price_time_book.specs.Indexed.{open_orders};
 ghost use Rattle.price_time_book.specs.Matched.{fill_of, after_fill};
 ghost use Rattle.price_time_book.specs.Next.{best_at, crossing_of, next_of};
 ghost use Rattle.price_time_book.specs.Orderly.{IsOrderly};
 ghost use Rattle.price_time_book.specs.Orders.{order_of, order_with, changed, reduced};
 ghost use Rattle.price_time_book.specs.Sides.{depth_of};
 
+use crate::index::{ReferenceEntry, TokenEntry, enter_reference, enter_token};
 use crate::levels::{Level, best_in, fits, join, lower_at, take_first};
 use crate::resting::{Best, Fill, Resting};
-use crate::search::{crossing_in, held_at, is_within, order_of, shares_at, top_of};
+use crate::search::{crossing_in, held_at, open_of, order_of};
 use market_types::{AgentNo, Memory, Side, Token, copied};
 use std::alloc::Global;
 use std::marker::Model;
@@ -21,16 +24,22 @@ pub struct Book {
     nexts: Vec<usize>,
     buys: Vec<Level>,
     sells: Vec<Level>,
+    buy_count: usize,
+    sell_count: usize,
+    references: Vec<ReferenceEntry>,
+    tokens: Vec<TokenEntry>,
     spare: usize,
 }
 
 impl Model for Book {
-    ghost use Rattle.std.specs.Prelude.{◌≤◌, ◌+◌, vec_len, vec_capacity};
+    ghost use Rattle.std.specs.Prelude.{◌≡◌, ◌≤◌, ◌+◌, vec_len, vec_capacity};
     ghost use Rattle.market_types.specs.Room.{Room};
     ghost use Rattle.market_types.specs.declared.order.Side.TheVariants.{Buy, Sell};
     ghost use Rattle.price_time_book.specs.declared.resting.Resting.{Resting};
+    ghost use Rattle.price_time_book.specs.Index.{IsByReference, IsByToken};
     ghost use Rattle.price_time_book.specs.Indexed.{IsIndexed, IsSmall, open_orders};
     ghost use Rattle.price_time_book.specs.Orderly.{IsOrderly};
+    ghost use Rattle.price_time_book.specs.Sides.{depth_of};
 
     ghost Value = { Room Resting };
 
@@ -41,8 +50,14 @@ impl Model for Book {
       nexts_room : vec_len b.nexts + b.spare ≤ vec_capacity b.nexts;
       buys_room : vec_len b.buys + b.spare ≤ vec_capacity b.buys;
       sells_room : vec_len b.sells + b.spare ≤ vec_capacity b.sells;
+      references_room : vec_len b.references + b.spare ≤ vec_capacity b.references;
+      tokens_room : vec_len b.tokens + b.spare ≤ vec_capacity b.tokens;
       buys : IsIndexed Buy b.orders.items b.nexts.items b.buys.items;
       sells : IsIndexed Sell b.orders.items b.nexts.items b.sells.items;
+      buy_count : b.buy_count ≡ depth_of Buy (open_orders b.orders.items);
+      sell_count : b.sell_count ≡ depth_of Sell (open_orders b.orders.items);
+      references : IsByReference b.orders.items b.references.items;
+      tokens : IsByToken b.orders.items b.tokens.items;
       orderly : IsOrderly (open_orders b.orders.items);
       small : IsSmall (open_orders b.orders.items);
     } };
@@ -58,6 +73,10 @@ impl Book {
             nexts: Vec::new(alloc),
             buys: Vec::new(alloc),
             sells: Vec::new(alloc),
+            buy_count: 0,
+            sell_count: 0,
+            references: Vec::new(alloc),
+            tokens: Vec::new(alloc),
             spare: 0,
         }
     }
@@ -72,8 +91,11 @@ impl Book {
         if n <= self.spare {
             return Ok(());
         }
-        self.orders.reserve(n)?;
-        self.spare = n;
+        if !self.is_sparse() {
+            return self.widen(n);
+        }
+        let packed = self.packed(n)?;
+        *self = packed;
         Ok(())
     }
 
@@ -85,11 +107,17 @@ impl Book {
         let nexts = copied(alloc, self.nexts.as_slice())?;
         let buys = copied(alloc, self.buys.as_slice())?;
         let sells = copied(alloc, self.sells.as_slice())?;
+        let references = copied(alloc, self.references.as_slice())?;
+        let tokens = copied(alloc, self.tokens.as_slice())?;
         Ok(Book {
             orders,
             nexts,
             buys,
             sells,
+            buy_count: self.buy_count,
+            sell_count: self.sell_count,
+            references,
+            tokens,
             spare: 0,
         })
     }
@@ -116,9 +144,28 @@ impl Book {
         ensures unmatched { IfNone result (self.new.list ≡ self.old.list) }
         ensures room { self.old.spare ≤ self.new.spare }
     {
-        let (at, resting) = top_of(self.orders.as_slice(), side.opposite())?;
-        if !is_within(side, limit, resting.price) {
-            return None;
+        let (orders, nexts) = (&mut self.orders, self.nexts.as_slice());
+        match side {
+            Side::Buy => take_first(
+                Side::Sell,
+                orders,
+                &mut self.sells,
+                &mut self.sell_count,
+                nexts,
+                side,
+                limit,
+                shares,
+            ),
+            Side::Sell => take_first(
+                Side::Buy,
+                orders,
+                &mut self.buys,
+                &mut self.buy_count,
+                nexts,
+                side,
+                limit,
+                shares,
+            ),
         }
     }
 
@@ -134,13 +181,18 @@ impl Book {
         ensures { self.new ≡ record { list = self.old.list ++ order ∷ []; spare = self.old.spare - 1 } }
     {
         fits(order.left);
+        let place = self.orders.len();
+        enter_reference(&mut self.references, &order, place);
+        enter_token(&mut self.tokens, &order, place);
         match order.side {
             Side::Buy => {
                 join(&mut self.orders, &mut self.nexts, &mut self.buys, order);
+                self.buy_count += 1;
                 self.spare -= 1;
             }
             Side::Sell => {
                 join(&mut self.orders, &mut self.nexts, &mut self.sells, order);
+                self.sell_count += 1;
                 self.spare -= 1;
             }
         }
@@ -153,7 +205,7 @@ impl Book {
         ensures live { IfSome result (λ o. (0 < o.now.left) × (o.now.left ≤ o.now.intended)) }
         ensures by_reference { IfSome result (λ o. order_with o.now.reference self.now.list ≡ Some o.now) }
     {
-        order_of(self.orders.as_slice(), agent, token)
+        order_of(self.orders.as_slice(), self.tokens.as_slice(), agent, token)
     }
 
     /// Lowers the open shares of the order with this reference to `left`, and its intended size by as
@@ -166,12 +218,25 @@ impl Book {
         ensures absent { IfNone result (self.new.list ≡ self.old.list) }
         ensures room { self.old.spare ≤ self.new.spare }
     {
-        let (at, resting) = held_at(self.orders.as_slice(), reference)?;
+        let (at, resting) = held_at(
+            self.orders.as_slice(),
+            self.references.as_slice(),
+            reference,
+        )?;
         let intended = resting.intended - (resting.left - left);
         let (orders, nexts) = (&mut self.orders, self.nexts.as_slice());
         match resting.side {
             Side::Buy => {
-                lower_at(Side::Buy, orders, &mut self.buys, nexts, at, left, intended);
+                lower_at(
+                    Side::Buy,
+                    orders,
+                    &mut self.buys,
+                    &mut self.buy_count,
+                    nexts,
+                    at,
+                    left,
+                    intended,
+                );
                 Some(resting)
             }
             Side::Sell => {
@@ -179,6 +244,7 @@ impl Book {
                     Side::Sell,
                     orders,
                     &mut self.sells,
+                    &mut self.sell_count,
                     nexts,
                     at,
                     left,
@@ -193,7 +259,10 @@ impl Book {
     pub fn depth(&self, side: Side) -> usize
         ensures { result ≡ depth_of side self.now.list }
     {
-        depth_in(self.orders.as_slice(), side)
+        match side {
+            Side::Buy => self.buy_count,
+            Side::Sell => self.sell_count,
+        }
     }
 
     /// How many orders cross an incoming order of `side` with this limit: no match has more fills.
@@ -207,7 +276,7 @@ impl Book {
     pub fn len(&self) -> usize
         ensures { result ≡ length self.now.list }
     {
-        self.depth(Side::Buy) + self.depth(Side::Sell)
+        self.buy_count + self.sell_count
     }
 
     /// Whether no order rests in the book.
@@ -230,5 +299,62 @@ impl Book {
         ensures { IfOk result (λ v. v.items ≡ self.now.list) }
     {
         open_of(alloc, self.orders.as_slice())
+    }
+
+    // Whether more than half of the orders in the vector of arrival have left.
+    fn is_sparse(&self) -> bool {
+        self.orders.len() / 2 > self.len()
+    }
+
+    // Makes room for `n` more in every vector.
+    fn widen(&mut self, n: usize) -> Result<(), Memory>
+        ensures list { self.new.list ≡ self.old.list }
+        ensures room { OnOk result (n ≤ self.new.spare) }
+        ensures never_falls { self.old.spare ≤ self.new.spare }
+        ensures refused { OnErr result (self.new ≡ self.old) }
+    {
+        if n <= self.spare {
+            return Ok(());
+        }
+        let orders = self.orders.reserve(n);
+        let nexts = self.nexts.reserve(n);
+        let buys = self.buys.reserve(n);
+        let sells = self.sells.reserve(n);
+        let references = self.references.reserve(n);
+        let tokens = self.tokens.reserve(n);
+        match (orders, nexts, buys, sells, references, tokens) {
+            (Ok(()), Ok(()), Ok(()), Ok(()), Ok(()), Ok(())) => {
+                self.spare = n;
+                Ok(())
+            }
+            _ => Err(Memory),
+        }
+    }
+
+    // A book with the same orders and without those that have left, which keeps places for `n` more.
+    fn packed(&self, n: usize) -> Result<Book, Memory>
+        ensures list { IfOk result (λ b. b.list ≡ self.now.list) }
+        ensures room { IfOk result (λ b. n ≤ b.spare) }
+    {
+        let mut packed = Book::new(*self.orders.allocator());
+        packed.widen(self.len())?;
+        packed.rest_all(self.orders.as_slice());
+        packed.widen(n)?;
+        Ok(packed)
+    }
+
+    // The open orders of a vector come to rest in an empty book, one after another.
+    fn rest_all(&mut self, orders: &[Resting])
+        requires empty { self.old.list ≡ [] }
+        requires room { length (open_orders orders.now) ≤ self.old.spare }
+        requires few { length (open_orders orders.now) ≤ 4294967296 }
+        requires awaited { AreAwaited orders.now }
+        ensures { self.new.list ≡ open_orders orders.now }
+    {
+        for order in orders {
+            if order.left != 0 {
+                self.rest(*order);
+            }
+        }
     }
 }

@@ -5,17 +5,18 @@
 //! ends; the chain goes through all orders of its side and price, also those that have left, so an order
 //! that leaves changes no link.
 
-ghost use Rattle.std.specs.Prelude.{◌≡◌, ◌≢◌, ◌<◌, ◌≤◌, ◌+◌, ◌-◌, ◌^◌, ◌++◌, ◌∷◌, [], Some, None, IfSome, IfNone, All, length, option_map, slice_index_or, slice_set, vec_len, vec_capacity, ℕ, List};
+ghost use Rattle.std.specs.Prelude.{◌≡◌, ◌≢◌, ◌<◌, ◌≤◌, ◌+◌, ◌-◌, ◌^◌, ◌++◌, ◌∷◌, [], Some, None, IfSome, IfNone, All, length, option_map, slice_index_or, slice_set, vec_len, vec_capacity, ℕ, List, true, false};
 ghost use Rattle.market_types.specs.declared.order.Side.{Side};
 ghost use Rattle.market_types.specs.declared.order.Side.TheVariants.{Buy, Sell};
 ghost use Rattle.price_time_book.specs.declared.levels.Level.{Level};
 ghost use Rattle.price_time_book.specs.declared.resting.Resting.{Resting};
-ghost use Rattle.price_time_book.specs.Indexed.{IsClear, IsIndexed, IsOpenAt, IsRight, IsSmall, key, nothing, open_orders};
+ghost use Rattle.price_time_book.specs.Index.{AreLessened};
+ghost use Rattle.price_time_book.specs.Indexed.{IsClear, IsIndexed, IsNoBetter, IsOpenAt, IsRight, IsSmall, IsWorse, key, nothing, open_orders};
 ghost use Rattle.price_time_book.specs.Matched.{after_fill, fill_of};
 ghost use Rattle.price_time_book.specs.Next.{best_at, next_of, top_of};
 ghost use Rattle.price_time_book.specs.Orderly.{IsOrderly};
 ghost use Rattle.price_time_book.specs.Orders.{changed};
-ghost use Rattle.price_time_book.specs.Sides.{opposite};
+ghost use Rattle.price_time_book.specs.Sides.{depth_of, opposite_of};
 
 use crate::resting::{Best, Fill, Resting};
 use crate::search::is_within;
@@ -30,36 +31,49 @@ pub struct Level {
     pub shares: u64,
 }
 
-// Where a price stands or joins.
-fn place_of(levels: &[Level], price: u32) -> usize
+// Whether a price is worse than another for orders that rest on this side.
+fn is_worse(side: Side, a: u32, b: u32) -> bool
+    ensures worse { result ≡ true → IsWorse side a b }
+    ensures no_worse { result ≡ false → IsNoBetter side b a }
+{
+    match side {
+        Side::Buy => a < b,
+        Side::Sell => b < a,
+    }
+}
+
+// Where a price stands in the levels of a side, or joins.
+fn place_of(side: Side, levels: &[Level], price: u32) -> usize
     ensures within { result ≤ length levels.now }
-    ensures below { (d : Level) → 0 < result → (slice_index_or levels.now (result - 1) d).price < price }
-    ensures above { (d : Level) → result < length levels.now → price ≤ (slice_index_or levels.now result d).price }
+    ensures below {
+        (d : Level) → 0 < result → IsWorse side (slice_index_or levels.now (result - 1) d).price price
+    }
+    ensures above {
+        (d : Level) → result < length levels.now →
+        IsNoBetter side price (slice_index_or levels.now result d).price
+    }
 {
     let mut low = 0;
     let mut high = levels.len();
     while low < high {
         let middle = low + (high - low) / 2;
-        if levels[middle].price < price {
+        if is_worse(side, levels[middle].price, price) {
             low = middle + 1;
         } else {
             high = middle;
         }
     }
+    let _side = side;
     low
 }
 
-// Where the best level of a side stands.
-fn place_of_best(levels: &[Level], side: Side) -> usize
+// Where the best level stands.
+fn place_of_best(levels: &[Level]) -> usize
     requires { 0 < length levels.now }
     ensures within { result < length levels.now }
-    ensures buy { side ≡ Buy → result ≡ length levels.now - 1 }
-    ensures sell { side ≡ Sell → result ≡ 0 }
+    ensures last { result ≡ length levels.now - 1 }
 {
-    match side {
-        Side::Buy => levels.len() - 1,
-        Side::Sell => 0,
-    }
+    levels.len() - 1
 }
 
 // The best price of a side and the open shares at it.
@@ -69,7 +83,7 @@ pub fn best_in(side: Side, levels: &[Level]) -> Option<Best>
     if levels.is_empty() {
         return None;
     }
-    let level = levels[place_of_best(levels, side)];
+    let level = levels[place_of_best(levels)];
     Some(Best {
         price: level.price,
         shares: level.shares,
@@ -144,8 +158,8 @@ fn make(
     requires levels_room { vec_len levels.old < vec_capacity levels.old }
     requires open { 0 < order.left }
     requires within { at ≤ vec_len levels.old }
-    requires below { (d : Level) → 0 < at → (slice_index_or levels.old.items (at - 1) d).price < order.price }
-    requires above { (d : Level) → at < vec_len levels.old → order.price < (slice_index_or levels.old.items at d).price }
+    requires below { (d : Level) → 0 < at → IsWorse order.side (slice_index_or levels.old.items (at - 1) d).price order.price }
+    requires above { (d : Level) → at < vec_len levels.old → IsWorse order.side order.price (slice_index_or levels.old.items at d).price }
     requires indexed { IsIndexed order.side orders.old.items nexts.old.items levels.old.items }
     ensures orders { orders.new.items ≡ orders.old.items ++ order ∷ [] }
     ensures indexed { IsIndexed order.side orders.new.items nexts.new.items levels.new.items }
@@ -192,7 +206,7 @@ pub fn join(
     ensures levels_len { vec_len levels.new ≤ vec_len levels.old + 1 }
     ensures levels_capacity { vec_capacity levels.old ≤ vec_capacity levels.new }
 {
-    let at = place_of(levels.as_slice(), order.price);
+    let at = place_of(order.side, levels.as_slice(), order.price);
     if at < levels.len() {
         let found = levels[at].price;
         if found == order.price {
@@ -239,7 +253,7 @@ fn first_in(
     if levels.is_empty() {
         return None;
     }
-    let at = place_of_best(levels.as_slice(), side);
+    let at = place_of_best(levels.as_slice());
     let level = levels[at];
     let place = front(side, orders, nexts, &level);
     levels[at] = Level {
@@ -348,19 +362,32 @@ pub fn set_left(
     }
 }
 
+// An order with no open shares is counted no more.
+fn count_out(count: &mut usize, left: u32)
+    requires { left ≡ 0 → 0 < count.old }
+    ensures left { left ≡ 0 → count.new + 1 ≡ count.old }
+    ensures kept { left ≢ 0 → count.new ≡ count.old }
+{
+    if left == 0 {
+        *count -= 1;
+    }
+}
+
 // The first order of a side gives up to so many shares to an incoming order of the other, if that one's limit allows.
 pub fn take_first(
     mine: Side,
     orders: &mut Vec<Resting>,
     levels: &mut Vec<Level>,
+    count: &mut usize,
     nexts: &[usize],
     side: Side,
     limit: u32,
     shares: u32,
 ) -> Option<Fill>
     requires some { 0 < shares }
-    requires side { mine ≡ opposite side }
+    requires side { mine ≡ opposite_of side }
     requires indexed { IsIndexed mine orders.old.items nexts.now levels.old.items }
+    requires count { count.old ≡ depth_of mine (open_orders orders.old.items) }
     requires orderly { IsOrderly (open_orders orders.old.items) }
     ensures next { result ≡ option_map (fill_of shares) (next_of (open_orders orders.old.items) side limit) }
     ensures gives { IfSome result (λ f. 0 < f.shares) }
@@ -368,6 +395,12 @@ pub fn take_first(
     ensures unmatched { IfNone result (orders.new.items ≡ orders.old.items) }
     ensures indexed { IsIndexed mine orders.new.items nexts.now levels.new.items }
     ensures others { (t : Side) (ls : List Level) → t ≢ mine → IsIndexed t orders.old.items nexts.now ls → IsIndexed t orders.new.items nexts.now ls }
+    ensures lessened { AreLessened orders.old.items orders.new.items }
+    ensures count { count.new ≡ depth_of mine (open_orders orders.new.items) }
+    ensures other_count {
+        (t : Side) → t ≢ mine →
+        depth_of t (open_orders orders.new.items) ≡ depth_of t (open_orders orders.old.items)
+    }
     ensures orderly { IsOrderly (open_orders orders.new.items) }
     ensures small { IsSmall (open_orders orders.old.items) → IsSmall (open_orders orders.new.items) }
     ensures orders_len { vec_len orders.new ≡ vec_len orders.old }
@@ -381,6 +414,7 @@ pub fn take_first(
         return None;
     }
     let taken = shares.min(resting.left);
+    let left = resting.left - taken;
     set_left(
         mine,
         orders,
@@ -388,9 +422,10 @@ pub fn take_first(
         nexts,
         at,
         place,
-        resting.left - taken,
+        left,
         resting.intended,
     );
+    count_out(count, left);
     Some(Fill {
         resting,
         shares: taken,
@@ -402,6 +437,7 @@ pub fn lower_at(
     mine: Side,
     orders: &mut Vec<Resting>,
     levels: &mut Vec<Level>,
+    count: &mut usize,
     nexts: &[usize],
     place: usize,
     left: u32,
@@ -412,10 +448,17 @@ pub fn lower_at(
     requires lower { left < (slice_index_or orders.old.items place nothing).left }
     requires size { left ≤ intended }
     requires indexed { IsIndexed mine orders.old.items nexts.now levels.old.items }
+    requires count { count.old ≡ depth_of mine (open_orders orders.old.items) }
     requires orderly { IsOrderly (open_orders orders.old.items) }
     ensures list { open_orders orders.new.items ≡ changed (record (slice_index_or orders.old.items place nothing) { left = left; intended = intended }) (open_orders orders.old.items) }
     ensures indexed { IsIndexed mine orders.new.items nexts.now levels.new.items }
     ensures others { (t : Side) (ls : List Level) → t ≢ mine → IsIndexed t orders.old.items nexts.now ls → IsIndexed t orders.new.items nexts.now ls }
+    ensures lessened { AreLessened orders.old.items orders.new.items }
+    ensures count { count.new ≡ depth_of mine (open_orders orders.new.items) }
+    ensures other_count {
+        (t : Side) → t ≢ mine →
+        depth_of t (open_orders orders.new.items) ≡ depth_of t (open_orders orders.old.items)
+    }
     ensures orderly { IsOrderly (open_orders orders.new.items) }
     ensures small { IsSmall (open_orders orders.old.items) → IsSmall (open_orders orders.new.items) }
     ensures orders_len { vec_len orders.new ≡ vec_len orders.old }
@@ -423,8 +466,9 @@ pub fn lower_at(
     ensures levels_len { vec_len levels.new ≤ vec_len levels.old }
     ensures levels_capacity { vec_capacity levels.new ≡ vec_capacity levels.old }
 {
-    let at = place_of(levels.as_slice(), orders[place].price);
+    let at = place_of(mine, levels.as_slice(), orders[place].price);
     set_left(mine, orders, levels, nexts, at, place, left, intended);
+    count_out(count, left);
 }
 
 // Open shares are a number of 32 bits.

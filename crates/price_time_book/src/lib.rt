@@ -6,6 +6,7 @@
 #![tactic(auto)]
 
 mod book;
+mod index;
 pub mod keeping;
 pub mod laws;
 mod levels;

@@ -17,4 +17,4 @@ returns c = λ os nx x.
     let l = get_or ls at d in
     let h : at < length ls = c.place_of_best.ensures.within in
     let e : l ≡ get_or ls at l = get_or_default ls at d l h in
-    sym (best_by_level c.args.side os nx ls l x (best_level_at c.args.side ls at l x.rising h c.place_of_best.ensures.buy c.place_of_best.ensures.sell e) (right_at c.args.side os nx ls at l x h e))
+    sym (best_by_level c.args.side os nx ls l x (best_level_at c.args.side ls at l x.rising h c.place_of_best.ensures.last e) (right_at c.args.side os nx ls at l x h e))

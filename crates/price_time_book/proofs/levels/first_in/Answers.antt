@@ -1,6 +1,5 @@
 use Rattle.std.proofs.Common.{◌≡◌, ◌<◌, ◌-◌, List, length, get_or, set, sym, ap, subst, ◌∙◌, arith, rules}
 use Rattle.std.proofs.lemmas.List.{get_or-set_same}
-use Rattle.market_types.specs.declared.order.Side.TheVariants.{Buy, Sell}
 use Rattle.price_time_book.specs.declared.levels.Level.{Level}
 use Rattle.price_time_book.specs.Indexed.{IsOpenAt, key}
 use Rattle.price_time_book.proofs.Firsts.{best_level_at, first_by_level, top_first, top_none}
@@ -29,8 +28,8 @@ returns-clause-first c =
     let l = c.index.result.now in
     let seen = c.as_slice.ensures.value in
     let h : at < length ls = subst (λ (v : List Level). at < length v) seen c.place_of_best-at.ensures.within in
-    let buy : c.args.side ≡ Buy → at ≡ length ls - 1 = subst (λ (v : List Level). c.args.side ≡ Buy → at ≡ length v - 1) seen c.place_of_best-at.ensures.buy in
-    let best = best_level_at c.args.side ls at l c.requires.rising h buy c.place_of_best-at.ensures.sell c.index.ensures in
+    let last : at ≡ length ls - 1 = subst (λ (v : List Level). at ≡ length v - 1) seen c.place_of_best-at.ensures.last in
+    let best = best_level_at c.args.side ls at l c.requires.rising h last c.index.ensures in
     top_first c.args.side os c.front-place.result (first_by_level c.args.side os c.args.nexts.now ls l c.front-place.result c.requires best c.front-place.ensures.found c.front-place.ensures.before)
 
 pub returns-clause-indexed : goal.returns-clause-indexed

@@ -1,4 +1,4 @@
-use Rattle.std.proofs.Common.{◌≡◌, ◌≢◌, ◌<◌, ◌≤◌, ◌-◌, Some, None, length, get_or, refl, sym, ap, ◌∙◌, subst, arith, rules, option_map}
+use Rattle.std.proofs.Common.{◌≡◌, ◌≢◌, inl, inr, ◌<◌, ◌≤◌, ◌-◌, Some, None, length, get_or, refl, sym, ap, ◌∙◌, subst, arith, rules, option_map}
 use Rattle.std.proofs.lemmas.List.{get_or_default}
 use Rattle.market_types.specs.declared.order.Side.{Side}
 use Rattle.price_time_book.specs.declared.levels.Level.{Level}
@@ -6,6 +6,9 @@ use Rattle.price_time_book.specs.declared.resting.Resting.{Resting}
 use Rattle.price_time_book.specs.Indexed.{IsOpenAt, key, nothing, open_orders}
 use Rattle.price_time_book.specs.Matched.{fill_of}
 use Rattle.price_time_book.specs.Next.{top_of}
+use Rattle.std.proofs.lemmas.Bool.{cases_eq}
+use Rattle.price_time_book.proofs.Counts.{depth_kept, depth_left, depth_other}
+use Rattle.price_time_book.proofs.Firsts.{key_side}
 use Rattle.price_time_book.proofs.Takes.{IsLowered, next_beyond, next_is, next_none, no_level, others_lowered, placed_seen, taken, top_seen}
 use Rattle.price_time_book.proofs.levels.take_first.Goals as goal
 
@@ -134,3 +137,46 @@ returns-clause-small c =
     let left = ap (λ (q : Resting). q.left) same in
     let lowered : IsLowered os c.set_left.new.orders.items o (o.left - c.min-taken.result) o.intended = taken os c.set_left.new.orders.items i o (o.left - c.min-taken.result) same c.requires.orderly here.within (omega (arith, c.min-taken.ensures, c.requires.some, here.left, left)) c.set_left.ensures.orders in
     lowered.small
+
+pub count_out-requires : goal.count_out-requires
+count_out-requires c = λ z.
+    let os = c.args.orders.now.items in
+    let ls = c.first_in.new.levels.items in
+    let i = c.in_ok-at.place in
+    let placed : (d : Level) → IsOpenAt os (key c.args.mine (get_or ls c.in_ok-at.at d).price) i = placed_seen c.args.mine c.as_slice.result.now os ls ls c.in_ok-at.at i c.as_slice.ensures.value refl c.in_ok-at.ensures.placed in
+    let here = placed no_level in
+    let o = c.index-resting.result.now in
+    let same : o ≡ get_or os i nothing = c.index-resting.ensures ∙ get_or_default os i o nothing here.within in
+    let left = ap (λ (q : Resting). q.left) same in
+    let side = key_side c.args.mine (get_or ls c.in_ok-at.at no_level).price (get_or os i nothing) here.price in
+    omega (arith, depth_left c.args.mine os c.set_left.new.orders.items i (o.left - c.min-taken.result) o.intended here.within here.left side z c.set_left.ensures.orders, c.requires.count)
+
+pub returns-clause-count : goal.returns-clause-count
+returns-clause-count c =
+    let os = c.args.orders.now.items in
+    let ls = c.first_in.new.levels.items in
+    let i = c.in_ok-at.place in
+    let placed : (d : Level) → IsOpenAt os (key c.args.mine (get_or ls c.in_ok-at.at d).price) i = placed_seen c.args.mine c.as_slice.result.now os ls ls c.in_ok-at.at i c.as_slice.ensures.value refl c.in_ok-at.ensures.placed in
+    let here = placed no_level in
+    let o = c.index-resting.result.now in
+    let same : o ≡ get_or os i nothing = c.index-resting.ensures ∙ get_or_default os i o nothing here.within in
+    let left = ap (λ (q : Resting). q.left) same in
+    let v = o.left - c.min-taken.result in
+    let side = key_side c.args.mine (get_or ls c.in_ok-at.at no_level).price (get_or os i nothing) here.price in
+    elim (cases_eq v 0) [
+      | inl z ↦ omega (arith, c.count_out.ensures.left z, depth_left c.args.mine os c.set_left.new.orders.items i v o.intended here.within here.left side z c.set_left.ensures.orders, c.requires.count)
+      | inr n ↦ c.count_out.ensures.kept n ∙ c.requires.count ∙ sym (depth_kept c.args.mine os c.set_left.new.orders.items i v o.intended here.within here.left n c.set_left.ensures.orders)
+    ]
+
+pub returns-clause-other_count : goal.returns-clause-other_count
+returns-clause-other_count c = λ t n.
+    let os = c.args.orders.now.items in
+    let ls = c.first_in.new.levels.items in
+    let i = c.in_ok-at.place in
+    let placed : (d : Level) → IsOpenAt os (key c.args.mine (get_or ls c.in_ok-at.at d).price) i = placed_seen c.args.mine c.as_slice.result.now os ls ls c.in_ok-at.at i c.as_slice.ensures.value refl c.in_ok-at.ensures.placed in
+    let here = placed no_level in
+    let o = c.index-resting.result.now in
+    let same : o ≡ get_or os i nothing = c.index-resting.ensures ∙ get_or_default os i o nothing here.within in
+    let left = ap (λ (q : Resting). q.left) same in
+    let side = key_side c.args.mine (get_or ls c.in_ok-at.at no_level).price (get_or os i nothing) here.price in
+    depth_other t os c.set_left.new.orders.items i (o.left - c.min-taken.result) o.intended here.within (λ e. n (sym e ∙ side)) c.set_left.ensures.orders

@@ -5,6 +5,7 @@ use Rattle.market_types.specs.declared.order.Side.TheVariants.{Buy, Sell}
 use Rattle.price_time_book.specs.declared.resting.Resting.{Resting}
 use Rattle.price_time_book.specs.Indexed.{IsIndexed, nothing, open_orders}
 use Rattle.price_time_book.specs.Orders.{changed}
+use Rattle.price_time_book.proofs.Indexes.{references_lessened, tokens_lessened}
 use Rattle.price_time_book.proofs.Takes.{IsHeld, held, others_buy, others_sell}
 use Rattle.price_time_book.proofs.book.Book.reduce.Goals as goal
 
@@ -53,6 +54,12 @@ invariant_of-self c =
       nexts_room = c.self.invariant.nexts_room;
       buys_room = search rules;
       sells_room = search rules;
+      references_room = c.self.invariant.references_room;
+      tokens_room = c.self.invariant.tokens_room;
+      buy_count = c.lower_at.ensures.count;
+      sell_count = c.self.invariant.sell_count ∙ sym (c.lower_at.ensures.other_count Sell (others_buy Buy refl));
+      references = references_lessened k.orders.items c.lower_at.new.orders.items k.references.items c.lower_at.ensures.lessened c.self.invariant.references;
+      tokens = tokens_lessened k.orders.items c.lower_at.new.orders.items k.tokens.items c.lower_at.ensures.lessened c.self.invariant.tokens;
       buys = subst (λ n. IsIndexed Buy c.lower_at.new.orders.items n c.lower_at.new.levels.items) c.as_slice-nexts.ensures.value c.lower_at.ensures.indexed;
       sells = subst (λ n. IsIndexed Sell c.lower_at.new.orders.items n k.sells.items) c.as_slice-nexts.ensures.value (c.lower_at.ensures.others Sell k.sells.items (others_buy Buy refl) (subst (λ n. IsIndexed Sell k.orders.items n k.sells.items) (sym c.as_slice-nexts.ensures.value) c.self.invariant.sells));
       orderly = c.lower_at.ensures.orderly;
@@ -97,6 +104,12 @@ invariant_of-self-in-Sell c =
       nexts_room = c.self.invariant.nexts_room;
       buys_room = search rules;
       sells_room = search rules;
+      references_room = c.self.invariant.references_room;
+      tokens_room = c.self.invariant.tokens_room;
+      sell_count = c.lower_at-in-Sell.ensures.count;
+      buy_count = c.self.invariant.buy_count ∙ sym (c.lower_at-in-Sell.ensures.other_count Buy (others_sell Sell refl));
+      references = references_lessened k.orders.items c.lower_at-in-Sell.new.orders.items k.references.items c.lower_at-in-Sell.ensures.lessened c.self.invariant.references;
+      tokens = tokens_lessened k.orders.items c.lower_at-in-Sell.new.orders.items k.tokens.items c.lower_at-in-Sell.ensures.lessened c.self.invariant.tokens;
       sells = subst (λ n. IsIndexed Sell c.lower_at-in-Sell.new.orders.items n c.lower_at-in-Sell.new.levels.items) c.as_slice-nexts.ensures.value c.lower_at-in-Sell.ensures.indexed;
       buys = subst (λ n. IsIndexed Buy c.lower_at-in-Sell.new.orders.items n k.buys.items) c.as_slice-nexts.ensures.value (c.lower_at-in-Sell.ensures.others Buy k.buys.items (others_sell Sell refl) (subst (λ n. IsIndexed Buy k.orders.items n k.buys.items) (sym c.as_slice-nexts.ensures.value) c.self.invariant.buys));
       orderly = c.lower_at-in-Sell.ensures.orderly;

@@ -1,9 +1,13 @@
-use Rattle.std.proofs.Common.{◌≡◌, ◌≢◌, ◌<◌, ◌≤◌, ◌-◌, ◌++◌, ◌∷◌, [], All, List, length, sym, ap, ◌∙◌, subst, refl, arith, rules}
+use Rattle.std.proofs.Common.{◌≡◌, ◌≢◌, ◌+◌, None, ◌<◌, ◌≤◌, ◌-◌, ◌++◌, ◌∷◌, [], All, List, length, sym, ap, ◌∙◌, subst, refl, arith, rules}
 use Rattle.market_types.specs.Room.{Room}
 use Rattle.market_types.specs.declared.order.Side.{Side}
 use Rattle.market_types.specs.declared.order.Side.TheVariants.{Buy, Sell}
 use Rattle.price_time_book.specs.declared.resting.Resting.{Resting}
+use Rattle.price_time_book.specs.Index.{IsByReference, IsByToken}
 use Rattle.price_time_book.specs.Indexed.{IsIndexed, IsSmall, open_orders}
+use Rattle.price_time_book.specs.Orders.{order_of}
+use Rattle.price_time_book.specs.Sides.{depth_of}
+use Rattle.price_time_book.proofs.Counts.{depth-push_off, depth-push_on}
 use Rattle.price_time_book.specs.Orderly.{IsOrderly}
 use Rattle.price_time_book.proofs.Changes.{each-push, orderly-push}
 use Rattle.price_time_book.proofs.Joins.{open_orders-push}
@@ -22,12 +26,19 @@ invariant_of-self c =
     let order = c.args.order in
     let few : length (open_orders k.orders.items) < 4294967296 = subst (λ (r : Room Resting). length r.list < 4294967296) (sym c.self.view_is) c.requires.few in
     let later = subst (λ (r : Room Resting). All (λ (o : Resting). o.reference < order.reference) r.list) (sym c.self.view_is) c.requires.later in
+    let fresh = subst (λ (r : Room Resting). order_of order.agent order.token r.list ≡ None) (sym c.self.view_is) c.requires.fresh in
     let list : open_orders c.join.new.orders.items ≡ open_orders k.orders.items ++ order ∷ [] = ap open_orders c.join.ensures.orders ∙ open_orders-push k.orders.items order c.requires.shares in
     record {
       orders_room = search rules;
       nexts_room = search rules;
       buys_room = search rules;
       sells_room = search rules;
+      references_room = search rules;
+      tokens_room = search rules;
+      buy_count = ap (λ n. n + 1) c.self.invariant.buy_count ∙ sym (depth-push_on Buy (open_orders k.orders.items) order c.in-Buy.is) ∙ ap (depth_of Buy) (sym list);
+      sell_count = c.self.invariant.sell_count ∙ sym (depth-push_off Sell (open_orders k.orders.items) order (λ q. others_buy order.side c.in-Buy.is (sym q))) ∙ ap (depth_of Sell) (sym list);
+      references = subst (λ (w : List Resting). IsByReference w c.enter_reference.new.entries.items) (sym c.join.ensures.orders) (c.enter_reference.ensures.indexed k.orders.items (search rules) c.self.invariant.references later);
+      tokens = subst (λ (w : List Resting). IsByToken w c.enter_token.new.entries.items) (sym c.join.ensures.orders) (c.enter_token.ensures.indexed k.orders.items (search rules) c.self.invariant.tokens fresh);
       buys = subst (λ (s : Side). IsIndexed s c.join.new.orders.items c.join.new.nexts.items c.join.new.levels.items) c.in-Buy.is c.join.ensures.indexed;
       sells = c.join.ensures.others Sell k.sells.items (others_buy order.side c.in-Buy.is) c.self.invariant.sells;
       orderly = subst IsOrderly (sym list) (orderly-push (open_orders k.orders.items) order c.self.invariant.orderly c.requires.shares c.requires.intended few later);
@@ -50,12 +61,19 @@ invariant_of-self-in-Sell c =
     let order = c.args.order in
     let few : length (open_orders k.orders.items) < 4294967296 = subst (λ (r : Room Resting). length r.list < 4294967296) (sym c.self.view_is) c.requires.few in
     let later = subst (λ (r : Room Resting). All (λ (o : Resting). o.reference < order.reference) r.list) (sym c.self.view_is) c.requires.later in
+    let fresh = subst (λ (r : Room Resting). order_of order.agent order.token r.list ≡ None) (sym c.self.view_is) c.requires.fresh in
     let list : open_orders c.join-in-Sell.new.orders.items ≡ open_orders k.orders.items ++ order ∷ [] = ap open_orders c.join-in-Sell.ensures.orders ∙ open_orders-push k.orders.items order c.requires.shares in
     record {
       orders_room = search rules;
       nexts_room = search rules;
       buys_room = search rules;
       sells_room = search rules;
+      references_room = search rules;
+      tokens_room = search rules;
+      sell_count = ap (λ n. n + 1) c.self.invariant.sell_count ∙ sym (depth-push_on Sell (open_orders k.orders.items) order c.in-Sell.is) ∙ ap (depth_of Sell) (sym list);
+      buy_count = c.self.invariant.buy_count ∙ sym (depth-push_off Buy (open_orders k.orders.items) order (λ q. others_sell order.side c.in-Sell.is (sym q))) ∙ ap (depth_of Buy) (sym list);
+      references = subst (λ (w : List Resting). IsByReference w c.enter_reference.new.entries.items) (sym c.join-in-Sell.ensures.orders) (c.enter_reference.ensures.indexed k.orders.items (search rules) c.self.invariant.references later);
+      tokens = subst (λ (w : List Resting). IsByToken w c.enter_token.new.entries.items) (sym c.join-in-Sell.ensures.orders) (c.enter_token.ensures.indexed k.orders.items (search rules) c.self.invariant.tokens fresh);
       sells = subst (λ (s : Side). IsIndexed s c.join-in-Sell.new.orders.items c.join-in-Sell.new.nexts.items c.join-in-Sell.new.levels.items) c.in-Sell.is c.join-in-Sell.ensures.indexed;
       buys = c.join-in-Sell.ensures.others Buy k.buys.items (others_sell order.side c.in-Sell.is) c.self.invariant.buys;
       orderly = subst IsOrderly (sym list) (orderly-push (open_orders k.orders.items) order c.self.invariant.orderly c.requires.shares c.requires.intended few later);
