@@ -131,10 +131,10 @@ all_after key place cmp of t os es x q at f i d h w e =
 
 -- where the entry at the place does not tie none does
 pub none_ties : {E K : Type 0} (key : E → K) (place : E → ℕ) (cmp : K → K → Ordering) (of : Resting → K) → IsTotalOrder cmp → (os : List Resting) (es : List E) → IsIndex key place cmp of os es → (q : K) (at : ℕ) → IsFrom key cmp es q at → ((d : E) → at < length es → cmp (key (get_or es at d)) q ≢ Equal) → (i : ℕ) (d : E) → i < length es → cmp (key (get_or es i d)) q ≢ Equal
-none_ties key place cmp of t os es x q at f no i d h e = elim (cases_lt i at) [
+none_ties key place cmp of t os es x q at f free i d h e = elim (cases_lt i at) [
   | inl a ↦ less_apart (cmp (key (get_or es i d)) q) (all_before key place cmp of t os es x q at f i d a) e
   | inr a ↦ elim (cases_eq i at) [
-    | inl s ↦ no d (omega arith) (ap (λ k. cmp (key (get_or es k d)) q) (sym s) ∙ e)
+    | inl s ↦ free d (omega arith) (ap (λ k. cmp (key (get_or es k d)) q) (sym s) ∙ e)
     | inr n ↦
         let more : cmp (key (get_or es i d)) (key (get_or es at d)) ≡ Greater = turned_less cmp t (key (get_or es at d)) (key (get_or es i d)) (x.rising at i d (omega arith) h) in
         let back : cmp q (key (get_or es at d)) ≡ Greater = sym (t.congr (key (get_or es i d)) q (key (get_or es at d)) e) ∙ more in
@@ -143,7 +143,7 @@ none_ties key place cmp of t os es x q at f no i d h e = elim (cases_lt i at) [
 ]
 
 pub parted : {E K : Type 0} (key : E → K) (place : E → ℕ) (cmp : K → K → Ordering) (of : Resting → K) → IsTotalOrder cmp → (os : List Resting) (es : List E) → IsIndex key place cmp of os es → (q : K) (at : ℕ) → IsFrom key cmp es q at → ((d : E) → at < length es → cmp (key (get_or es at d)) q ≢ Equal) → IsPartitionPoint (λ (y : E). cmp (key y) q ≡ Less) (λ (y : E). cmp (key y) q ≡ Greater) es at
-parted key place cmp of t os es x q at f no = (λ k d a b. all_before key place cmp of t os es x q at f k d b, λ k d a b. neither (cmp (key (get_or es k d)) q) (all_after key place cmp of t os es x q at f k d a b) (none_ties key place cmp of t os es x q at f no k d b))
+parted key place cmp of t os es x q at f free = (λ k d a b. all_before key place cmp of t os es x q at f k d b, λ k d a b. neither (cmp (key (get_or es k d)) q) (all_after key place cmp of t os es x q at f k d a b) (none_ties key place cmp of t os es x q at f free k d b))
 
 -- ---- a search of the open orders
 pub find_only : (q : Resting → Bool) (os : List Resting) (p : ℕ) → p < length os → 0 < (get_or os p nothing).left → q (get_or os p nothing) ≡ true → ((k : ℕ) → k < length os → 0 < (get_or os k nothing).left → q (get_or os k nothing) ≡ true → k ≡ p) → find q (open_orders os) ≡ Some (get_or os p nothing)
@@ -402,8 +402,8 @@ closed_by key place cmp of t os es x q p g at d h e z =
     find_nobody p os (λ k w m s. (let one : k ≡ place (get_or es at d) = only_place key place cmp of t os es x at d q h e k w m (g.ties (get_or os k nothing) s) in omega (arith, m, z, ap (λ j. (get_or os j nothing).left) one)))
 
 pub absent_by : {E K : Type 0} (key : E → K) (place : E → ℕ) (cmp : K → K → Ordering) (of : Resting → K) → IsTotalOrder cmp → (os : List Resting) (es : List E) → IsIndex key place cmp of os es → (q : K) (p : Resting → Bool) → AgreesWith cmp of q p → (at : ℕ) (d : E) → IsFrom key cmp es q at → ((d : E) → at < length es → cmp (key (get_or es at d)) q ≢ Equal) → find p (open_orders os) ≡ None
-absent_by key place cmp of t os es x q p g at d f no =
-    find_nobody p os (λ k w m s. no_place key place cmp of os es x d q (λ i h. none_ties key place cmp of t os es x q at f no i d h) k w m (g.ties (get_or os k nothing) s))
+absent_by key place cmp of t os es x q p g at d f free =
+    find_nobody p os (λ k w m s. no_place key place cmp of os es x d q (λ i h. none_ties key place cmp of t os es x q at f free i d h) k w m (g.ties (get_or os k nothing) s))
 
 pub agrees_reference : (reference : ℕ) → AgreesWith nat_cmp (λ (o : Resting). o.reference) reference (λ (o : Resting). eqb o.reference reference)
 agrees_reference reference = record {
