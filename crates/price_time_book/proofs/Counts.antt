@@ -73,21 +73,3 @@ depth_other s os new i v w h off is =
     let a : one_at s x ≡ 0 = off_zero (eqb v 0) (is_on s (get_or os i nothing)) y in
     let b : one_at s (get_or os i nothing) ≡ 0 = off_zero (eqb (get_or os i nothing).left 0) (is_on s (get_or os i nothing)) y in
     ap (λ w. depth_of s (open_orders w)) is ∙ omega (arith, depth-set s os i x h, a, b)
-
--- ---- orders that give shares
-lessened_itself : (o : Resting) → IsLessened o o
-lessened_itself o = record { reference = refl; agent = refl; token = refl; left = omega arith }
-
-pub all_lessened : (os new : List Resting) → new ≡ os → AreLessened os new
-all_lessened os new e = subst (λ (u : List Resting). AreLessened os u) (sym e) (record { same = refl; each = λ k. lessened_itself (get_or os k nothing) })
-
-pub lessened_at : (os new : List Resting) (i v w : ℕ) → i < length os → v ≤ (get_or os i nothing).left → new ≡ with_left os i v w → AreLessened os new
-lessened_at os new i v w h le is =
-    let x : Resting = record (get_or os i nothing) { left = v; intended = w } in
-    subst (λ (u : List Resting). AreLessened os u) (sym is) (record {
-      same = length-set os i x;
-      each = λ k. elim (cases_eq k i) [
-        | inl e ↦ subst (λ j. IsLessened (get_or os j nothing) (get_or (set os i x) j nothing)) (sym e) (subst (λ (y : Resting). IsLessened (get_or os i nothing) y) (sym (get_or-set_same os i x nothing h)) (record { reference = refl; agent = refl; token = refl; left = le }))
-        | inr n ↦ subst (λ (y : Resting). IsLessened (get_or os k nothing) y) (sym (get_or-set_other os i k x nothing n)) (lessened_itself (get_or os k nothing))
-      ];
-    })

@@ -12,17 +12,6 @@ use Rattle.market_types.specs.declared.order.Side.TheVariants.{Buy, Sell}
 use Rattle.price_time_book.specs.Indexed.{bit, key, key_of, open_orders, prices, shares_by, IsImproving, IsNoBetter, IsWorse, nothing, IsOpenAt, IsClear, IsPlacedAt, IsFree, IsRight, IsLinked, IsIndexed}
 use Rattle.price_time_book.proofs.Prices.{rising_head, rising_le, worse_after, worse_apart, worse_before, worse-trans}
 
--- places after a push
-pub open-push-old : (os : List Resting) (x : Resting) (p k : ℕ) → IsOpenAt os p k → IsOpenAt (os ++ x ∷ []) p k
-open-push-old os x p k h =
-    let same : get_or (os ++ x ∷ []) k nothing ≡ get_or os k nothing = get_or_append_left os (x ∷ []) nothing k h.within in
-    record { within = omega (arith, h.within, length_push os x); left = subst (λ (o : Resting). 0 < o.left) (sym same) h.left; price = ap key_of same ∙ h.price }
-
-pub open-push-new : (os : List Resting) (x : Resting) → 0 < x.left → IsOpenAt (os ++ x ∷ []) (key_of x) (length os)
-open-push-new os x h =
-    let same : get_or (os ++ x ∷ []) (length os) nothing ≡ x = get_or_push os x nothing (length os) refl in
-    record { within = omega (arith, length_push os x); left = subst (λ (o : Resting). 0 < o.left) (sym same) h; price = ap key_of same }
-
 pub open-push-cases : (os : List Resting) (x : Resting) (p k : ℕ) → IsOpenAt (os ++ x ∷ []) p k → IsOpenAt os p k ⊎ ((k ≡ length os) × (key_of x ≡ p))
 open-push-cases os x p k h = elim (cases_lt k (length os)) [
   | inl l ↦

@@ -40,10 +40,6 @@ pub no_better_itself : (s : Side) (p : ℕ) → IsNoBetter s p p
 no_better_itself Buy p = omega arith
 no_better_itself Sell p = omega arith
 
-pub worse_or_same : (s : Side) (p q : ℕ) → IsNoBetter s p q → p ≢ q → IsWorse s p q
-worse_or_same Buy p q h n = omega arith
-worse_or_same Sell p q h n = omega arith
-
 pub rising_head : (s : Side) (p : ℕ) (ps : List ℕ) (k : ℕ) → IsImproving s (p ∷ ps) → k < length (p ∷ ps) → IsNoBetter s p (get_or (p ∷ ps) k 0)
 rising_head s p ps zero r h = no_better_itself s p
 rising_head s p ps (suc k) r h = worse_is s p (get_or ps k 0) (All-from_recursion (λ (q : ℕ). IsWorse s p q) ps r.0 k 0 (omega arith))
@@ -58,16 +54,6 @@ pub rising_top : (s : Side) (ps : List ℕ) (p : ℕ) → IsImproving s ps → C
 rising_top s ps p r c =
     let value : get_or ps c.0 0 ≡ p = get_or_default ps c.0 0 p c.1 ∙ c.2 in
     subst (λ q. IsNoBetter s q (get_or ps (length ps - 1) 0)) value (rising_le s ps c.0 (length ps - 1) r (omega (arith, c.1)) (omega (arith, c.1)))
-
--- what holds of each open place holds of the open orders
-pub each_open : (P : Resting → Type 0) (os : List Resting) → ((k : ℕ) → k < length os → 0 < (get_or os k nothing).left → P (get_or os k nothing)) → AllByRecursion P (open_orders os)
-each_open P [] f = tt
-each_open P (o ∷ os) f =
-    let rest = each_open P os (λ k h l. f (suc k) (omega arith) l) in
-    elim (cases_eq o.left 0) [
-      | inl e ↦ (let t : eqb o.left 0 ≡ true = grind (arith, nat_tests) in rw t rest)
-      | inr e ↦ (let t : eqb o.left 0 ≡ false = grind (arith, nat_tests) in rw t (f zero (omega arith) (omega (arith, e)), rest))
-    ]
 
 pub shares_open : (os : List Resting) (p k : ℕ) → IsOpenAt os p k → 0 < shares_by p (open_orders os)
 shares_open [] p k h = absurd (omega (arith, h.within))

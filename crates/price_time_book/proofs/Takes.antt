@@ -11,7 +11,11 @@ use Rattle.market_types.specs.declared.order.Side.TheVariants.{Buy, Sell}
 use Rattle.price_time_book.specs.declared.resting.Resting.{Resting}
 use Rattle.price_time_book.specs.declared.levels.Level.{Level}
 use Rattle.price_time_book.specs.Indexed.{bit, key, key_of, open_orders, prices, shares_by, IsImproving, IsNoBetter, IsWorse, nothing, IsOpenAt, IsRight, IsIndexed, IsSmall}
-use Rattle.price_time_book.specs.Next.{next_of, top_of}
+use Rattle.std.specs.Option.{option_map_or}
+use Rattle.std.proofs.lemmas.List.Elements.{recursion_from_All}
+use Rattle.price_time_book.specs.declared.resting.Best.{Best}
+use Rattle.price_time_book.specs.Next.{best_at, crosses, crossing_of, next_of, shares_at, top_of}
+use Rattle.price_time_book.proofs.Bests.{none_crosses}
 use Rattle.price_time_book.specs.Orderly.{IsOrderly, IsRising}
 use Rattle.price_time_book.specs.Orders.{changed, order_with}
 use Rattle.price_time_book.specs.Sides.{is_within, opposite_of}
@@ -83,10 +87,6 @@ shares_few p (o ∷ w) a = elim (eqb (key_of o) p) as (λ b. cond b o.left 0 + s
 pub levels_fit : (s : Side) (os : List Resting) (nx : List ℕ) (ls : List Level) → IsIndexed s os nx ls → IsSmall (open_orders os) → length (open_orders os) < 4294967296 → All (λ (l : Level). l.shares < 18446744069414584320) ls
 levels_fit s os nx ls x small few = λ k d h. omega (arith, (x.right k d h).shares, shares_few (key s (get_or ls k d).price) (open_orders os) small, few)
 
--- ---- no orders
-pub indexed_none : (s : Side) → IsIndexed s [] [] []
-indexed_none s = record { same = refl; rising = tt; right = λ k d h. absurd (omega arith); covered = λ p k o. absurd (omega (arith, o.within)) }
-
 pub taken : (os new : List Resting) (i : ℕ) (o : Resting) (v : ℕ) → o ≡ get_or os i nothing → IsOrderly (open_orders os) → i < length os → v < o.left → new ≡ with_left os i v o.intended → IsLowered os new o v o.intended
 taken os new i o v same h in_range less is =
     let left = ap (λ (q : Resting). q.left) same in
@@ -107,13 +107,6 @@ no_level = record { price = 0; first = 0; last = 0; shares = 0 }
 -- ---- searches that pass over closed orders
 abbrev is_open : Resting → Bool
 is_open o = not (eqb o.left 0)
-
-pub find_open : (p : Resting → Bool) (os : List Resting) → find (λ (o : Resting). is_open o && p o) os ≡ find p (open_orders os)
-find_open p [] = refl
-find_open p (o ∷ os) = elim (eqb o.left 0) as (λ b. cond (not b && p o) (Some o) (find (λ (x : Resting). is_open x && p x) os) ≡ find p (cond b (open_orders os) (o ∷ open_orders os))) [
-  | true ↦ find_open p os
-  | false ↦ ap (λ r. cond (p o) (Some o) r) (find_open p os)
-]
 
 pub filter_open : (os : List Resting) → filter is_open os ≡ open_orders os
 filter_open [] = refl
@@ -154,3 +147,16 @@ others_buy t e f = cc
 
 pub others_sell : (t : Side) → t ≡ Sell → Buy ≢ t
 others_sell t e f = cc
+
+-- ---- orders that cross
+-- where the best price of the other side does not cross nothing does
+pub none_cross : (side : Side) (limit : ℕ) (w : List Resting) → option_map_or (λ (b : Best). is_within side limit b.price) (best_at (opposite_of side) w) false ≡ false → crossing_of side limit w ≡ 0
+none_cross side limit w h = none_counted (crosses side limit) w (recursion_from_All (λ (o : Resting). crosses side limit o ≡ false) w (none_crosses w side limit (by_top (top_of (opposite_of side) w) refl)))
+  where
+    none_counted : (p : Resting → Bool) (w : List Resting) → AllByRecursion (λ (o : Resting). p o ≡ false) w → count_by p w ≡ 0
+    none_counted p [] a = refl
+    none_counted p (o ∷ w) a = sum_by-cons (λ (x : Resting). cond (p x) 1 0) o w ∙ ap (λ b. cond b 1 0 + count_by p w) a.0 ∙ omega (arith, none_counted p w a.1)
+
+    by_top : (top : Option Resting) → top_of (opposite_of side) w ≡ top → next_of w side limit ≡ None
+    by_top None e = next_none side (opposite_of side) limit w refl e
+    by_top (Some o) e = next_beyond side (opposite_of side) limit w o refl e (sym (ap (λ (t : Option Resting). option_map_or (λ (b : Best). is_within side limit b.price) (option_map (λ (y : Resting). let b : Best = record { price = y.price; shares = shares_at (opposite_of side) y.price w } in b) t) false) e) ∙ h)

@@ -10,9 +10,10 @@ ghost use Rattle.price_time_book.specs.Orders.{order_of, order_with, changed, re
 ghost use Rattle.price_time_book.specs.Sides.{depth_of};
 
 use crate::index::{ReferenceEntry, TokenEntry, enter_reference, enter_token};
-use crate::levels::{Level, best_in, fits, join, lower_at, take_first};
+use crate::levels::{Level, best_in, fits, join};
+use crate::lowering::{lower_at, take_first};
 use crate::resting::{Best, Fill, Resting};
-use crate::search::{crossing_in, held_at, open_of, order_of};
+use crate::search::{crossing_in, held_at, is_crossed, open_of, order_of};
 use market_types::{AgentNo, Memory, Side, Token, copied};
 use std::alloc::Global;
 use std::marker::Model;
@@ -269,6 +270,9 @@ impl Book {
     pub fn crossing(&self, side: Side, limit: u32) -> usize
         ensures { result ≡ crossing_of side limit self.now.list }
     {
+        if !is_crossed(self.best(side.opposite()), side, limit) {
+            return 0;
+        }
         crossing_in(self.orders.as_slice(), side, limit)
     }
 

@@ -10,6 +10,7 @@ mod index;
 pub mod keeping;
 pub mod laws;
 mod levels;
+mod lowering;
 mod resting;
 mod search;
 #[cfg(test)]

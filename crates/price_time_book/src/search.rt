@@ -1,6 +1,7 @@
 //! Searches in a list of orders.
 
-ghost use Rattle.std.specs.Prelude.{◌≡◌, ◌==◌, ◌&&◌, not, count_by, filter, IfOk, IfSome, Some, option_map, slice_get};
+ghost use Rattle.std.specs.Prelude.{◌≡◌, ◌==◌, ◌&&◌, not, count_by, filter, IfOk, IfSome, Some, false, option_map, slice_get};
+ghost use Rattle.std.specs.Option.{option_map_or};
 ghost use Rattle.price_time_book.specs.Index.{IsByReference, IsByToken};
 ghost use Rattle.price_time_book.specs.Indexed.{open_orders};
 ghost use Rattle.price_time_book.specs.Orders.{order_of, order_with};
@@ -8,7 +9,7 @@ ghost use Rattle.price_time_book.specs.Next.{crosses, crossing_of};
 ghost use Rattle.price_time_book.specs.Sides.{is_within};
 
 use crate::index::{ReferenceEntry, TokenEntry, by_reference, by_token};
-use crate::resting::Resting;
+use crate::resting::{Best, Resting};
 use market_types::{AgentNo, Memory, Side, Token};
 use std::alloc::{AllocError, Global};
 
@@ -27,6 +28,16 @@ fn crosses(side: Side, limit: u32, order: &Resting) -> bool
     ensures { result ≡ crosses side limit order.now }
 {
     order.side == side.opposite() && is_within(side, limit, order.price)
+}
+
+// Whether a best price crosses an incoming order of this side with this limit.
+pub fn is_crossed(best: Option<Best>, side: Side, limit: u32) -> bool
+    ensures { result ≡ option_map_or (λ b. is_within side limit b.price) best false }
+{
+    match best {
+        None => false,
+        Some(best) => is_within(side, limit, best.price),
+    }
 }
 
 // How many orders are open and cross an incoming order of this side with this limit.

@@ -7,7 +7,7 @@ use Rattle.price_time_book.proofs.Firsts.{key_at}
 use Rattle.std.proofs.lemmas.Bool.{cases_eq}
 use Rattle.price_time_book.proofs.Counts.{depth_kept, depth_left, depth_other}
 use Rattle.price_time_book.proofs.Takes.{IsLowered, level_found, lowered, no_level, others_lowered}
-use Rattle.price_time_book.proofs.levels.lower_at.Goals as goal
+use Rattle.price_time_book.proofs.lowering.lower_at.Goals as goal
 
 pub set_left-requires-clause-level : goal.set_left-requires-clause-level
 set_left-requires-clause-level c =

@@ -4,7 +4,7 @@ use Rattle.price_time_book.specs.declared.levels.Level.{Level}
 use Rattle.price_time_book.specs.Indexed.{IsOpenAt, key}
 use Rattle.price_time_book.proofs.Firsts.{best_level_at, first_by_level, top_first, top_none}
 use Rattle.price_time_book.proofs.Lowers.{indexed_front}
-use Rattle.price_time_book.proofs.levels.first_in.Goals as goal
+use Rattle.price_time_book.proofs.lowering.first_in.Goals as goal
 
 pub returns-then-is_empty-clause-none : goal.returns-then-is_empty-clause-none
 returns-then-is_empty-clause-none c =

@@ -1,7 +1,7 @@
 use Rattle.std.proofs.Common.{◌≡◌, get_or, arith, rules}
 use Rattle.price_time_book.specs.Indexed.{nothing}
 use Rattle.price_time_book.proofs.Lowers.{chain_on}
-use Rattle.price_time_book.proofs.levels.front.Goals as goal
+use Rattle.price_time_book.proofs.lowering.front.Goals as goal
 
 pub loop-at-preserved : goal.loop-at-preserved
 loop-at-preserved c =

@@ -10,7 +10,7 @@ use Rattle.std.proofs.lemmas.Bool.{cases_eq}
 use Rattle.price_time_book.proofs.Counts.{depth_kept, depth_left, depth_other}
 use Rattle.price_time_book.proofs.Firsts.{key_side}
 use Rattle.price_time_book.proofs.Takes.{IsLowered, next_beyond, next_is, next_none, no_level, others_lowered, placed_seen, taken, top_seen}
-use Rattle.price_time_book.proofs.levels.take_first.Goals as goal
+use Rattle.price_time_book.proofs.lowering.take_first.Goals as goal
 
 pub returns-in_err-at-clause-next : goal.returns-in_err-at-clause-next
 returns-in_err-at-clause-next c =

@@ -5,7 +5,7 @@ use Rattle.price_time_book.specs.declared.levels.Level.{Level}
 use Rattle.price_time_book.specs.declared.resting.Resting.{Resting}
 use Rattle.price_time_book.specs.Indexed.{IsOpenAt, IsIndexed, key, nothing}
 use Rattle.price_time_book.proofs.Lowers.{indexed_close}
-use Rattle.price_time_book.proofs.levels.close.Goals as goal
+use Rattle.price_time_book.proofs.lowering.close.Goals as goal
 
 pub index-order-requires : goal.index-order-requires
 index-order-requires c = omega (arith, (c.requires.place (record { price = 0; first = 0; last = 0; shares = 0 })).within, c.args.orders.now.ok.0)

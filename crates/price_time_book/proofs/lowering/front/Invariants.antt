@@ -1,6 +1,6 @@
 use Rattle.std.proofs.Common.{◌≤◌, ◌-◌, length}
 use Rattle.price_time_book.specs.Indexed.{IsPlacedAt, IsClear, key}
-use Rattle.price_time_book.proofs.levels.front.Given as goal
+use Rattle.price_time_book.proofs.lowering.front.Given as goal
 
 abbrev pub invariant-loop-at : goal.invariant-loop-at
 invariant-loop-at l = record {
