@@ -1,4 +1,4 @@
--- Lemmas on an order that is found, and on the place at which it stands.
+-- Lemmas on an order that is found.
 use Rattle.std.proofs.Common.{◌≡◌, ℕ, ◌<◌, ◌≤◌, Bool, true, false, cond, ltb, eqb, List, [], ◌∷◌, Option, Some, None, length, sym, ap, ◌∙◌, arith, inl, inr, find, subst, option_map, IfSome}
 use denote.Bor.{Bor}
 use Rattle.std.specs.Prelude.{position, slice_get}
@@ -10,9 +10,6 @@ use Rattle.std.proofs.lemmas.Option.{slice_get_past}
 use Rattle.price_time_book.specs.declared.resting.Resting.{Resting}
 use Rattle.price_time_book.specs.Orderly.{IsOrderly, IsRising}
 use Rattle.price_time_book.specs.Orders.{order_with}
-
-    nowhere : ltb (position_or_len p w) (length w) ≡ false → ⊥
-    nowhere h = let k : cond (ltb (position_or_len p w) (length w)) (Some (position_or_len p w)) None ≡ Some i = e in (let m : cond false (Some (position_or_len p w)) None ≡ Some i = rw h at k in cc)
 
 -- what holds of all orders holds of one that is found
 pub each_found : (P : Resting → Type 0) (p : Resting → Bool) (w : List Resting) (o : Resting) → AllByRecursion P w → find p w ≡ Some o → P o

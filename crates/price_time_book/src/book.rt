@@ -18,7 +18,14 @@ use market_types::{AgentNo, Memory, Side, Token, copied};
 use std::alloc::Global;
 use std::marker::Model;
 
+// How many orders may have left before the vector of arrival is made anew.
+const LEFT_BEHIND: usize = 32;
+
 /// The resting orders of one stock.
+///
+/// The orders stand in one vector in order of arrival, those that have left at 0 open shares. Over it
+/// stand the levels of price of both sides, and an index by reference and one by agent and token. Where
+/// room is made for more orders and most in the vector have left, all of it is made anew.
 #[derive(Drop)]
 pub struct Book {
     orders: Vec<Resting>,
@@ -305,9 +312,9 @@ impl Book {
         open_of(alloc, self.orders.as_slice())
     }
 
-    // Whether more than half of the orders in the vector of arrival have left.
+    // Whether so many orders of the vector of arrival have left, and more than half, that it is made anew.
     fn is_sparse(&self) -> bool {
-        self.orders.len() / 2 > self.len()
+        self.orders.len() / 2 > self.len().saturating_add(LEFT_BEHIND)
     }
 
     // Makes room for `n` more in every vector.

@@ -49,13 +49,9 @@ fn compare_token(entry: &TokenEntry, agent: AgentNo, token: &Token) -> Ordering
 // Where the first entry stands whose key is not below a reference.
 fn reference_from(entries: &[ReferenceEntry], reference: u64) -> usize
     ensures within { result ≤ length entries.now }
-    ensures below {
-        (d : ReferenceEntry) → 0 < result → is_lt (nat_cmp (slice_index_or entries.now (result - 1) d).reference reference) ≡ true
-    }
-    ensures above {
-        (d : ReferenceEntry) → result < length entries.now →
-        is_lt (nat_cmp (slice_index_or entries.now result d).reference reference) ≡ false
-    }
+    ensures below { (d : ReferenceEntry) → 0 < result → is_lt (nat_cmp (slice_index_or entries.now (result - 1) d).reference reference) ≡ true }
+    ensures above { (d : ReferenceEntry) → result < length entries.now →
+        is_lt (nat_cmp (slice_index_or entries.now result d).reference reference) ≡ false }
 {
     let mut low = 0;
     let mut high = entries.len();
@@ -72,15 +68,11 @@ fn reference_from(entries: &[ReferenceEntry], reference: u64) -> usize
 
 // Whether the entry at a place has this key.
 fn has_reference(entries: &[ReferenceEntry], at: usize, reference: u64) -> bool
-    ensures some {
-        result ≡ true →
+    ensures some { result ≡ true →
         (at < length entries.now) ×
-        ((d : ReferenceEntry) → nat_cmp (slice_index_or entries.now at d).reference reference ≡ Equal)
-    }
-    ensures none {
-        (d : ReferenceEntry) → result ≡ false → at < length entries.now →
-        nat_cmp (slice_index_or entries.now at d).reference reference ≢ Equal
-    }
+        ((d : ReferenceEntry) → nat_cmp (slice_index_or entries.now at d).reference reference ≡ Equal) }
+    ensures none { (d : ReferenceEntry) → result ≡ false → at < length entries.now →
+        nat_cmp (slice_index_or entries.now at d).reference reference ≢ Equal }
 {
     at < entries.len() && compare_reference(&entries[at], reference).is_eq()
 }
@@ -88,11 +80,9 @@ fn has_reference(entries: &[ReferenceEntry], at: usize, reference: u64) -> bool
 // An order that joins the end of the vector of arrival is entered.
 pub fn enter_reference(entries: &mut Vec<ReferenceEntry>, order: &Resting, place: usize)
     requires room { vec_len entries.old < vec_capacity entries.old }
-    ensures indexed {
-        (os : List Resting) → place ≡ length os → IsByReference os entries.old.items →
+    ensures indexed { (os : List Resting) → place ≡ length os → IsByReference os entries.old.items →
         All (λ o. o.reference < order.now.reference) (open_orders os) →
-        IsByReference (os ++ order.now ∷ []) entries.new.items
-    }
+        IsByReference (os ++ order.now ∷ []) entries.new.items }
     ensures len { vec_len entries.new ≤ vec_len entries.old + 1 }
     ensures capacity { vec_capacity entries.old ≤ vec_capacity entries.new }
 {
@@ -116,10 +106,8 @@ pub fn by_reference(orders: &[Resting], entries: &[ReferenceEntry], reference: u
     requires { IsByReference orders.now entries.now }
     ensures absent { IfNone result (order_with reference (open_orders orders.now) ≡ None) }
     ensures within { IfSome result (λ p. p < length orders.now) }
-    ensures found {
-        IfSome result (λ p. order_with reference (open_orders orders.now) ≡
-        Some (slice_index_or orders.now p nothing))
-    }
+    ensures found { IfSome result (λ p. order_with reference (open_orders orders.now) ≡
+        Some (slice_index_or orders.now p nothing)) }
 {
     let at = reference_from(entries, reference);
     if !has_reference(entries, at, reference) {
@@ -135,13 +123,9 @@ pub fn by_reference(orders: &[Resting], entries: &[ReferenceEntry], reference: u
 // Where the first entry stands whose key is not below an agent and a token.
 fn token_from(entries: &[TokenEntry], agent: AgentNo, token: &Token) -> usize
     ensures within { result ≤ length entries.now }
-    ensures below {
-        (d : TokenEntry) → 0 < result → is_lt (by_pair (pair_at (slice_index_or entries.now (result - 1) d)) (agent, token.now.0)) ≡ true
-    }
-    ensures above {
-        (d : TokenEntry) → result < length entries.now →
-        is_lt (by_pair (pair_at (slice_index_or entries.now result d)) (agent, token.now.0)) ≡ false
-    }
+    ensures below { (d : TokenEntry) → 0 < result → is_lt (by_pair (pair_at (slice_index_or entries.now (result - 1) d)) (agent, token.now.0)) ≡ true }
+    ensures above { (d : TokenEntry) → result < length entries.now →
+        is_lt (by_pair (pair_at (slice_index_or entries.now result d)) (agent, token.now.0)) ≡ false }
 {
     let mut low = 0;
     let mut high = entries.len();
@@ -158,15 +142,11 @@ fn token_from(entries: &[TokenEntry], agent: AgentNo, token: &Token) -> usize
 
 // Whether the entry at a place has this key.
 fn has_token(entries: &[TokenEntry], at: usize, agent: AgentNo, token: &Token) -> bool
-    ensures some {
-        result ≡ true →
+    ensures some { result ≡ true →
         (at < length entries.now) ×
-        ((d : TokenEntry) → by_pair (pair_at (slice_index_or entries.now at d)) (agent, token.now.0) ≡ Equal)
-    }
-    ensures none {
-        (d : TokenEntry) → result ≡ false → at < length entries.now →
-        by_pair (pair_at (slice_index_or entries.now at d)) (agent, token.now.0) ≢ Equal
-    }
+        ((d : TokenEntry) → by_pair (pair_at (slice_index_or entries.now at d)) (agent, token.now.0) ≡ Equal) }
+    ensures none { (d : TokenEntry) → result ≡ false → at < length entries.now →
+        by_pair (pair_at (slice_index_or entries.now at d)) (agent, token.now.0) ≢ Equal }
 {
     at < entries.len() && compare_token(&entries[at], agent, token).is_eq()
 }
@@ -174,11 +154,9 @@ fn has_token(entries: &[TokenEntry], at: usize, agent: AgentNo, token: &Token) -
 // An order that joins the end of the vector of arrival is entered.
 pub fn enter_token(entries: &mut Vec<TokenEntry>, order: &Resting, place: usize)
     requires room { vec_len entries.old < vec_capacity entries.old }
-    ensures indexed {
-        (os : List Resting) → place ≡ length os → IsByToken os entries.old.items →
+    ensures indexed { (os : List Resting) → place ≡ length os → IsByToken os entries.old.items →
         order_of order.now.agent order.now.token (open_orders os) ≡ None →
-        IsByToken (os ++ order.now ∷ []) entries.new.items
-    }
+        IsByToken (os ++ order.now ∷ []) entries.new.items }
     ensures len { vec_len entries.new ≤ vec_len entries.old + 1 }
     ensures capacity { vec_capacity entries.old ≤ vec_capacity entries.new }
 {
@@ -199,22 +177,25 @@ pub fn enter_token(entries: &mut Vec<TokenEntry>, order: &Resting, place: usize)
 }
 
 // Where the open order with this key stands.
-pub fn by_token(orders: &[Resting], entries: &[TokenEntry], agent: AgentNo, token: &Token) -> Option<usize>
+pub fn by_token(
+    orders: &[Resting],
+    entries: &[TokenEntry],
+    agent: AgentNo,
+    token: &Token,
+) -> Option<usize>
     requires { IsByToken orders.now entries.now }
     ensures absent { IfNone result (order_of agent token.now (open_orders orders.now) ≡ None) }
     ensures within { IfSome result (λ p. p < length orders.now) }
-    ensures found {
-        IfSome result (λ p. order_of agent token.now (open_orders orders.now) ≡
-        Some (slice_index_or orders.now p nothing))
-    }
+    ensures found { IfSome result (λ p. order_of agent token.now (open_orders orders.now) ≡
+        Some (slice_index_or orders.now p nothing)) }
 {
     let at = token_from(entries, agent, token);
     if !has_token(entries, at, agent, token) {
         return None;
     }
-    let place = entries[at].place;
-    if orders[place].left == 0 {
+    let held = entries[at].place;
+    if orders[held].left == 0 {
         return None;
     }
-    Some(place)
+    Some(held)
 }

@@ -150,20 +150,16 @@ pub fn orderly_books_stay()
         All (λ f. 0 < f.shares) (matched book side limit shares).fills }
     ensures few { (book : List Resting) (side : Side) (limit shares : ℕ) → IsOrderly book →
         length (matched book side limit shares).fills ≤ shares }
-    ensures lowered {
-        (reference left : ℕ) (book : List Resting) (o : Resting) →
+    ensures lowered { (reference left : ℕ) (book : List Resting) (o : Resting) →
         IsOrderly book → order_with reference book ≡ Some o → left < o.left →
         IsOrderly (changed (reduced left o) book) }
-    ensures lowered_shares {
-        (reference left : ℕ) (book : List Resting) (o : Resting) →
+    ensures lowered_shares { (reference left : ℕ) (book : List Resting) (o : Resting) →
         IsOrderly book → order_with reference book ≡ Some o → left < o.left →
         sum_by (λ x. x.left) (changed (reduced left o) book) + (o.left - left) ≡ sum_by (λ x. x.left) book }
-    ensures rested {
-        (book : List Resting) (o : Resting) → IsOrderly book →
+    ensures rested { (book : List Resting) (o : Resting) → IsOrderly book →
         All (λ x. x.reference < o.reference) book →
         0 < o.left → o.left ≤ o.intended → length book < 4294967296 →
         IsOrderly (book ++ o ∷ []) }
-    ensures by_reference {
-        (agent : ℕ) (token : Token) (book : List Resting) (o : Resting) → IsOrderly book →
+    ensures by_reference { (agent : ℕ) (token : Token) (book : List Resting) (o : Resting) → IsOrderly book →
         order_of agent token book ≡ Some o → order_with o.reference book ≡ Some o }
 {}

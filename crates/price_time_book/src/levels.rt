@@ -44,13 +44,9 @@ fn is_worse(side: Side, a: u32, b: u32) -> bool
 // Where a price stands in the levels of a side, or joins.
 pub fn place_of(side: Side, levels: &[Level], price: u32) -> usize
     ensures within { result ≤ length levels.now }
-    ensures below {
-        (d : Level) → 0 < result → IsWorse side (slice_index_or levels.now (result - 1) d).price price
-    }
-    ensures above {
-        (d : Level) → result < length levels.now →
-        IsNoBetter side price (slice_index_or levels.now result d).price
-    }
+    ensures below { (d : Level) → 0 < result → IsWorse side (slice_index_or levels.now (result - 1) d).price price }
+    ensures above { (d : Level) → result < length levels.now →
+        IsNoBetter side price (slice_index_or levels.now result d).price }
 {
     let mut low = 0;
     let mut high = levels.len();

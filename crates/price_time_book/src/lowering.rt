@@ -197,10 +197,8 @@ pub fn take_first(
     ensures others { (t : Side) (ls : List Level) → t ≢ mine → IsIndexed t orders.old.items nexts.now ls → IsIndexed t orders.new.items nexts.now ls }
     ensures lessened { AreLessened orders.old.items orders.new.items }
     ensures count { count.new ≡ depth_of mine (open_orders orders.new.items) }
-    ensures other_count {
-        (t : Side) → t ≢ mine →
-        depth_of t (open_orders orders.new.items) ≡ depth_of t (open_orders orders.old.items)
-    }
+    ensures other_count { (t : Side) → t ≢ mine →
+        depth_of t (open_orders orders.new.items) ≡ depth_of t (open_orders orders.old.items) }
     ensures orderly { IsOrderly (open_orders orders.new.items) }
     ensures small { IsSmall (open_orders orders.old.items) → IsSmall (open_orders orders.new.items) }
     ensures orders_len { vec_len orders.new ≡ vec_len orders.old }
@@ -255,10 +253,8 @@ pub fn lower_at(
     ensures others { (t : Side) (ls : List Level) → t ≢ mine → IsIndexed t orders.old.items nexts.now ls → IsIndexed t orders.new.items nexts.now ls }
     ensures lessened { AreLessened orders.old.items orders.new.items }
     ensures count { count.new ≡ depth_of mine (open_orders orders.new.items) }
-    ensures other_count {
-        (t : Side) → t ≢ mine →
-        depth_of t (open_orders orders.new.items) ≡ depth_of t (open_orders orders.old.items)
-    }
+    ensures other_count { (t : Side) → t ≢ mine →
+        depth_of t (open_orders orders.new.items) ≡ depth_of t (open_orders orders.old.items) }
     ensures orderly { IsOrderly (open_orders orders.new.items) }
     ensures small { IsSmall (open_orders orders.old.items) → IsSmall (open_orders orders.new.items) }
     ensures orders_len { vec_len orders.new ≡ vec_len orders.old }

@@ -17,13 +17,13 @@ returns-then-not-has_token-clause-absent c =
     let from : IsFrom pair_at by_pair es (c.args.agent, c.args.token.now.0) at = record { within = c.token_from-at.ensures.within; below = c.token_from-at.ensures.below; above = c.token_from-at.ensures.above } in
     absent_by pair_at (λ (e : TokenEntry). e.place) by_pair pair_of pair_total c.args.orders.now es c.requires (c.args.agent, c.args.token.now.0) (λ (o : Resting). eqb o.agent c.args.agent && bytes_eq o.token.0 c.args.token.now.0) (agrees_token c.args.agent c.args.token.now.0) at d from (λ k h. c.has_token.ensures.none k c.if-not-has_token.true h)
 
-pub returns-then-orders-place-eq0-clause-absent : goal.returns-then-orders-place-eq0-clause-absent
-returns-then-orders-place-eq0-clause-absent c =
+pub returns-then-orders-held-eq0-clause-absent : goal.returns-then-orders-held-eq0-clause-absent
+returns-then-orders-held-eq0-clause-absent c =
     let es = c.args.entries.now in
     let at = c.token_from-at.result in
     let d : TokenEntry = record { agent = 0; token = record { 0 = [] }; place = 0 } in
     let there = c.has_token.ensures.some c.if-not-has_token.false in
-    closed_by pair_at (λ (e : TokenEntry). e.place) by_pair pair_of pair_total c.args.orders.now es c.requires (c.args.agent, c.args.token.now.0) (λ (o : Resting). eqb o.agent c.args.agent && bytes_eq o.token.0 c.args.token.now.0) (agrees_token c.args.agent c.args.token.now.0) at d there.0 (there.1 d) c.if-orders-place-eq0.true
+    closed_by pair_at (λ (e : TokenEntry). e.place) by_pair pair_of pair_total c.args.orders.now es c.requires (c.args.agent, c.args.token.now.0) (λ (o : Resting). eqb o.agent c.args.agent && bytes_eq o.token.0 c.args.token.now.0) (agrees_token c.args.agent c.args.token.now.0) at d there.0 (there.1 d) c.if-orders-held-eq0.true
 
 pub returns-clause-found : goal.returns-clause-found
 returns-clause-found c =
@@ -31,5 +31,5 @@ returns-clause-found c =
     let at = c.token_from-at.result in
     let d : TokenEntry = record { agent = 0; token = record { 0 = [] }; place = 0 } in
     let there = c.has_token.ensures.some c.if-not-has_token.false in
-    let open_there : 0 < (get_or c.args.orders.now (get_or es at d).place nothing).left = omega (arith, c.if-orders-place-eq0.false) in
+    let open_there : 0 < (get_or c.args.orders.now (get_or es at d).place nothing).left = omega (arith, c.if-orders-held-eq0.false) in
     found_by pair_at (λ (e : TokenEntry). e.place) by_pair pair_of pair_total c.args.orders.now es c.requires (c.args.agent, c.args.token.now.0) (λ (o : Resting). eqb o.agent c.args.agent && bytes_eq o.token.0 c.args.token.now.0) (agrees_token c.args.agent c.args.token.now.0) at d there.0 (there.1 d) open_there
