@@ -11,7 +11,6 @@ use Rattle.market_types.specs.declared.order.Side.{Side}
 use Rattle.market_types.specs.declared.order.Side.TheVariants.{Buy, Sell}
 use Rattle.price_time_book.specs.declared.resting.Resting.{Resting}
 use Rattle.price_time_book.specs.Next.{crosses, first_best, next_of, top_of}
-use Rattle.price_time_book.specs.Search.{goes_first}
 use Rattle.price_time_book.specs.Sides.{is_on, is_better, is_within, opposite_of}
 
 abbrev beats : Side → Resting → Resting → Bool
@@ -42,42 +41,6 @@ folded side p (x ∷ w) =
       | inl passes ↦ rw passes (fold_from side p x w)
       | inr fails ↦ rw fails (folded side p w)
     ]
-
-steps_first : (side : Side) (first : Option Resting) (x : Resting) → step side (is_on side) first x ≡ cond (goes_first side first x) (Some x) first
-steps_first side None x = refl
-steps_first side (Some b) x =
-    elim (is_on side x) as (λ c. cond c (Some (cond (is_better side x.price b.price) x b)) (Some b) ≡ cond (c && is_better side x.price b.price) (Some x) (Some b)) [
-      | true ↦ elim (is_better side x.price b.price) as (λ d. Some (cond d x b) ≡ cond d (Some x) (Some b)) [ true ↦ refl | false ↦ refl ]
-      | false ↦ refl
-    ]
-
--- one more order is the first of its side where it goes first
-top-push : (side : Side) (w : List Resting) (x : Resting) → top_of side (w ++ x ∷ []) ≡ cond (goes_first side (top_of side w) x) (Some x) (top_of side w)
-top-push side w x =
-    let before : fold (step side (is_on side)) None w ≡ top_of side w = sym (folded side (is_on side) w) in
-    folded side (is_on side) (w ++ x ∷ []) ∙ fold-append (step side (is_on side)) None w (x ∷ []) ∙ ap (λ (b : Option Resting). step side (is_on side) b x) before ∙ steps_first side (top_of side w) x
-
-pub top_more : (side : Side) (w : List Resting) (i : ℕ) (x : Resting) → i < length w → x ≡ get_or w i x → top_of side (take (i + 1) w) ≡ cond (goes_first side (top_of side (take i w)) x) (Some x) (top_of side (take i w))
-top_more side w i x h e =
-    ap (top_of side) (take_more w i x h ∙ ap (λ (o : Resting). take i w ++ o ∷ []) (sym e)) ∙ top-push side (take i w) x
-
--- the turn of a search at which an order goes first
-pub top_takes : (side : Side) (w : List Resting) (i : ℕ) (x : Resting) (first after : Option (ℕ × Resting)) → i < length w → x ≡ get_or w i x → option_map (λ p. p.1) first ≡ top_of side (take i w) → goes_first side (option_map (λ p. p.1) first) x ≡ true → after ≡ Some (i, x)
-    → (option_map (λ p. p.1) after ≡ top_of side (take (i + 1) w)) × IfSome after (λ p. slice_get w p.0 ≡ Some p.1)
-top_takes side w i x first after h e is goes new =
-    let now : goes_first side (top_of side (take i w)) x ≡ true = subst (λ (o : Option Resting). goes_first side o x ≡ true) is goes in (
-      ap (option_map (λ p. p.1)) new ∙ sym (top_more side w i x h e ∙ ap (λ b. cond b (Some x) (top_of side (take i w))) now),
-      subst (λ (a : Option (ℕ × Resting)). IfSome a (λ p. slice_get w p.0 ≡ Some p.1)) (sym new) (slice_get-get_or w i x h ∙ ap (λ (o : Resting). Some o) (sym e)),
-    )
-
--- the turn of a search at which the first one so far stays
-pub top_keeps : (side : Side) (w : List Resting) (i : ℕ) (x : Resting) (first after : Option (ℕ × Resting)) → i < length w → x ≡ get_or w i x → option_map (λ p. p.1) first ≡ top_of side (take i w) → goes_first side (option_map (λ p. p.1) first) x ≡ false → after ≡ first
-    → IfSome first (λ p. slice_get w p.0 ≡ Some p.1) → (option_map (λ p. p.1) after ≡ top_of side (take (i + 1) w)) × IfSome after (λ p. slice_get w p.0 ≡ Some p.1)
-top_keeps side w i x first after h e is goes same place =
-    let now : goes_first side (top_of side (take i w)) x ≡ false = subst (λ (o : Option Resting). goes_first side o x ≡ false) is goes in (
-      ap (option_map (λ p. p.1)) same ∙ is ∙ sym (top_more side w i x h e ∙ ap (λ b. cond b (Some x) (top_of side (take i w))) now),
-      subst (λ (a : Option (ℕ × Resting)). IfSome a (λ p. slice_get w p.0 ≡ Some p.1)) (sym same) place,
-    )
 
 -- an order if an incoming one of this side meets its price
 abbrev gate : Side → ℕ → Option Resting → Option Resting

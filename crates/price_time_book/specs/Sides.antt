@@ -3,7 +3,7 @@ use Rattle.std.specs.Prelude.{ℕ, Bool, nat_lt, nat_le, List, count_by}
 use Rattle.market_types.specs.declared.order.Side.{Side}
 use Rattle.market_types.specs.declared.order.Side.TheVariants.{Buy, Sell}
 use Rattle.price_time_book.specs.declared.resting.Resting.{Resting}
-pub use Rattle.market_types.specs.Sides.{opposite_of, opposite_of as opposite, is_same_side}
+pub use Rattle.market_types.specs.Sides.{opposite_of, is_same_side}
 
 -- whether an order rests on this side
 abbrev pub is_on : Side → Resting → Bool

@@ -6,8 +6,11 @@
 #![tactic(auto)]
 
 mod book;
+mod index;
 pub mod keeping;
 pub mod laws;
+mod levels;
+mod lowering;
 mod resting;
 mod search;
 #[cfg(test)]
