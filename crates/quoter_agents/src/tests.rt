@@ -1,4 +1,4 @@
-ghost use Rattle.std.specs.Prelude.{◌≡◌, []};
+ghost use Rattle.std.specs.Prelude.{[]};
 ghost use Rattle.agent_shell.specs.Parameters.{IsKind};
 ghost use Rattle.quoter_agents.specs.Quoter.{IsQuoterKind};
 
@@ -11,36 +11,6 @@ use std::process::Abort;
 use std::test::Fail;
 
 const KEY: [u8; 32] = [0; 32];
-
-// Agent 1, which wakes each 500 nanoseconds.
-fn opened(alloc: Global, kind: Kind) -> Result<Quoter, Memory>
-    requires range { IsKind kind }
-    requires quoter { IsQuoterKind kind [] }
-{
-    let setting = TraderSetting {
-        kind,
-        group: 0,
-        stock: 0,
-        first: 1000,
-        every: 500,
-        wobble: 0,
-        delay: 12,
-        cash: 0,
-    };
-    Quoter::open(alloc, 1, &setting)
-}
-
-fn maker(levels: u32) -> Kind
-    ensures { result ≡ Kind.Maker 10 150 100 levels 7 }
-{
-    Kind::Maker {
-        size: 10,
-        half: 150,
-        step: 100,
-        levels,
-        pause: 7,
-    }
-}
 
 fn cents(alloc: Global) -> Result<TickTable, Fail> {
     match TickTable::new(alloc, &[Band { from: 0, tick: 100 }]) {
@@ -75,6 +45,32 @@ fn decide(
     trader.decide(&view, body, out)
 }
 
+// What agent 1 sends for these messages. It wakes each 500 nanoseconds, and goes on as a copy of itself
+// after each message.
+fn sends_of(rt: &impl Abort, alloc: Global, kind: Kind, bodies: &[Body]) -> Result<Sends, Fail>
+    requires range { IsKind kind }
+    requires quoter { IsQuoterKind kind [] }
+{
+    let ticks = cents(alloc)?;
+    let setting = TraderSetting {
+        kind,
+        group: 0,
+        stock: 0,
+        first: 1000,
+        every: 500,
+        wobble: 0,
+        delay: 12,
+        cash: 0,
+    };
+    let mut out = Sends::new(alloc);
+    let mut trader = Quoter::open(alloc, 1, &setting)?;
+    for body in bodies {
+        decide(rt, &mut trader, &ticks, body, &mut out)?;
+        trader = trader.copy()?;
+    }
+    Ok(out)
+}
+
 fn quote(state: u8, bid: u32, ask: u32, last: u32) -> Body {
     Body::Quote(Quote {
         stock: 0,
@@ -105,60 +101,40 @@ fn is_at(out: &Sends, place: usize, side: Side, price: u32, tif: u32) -> bool {
 // back all 64, asks, and wakes again.
 #[test]
 fn a_maker_quotes_until_its_list_is_full(rt: HostRuntime) -> Result<(), Fail> {
-    let ticks = cents(rt.alloc())?;
-    let mut maker = opened(rt.alloc(), maker(2))?;
-    let mut out = Sends::new(rt.alloc());
-    let empty = quote(b'T', 0, 0, 0);
-    decide(&rt, &mut maker, &ticks, &empty, &mut out)?;
+    let mut bodies = [quote(b'T', 0, 0, 0); 18];
+    bodies[17] = Body::Wake;
+    let kind = Kind::Maker {
+        size: 10,
+        half: 150,
+        step: 100,
+        levels: 2,
+        pause: 7,
+    };
+    let out = sends_of(&rt, rt.alloc(), kind, &bodies)?;
     assert!(rt; is_at(&out, 0, Side::Buy, 99_800, 99_999));
     assert!(rt; is_at(&out, 1, Side::Sell, 100_200, 99_999));
     assert!(rt; is_at(&out, 2, Side::Buy, 99_700, 99_999));
     assert!(rt; is_at(&out, 3, Side::Sell, 100_300, 99_999));
-    for _ in 0..16 {
-        decide(&rt, &mut maker, &ticks, &empty, &mut out)?;
-    }
-    assert!(rt; out.as_slice().len() == 64);
-    decide(&rt, &mut maker, &ticks, &Body::Wake, &mut out)?;
     assert!(rt; out.as_slice().len() == 64 + 64 + 2);
     Ok(())
 }
 
-// One middle against two: after 100,000 and 100,200 it buys at the ask, at once or not at all. Its copy has the same
-// history: after 99,800 it sells at the bid.
+// One middle against two: after 100,000 and 100,200 it buys at the ask, at once or not at all; after 99,800 it sells at
+// the bid.
 #[test]
 fn momentum_follows_its_middles(rt: HostRuntime) -> Result<(), Fail> {
-    let ticks = cents(rt.alloc())?;
+    let bodies = [
+        quote(b'T', 99_900, 100_100, 0),
+        quote(b'T', 100_100, 100_300, 0),
+        quote(b'T', 99_700, 99_900, 0),
+    ];
     let kind = Kind::Momentum {
         size: 10,
         short: 1,
         long: 2,
     };
-    let mut momentum = opened(rt.alloc(), kind)?;
-    let mut out = Sends::new(rt.alloc());
-    decide(
-        &rt,
-        &mut momentum,
-        &ticks,
-        &quote(b'T', 99_900, 100_100, 0),
-        &mut out,
-    )?;
-    decide(
-        &rt,
-        &mut momentum,
-        &ticks,
-        &quote(b'T', 100_100, 100_300, 0),
-        &mut out,
-    )?;
+    let out = sends_of(&rt, rt.alloc(), kind, &bodies)?;
     assert!(rt; is_at(&out, 0, Side::Buy, 100_300, 0));
-    let mut copy = momentum.copy()?;
-    decide(
-        &rt,
-        &mut copy,
-        &ticks,
-        &quote(b'T', 99_700, 99_900, 0),
-        &mut out,
-    )?;
     assert!(rt; is_at(&out, 1, Side::Sell, 99_700, 0));
-    assert!(rt; copy.told().quotes == 3 && copy.delay() == 12);
     Ok(())
 }

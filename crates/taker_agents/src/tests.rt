@@ -1,4 +1,3 @@
-ghost use Rattle.std.specs.Prelude.{◌≡◌, ◌<◌, ◌^◌};
 ghost use Rattle.agent_shell.specs.Parameters.{IsKind};
 ghost use Rattle.taker_agents.specs.Taker.{IsTakerKind};
 
@@ -14,24 +13,6 @@ use std::test::Fail;
 // 0x1aed8da0, 0xccef36a8, 0xc70d778b, 0x7c5941da: a word is tails where it is 0x80000000 or more.
 const ZERO_KEY: [u8; 32] = [0; 32];
 
-// Agent 0, which wakes each 500 nanoseconds and up to 9 more.
-fn opened(alloc: Global, kind: Kind) -> Result<Taker, Memory>
-    requires range { IsKind kind }
-    requires taker { IsTakerKind kind }
-{
-    let setting = TraderSetting {
-        kind,
-        group: 0,
-        stock: 0,
-        first: 1000,
-        every: 500,
-        wobble: 9,
-        delay: 12,
-        cash: 1000,
-    };
-    Taker::open(alloc, 0, &setting)
-}
-
 fn cents(alloc: Global) -> Result<TickTable, Fail> {
     match TickTable::new(alloc, &[Band { from: 0, tick: 100 }]) {
         Ok(ticks) => Ok(ticks),
@@ -39,12 +20,11 @@ fn cents(alloc: Global) -> Result<TickTable, Fail> {
     }
 }
 
-// Decides on a message at 1000, where the counts and the account are small.
+// Decides on a message at 1000 with a value of 100,050, where the counts and the account are small.
 fn decide(
     rt: &impl Abort,
     trader: &mut Taker,
     ticks: &TickTable,
-    value: u32,
     body: &Body,
     out: &mut Sends,
 ) -> Result<(), Memory> {
@@ -60,10 +40,36 @@ fn decide(
         time: 1000,
         key: &ZERO_KEY,
         symbol: Symbol(*b"ABM     "),
-        value,
+        value: 100_050,
         ticks,
     };
     trader.decide(&view, body, out)
+}
+
+// What agent 0 sends for these messages. It wakes each 500 nanoseconds and up to 9 more, and goes on as a copy of itself
+// after each message.
+fn sends_of(rt: &impl Abort, alloc: Global, kind: Kind, bodies: &[Body]) -> Result<Sends, Fail>
+    requires range { IsKind kind }
+    requires taker { IsTakerKind kind }
+{
+    let ticks = cents(alloc)?;
+    let setting = TraderSetting {
+        kind,
+        group: 0,
+        stock: 0,
+        first: 1000,
+        every: 500,
+        wobble: 9,
+        delay: 12,
+        cash: 1000,
+    };
+    let mut out = Sends::new(alloc);
+    let mut trader = Taker::open(alloc, 0, &setting)?;
+    for body in bodies {
+        decide(rt, &mut trader, &ticks, body, &mut out)?;
+        trader = trader.copy()?;
+    }
+    Ok(out)
 }
 
 fn quote(state: u8, bid: u32, ask: u32) -> Body {
@@ -78,9 +84,9 @@ fn quote(state: u8, bid: u32, ask: u32) -> Body {
     })
 }
 
-// Whether the last sending is this order.
-fn is_last(out: &Sends, side: Side, shares: u32, price: u32) -> bool {
-    match out.as_slice().last() {
+// Whether the sending at a place is this order.
+fn is_at(out: &Sends, place: usize, side: Side, shares: u32, price: u32) -> bool {
+    match out.as_slice().get(place) {
         Some(
             Sending::To {
                 body: Body::Order(Inbound::Enter(order)),
@@ -91,63 +97,29 @@ fn is_last(out: &Sends, side: Side, shares: u32, price: u32) -> bool {
     }
 }
 
-// Whether the last sending is a wakeup at this time.
-fn is_wakeup(out: &Sends, time: u64) -> bool {
-    match out.as_slice().last() {
+// Whether the sending at a place is a wakeup at this time.
+fn is_wakeup(out: &Sends, place: usize, time: u64) -> bool {
+    match out.as_slice().get(place) {
         Some(Sending::WakeAt(at)) => *at == time,
         _ => false,
     }
 }
 
-// Words 0 and 1 are tails and 57 of 100; a halted quote draws nothing; word 2 picks 8 of 0 to 9 for the wakeup; words 3
-// and 4 are heads and 72 of 100. The copy goes on where it was taken: words 5 and 6 are heads and 81 of 100.
+// Words 0 and 1 are tails and 57 of 100; a halted quote draws nothing; word 2 picks 8 of 0 to 9 for the wakeup, after
+// the question; words 3 and 4 are heads and 72 of 100; words 5 and 6 are heads and 81.
 #[test]
 fn noise_trades_by_the_toss_of_a_coin(rt: HostRuntime) -> Result<(), Fail> {
-    let ticks = cents(rt.alloc())?;
-    let mut noise = opened(rt.alloc(), Kind::Noise { size: 100 })?;
-    let mut out = Sends::new(rt.alloc());
-    decide(
-        &rt,
-        &mut noise,
-        &ticks,
-        100_050,
-        &quote(b'T', 99_900, 0),
-        &mut out,
-    )?;
-    assert!(rt; is_last(&out, Side::Sell, 57, 99_900));
-    decide(
-        &rt,
-        &mut noise,
-        &ticks,
-        100_050,
-        &quote(b'H', 99_900, 0),
-        &mut out,
-    )?;
-    decide(&rt, &mut noise, &ticks, 100_050, &Body::Wake, &mut out)?;
-    assert!(rt; is_wakeup(&out, 1508));
-    decide(
-        &rt,
-        &mut noise,
-        &ticks,
-        100_050,
-        &quote(b'T', 0, 100_300),
-        &mut out,
-    )?;
-    assert!(rt; is_last(&out, Side::Buy, 72, 100_300));
-    let mut copy = noise.copy()?;
-    decide(
-        &rt,
-        &mut copy,
-        &ticks,
-        100_050,
-        &quote(b'T', 0, 0),
-        &mut out,
-    )?;
-    assert!(rt; is_last(&out, Side::Buy, 81, 100_000));
-    assert_eq!(rt;
-        (copy.told().tokens, copy.told().draws, copy.told().quotes),
-        (3, 7, 4)
-    );
-    assert_eq!(rt; copy.delay(), 12);
+    let bodies = [
+        quote(b'T', 99_900, 0),
+        quote(b'H', 99_900, 0),
+        Body::Wake,
+        quote(b'T', 0, 100_300),
+        quote(b'T', 0, 0),
+    ];
+    let out = sends_of(&rt, rt.alloc(), Kind::Noise { size: 100 }, &bodies)?;
+    assert!(rt; is_at(&out, 0, Side::Sell, 57, 99_900));
+    assert!(rt; is_wakeup(&out, 2, 1508));
+    assert!(rt; is_at(&out, 3, Side::Buy, 72, 100_300));
+    assert!(rt; is_at(&out, 4, Side::Buy, 81, 100_000));
     Ok(())
 }
