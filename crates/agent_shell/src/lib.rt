@@ -10,6 +10,7 @@ mod setting;
 mod shell;
 mod tokens;
 mod wish;
+pub mod worked;
 
 pub use parts::Parts;
 pub use placing::{make_room, send};

@@ -8,11 +8,14 @@ use agent_shell::{Kind, Sending};
 use market_types::{Body, Side};
 
 /// The noise trader's sell of 57: its first two words are 0xade0b876, which is tails, and 0x903df1a0, which picks 57
-/// of 100. Of a halted stock it counts the quote and makes no draw. Without a bid it sells at the value.
+/// of 100. Its fourth and fifth are 0x28bd8653, which is heads, and 0xb819d2bd, which picks 72. Without a bid it sells,
+/// and without an ask it buys, at the value. Of a halted stock it counts the quote and makes no draw.
 pub fn noise()
     ensures sells { (quoted ten_dollars (opened 0 (Kind.Noise 100)) (quote 84 99900 0 0)).sends ≡ entered (codes "T0000000000001") Side.Sell 57 99900 99999 0 ∷ [] }
     ensures drew { (quoted ten_dollars (opened 0 (Kind.Noise 100)) (quote 84 99900 0 0)).trader.draws ≡ 2 }
     ensures no_bid { (quoted ten_dollars (opened 0 (Kind.Noise 100)) (quote 84 0 0 0)).sends ≡ entered (codes "T0000000000001") Side.Sell 57 100000 99999 0 ∷ [] }
+    ensures buys { (quoted ten_dollars (record (opened 0 (Kind.Noise 100)) { draws = 3 }) (quote 84 99900 100300 0)).sends ≡ entered (codes "T0000000000001") Side.Buy 72 100300 99999 0 ∷ [] }
+    ensures no_ask { (quoted ten_dollars (record (opened 0 (Kind.Noise 100)) { draws = 3 }) (quote 84 99900 0 0)).sends ≡ entered (codes "T0000000000001") Side.Buy 72 100000 99999 0 ∷ [] }
     ensures halted { (quoted ten_dollars (opened 0 (Kind.Noise 100)) (quote 72 99900 0 0)).sends ≡ [] }
     ensures no_draw { (quoted ten_dollars (opened 0 (Kind.Noise 100)) (quote 72 99900 0 0)).trader.draws ≡ 0 }
     ensures heard { (quoted ten_dollars (opened 0 (Kind.Noise 100)) (quote 72 99900 0 0)).trader.quotes ≡ 1 }
@@ -26,10 +29,12 @@ pub fn wakeup()
 
 /// A trader on value guesses 100,359. An ask exactly the margin below the guess is bought with one draw; one nearer is
 /// not. Where no side is far enough off, 0x903df1a0 is tails: it sells the margin above its guess, rounded up to a tick.
+/// By its third word 0xe56a5d40 it guesses 100,793, and its fourth is heads: it buys at 100,733, rounded down.
 pub fn value()
     ensures buys { (quoted ten_dollars (opened 0 (Kind.Value 10 1000 59)) (quote 84 99000 100300 0)).sends ≡ entered (codes "T0000000000001") Side.Buy 10 100300 99999 0 ∷ [] }
     ensures one_draw { (quoted ten_dollars (opened 0 (Kind.Value 10 1000 59)) (quote 84 99000 100300 0)).trader.draws ≡ 1 }
     ensures sells { (quoted ten_dollars (opened 0 (Kind.Value 10 1000 41)) (quote 84 100400 100500 0)).sends ≡ entered (codes "T0000000000001") Side.Sell 10 100400 99999 0 ∷ [] }
     ensures waits { (quoted ten_dollars (opened 0 (Kind.Value 10 1000 60)) (quote 84 99000 100300 0)).sends ≡ entered (codes "T0000000000001") Side.Sell 10 100500 99999 0 ∷ [] }
+    ensures waits_to_buy { (quoted ten_dollars (record (opened 0 (Kind.Value 10 1000 60)) { draws = 2 }) (quote 84 0 0 0)).sends ≡ entered (codes "T0000000000001") Side.Buy 10 100700 99999 0 ∷ [] }
     ensures two_draws { (quoted ten_dollars (opened 0 (Kind.Value 10 1000 60)) (quote 84 99000 100300 0)).trader.draws ≡ 2 }
 {}

@@ -6,4 +6,4 @@ use Rattle.taker_agents.proofs.worked.noise.Goals as goal
 
 pub returns : goal.returns
 unfolding u32_at block_word double_rounds column_round diagonal_round quarter_round allowed_among greatest_allowed
-returns c = record { sells = refl; drew = refl; no_bid = refl; halted = refl; no_draw = refl; heard = refl }
+returns c = record { sells = refl; drew = refl; no_bid = refl; buys = refl; no_ask = refl; halted = refl; no_draw = refl; heard = refl }

@@ -6,4 +6,4 @@ use Rattle.taker_agents.proofs.worked.value.Goals as goal
 
 pub returns : goal.returns
 unfolding u32_at block_word double_rounds column_round diagonal_round quarter_round allowed_among greatest_allowed
-returns c = record { buys = refl; one_draw = refl; sells = refl; waits = refl; two_draws = refl }
+returns c = record { buys = refl; one_draw = refl; sells = refl; waits = refl; waits_to_buy = refl; two_draws = refl }
