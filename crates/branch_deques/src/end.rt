@@ -5,9 +5,9 @@ ghost use Rattle.crossbeam_deque.specs.Handles.{view, IsPassOf, stealer_deque, s
 ghost use Rattle.branch_deques.specs.Lanes.{fresh, Pushed, Took, WasEmpty};
 ghost use Rattle.branch_deques.specs.Told.{fresh_end};
 
-use plain_lists::Memory;
 use crate::rule::{Owner, Pushes, Room, Takes, Thief, ThiefPass};
 use crossbeam_deque::Steal;
+use plain_lists::Memory;
 use std::alloc::Global;
 use std::marker::Model;
 use std::sync::Wait;

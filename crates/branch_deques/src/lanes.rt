@@ -6,8 +6,8 @@ ghost use Rattle.branch_deques.specs.Told.{fresh_end, round, own_lanes, AreOpene
 
 use crate::end::{OtherLane, OwnLane};
 use crate::lane::Lane;
-use plain_lists::Memory;
 use crate::rule::Room;
+use plain_lists::Memory;
 use std::alloc::Global;
 
 /// A lane for each worker, in the order of their numbers, each with room for `room` pushes of segments below `room`.
@@ -44,7 +44,11 @@ fn own_lanes<B: Room>(alloc: Global, workers: u32, room: u32) -> Result<Vec<Lane
 }
 
 // An end of each of the lanes but the one at `number`, from the next higher on.
-fn ends_for<B: Room>(alloc: Global, lanes: &[Lane<B>], number: usize) -> Result<Vec<OtherLane<B>>, Memory>
+fn ends_for<B: Room>(
+    alloc: Global,
+    lanes: &[Lane<B>],
+    number: usize,
+) -> Result<Vec<OtherLane<B>>, Memory>
     requires { number < length lanes.now }
     ensures { IfOk result (λ ends. ends.items ≡ map fresh_end (round number (own_lanes lanes.now))) }
 {

@@ -10,7 +10,11 @@ use std::test::Fail;
 
 // The segments 0, 1 and 2 are pushed on the first lane, which the second lane takes from until it finds none, and whose
 // owner then pops until there is none: first what came out, then how much of it the owner got.
-fn share_three<B: Room, R: Wait>(rt: &R, alloc: Global, room: u32) -> Result<(Vec<u32>, usize), Memory>
+fn share_three<B: Room, R: Wait>(
+    rt: &R,
+    alloc: Global,
+    room: u32,
+) -> Result<(Vec<u32>, usize), Memory>
     requires room { room ≡ B.room }
     requires three { room ≡ 3 }
 {
@@ -29,7 +33,11 @@ fn share_three<B: Room, R: Wait>(rt: &R, alloc: Global, room: u32) -> Result<(Ve
     Ok((got, popped))
 }
 
-fn take_some<B: Room, R: Wait>(rt: &R, lane: &mut Lane<B>, got: &mut Vec<u32>) -> Result<(), Memory> {
+fn take_some<B: Room, R: Wait>(
+    rt: &R,
+    lane: &mut Lane<B>,
+    got: &mut Vec<u32>,
+) -> Result<(), Memory> {
     for _ in 0..4 {
         if let Some(segment) = lane.steal_round(rt) {
             got.push(segment)?;

@@ -11,3 +11,4 @@ pub mod Hands
 pub mod Facts
 pub mod Opens
 pub mod Closes
+pub mod Backs

@@ -34,10 +34,7 @@ impl<C: Kept> Shelf<C> {
         ensures kept { IsFalse result → Same seat.old.view seat.new.view × Stays seat.old.view seat.new.view }
         ensures refused { IsFalse result → (m : ℕ) × Sees self.now.plan (claim_word segment) (claim_seen segment (taken_word m)) seat.old.view seat.new.view }
     {
-        let word = 1
-            + self.plan.forks.len()
-            + self.plan.places as usize
-            + segment as usize;
+        let word = 1 + self.plan.forks.len() + self.plan.places as usize + segment as usize;
         let mine = u64::from(seat.number) + 1;
         let found = self
             .table

@@ -21,7 +21,7 @@ none_live : (f : SeatView → ℕ) (views : List SeatView) → ((i : ℕ) (u : S
 none_live f [] zeros none = refl
 none_live f (u ∷ views) zeros none = ⊎_elim
     (λ (e : u.spent ≡ true). let a = zeros 0 u refl e in let w : weight u.spent ≡ 0 = ap weight e in
-        let r : total f views ≡ 0 = none_live f views (λ i v x. zeros (suc i) v x) (omega arith) in omega arith)
+    let r : total f views ≡ 0 = none_live f views (λ i v x. zeros (suc i) v x) (omega arith) in omega arith)
     (λ (e : u.spent ≡ false). let w : weight u.spent ≡ 1 = ap weight e in absurd (omega arith))
     (bool_cases u.spent)
 
@@ -38,7 +38,7 @@ total_alone f (u ∷ views) zero v e live zeros one = let s = some_same u v e in
     let r : total f views ≡ 0 = none_live f views (λ i x y. zeros (suc i) x y) (omega arith) in let a = ap f s in omega arith
 total_alone f (u ∷ views) (suc n) v e live zeros one = ⊎_elim
     (λ (e' : u.spent ≡ true). let a = zeros 0 u refl e' in let w : weight u.spent ≡ 0 = ap weight e' in
-        let r : total f views ≡ f v = total_alone f views n v e live (λ i x y. zeros (suc i) x y) (omega arith) in omega arith)
+    let r : total f views ≡ f v = total_alone f views n v e live (λ i x y. zeros (suc i) x y) (omega arith) in omega arith)
     (λ (e' : u.spent ≡ false). let w : weight u.spent ≡ 1 = ap weight e' in let r = some_live views n v e live in absurd (omega arith))
     (bool_cases u.spent)
 

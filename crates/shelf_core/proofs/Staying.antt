@@ -22,10 +22,10 @@ use Rattle.shelf_core.proofs.Moved.{turn_word}
 use Rattle.shelf_core.proofs.Steps.{live_seat, turn_place, word_there}
 use Rattle.shelf_core.proofs.Facts.{loaded, same, in_end, at_true, at_false}
 
-stays_self : (v : SeatView) → Stays v v
+pub stays_self : (v : SeatView) → Stays v v
 stays_self v = record { numbers = refl; claims = refl; counts = refl; known = λ key e. e; found = λ key e. e }
 
-stays_then : (u v w : SeatView) → Stays u v → Stays v w → Stays u w
+pub stays_then : (u v w : SeatView) → Stays u v → Stays v w → Stays u w
 stays_then u v w a b = record {
   numbers = b.numbers ∙ a.numbers;
   claims = b.claims ∙ a.claims;

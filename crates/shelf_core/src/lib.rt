@@ -11,8 +11,8 @@ mod run;
 mod seat;
 mod system;
 mod views;
-pub mod worked;
 mod words;
+pub mod worked;
 
 pub use event::Event;
 pub use plan::{Key, ShelfPlan};

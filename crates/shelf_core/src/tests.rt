@@ -7,8 +7,8 @@ ghost use Rattle.shelf_core.specs.Orderly.{Orderly, IsSmall, IsSmallEvent};
 mod plain;
 
 use crate::{Event, Key, ShelfPlan, System, Word, law, step};
-use plain_lists::{Memory, Sequence};
 use plain::Plain;
+use plain_lists::{Memory, Sequence};
 use std::alloc::Global;
 use std::process::Abort;
 use std::test::Fail;

@@ -229,7 +229,11 @@ fn stopped_from(seen: Seen, before: bool) -> bool
 }
 
 // The turns but for those of a key.
-fn other_turns(alloc: Global, turns: &[(u32, Key)], key: Key) -> Result<Sequence<(u32, Key)>, Memory>
+fn other_turns(
+    alloc: Global,
+    turns: &[(u32, Key)],
+    key: Key,
+) -> Result<Sequence<(u32, Key)>, Memory>
     ensures { IfOk result (λ others. others ≡ other_turns key turns.now) }
 {
     match turns

@@ -61,14 +61,38 @@ pub fn grid_plan(alloc: Global) -> Result<ShelfPlan, Memory>
     ensures segments { IfOk result (λ plan. plan.segments ≡ 64) }
 {
     let grid = [
-        Key { segment: 0, event: 100 },
-        Key { segment: 1, event: 100 },
-        Key { segment: 2, event: 100 },
-        Key { segment: 3, event: 100 },
-        Key { segment: 4, event: 100 },
-        Key { segment: 5, event: 100 },
-        Key { segment: 6, event: 100 },
-        Key { segment: 7, event: 100 },
+        Key {
+            segment: 0,
+            event: 100,
+        },
+        Key {
+            segment: 1,
+            event: 100,
+        },
+        Key {
+            segment: 2,
+            event: 100,
+        },
+        Key {
+            segment: 3,
+            event: 100,
+        },
+        Key {
+            segment: 4,
+            event: 100,
+        },
+        Key {
+            segment: 5,
+            event: 100,
+        },
+        Key {
+            segment: 6,
+            event: 100,
+        },
+        Key {
+            segment: 7,
+            event: 100,
+        },
     ];
     Ok(ShelfPlan {
         segments: 64,
@@ -79,7 +103,12 @@ pub fn grid_plan(alloc: Global) -> Result<ShelfPlan, Memory>
 }
 
 // Gives a key's place its value, where it may be written. The answer is otherwise the word of the place.
-pub fn fill(shelf: &Shelf<Item>, seat: &mut ShelfSeat<Item>, k: Key, value: Arc<Item>) -> Option<PlaceWord>
+pub fn fill(
+    shelf: &Shelf<Item>,
+    seat: &mut ShelfSeat<Item>,
+    k: Key,
+    value: Arc<Item>,
+) -> Option<PlaceWord>
     requires seat { seat.old.shelf ≡ Some shelf.now }
     requires claim { 0 < times k.segment seat.old.view.claims }
     requires place { IsSome (place_of shelf.now.plan k) }

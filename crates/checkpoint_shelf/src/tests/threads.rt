@@ -8,7 +8,8 @@ use crate::{Key, Shelf, ShelfSeat};
 use plain_lists::Memory;
 use std::alloc::Global;
 use std::sync::Arc;
-use std::sync::atomic::{AtomicU32, Ordering::SeqCst};
+use std::sync::atomic::AtomicU32;
+use std::sync::atomic::Ordering::SeqCst;
 use std::test::Fail;
 use std::thread;
 use std::thread::Threads;
@@ -52,15 +53,21 @@ fn work(alloc: Global, shelf: &Shelf<Item>, claimed: &[AtomicU32], seat: &mut Sh
 
 // Two seats of a small grid's shelf work in two threads: how often each segment was claimed, and how many of the keys of
 // each place are there once the shelf is closed.
-fn hammered<R: Threads + Sync>(rt: &R, alloc: Global) -> Result<(Vec<AtomicU32>, [u32; 3]), Memory> {
+fn hammered<R: Threads + Sync>(
+    rt: &R,
+    alloc: Global,
+) -> Result<(Vec<AtomicU32>, [u32; 3]), Memory> {
     let (shelf, mut seats) = Shelf::<Item>::open(alloc, &7, grid_plan(alloc)?, 2)?;
     let mut claimed = Vec::new(alloc);
     for _ in 0..64 {
         claimed.push(AtomicU32::new(0))?;
     }
-    thread::for_each_mut(rt, seats.as_mut_slice(), 2, &|_, seat| {
-        work(alloc, &shelf, claimed.as_slice(), seat)
-    });
+    thread::for_each_mut(
+        rt,
+        seats.as_mut_slice(),
+        2,
+        &|_, seat| { work(alloc, &shelf, claimed.as_slice(), seat) },
+    );
     let closed = shelf.close(seats);
     let mut there = [0; 3];
     for segment in 0..8u32 {

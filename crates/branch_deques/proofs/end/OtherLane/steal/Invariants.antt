@@ -9,4 +9,5 @@ invariant-loop g l = record {
   same : stealer_deque l.self-inside.thief ≡ stealer_deque l.initial.self-inside.thief;
   pass_of : IsPassOf (stealer_deque l.self-inside.thief) l.self-inside.pass;
   fifo : stealer_flavor l.self-inside.thief ≡ 0;
-  view : view l.self-inside.pass ≡ view l.initial.self-inside.pass }
+  view : view l.self-inside.pass ≡ view l.initial.self-inside.pass;
+}
