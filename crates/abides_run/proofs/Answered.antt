@@ -1,5 +1,5 @@
 -- How the clauses of the one call follow where the library was asked and there is no study.
-use Rattle.std.proofs.Common.{◌≡◌, ◌⊎◌, ◌≤◌, ◌+◌, ℕ, List, [], Option, Some, None, IfSome, Result, Ok, Err, IfErr, refl, sym, ap, subst, inl, inr, arith, append-nil}
+use Rattle.std.proofs.Common.{◌≡◌, ◌≤◌, ◌+◌, ℕ, List, [], Option, Some, None, IfSome, Result, Ok, Err, IfErr, refl, sym, ap, subst, inl, inr, arith, append-nil}
 use Rattle.outside.specs.Rose.{Rose}
 use Rattle.outside.specs.Files.{whole, held, content}
 use Rattle.outside.specs.Taken.{TookPrefix}
@@ -97,13 +97,25 @@ read_failed files words name old new writes steps taken asks rose rises =
 
 -- the bytes say no study, or memory was wanting
 pub no_study_read : (read : Result WatcherStudy Status) (files : Option (List (List ℕ × List ℕ))) (words : List (List ℕ)) (name bytes : List ℕ) (old new : ℕ)
-    → IfErr read (λ st. (st ≡ status.Memory) ⊎ ((st ≡ status.Refused 99 0) × (study_of bytes ≡ None)))
+    → IfErr read (λ st. ¬ (st ≡ status.Memory) → (st ≡ status.Refused 99 0) × (study_of bytes ≡ None))
     → Some name ≡ asked_of words → IfSome files (λ library. whole bytes ≡ content (held library name) 16777216) → old ≤ new
     → IfErr read (λ st. (writes steps : ℕ) (taken : Option (List ℕ)) → Answered files words (record { reads = old; writes = writes; taken = taken; steps = steps }) (record { reads = new; writes = writes; taken = taken; steps = steps }) st)
 no_study_read (Ok s) files words name bytes old new why asks is rises = tt
-no_study_read (Err st) files words name bytes old new (inl wanting) asks is rises =
-    λ writes steps taken. subst (λ (x : Status). Answered files words (record { reads = old; writes = writes; taken = taken; steps = steps }) (record { reads = new; writes = writes; taken = taken; steps = steps }) x) (sym wanting)
-    (refusal files words name old new writes steps taken status.Memory asks tt (come_free files) (λ e. cc) rises)
-no_study_read (Err st) files words name bytes old new (inr broken) asks is rises =
-    λ writes steps taken. subst (λ (x : Status). Answered files words (record { reads = old; writes = writes; taken = taken; steps = steps }) (record { reads = new; writes = writes; taken = taken; steps = steps }) x) (sym broken.0)
+no_study_read (Err status.Memory) files words name bytes old new why asks is rises =
+    λ writes steps taken. refusal files words name old new writes steps taken status.Memory asks tt (come_free files) (λ e. cc) rises
+no_study_read (Err (status.Refused rule place)) files words name bytes old new why asks is rises =
+    let broken : (status.Refused rule place ≡ status.Refused 99 0) × (study_of bytes ≡ None) = why (λ e. cc) in
+    λ writes steps taken. subst (λ (st : Status). Answered files words (record { reads = old; writes = writes; taken = taken; steps = steps }) (record { reads = new; writes = writes; taken = taken; steps = steps }) st) (sym broken.0)
     (refusal files words name old new writes steps taken (status.Refused 99 0) asks tt (come_broken files words bytes broken.1 (come_to files words name (whole bytes) asks is)) (λ e. cc) rises)
+no_study_read (Err status.Ok) files words name bytes old new why asks is rises =
+    let other : status.Ok ≡ status.Refused 99 0 = (why (λ e. cc)).0 in absurd cc
+no_study_read (Err status.Usage) files words name bytes old new why asks is rises =
+    let other : status.Usage ≡ status.Refused 99 0 = (why (λ e. cc)).0 in absurd cc
+no_study_read (Err status.NoStudy) files words name bytes old new why asks is rises =
+    let other : status.NoStudy ≡ status.Refused 99 0 = (why (λ e. cc)).0 in absurd cc
+no_study_read (Err status.TooLong) files words name bytes old new why asks is rises =
+    let other : status.TooLong ≡ status.Refused 99 0 = (why (λ e. cc)).0 in absurd cc
+no_study_read (Err status.ReadFault) files words name bytes old new why asks is rises =
+    let other : status.ReadFault ≡ status.Refused 99 0 = (why (λ e. cc)).0 in absurd cc
+no_study_read (Err status.WriteFault) files words name bytes old new why asks is rises =
+    let other : status.WriteFault ≡ status.Refused 99 0 = (why (λ e. cc)).0 in absurd cc

@@ -1,6 +1,6 @@
 //! From words and a library to a study.
 
-ghost use Rattle.std.specs.Prelude.{◌≡◌, ◌⊎◌, ℕ, List, Option, IfOk, IfErr, IfSome, OnOk, None, Some};
+ghost use Rattle.std.specs.Prelude.{◌≡◌, ℕ, List, Option, IfOk, IfErr, IfSome, OnOk, None, Some};
 ghost use Rattle.study_rules.specs.Opening.{IsInRange};
 ghost use Rattle.study_rules.specs.Watchers.{study_of};
 ghost use Rattle.abides_run.specs.Words.{texts, asked_of};
@@ -21,8 +21,7 @@ const MOST_BYTES: u64 = 16_777_216;
 fn read_study(alloc: Global, bytes: &[u8]) -> Result<WatcherStudy, Status>
     ensures study { IfOk result (λ s. study_of bytes.now ≡ Some s) }
     ensures in_range { IfOk result IsInRange }
-    ensures refused { IfErr result (λ status.
-        (status ≡ Status.Memory) ⊎ ((status ≡ Status.Refused 99 0) × (study_of bytes.now ≡ None))) }
+    ensures refused { IfErr result (λ status. ¬ (status ≡ Status.Memory) → (status ≡ Status.Refused 99 0) × (study_of bytes.now ≡ None)) }
 {
     match read_tables(alloc, bytes) {
         Ok(raw) => match watcher_study(&raw) {
