@@ -20,7 +20,10 @@ use Rattle.exchange_agent.specs.Pairs.{has_pair, pair_of, with_pair}
 use Rattle.exchange_agent.specs.Settle.{Way}
 use Rattle.exchange_agent.specs.Sound.{IsSmall, IsSoundStock, IsWithin, is_known, is_trader}
 use Rattle.exchange_agent.specs.State.{State, Stock, no_stock}
-use Rattle.exchange_agent.specs.View.{state_of, stock_of}
+use Rattle.exchange_agent.specs.View.{state_of, stock_of, way_at}
+use Rattle.exchange_agent.specs.declared.handled.Handled.{Handled}
+use Rattle.market_types.specs.Room.{Room}
+use Rattle.std.proofs.lemmas.Int.{ints}
 use Rattle.exchange_agent.proofs.Knowns.{and-first, and-second, known-pair, known-reference, known-trader}
 use Rattle.exchange_agent.proofs.States.{at-map}
 use Rattle.exchange_agent.proofs.Withins.{all-within, within-more}
@@ -50,7 +53,7 @@ differs agent token pairs o true e known new =
 pub lacks-known : (agents orders agent : ℕ) (token : Token) (pairs : List Pair) (book : List Resting) → has_pair (pair_of agent token) pairs ≡ false → All (λ (o : Resting). is_known agents orders pairs o ≡ true) book → All (λ (o : Resting). ((o.agent == agent) && bytes_eq o.token.0 token.0) ≡ false) book
 lacks-known agents orders agent token pairs book new h =
     All-weaker (λ (o : Resting). is_known agents orders pairs o ≡ true) (λ (o : Resting). ((o.agent == agent) && bytes_eq o.token.0 token.0) ≡ false)
-      (λ o e. differs agent token pairs o ((o.agent == agent) && bytes_eq o.token.0 token.0) refl (known-pair agents orders pairs o e) new) book h
+    (λ o e. differs agent token pairs o ((o.agent == agent) && bytes_eq o.token.0 token.0) refl (known-pair agents orders pairs o e) new) book h
 
 -- what a way starts from
 pub small-start : (agents orders : ℕ) (pairs : List Pair) (w : Way) → IsSoundStock agents orders pairs w.stock → All (IsWithin (2 ^ 63 + 2 ^ 61 * orders)) w.cash → w.matches ≤ 1000000 * orders → IsWithin 0 w.fee → IsSmall orders 0 w
@@ -117,3 +120,13 @@ state-refused stocks cash cash-after pairs pairs-after counts counts-after k r l
     ∙ ap (λ (xs : List ℤ). record { stocks = map stock_of stocks; cash = xs; pairs = pairs-after; counts = counts-after }) is-cash
     ∙ ap (λ (ps : List Pair). record { stocks = map stock_of stocks; cash = cash; pairs = ps; counts = counts-after }) is-pairs
     ∙ ap (λ (n : Counts). record { stocks = map stock_of stocks; cash = cash; pairs = pairs; counts = n }) is-counts
+
+none-within : (x : ℤ) → x ≡ pos 0 → IsWithin 0 x
+none-within x e = record { low = omega (arith, ints, e); high = omega (arith, ints, e) }
+
+-- a sound stock whose book keeps places, before the first match of an order
+pub started : (listing : Listing) (book : Room Resting) (cash : List ℤ) (pairs : List Pair) (orders matches : ℕ) (out : Handled) → IsSoundStock (length cash) orders pairs (stock_of listing) → book.list ≡ listing.book.list → All (IsWithin (2 ^ 63 + 2 ^ 61 * orders)) cash → matches ≤ 1000000 * orders → out.fee ≡ pos 0 → IsSmall orders 0 (way_at (record listing { book = book }) cash matches out)
+started listing book cash pairs orders matches out sound same money few fee =
+    let w = way_at (record listing { book = book }) cash matches out in
+    let here : IsSoundStock (length cash) orders pairs w.stock = subst (λ (b : List Resting). IsSoundStock (length cash) orders pairs (record (stock_of listing) { book = b })) (sym same) sound in
+    small-start (length cash) orders pairs w here money few (none-within out.fee fee)

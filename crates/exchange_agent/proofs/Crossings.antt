@@ -31,7 +31,7 @@ between b s is-b is-s (inr h) = let e : sells_above b.price (record s { side = S
 pub uncrossed-apart : (book : List Resting) → IsApart book → IsUncrossed book
 uncrossed-apart book h = λ i d in-i j e in-j is-b is-s.
     between (slice_index_or book i d) (slice_index_or book j e) is-b is-s
-      (elim (h (slice_index_or book i d).price) [ inl p ↦ inl (p i d in-i) | inr q ↦ inr (q j e in-j) ])
+    (elim (h (slice_index_or book i d).price) [ inl p ↦ inl (p i d in-i) | inr q ↦ inr (q j e in-j) ])
 
 -- a change that keeps each test of side and price keeps them apart
 pub apart-kept : (book after : List Resting) → ((p : Resting → Bool) → ((o : Resting) (left intended : ℕ) → p o ≡ true → p (record o { left = left; intended = intended }) ≡ true) → All (λ o. p o ≡ true) book → All (λ o. p o ≡ true) after) → IsApart book → IsApart after
@@ -59,14 +59,14 @@ rested-buy book o n side none (inl p) (inl lt) = inl (All-push (λ (x : Resting)
 rested-buy book o n side none (inr q) (inl lt) = inr (All-push (λ (x : Resting). sells_above n x ≡ true) book o q (subst (λ (s : Side). sells_above n (record o { side = s }) ≡ true) (sym side) refl))
 rested-buy book o n side none old (inr le) =
     inr (All-push (λ (x : Resting). sells_above n x ≡ true) book o (All-weaker (λ (x : Resting). crosses Buy o.price x ≡ false) (λ (x : Resting). sells_above n x ≡ true) (λ x e. above-less o.price n x le (buy-crosses o.price x e)) book none)
-      (subst (λ (s : Side). sells_above n (record o { side = s }) ≡ true) (sym side) refl))
+    (subst (λ (s : Side). sells_above n (record o { side = s }) ≡ true) (sym side) refl))
 
 rested-sell : (book : List Resting) (o : Resting) (n : ℕ) → o.side ≡ Sell → All (λ x. crosses Sell o.price x ≡ false) book → (All (λ x. buys_below n x ≡ true) book ⊎ All (λ x. sells_above n x ≡ true) book) → (n < o.price) ⊎ (o.price ≤ n) → All (λ x. buys_below n x ≡ true) (book ++ o ∷ []) ⊎ All (λ x. sells_above n x ≡ true) (book ++ o ∷ [])
 rested-sell book o n side none (inl p) (inl lt) = inl (All-push (λ (x : Resting). buys_below n x ≡ true) book o p (subst (λ (s : Side). buys_below n (record o { side = s }) ≡ true) (sym side) refl))
 rested-sell book o n side none (inr q) (inl lt) = inr (All-push (λ (x : Resting). sells_above n x ≡ true) book o q (subst (λ (s : Side). sells_above n (record o { side = s }) ≡ true) (sym side) (grind (arith, nat_tests))))
 rested-sell book o n side none old (inr le) =
     inl (All-push (λ (x : Resting). buys_below n x ≡ true) book o (All-weaker (λ (x : Resting). crosses Sell o.price x ≡ false) (λ (x : Resting). buys_below n x ≡ true) (λ x e. below-more o.price n x le (sell-crosses o.price x e)) book none)
-      (subst (λ (s : Side). buys_below n (record o { side = s }) ≡ true) (sym side) refl))
+    (subst (λ (s : Side). buys_below n (record o { side = s }) ≡ true) (sym side) refl))
 
 apart-by : (side : Side) (book : List Resting) (o : Resting) → o.side ≡ side → All (λ x. crosses side o.price x ≡ false) book → IsApart book → IsApart (book ++ o ∷ [])
 apart-by Buy book o e none h n = rested-buy book o n e none (h n) (low-or-high o.price n)

@@ -198,11 +198,11 @@ nothing-crosses laws side limit m (inr none) some = laws.none m.book side limit 
 abbrev tif-by : Bool → Taking → Enter → ℕ → ℕ → Way → Way
 tif-by d t e reference left w =
     if d
-      then record w { replies = w.replies ++ record { to = t.agent; body = Answer (Canceled t.time e.token left 73) } ∷ [] }
-      else record w {
-        stock = record w.stock { book = w.stock.book ++ resting_of reference t.agent e left ∷ [] };
-        feed = w.feed ++ record { locate = t.locate; tracking = 0; time = t.time; what = what.Add reference e.side left e.stock e.price } ∷ [];
-      }
+    then record w { replies = w.replies ++ record { to = t.agent; body = Answer (Canceled t.time e.token left 73) } ∷ [] }
+    else record w {
+      stock = record w.stock { book = w.stock.book ++ resting_of reference t.agent e left ∷ [] };
+      feed = w.feed ++ record { locate = t.locate; tracking = 0; time = t.time; what = what.Add reference e.side left e.stock e.price } ∷ [];
+    }
 
 abbrev left-by : Bool → Taking → Enter → ℕ → ℕ → Way → Way
 left-by b t e reference left w = if b then w else tif-by (e.tif == 0) t e reference left w
@@ -234,12 +234,12 @@ ended-way laws n reference t e w cash accounts low high traders references order
       apart = subst (λ (b : List Resting). IsApart b) (sym is-book) kept;
       few = omega (arith, few-here, fewer, few);
     } in
-    elim (k.shares == 0) as (λ b. (k.shares == 0) ≡ b → IsEnd n reference w (left-by b t e reference k.shares v) moved e.shares)
-      [ true ↦ λ q. end-whole n reference w v moved k.shares e.shares h (zero-from k.shares q)
-      | false ↦ λ q. elim (e.tif == 0) as (λ d. IsEnd n reference w (tif-by d t e reference k.shares v) moved e.shares)
-          [ true ↦ end-canceled n reference w v moved k.shares e.shares t e h
-          | false ↦
-              end-rested laws n reference w v moved k.shares e.shares (resting_of reference t.agent e k.shares) _ h refl refl (some-from k.shares q) (omega (arith, adds)) (trader-is n t.agent low high)
-                (subst (λ (b : List Resting). All (λ x. crosses e.side e.price x ≡ false) b) (sym is-book) (nothing-crosses laws e.side e.price k (laws.ends e.side e.price m) (some-from k.shares q)))
-          ]
-      ] refl
+    elim (k.shares == 0) as (λ b. (k.shares == 0) ≡ b → IsEnd n reference w (left-by b t e reference k.shares v) moved e.shares) [
+      | true ↦ λ q. end-whole n reference w v moved k.shares e.shares h (zero-from k.shares q)
+      | false ↦ λ q. elim (e.tif == 0) as (λ d. IsEnd n reference w (tif-by d t e reference k.shares v) moved e.shares) [
+        | true ↦ end-canceled n reference w v moved k.shares e.shares t e h
+        | false ↦
+            end-rested laws n reference w v moved k.shares e.shares (resting_of reference t.agent e k.shares) _ h refl refl (some-from k.shares q) (omega (arith, adds)) (trader-is n t.agent low high)
+            (subst (λ (b : List Resting). All (λ x. crosses e.side e.price x ≡ false) b) (sym is-book) (nothing-crosses laws e.side e.price k (laws.ends e.side e.price m) (some-from k.shares q)))
+      ]
+    ] refl

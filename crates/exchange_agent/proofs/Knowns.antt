@@ -43,8 +43,8 @@ known-pair agents orders pairs o e = and-second (nat_le o.reference orders) (has
 pub known-more : (agents orders more : ℕ) (pairs : List Pair) (p : Pair) (o : Resting) → orders ≤ more → is_known agents orders pairs o ≡ true → is_known agents more (with_pair p pairs) o ≡ true
 known-more agents orders more pairs p o le e =
     and-both (is_trader agents o) (nat_le o.reference more && has_pair (pair_of o.agent o.token) (with_pair p pairs)) (known-trader agents orders pairs o e)
-      (and-both (nat_le o.reference more) (has_pair (pair_of o.agent o.token) (with_pair p pairs)) (at_most-more o.reference orders more le (known-reference agents orders pairs o e))
-        (any-insert_key (is_at (by_pair (pair_of o.agent o.token))) by_pair p pairs (known-pair agents orders pairs o e)))
+    (and-both (nat_le o.reference more) (has_pair (pair_of o.agent o.token) (with_pair p pairs)) (at_most-more o.reference orders more le (known-reference agents orders pairs o e))
+    (any-insert_key (is_at (by_pair (pair_of o.agent o.token))) by_pair p pairs (known-pair agents orders pairs o e)))
 
 pub stock-more : (agents orders more : ℕ) (pairs : List Pair) (p : Pair) (x : Stock) → orders ≤ more → IsSoundStock agents orders pairs x → IsSoundStock agents more (with_pair p pairs) x
 stock-more agents orders more pairs p x le h = record {

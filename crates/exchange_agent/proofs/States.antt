@@ -30,7 +30,7 @@ set-state stocks cash pairs counts s k l x e f =
 pub sound_at : (stocks : List Listing) (cash : List ℤ) (pairs : List Pair) (counts : Counts) (k : ℕ) (r : Listing) → IsSound (state_of stocks cash pairs counts) → k < length stocks → r ≡ slice_index_or stocks k r → IsSoundStock (length cash) counts.orders pairs (stock_of r)
 sound_at stocks cash pairs counts k r sound h at =
     subst (λ (x : Stock). IsSoundStock (length cash) counts.orders pairs x) (at-map stocks k r no_stock h at)
-      (sound.stocks k no_stock (subst (λ (n : ℕ). k < n) (sym (length-map stocks stock_of)) h))
+    (sound.stocks k no_stock (subst (λ (n : ℕ). k < n) (sym (length-map stocks stock_of)) h))
 
 pub sound_set : (stocks : List Listing) (cash : List ℤ) (pairs : List Pair) (counts : Counts) (k : ℕ) (l : Listing) → IsSound (state_of stocks cash pairs counts) → IsSoundStock (length cash) counts.orders pairs (stock_of l) → IsSound (state_of (slice_set stocks k l) cash pairs counts)
 sound_set stocks cash pairs counts k l sound new =

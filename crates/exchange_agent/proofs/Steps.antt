@@ -90,14 +90,14 @@ pub record IsKept (n stocks : ℕ) (s : State) : Type 0 where
 kept-more : (n orders : ℕ) (xs : List Stock) → All (IsKeptStock n orders) xs → All (IsKeptStock n (orders + 1)) xs
 kept-more n orders xs h =
     All-weaker (IsKeptStock n orders) (IsKeptStock n (orders + 1))
-      (λ x k. record {
-        orderly = k.orderly;
-        traders = k.traders;
-        references = All-weaker (λ (o : Resting). o.reference < orders + 1) (λ (o : Resting). o.reference < orders + 1 + 1) (λ o lt. omega (arith, lt)) x.book k.references;
-        accounts = k.accounts;
-        flat = k.flat;
-        apart = k.apart;
-      }) xs h
+    (λ x k. record {
+      orderly = k.orderly;
+      traders = k.traders;
+      references = All-weaker (λ (o : Resting). o.reference < orders + 1) (λ (o : Resting). o.reference < orders + 1 + 1) (λ o lt. omega (arith, lt)) x.book k.references;
+      accounts = k.accounts;
+      flat = k.flat;
+      apart = k.apart;
+    }) xs h
 
 -- What one message or change does: what holds goes on to hold, money and shares balance, and each stock's matched shares rise.
 pub record IsStep (n stocks : ℕ) (s after : State) (replies : List Outgoing) (removed : ℕ → ℕ) : Type 0 where
@@ -205,7 +205,7 @@ entered-step laws n stocks s time agent e (Accepted k) kept low high is =
     let place = position-Some _ s.stocks k no_stock ok.number in
     let r = (accepted (remembering s agent e) time agent e k).replies in
     subst (λ (q : Option ℕ). IsStep n stocks s (accepted (remembering s agent e) time agent e k).state r (λ j. if is_number j q then total_of removed_shares r else 0)) (sym ok.number)
-      (accepted-step laws n stocks s time agent e k kept low high place.0 ok.place)
+    (accepted-step laws n stocks s time agent e k kept low high place.0 ok.place)
 
 found-by : (b : Bool) (p : Resting → Bool) (P : Resting → Type 0) (x : Resting) (xs : List Resting) (o : Resting) → cond b (Some x) (find p xs) ≡ Some o → P x → (find p xs ≡ Some o → P o) → P o
 found-by true p P x xs o e here later = let same : x ≡ o = cc in subst P same here
@@ -259,15 +259,15 @@ canceled-step laws n stocks s time agent c f kept is below =
     let after = changed (reduced left o) x.book in
     let sum = laws.lowered-shares o.reference left x.book o here.orderly by fewer in
     moved-stock n stocks s k (record x { book = after }) (canceled s time agent c k o).replies (λ j. 0) kept in'
-      (record {
-        orderly = laws.lowered o.reference left x.book o here.orderly by fewer;
-        traders = laws.lower-tested (is_trader n) (λ y l h e. e) o.reference left x.book o by le here.traders;
-        references = laws.lower-references (s.counts.orders + 1) o.reference left x.book o by le here.references;
-        accounts = here.accounts;
-        flat = here.flat;
-        apart = apart-kept x.book after (λ p keeps. laws.lower-tested p (λ y l h e. keeps y l (y.intended - (y.left - l)) e) o.reference left x.book o by le) here.apart;
-      })
-      refl (omega (arith, sum)) (λ j. refl)
+    (record {
+      orderly = laws.lowered o.reference left x.book o here.orderly by fewer;
+      traders = laws.lower-tested (is_trader n) (λ y l h e. e) o.reference left x.book o by le here.traders;
+      references = laws.lower-references (s.counts.orders + 1) o.reference left x.book o by le here.references;
+      accounts = here.accounts;
+      flat = here.flat;
+      apart = apart-kept x.book after (λ p keeps. laws.lower-tested p (λ y l h e. keeps y l (y.intended - (y.left - l)) e) o.reference left x.book o by le) here.apart;
+    })
+    refl (omega (arith, sum)) (λ j. refl)
 
 abbrev cancel-by : Bool → State → ℕ → ℕ → Cancel → Found → Outcome
 cancel-by b s time agent c f = if b then canceled s time agent c f.stock f.order else unheard s
@@ -278,10 +278,10 @@ below-from m n e = grind (arith, nat_tests)
 cancel-step : (laws : BookLaws) (n stocks : ℕ) (s : State) (time agent : ℕ) (c : Cancel) (f : Option Found) → IsKept n stocks s → found_from 0 agent c.token s.stocks ≡ f → IsStep n stocks s (cancel_of s time agent c f).state (cancel_of s time agent c f).replies (λ j. 0)
 cancel-step laws n stocks s time agent c None kept is = still n stocks s (unheard s).state [] (λ j. 0) kept refl refl refl refl refl refl (λ j. refl)
 cancel-step laws n stocks s time agent c (Some f) kept is =
-    elim (nat_lt c.shares f.order.intended) as (λ b. nat_lt c.shares f.order.intended ≡ b → IsStep n stocks s (cancel-by b s time agent c f).state (cancel-by b s time agent c f).replies (λ j. 0))
-      [ true ↦ λ e. canceled-step laws n stocks s time agent c f kept is (below-from c.shares f.order.intended e)
+    elim (nat_lt c.shares f.order.intended) as (λ b. nat_lt c.shares f.order.intended ≡ b → IsStep n stocks s (cancel-by b s time agent c f).state (cancel-by b s time agent c f).replies (λ j. 0)) [
+      | true ↦ λ e. canceled-step laws n stocks s time agent c f kept is (below-from c.shares f.order.intended e)
       | false ↦ λ e. still n stocks s (unheard s).state [] (λ j. 0) kept refl refl refl refl refl refl (λ j. refl)
-      ] refl
+    ] refl
 
 -- any message
 pub message-step : (laws : BookLaws) (n stocks : ℕ) (s : State) (time agent : ℕ) (b : Body) → IsKept n stocks s → 1 ≤ agent → agent ≤ n → IsStep n stocks s (market s time agent b).state (market s time agent b).replies (λ j. if is_for s j (message time agent b) then total_of removed_shares (market s time agent b).replies else 0)
@@ -298,15 +298,15 @@ ruled n stocks s k x kept in' is-book is-tally =
     let here : IsKeptStock n s.counts.orders (stock_at s k) = kept.each k no_stock in' in
     let same : sum_by (λ o. o.left) x.book ≡ sum_by (λ o. o.left) (stock_at s k).book = ap (λ (b : List Resting). sum_by (λ o. o.left) b) is-book in
     moved-stock n stocks s k x [] (λ j. 0) kept in'
-      (record {
-        orderly = subst (λ (b : List Resting). IsOrderly b) (sym is-book) here.orderly;
-        traders = subst (λ (b : List Resting). All (λ o. is_trader n o ≡ true) b) (sym is-book) here.traders;
-        references = subst (λ (b : List Resting). All (λ o. o.reference < s.counts.orders + 1) b) (sym is-book) here.references;
-        accounts = ap (λ t. length t.positions) is-tally ∙ here.accounts;
-        flat = ap (λ t. total t.positions) is-tally ∙ here.flat;
-        apart = subst (λ (b : List Resting). IsApart b) (sym is-book) here.apart;
-      })
-      is-tally (omega (arith, same)) (λ j. refl)
+    (record {
+      orderly = subst (λ (b : List Resting). IsOrderly b) (sym is-book) here.orderly;
+      traders = subst (λ (b : List Resting). All (λ o. is_trader n o ≡ true) b) (sym is-book) here.traders;
+      references = subst (λ (b : List Resting). All (λ o. o.reference < s.counts.orders + 1) b) (sym is-book) here.references;
+      accounts = ap (λ t. length t.positions) is-tally ∙ here.accounts;
+      flat = ap (λ t. total t.positions) is-tally ∙ here.flat;
+      apart = subst (λ (b : List Resting). IsApart b) (sym is-book) here.apart;
+    })
+    is-tally (omega (arith, same)) (λ j. refl)
 
 abbrev turned-by : Bool → State → ℕ → ℕ → State
 turned-by b s k letter = if b then s else with_stock s k (record (stock_at s k) { trading = letter })

@@ -59,7 +59,7 @@ to-all : (n : ℕ) (t : Taking) (fills : List Fill) (w : Way) → 1 ≤ t.agent 
 to-all n t [] w a b es h = h
 to-all n t (f ∷ fs) w a b es h =
     to-all n t fs (settled t f w) a b (All-tail (λ (g : Fill). is_trader n g.resting ≡ true) f fs es)
-      (to-settled n t f w a b (All-head (λ (g : Fill). is_trader n g.resting ≡ true) f fs es) h)
+    (to-settled n t f w a b (All-head (λ (g : Fill). is_trader n g.resting ≡ true) f fs es) h)
 
 at-all : (t : Taking) (fills : List Fill) (w : Way) → All (IsAt t.time) w.feed → All (IsAt t.time) (all_settled t fills w).feed
 at-all t [] w h = h
@@ -72,12 +72,12 @@ if-both false P x y p q = q
 to-remainder : (n : ℕ) (t : Taking) (e : Enter) (reference left : ℕ) (w : Way) → 1 ≤ t.agent → t.agent ≤ n → All (IsToTrader n) w.replies → All (IsToTrader n) (remainder t e reference left w).replies
 to-remainder n t e reference left w a b h =
     if-both (left == 0) (λ (v : Way). All (IsToTrader n) v.replies) w _ h
-      (if-both (e.tif == 0) (λ (v : Way). All (IsToTrader n) v.replies) _ _ (All-append (IsToTrader n) w.replies _ h (one-to n _ a b)) h)
+    (if-both (e.tif == 0) (λ (v : Way). All (IsToTrader n) v.replies) _ _ (All-append (IsToTrader n) w.replies _ h (one-to n _ a b)) h)
 
 at-remainder : (t : Taking) (e : Enter) (reference left : ℕ) (w : Way) → All (IsAt t.time) w.feed → All (IsAt t.time) (remainder t e reference left w).feed
 at-remainder t e reference left w h =
     if-both (left == 0) (λ (v : Way). All (IsAt t.time) v.feed) w _ h
-      (if-both (e.tif == 0) (λ (v : Way). All (IsAt t.time) v.feed) _ _ h (All-append (IsAt t.time) w.feed _ h (one-at t.time _ refl)))
+    (if-both (e.tif == 0) (λ (v : Way). All (IsAt t.time) v.feed) _ _ h (All-append (IsAt t.time) w.feed _ h (one-at t.time _ refl)))
 
 -- what the book's law says: an order that gives shares is one of the traders' as the book's are
 abbrev pub FillsAreKnown : ℕ → Type 0
@@ -98,7 +98,7 @@ to-entered s time agent e (Accepted k) h law a b is =
     let m = matched w.stock.book e.side e.price e.shares in
     let accepted : Outgoing = record { to = agent; body = body.Answer (acceptance_of time e (s.counts.orders + 1)) } in
     to-remainder n t e (s.counts.orders + 1) m.shares (all_settled t m.fills w) a b
-      (to-all n t m.fills w a b (law (stock_at s k).book e.side e.price e.shares traders) (one-to n accepted a b))
+    (to-all n t m.fills w a b (law (stock_at s k).book e.side e.price e.shares traders) (one-to n accepted a b))
 
 at-entered : (s : State) (time agent : ℕ) (e : Enter) (v : Verdict) → All (IsAt time) (entered_by s time agent e v).feed
 at-entered s time agent e Ignored = All-nil (IsAt time)

@@ -140,4 +140,4 @@ on-all n t (f ∷ fs) w cash accounts a b es =
     let one = on-settled n t f w cash accounts a b (All-head P f fs es) in
     let rest = on-all n t fs (settled t f w) one.cash one.accounts a b (All-tail P f fs es) in
     subst (λ (m : ℕ). IsOnWay n w (all_settled t fs (settled t f w)) m) (sym (sum_by-cons (λ (g : Fill). g.shares) f fs))
-      (on-more n w (settled t f w) (all_settled t fs (settled t f w)) f.shares (sum_by (λ g. g.shares) fs) one rest)
+    (on-more n w (settled t f w) (all_settled t fs (settled t f w)) f.shares (sum_by (λ g. g.shares) fs) one rest)

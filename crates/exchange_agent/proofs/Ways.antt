@@ -66,9 +66,9 @@ if-both false P x y p q = q
 pub small-remainder : (orders shares : ℕ) (t : Taking) (e : Enter) (reference left : ℕ) (w : Way) → IsSmall orders shares w → IsSmall orders shares (remainder t e reference left w)
 small-remainder orders shares t e reference left w h =
     if-both (left == 0) (λ (v : Way). IsSmall orders shares v) w _ h
-      (if-both (e.tif == 0) (λ (v : Way). IsSmall orders shares v) _ _
-        (record { cash = h.cash; matches = h.matches; matched = h.matched; taken = h.taken; positions = h.positions; fee = h.fee })
-        (record { cash = h.cash; matches = h.matches; matched = h.matched; taken = h.taken; positions = h.positions; fee = h.fee }))
+    (if-both (e.tif == 0) (λ (v : Way). IsSmall orders shares v) _ _
+    (record { cash = h.cash; matches = h.matches; matched = h.matched; taken = h.taken; positions = h.positions; fee = h.fee })
+    (record { cash = h.cash; matches = h.matches; matched = h.matched; taken = h.taken; positions = h.positions; fee = h.fee }))
 
 -- a way is the next one where each part is
 pub way-made : (t : Taking) (f : Fill) (w v : Way) → v.stock ≡ (settled t f w).stock → v.cash ≡ (settled t f w).cash → v.matches ≡ (settled t f w).matches → v.replies ≡ (settled t f w).replies → v.feed ≡ (settled t f w).feed → v.fee ≡ (settled t f w).fee → v ≡ settled t f w

@@ -23,8 +23,8 @@ within-from_abs a (negsuc n) h = record { low = omega (arith, ints); high = omeg
 pub gained-within : (a b agent : ℕ) (n : ℤ) (xs : List ℤ) → agent - 1 < length xs → IsWithin b n → All (IsWithin a) xs → All (IsWithin (a + b)) (gained agent n xs)
 gained-within a b agent n xs in' p all =
     All-set (IsWithin (a + b)) xs (agent - 1) (slice_index_or xs (agent - 1) (pos 0) +ℤ n)
-      (within-sum a b (slice_index_or xs (agent - 1) (pos 0)) n (all (agent - 1) (pos 0) in') p)
-      (All-weaker (IsWithin a) (IsWithin (a + b)) (λ x q. within-more a (a + b) x (omega arith) q) xs all)
+    (within-sum a b (slice_index_or xs (agent - 1) (pos 0)) n (all (agent - 1) (pos 0) in') p)
+    (All-weaker (IsWithin a) (IsWithin (a + b)) (λ x q. within-more a (a + b) x (omega arith) q) xs all)
 
 pub fee-within : (each : ℤ) (n : ℕ) → unsigned_abs each ≤ 2147483648 → IsWithin (2147483648 * n) (each *ℤ pos n)
 fee-within each n h = within-from_abs (2147483648 * n) (each *ℤ pos n) (grind (arith, unsigned_abs-mul))
@@ -32,8 +32,8 @@ fee-within each n h = within-from_abs (2147483648 * n) (each *ℤ pos n) (grind 
 pub gained-small : (agent : ℕ) (n : ℤ) (xs ys : List ℤ) → ys ≡ gained agent n xs → agent - 1 < length xs → IsWithin (2 ^ 80) n → All (IsWithin (2 ^ 100)) xs → All (IsWithin (2 ^ 120)) ys
 gained-small agent n xs ys e in' p all =
     subst (λ (l : List ℤ). All (IsWithin (2 ^ 120)) l) (sym e)
-      (All-weaker (IsWithin (2 ^ 100 + 2 ^ 80)) (IsWithin (2 ^ 120)) (λ x q. within-more (2 ^ 100 + 2 ^ 80) (2 ^ 120) x (lit≤ tt) q) (gained agent n xs)
-        (gained-within (2 ^ 100) (2 ^ 80) agent n xs in' p all))
+    (All-weaker (IsWithin (2 ^ 100 + 2 ^ 80)) (IsWithin (2 ^ 120)) (λ x q. within-more (2 ^ 100 + 2 ^ 80) (2 ^ 120) x (lit≤ tt) q) (gained agent n xs)
+    (gained-within (2 ^ 100) (2 ^ 80) agent n xs in' p all))
 
 -- two accounts gain, each by less than a bound
 pub gained-twice : (b d e first second : ℕ) (m n : ℤ) (xs ys zs : List ℤ) → ys ≡ gained first m xs → zs ≡ gained second n ys → first - 1 < length xs → second - 1 < length xs → IsWithin d m → IsWithin d n → b + d + d ≡ e → All (IsWithin b) xs → All (IsWithin e) zs

@@ -125,17 +125,17 @@ abbrev pub remainder : Taking → Enter → ℕ → ℕ → Way → Way
 remainder t e reference left w =
     if left == 0 then w
     else (if e.tif == 0
-      then record w { replies = w.replies ++ record { to = t.agent; body = Answer (Canceled t.time e.token left 73) } ∷ [] }
-      else record w {
-        stock = record w.stock { book = w.stock.book ++ resting_of reference t.agent e left ∷ [] };
-        feed = w.feed ++ record { locate = t.locate; tracking = 0; time = t.time; what = what.Add reference e.side left e.stock e.price } ∷ [];
-      })
+    then record w { replies = w.replies ++ record { to = t.agent; body = Answer (Canceled t.time e.token left 73) } ∷ [] }
+    else record w {
+      stock = record w.stock { book = w.stock.book ++ resting_of reference t.agent e left ∷ [] };
+      feed = w.feed ++ record { locate = t.locate; tracking = 0; time = t.time; what = what.Add reference e.side left e.stock e.price } ∷ [];
+    })
 
 -- its whole way: through all its matches, by the book's own matching, and then what is left
 abbrev pub way_of : Taking → Enter → ℕ → Way → Way
 way_of t e reference w =
     remainder t e reference (matched w.stock.book e.side e.price e.shares).shares
-      (all_settled t (matched w.stock.book e.side e.price e.shares).fills w)
+    (all_settled t (matched w.stock.book e.side e.price e.shares).fills w)
 
 -- the outcome of a whole way
 abbrev pub outcome_of : State → ℕ → Way → Outcome

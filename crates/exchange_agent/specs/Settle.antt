@@ -59,7 +59,7 @@ both_fees_of fees f = fee_added fees f +ℤ fee_taken fees f
 abbrev pub cash_after : FeeTable → ℕ → Side → Fill → List ℤ → List ℤ
 cash_after fees agent side f cash =
     gained agent (money_gained side (worth_of f) +ℤ neg_ℤ (fee_taken fees f))
-      (gained f.resting.agent (money_gained (opposite_of side) (worth_of f) +ℤ neg_ℤ (fee_added fees f)) cash)
+    (gained f.resting.agent (money_gained (opposite_of side) (worth_of f) +ℤ neg_ℤ (fee_added fees f)) cash)
 
 -- settled positions after it
 abbrev pub positions_after : ℕ → Side → Fill → List ℤ → List ℤ

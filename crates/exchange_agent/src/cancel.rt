@@ -74,7 +74,14 @@ impl Exchange {
     }
 
     // An order is lowered by a Cancel.
-    fn lower(&mut self, time: Time, from: AgentNo, cancel: &Cancel, found: &Found, out: &mut Handled)
+    fn lower(
+        &mut self,
+        time: Time,
+        from: AgentNo,
+        cancel: &Cancel,
+        found: &Found,
+        out: &mut Handled,
+    )
         requires stock { found.now.stock < length self.old.stocks }
         requires held { order_with found.now.order.reference (stock_at self.old found.now.stock).book ≡ Some found.now.order }
         requires live { 0 < found.now.order.left }
@@ -109,7 +116,13 @@ impl Exchange {
     }
 
     /// A Cancel, in every state of the stock.
-    pub(crate) fn cancel(&mut self, time: Time, from: AgentNo, cancel: &Cancel, out: &mut Handled) -> Result<(), Memory>
+    pub(crate) fn cancel(
+        &mut self,
+        time: Time,
+        from: AgentNo,
+        cancel: &Cancel,
+        out: &mut Handled,
+    ) -> Result<(), Memory>
         requires { self.old.counts.cancels < 2 ^ 63 }
         ensures state { OnOk result (self.new ≡ (cancel_of self.old time from cancel.now (found_from 0 from cancel.now.token self.old.stocks)).state) }
         ensures replies { OnOk result (out.new.replies.list ≡ out.old.replies.list ++ (cancel_of self.old time from cancel.now (found_from 0 from cancel.now.token self.old.stocks)).replies) }

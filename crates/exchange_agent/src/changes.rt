@@ -9,7 +9,13 @@ use market_types::{Feed, FeedList, Memory, StockNo, Time, What};
 
 impl Exchange {
     // The stock's trading state becomes this one.
-    fn turn(&mut self, time: Time, stock: StockNo, letter: u8, feed: &mut FeedList) -> Result<(), Memory>
+    fn turn(
+        &mut self,
+        time: Time,
+        stock: StockNo,
+        letter: u8,
+        feed: &mut FeedList,
+    ) -> Result<(), Memory>
         requires { stock < length self.old.stocks }
         ensures state { OnOk result (self.new ≡ (turned self.old time stock letter).state) }
         ensures feed { OnOk result (feed.new.list ≡ feed.old.list ++ (turned self.old time stock letter).feed) }

@@ -156,7 +156,14 @@ impl Exchange {
     }
 
     // An Enter is rejected, and the pair is remembered.
-    fn reject(&mut self, time: Time, from: AgentNo, e: &Enter, reason: u8, out: &mut Handled) -> Result<(), Memory>
+    fn reject(
+        &mut self,
+        time: Time,
+        from: AgentNo,
+        e: &Enter,
+        reason: u8,
+        out: &mut Handled,
+    ) -> Result<(), Memory>
         requires { length self.old.pairs < 131072 }
         ensures state { OnOk result (self.new ≡ remembering self.old from e.now) }
         ensures replies { OnOk result (out.new.replies.list ≡ out.old.replies.list ++ record { to = from; body = Body.Answer (rejection_of time e.now reason) } ∷ []) }
@@ -255,7 +262,14 @@ fn admit(
 
 impl Exchange {
     // An Enter is accepted at the stock of this number.
-    fn accept(&mut self, time: Time, from: AgentNo, e: &Enter, stock: usize, out: &mut Handled) -> Result<(), Memory>
+    fn accept(
+        &mut self,
+        time: Time,
+        from: AgentNo,
+        e: &Enter,
+        stock: usize,
+        out: &mut Handled,
+    ) -> Result<(), Memory>
         requires stock { stock < length self.old.stocks }
         requires few { e.now.shares < 1000000 }
         requires new { is_remembered self.old from e.now ≡ false }
@@ -303,7 +317,13 @@ impl Exchange {
     }
 
     /// An Enter: the first of the nine lines that applies answers.
-    pub(crate) fn enter(&mut self, time: Time, from: AgentNo, e: &Enter, out: &mut Handled) -> Result<(), Memory>
+    pub(crate) fn enter(
+        &mut self,
+        time: Time,
+        from: AgentNo,
+        e: &Enter,
+        out: &mut Handled,
+    ) -> Result<(), Memory>
         requires ignored { self.old.counts.enters < 2 ^ 63 }
         requires trader { 1 ≤ from }
         requires exists { from ≤ length self.old.cash }

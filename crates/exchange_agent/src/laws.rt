@@ -14,12 +14,10 @@ use price_time_book::laws::{matching_ends, next_is_best};
 /// executed with flag `R` by orders for it; what was accepted is open, executed or canceled; and no two live
 /// orders of a stock cross.
 pub fn runs_are_conserved()
-    ensures {
-        (rules : List StockRules) (cash : List ℤ) (acts : List Act) →
+    ensures { (rules : List StockRules) (cash : List ℤ) (acts : List Act) →
         IsOpening rules cash →
         AllByRecursion (IsPossible (length cash) (length rules)) acts →
-        IsConserved rules cash acts
-    }
+        IsConserved rules cash acts }
 {
     a_match_keeps();
     a_reduce_keeps();

@@ -16,6 +16,8 @@ mod meet;
 mod pair;
 mod readers;
 mod settle;
+#[cfg(test)]
+mod tests;
 mod told;
 mod verdict;
 pub mod worked;

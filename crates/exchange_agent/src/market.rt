@@ -33,7 +33,13 @@ impl Exchange {
     }
 
     // What each message does.
-    fn answer(&mut self, time: Time, from: AgentNo, body: &Body, out: &mut Handled) -> Result<(), Memory>
+    fn answer(
+        &mut self,
+        time: Time,
+        from: AgentNo,
+        body: &Body,
+        out: &mut Handled,
+    ) -> Result<(), Memory>
         requires trader { 1 ≤ from }
         requires exists { from ≤ length self.old.cash }
         requires askable { IsAskable (length self.old.stocks) body.now }
@@ -62,7 +68,13 @@ impl Exchange {
     /// Handles a message from a trader at a time, in nanoseconds past midnight. Orders, cancels and questions are
     /// answered in `out`, which is empty before; every other message changes nothing. Each refusal of an order is a
     /// reply. After want of memory the exchange and `out` are as they were.
-    pub fn handle(&mut self, time: Time, from: AgentNo, body: &Body, out: &mut Handled) -> Result<(), Memory>
+    pub fn handle(
+        &mut self,
+        time: Time,
+        from: AgentNo,
+        body: &Body,
+        out: &mut Handled,
+    ) -> Result<(), Memory>
         requires trader { 1 ≤ from }
         requires exists { from ≤ length self.old.cash }
         requires askable { IsAskable (length self.old.stocks) body.now }

@@ -57,8 +57,8 @@ invariant_of-self c =
     let i = c.self.inside in
     let e = c.in_err-admit.ensures in
     subst (λ (q : State). IsSound q)
-      (sym (state-refused i.stocks.items i.cash.items c.admit.new.cash.items i.pairs.keys c.admit.new.pairs.keys i.counts c.admit.new.counts c.args.stock c.index_mut-listing.result.now c.admit.new.listing (search rules) e.stock_refused e.cash_refused e.pairs_refused e.counts_refused))
-      c.self.invariant
+    (sym (state-refused i.stocks.items i.cash.items c.admit.new.cash.items i.pairs.keys c.admit.new.pairs.keys i.counts c.admit.new.counts c.args.stock c.index_mut-listing.result.now c.admit.new.listing (search rules) e.stock_refused e.cash_refused e.pairs_refused e.counts_refused))
+    c.self.invariant
 
 pub returns-in_err-admit-clause-exchange_refused : goal.returns-in_err-admit-clause-exchange_refused
 returns-in_err-admit-clause-exchange_refused c =
@@ -66,7 +66,7 @@ returns-in_err-admit-clause-exchange_refused c =
     let e = c.in_err-admit.ensures in
     let view : c.args.self.now ≡ state_of i.stocks.items i.cash.items i.pairs.keys i.counts = search rules in
     on-err c.from_residual.result _
-      (state-refused i.stocks.items i.cash.items c.admit.new.cash.items i.pairs.keys c.admit.new.pairs.keys i.counts c.admit.new.counts c.args.stock c.index_mut-listing.result.now c.admit.new.listing (search rules) e.stock_refused e.cash_refused e.pairs_refused e.counts_refused ∙ sym view)
+    (state-refused i.stocks.items i.cash.items c.admit.new.cash.items i.pairs.keys c.admit.new.pairs.keys i.counts c.admit.new.counts c.args.stock c.index_mut-listing.result.now c.admit.new.listing (search rules) e.stock_refused e.cash_refused e.pairs_refused e.counts_refused ∙ sym view)
 
 pub invariant_of-self-2 : goal.invariant_of-self-2
 invariant_of-self-2 c =

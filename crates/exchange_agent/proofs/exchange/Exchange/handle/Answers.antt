@@ -22,8 +22,8 @@ returns-clause-receivers c =
     let there : All (IsToTrader n) (market s c.args.time c.args.from c.args.body.now).replies =
     to-traders s c.args.time c.args.from c.args.body.now c.is_sound.ensures (c.fills_add_up.ensures.tested (is_trader n) (λ o left le e. e)) c.requires.trader c.requires.exists in
     either c.answer.result (new ≡ (market s c.args.time c.args.from c.args.body.now).replies) (new ≡ c.args.out.now.replies.list) (All (IsToTrader n) new) c.answer.ensures.replies c.answer.ensures.replies_refused
-      (λ e. subst (λ (rs : List Outgoing). All (IsToTrader n) rs) (sym e) there)
-      (λ e. subst (λ (rs : List Outgoing). All (IsToTrader n) rs) (sym (e ∙ c.requires.no_replies)) (All-nil (IsToTrader n)))
+    (λ e. subst (λ (rs : List Outgoing). All (IsToTrader n) rs) (sym e) there)
+    (λ e. subst (λ (rs : List Outgoing). All (IsToTrader n) rs) (sym (e ∙ c.requires.no_replies)) (All-nil (IsToTrader n)))
 
 pub returns-clause-times : goal.returns-clause-times
 returns-clause-times c =
@@ -31,8 +31,8 @@ returns-clause-times c =
     let time = c.args.time in
     let new = c.answer.new.out.feed.list in
     either c.answer.result (new ≡ (market s time c.args.from c.args.body.now).feed) (new ≡ c.args.out.now.feed.list) (All (IsAt time) new) c.answer.ensures.feed c.answer.ensures.feed_refused
-      (λ e. subst (λ (fs : List Feed). All (IsAt time) fs) (sym e) (at-time s time c.args.from c.args.body.now))
-      (λ e. subst (λ (fs : List Feed). All (IsAt time) fs) (sym (e ∙ c.requires.no_feed)) (All-nil (IsAt time)))
+    (λ e. subst (λ (fs : List Feed). All (IsAt time) fs) (sym e) (at-time s time c.args.from c.args.body.now))
+    (λ e. subst (λ (fs : List Feed). All (IsAt time) fs) (sym (e ∙ c.requires.no_feed)) (All-nil (IsAt time)))
 
 size : (c : goal.After-answer) → KeepsSize c.args.self.now c.answer.new.self
 size c =
@@ -40,8 +40,8 @@ size c =
     let new = c.answer.new.self in
     let after = (market s c.args.time c.args.from c.args.body.now).state in
     either c.answer.result (new ≡ after) (new ≡ s) (KeepsSize s new) c.answer.ensures.state c.answer.ensures.exchange_refused
-      (λ e. subst (λ (q : State). KeepsSize s q) (sym e) (keeps-size s c.args.time c.args.from c.args.body.now))
-      (λ e. subst (λ (q : State). KeepsSize s q) (sym e) (keeps-all s))
+    (λ e. subst (λ (q : State). KeepsSize s q) (sym e) (keeps-size s c.args.time c.args.from c.args.body.now))
+    (λ e. subst (λ (q : State). KeepsSize s q) (sym e) (keeps-all s))
 
 pub returns-clause-stocks : goal.returns-clause-stocks
 returns-clause-stocks c = (size c).stocks

@@ -25,8 +25,8 @@ invariant_of-self c =
     let p = is_known (length i.cash.items) i.counts.orders i.pairs.keys in
     let known : All (λ (x : Resting). p x ≡ true) (changed (reduced left o) r.book.list) = c.a_reduce_keeps.ensures.tested p (λ x n l e. e) o.reference left r.book.list o held fewer h.known in
     sound_set i.stocks.items i.cash.items i.pairs.keys i.counts k c.reduce.new.self c.self.invariant
-      (subst (λ (x : Stock). IsSoundStock (length i.cash.items) i.counts.orders i.pairs.keys x) (sym c.reduce.ensures)
-        (rebooked-sound (length i.cash.items) i.counts.orders i.pairs.keys (stock_of r) (changed (reduced left o) r.book.list) h known (c.changes_keep.ensures.length (reduced left o) r.book.list)))
+    (subst (λ (x : Stock). IsSoundStock (length i.cash.items) i.counts.orders i.pairs.keys x) (sym c.reduce.ensures)
+    (rebooked-sound (length i.cash.items) i.counts.orders i.pairs.keys (stock_of r) (changed (reduced left o) r.book.list) h known (c.changes_keep.ensures.length (reduced left o) r.book.list)))
 
 pub returns-clause-state : goal.returns-clause-state
 returns-clause-state c =

@@ -7,4 +7,4 @@ pub resting-requires-clause-each : goal.resting-requires-clause-each
 resting-requires-clause-each c =
     let i = c.self.inside in
     subst (λ (xs : List Listing). All (λ (k : Listing). length k.book.list ≤ 131072) xs) (sym c.as_slice.ensures.value)
-      (few-each (length i.cash.items) i.counts.orders i.pairs.keys i.stocks.items (omega (arith, c.self.invariant.orders, c.self.invariant.pairs)) c.self.invariant.stocks)
+    (few-each (length i.cash.items) i.counts.orders i.pairs.keys i.stocks.items (omega (arith, c.self.invariant.orders, c.self.invariant.pairs)) c.self.invariant.stocks)

@@ -94,7 +94,7 @@ meet-requires-clause-room c =
     let book = c.fills.self.book.list in
     let nz : left ≢ 0 = search (rules, c.fills-test.true) in
     if-some (next_of book t.side limit) (2 ≤ c.fills.out.replies.spare)
-      (λ o e. let one : length (matched book t.side limit left).fills ≡ length (fill_of left o ∷ (matched (after_fill (fill_of left o) book) t.side limit (left - min o.left left)).fills) = ap (λ (m : Matching). length m.fills) (c.matching_goes_on.ensures.begins book t.side limit left o e nz) in omega (arith, one, c.fills.invariant.room, c.requires.room))
+    (λ o e. let one : length (matched book t.side limit left).fills ≡ length (fill_of left o ∷ (matched (after_fill (fill_of left o) book) t.side limit (left - min o.left left)).fills) = ap (λ (m : Matching). length m.fills) (c.matching_goes_on.ensures.begins book t.side limit left o e nz) in omega (arith, one, c.fills.invariant.room, c.requires.room))
 
 pub meet-requires-clause-feed_room : goal.meet-requires-clause-feed_room
 meet-requires-clause-feed_room c =
@@ -104,7 +104,7 @@ meet-requires-clause-feed_room c =
     let book = c.fills.self.book.list in
     let nz : left ≢ 0 = search (rules, c.fills-test.true) in
     if-some (next_of book t.side limit) (1 ≤ c.fills.out.feed.spare)
-      (λ o e. let one : length (matched book t.side limit left).fills ≡ length (fill_of left o ∷ (matched (after_fill (fill_of left o) book) t.side limit (left - min o.left left)).fills) = ap (λ (m : Matching). length m.fills) (c.matching_goes_on.ensures.begins book t.side limit left o e nz) in omega (arith, one, c.fills.invariant.feed_room, c.requires.feed_room))
+    (λ o e. let one : length (matched book t.side limit left).fills ≡ length (fill_of left o ∷ (matched (after_fill (fill_of left o) book) t.side limit (left - min o.left left)).fills) = ap (λ (m : Matching). length m.fills) (c.matching_goes_on.ensures.begins book t.side limit left o e nz) in omega (arith, one, c.fills.invariant.feed_room, c.requires.feed_room))
 
 pub returns-clause-way : goal.returns-clause-way
 returns-clause-way c =

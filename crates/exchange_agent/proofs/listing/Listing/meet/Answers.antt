@@ -40,7 +40,7 @@ trader c =
     let side = c.args.taking.now.side in
     let limit = c.args.limit in
     head n c.args.wanted c.in_ok-fill.fill (next_of book side limit) (search rules)
-      (λ o e. c.next_is_best.ensures.tested (is_trader n) book side limit o e c.requires.resting)
+    (λ o e. c.next_is_best.ensures.tested (is_trader n) book side limit o e c.requires.resting)
 
 pub settle-requires-clause-resting_trader : goal.settle-requires-clause-resting_trader
 settle-requires-clause-resting_trader c = at_least (length c.args.cash.now.items) c.in_ok-fill.fill.resting (trader c)
@@ -66,12 +66,12 @@ returns-clause-met c =
     c.settle.ensures.rest ∙ ap (λ (x : Tally). record (stock_of mid) { tally = x }) c.settle.ensures.tally
     ∙ ap (λ (m : Listing). record (stock_of m) { tally = tally_after m.fees t.agent t.side f (stock_of m).tally }) filled in
     met-by t c.args.wanted f (next_of old.book.list t.side c.args.limit) w v (search rules)
-      (way-made t f w v stock
-        (c.settle.ensures.cash ∙ ap (λ (m : Listing). cash_after m.fees t.agent t.side f c.args.cash.now.items) filled)
-        c.settle.ensures.matches
-        (ap (λ r. r.list) c.settle.ensures.replies)
-        (ap (λ r. r.list) c.settle.ensures.feed)
-        (c.settle.ensures.fee ∙ ap (λ (m : Listing). c.args.out.now.fee +ℤ both_fees_of m.fees f) filled))
+    (way-made t f w v stock
+    (c.settle.ensures.cash ∙ ap (λ (m : Listing). cash_after m.fees t.agent t.side f c.args.cash.now.items) filled)
+    c.settle.ensures.matches
+    (ap (λ r. r.list) c.settle.ensures.replies)
+    (ap (λ r. r.list) c.settle.ensures.feed)
+    (c.settle.ensures.fee ∙ ap (λ (m : Listing). c.args.out.now.fee +ℤ both_fees_of m.fees f) filled))
 
 pub returns-clause-small : goal.returns-clause-small
 returns-clause-small c = λ orders shares h.

@@ -13,7 +13,7 @@ returns-clause-small c = λ orders shares some h.
     let summed : c.summed-out.result ≡ c.args.out.now.fee +ℤ c.both_fees-fees.result = search (rules, c.summed-out.ensures, c.tell.ensures.fee) in
     let within : IsWithin (2 ^ 32 * (shares + n)) c.summed-out.result =
     subst (λ (x : ℤ). IsWithin (2 ^ 32 * (shares + n)) x) (sym summed)
-      (within-more (2 ^ 32 * shares + 2 ^ 32 * n) (2 ^ 32 * (shares + n)) (c.args.out.now.fee +ℤ c.both_fees-fees.result) (omega arith) (within-sum (2 ^ 32 * shares) (2 ^ 32 * n) c.args.out.now.fee c.both_fees-fees.result h.fee c.both_fees-fees.ensures.size)) in
+    (within-more (2 ^ 32 * shares + 2 ^ 32 * n) (2 ^ 32 * (shares + n)) (c.args.out.now.fee +ℤ c.both_fees-fees.result) (omega arith) (within-sum (2 ^ 32 * shares) (2 ^ 32 * n) c.args.out.now.fee c.both_fees-fees.result h.fee c.both_fees-fees.ensures.size)) in
     record {
       cash = all-within (2 ^ 63 + 2 ^ 61 * orders + 2 ^ 41 * shares + 2 ^ 41 * n) (2 ^ 63 + 2 ^ 61 * orders + 2 ^ 41 * (shares + n)) _ (omega arith) (c.settle_money.ensures.moves (2 ^ 63 + 2 ^ 61 * orders + 2 ^ 41 * shares) h.cash);
       matches = omega (arith, some, h.matches);

@@ -35,7 +35,7 @@ leave-requires-clause-later c =
     let t = c.args.taking.now in
     let e = c.args.e.now in
     subst (λ (b : List Resting). All (λ (o : Resting). o.reference < c.args.reference) b) (sym c.cross-left.ensures.book)
-      (c.a_match_keeps.ensures.references c.args.reference t.side e.price (record { fills = []; book = book; shares = e.shares }) c.requires.later)
+    (c.a_match_keeps.ensures.references c.args.reference t.side e.price (record { fills = []; book = book; shares = e.shares }) c.requires.later)
 
 pub leave-requires-clause-fresh : goal.leave-requires-clause-fresh
 leave-requires-clause-fresh c =
@@ -91,7 +91,7 @@ returns-clause-small c = λ orders h.
     let e = c.args.e.now in
     let v = way_at c.cross-left.new.self c.cross-left.new.cash.items c.cross-left.new.matches c.cross-left.new.out in
     subst (λ (x : Way). IsSmall orders e.shares x) (sym (c.leave.ensures.way c.cross-left.new.cash.items c.cross-left.new.matches))
-      (small-remainder orders e.shares t e c.args.reference c.cross-left.result v (small-shares orders (e.shares - c.cross-left.result) e.shares v (omega arith) (c.cross-left.ensures.small orders h)))
+    (small-remainder orders e.shares t e c.args.reference c.cross-left.result v (small-shares orders (e.shares - c.cross-left.result) e.shares v (omega arith) (c.cross-left.ensures.small orders h)))
 
 pub returns-clause-few : goal.returns-clause-few
 returns-clause-few c =
@@ -108,5 +108,5 @@ returns-clause-tested c = λ p kept new all.
     let t = c.args.taking.now in
     let e = c.args.e.now in
     c.leave.ensures.tested p (new c.cross-left.result)
-      (subst (λ (b : List Resting). All (λ (o : Resting). p o ≡ true) b) (sym c.cross-left.ensures.book)
-        (c.a_match_keeps.ensures.tested p kept t.side e.price (record { fills = []; book = book; shares = e.shares }) all))
+    (subst (λ (b : List Resting). All (λ (o : Resting). p o ≡ true) b) (sym c.cross-left.ensures.book)
+    (c.a_match_keeps.ensures.tested p kept t.side e.price (record { fills = []; book = book; shares = e.shares }) all))
