@@ -20,12 +20,15 @@ fn share_three<B: Room, R: Wait>(
 {
     let mut lanes = open_lanes::<B>(alloc, 2, room)?;
     let mut got = Vec::new(alloc);
-    let (Some(mut second), Some(mut first)) = (lanes.pop(), lanes.pop()) else {
+    let Some(mut second) = lanes.pop() else {
         return Ok((got, 0));
     };
-    for segment in 0..3 {
-        first.push(segment);
-    }
+    let Some(mut first) = lanes.pop() else {
+        return Ok((got, 0));
+    };
+    first.push(0);
+    first.push(1);
+    first.push(2);
     take_some(rt, &mut second, &mut got)?;
     let stolen = got.len();
     pop_some(&mut first, &mut got)?;
