@@ -7,10 +7,10 @@ use Rattle.kernel_core.specs.declared.opening.Opening.{Opening}
 use Rattle.kernel_core.specs.State.{State}
 use Rattle.kernel_core.specs.Step.{end_of}
 use Rattle.kernel_core.specs.Agents.{told_of, nobody}
-use Rattle.trace_bundle.specs.declared.closing.Closing.{Closing}
-use Rattle.trace_bundle.specs.declared.closing.ClosingCounts.{ClosingCounts}
-use Rattle.trace_bundle.specs.declared.closing.ClosingStock.{ClosingStock}
-use Rattle.trace_bundle.specs.declared.closing.ClosingAgent.{ClosingAgent}
+use Rattle.bundle_frames.specs.declared.closing.Closing.{Closing}
+use Rattle.bundle_frames.specs.declared.closing.ClosingCounts.{ClosingCounts}
+use Rattle.bundle_frames.specs.declared.closing.ClosingStock.{ClosingStock}
+use Rattle.bundle_frames.specs.declared.closing.ClosingAgent.{ClosingAgent}
 
 -- `Q` no message waits, `C` the market is closed, `L` all events stand, `F` the queue was full, `-` not ended
 abbrev pub end_letter_of : Option End → ℕ

@@ -1,6 +1,7 @@
 -- The bundle of a study, and how many events are simulated for it.
 use Rattle.std.specs.Prelude.{ℕ, ◌+◌, List, ◌++◌}
-use Rattle.trace_bundle.specs.Bundle.{header_frame, branch_frames, end_frame}
+use Rattle.bundle_frames.specs.Frames.{header_frame, end_frame}
+use Rattle.trace_bundle.specs.Bundle.{branch_frames}
 use Rattle.study_rules.specs.declared.accept.WatcherStudy.{WatcherStudy}
 use Rattle.study_rules.specs.Opening.{opening_of}
 use Rattle.abides_run.specs.Full.{full, root_told}

@@ -2,7 +2,7 @@
 
 ghost use Rattle.std.specs.Prelude.{◌≡◌, ◌≤◌, ◌<◌, ◌+◌, ◌-◌, ◌∷◌, [], pos, IfOk, length, slice_index_or, All};
 ghost use Rattle.kernel_core.specs.Agents.{told_of, nobody};
-ghost use Rattle.trace_bundle.specs.declared.closing.ClosingAgent.{ClosingAgent};
+ghost use Rattle.bundle_frames.specs.declared.closing.ClosingAgent.{ClosingAgent};
 ghost use Rattle.abides_run.specs.Closing.{end_letter_of, counts_of, stock_of, exchange_told, trader_told, agents_told, closing_of};
 
 use kernel_core::{Kernel, Opening};

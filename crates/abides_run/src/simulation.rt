@@ -4,7 +4,7 @@ ghost use Rattle.std.specs.Prelude.{◌≡◌, ◌+◌, ◌<◌, ◌≤◌, ◌^
 ghost use Rattle.market_types.specs.Timely.{AreTimely, IsTimely};
 ghost use Rattle.kernel_core.specs.Opening.{IsOpening};
 ghost use Rattle.trace_bundle.specs.Bundle.{branch_told};
-ghost use Rattle.trace_bundle.specs.declared.closing.ClosingAgent.{ClosingAgent};
+ghost use Rattle.bundle_frames.specs.declared.closing.ClosingAgent.{ClosingAgent};
 ghost use Rattle.study_rules.specs.Opening.{IsInRange, opening_of};
 ghost use Rattle.abides_run.specs.Full.{full, root_told};
 ghost use Rattle.abides_run.specs.Study.{study_bundle, study_events};
