@@ -1,13 +1,11 @@
 -- What a trader makes of a quote is little: at most two draws and sixteen orders, each of few shares and soon.
-use Rattle.std.proofs.Common.{◌≡◌, ℕ, zero, suc, ◌+◌, ◌*◌, ◌/◌, ◌≤◌, ◌<◌, ◌^◌, ◌∙◌, true, false, List, [], ◌∷◌, length, refl, inl, inr, arith, subst, sym, pos, All}
-use Rattle.std.specs.Prelude.{nat_lt, nat_le, ◌==◌, not, ◌&&◌, ◌+ℤ◌, ◌-ℤ◌, sum}
+use Rattle.std.proofs.Common.{◌≡◌, ℕ, zero, suc, ◌+◌, ◌*◌, ◌≤◌, ◌<◌, List, [], ◌∷◌, length, refl, inl, inr, arith, All}
+use Rattle.std.specs.Prelude.{nat_lt, nat_le, ◌==◌, not, ◌&&◌, sum}
 use Rattle.std.proofs.lemmas.Bool.{cases_Bool}
 use Rattle.std.proofs.lemmas.List.Elements.{All-cons, All-nil}
 use Rattle.std.proofs.Math.Nat.{mul-le-mul}
 use Rattle.market_types.specs.declared.message.Quote.{Quote}
-use Rattle.market_types.specs.declared.order.Side.{Side}
 use Rattle.market_rules.specs.declared.bands.Band.{Band}
-use Rattle.draw_streams.specs.Below.{below_of}
 use Rattle.draw_streams.proofs.Words.{below-low, word-low}
 use Rattle.agent_shell.specs.declared.setting.Kind.{Kind}
 use Rattle.agent_shell.specs.declared.setting.Kind.TheVariants.{Watcher, Noise, Value, Momentum, Maker}
@@ -16,13 +14,13 @@ use Rattle.agent_shell.specs.declared.wish.Wish.{Wish}
 use Rattle.agent_shell.specs.Choice.{Choice, has_both, middle}
 use Rattle.agent_shell.specs.Decide.{choice_by, choice_of}
 use Rattle.agent_shell.specs.Maker.{buy_at, centre_of, levels_from, maker_choice, sell_at}
-use Rattle.agent_shell.specs.Momentum.{last_of, momentum_choice, momentum_wishes, remembered}
+use Rattle.agent_shell.specs.Momentum.{last_of, momentum_choice, remembered}
 use Rattle.agent_shell.specs.Noise.{noise_choice, noise_wish}
 use Rattle.agent_shell.specs.Parameters.{IsBetween, IsKind, IsSize, IsHour}
 use Rattle.agent_shell.specs.Sight.{Sight}
 use Rattle.agent_shell.specs.Sound.{IsTrader}
 use Rattle.agent_shell.specs.Trader.{Trader, trader_word}
-use Rattle.agent_shell.specs.Value.{value_by, value_choice}
+use Rattle.agent_shell.specs.Value.{value_by}
 
 -- an order of few shares, which leaves within seven hours
 pub record IsWish (w : Wish) : Type 0 where

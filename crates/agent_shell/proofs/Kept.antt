@@ -1,5 +1,5 @@
 -- What holds of an own list stays so when replies come.
-use Rattle.std.proofs.Common.{◌≡◌, ℕ, ◌≤◌, ◌<◌, ◌+◌, true, false, List, [], ◌∷◌, ◌++◌, length, length-append, refl, inl, inr, arith, All, Option, Some, None}
+use Rattle.std.proofs.Common.{ℕ, ◌≤◌, ◌<◌, ◌+◌, List, [], ◌∷◌, length, length-append, refl, inl, inr, arith, All, Option, Some, None}
 use Rattle.std.specs.Prelude.{nat_le, nat_lt}
 use Rattle.std.proofs.lemmas.Bool.Decides.{nat_tests}
 use Rattle.std.proofs.lemmas.Bool.{cases_Bool}

@@ -1,5 +1,5 @@
 -- How far one message moves a trader.
-use Rattle.std.proofs.Common.{◌≡◌, ℕ, suc, ◌+◌, ◌*◌, ◌≤◌, ◌<◌, ◌^◌, ◌∙◌, true, false, List, [], ◌∷◌, length, refl, inl, inr, arith, subst, sym, Option, Some, None, ℤ, pos, Result, Ok, Err}
+use Rattle.std.proofs.Common.{◌≡◌, ℕ, ◌+◌, ◌≤◌, ◌^◌, ◌∙◌, List, [], ◌∷◌, length, refl, inl, inr, arith, subst, sym, Option, Some, None, ℤ, Result, Ok, Err}
 use Rattle.std.specs.Prelude.{◌==◌, nat_lt, OnOk, OnErr}
 use Rattle.std.proofs.lemmas.Bool.{cases_Bool}
 use Rattle.std.proofs.lemmas.Int.{ints}
@@ -8,14 +8,14 @@ use Rattle.market_types.specs.declared.order.Symbol.{Symbol}
 use Rattle.market_types.specs.declared.reply.Reply.{Reply}
 use Rattle.agent_shell.specs.declared.wish.Wish.{Wish}
 use Rattle.agent_shell.specs.Bounds.{IsNear, IsMoved}
-use Rattle.agent_shell.specs.Decide.{woken, quoted, chosen, choice_of, answered, counted, unmoved}
+use Rattle.agent_shell.specs.Decide.{woken, quoted, chosen, choice_of, answered}
 use Rattle.agent_shell.specs.Ordered.{ordered, sent_at, all_ordered}
 use Rattle.agent_shell.specs.Own.{most_own}
 use Rattle.agent_shell.specs.Shell.{Orders, replied}
 use Rattle.agent_shell.specs.Sight.{Sight}
 use Rattle.agent_shell.specs.Trader.{Trader}
 use Rattle.agent_shell.specs.Sound.{IsTrader}
-use Rattle.agent_shell.proofs.Few.{IsFew, choice-few}
+use Rattle.agent_shell.proofs.Few.{choice-few}
 
 pub near-same : (most : ℕ) (a : ℤ) → IsNear most a a
 near-same most a = record { up = omega (arith, ints); down = omega (arith, ints) }

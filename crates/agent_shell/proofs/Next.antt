@@ -1,12 +1,11 @@
 -- The tokens of the orders that are sent are the next ones in order.
-use Rattle.std.proofs.Common.{◌≡◌, ℕ, zero, suc, ◌+◌, ◌∙◌, true, false, List, [], ◌∷◌, ◌++◌, length, refl, inl, inr, arith, ap, ap₂, append_assoc, sym, subst, Option, Some, None}
+use Rattle.std.proofs.Common.{◌≡◌, ℕ, zero, suc, ◌+◌, ◌∙◌, List, [], ◌∷◌, ◌++◌, length, refl, inl, inr, arith, ap, ap₂, append_assoc, sym, Option, Some, None}
 use Rattle.std.specs.Prelude.{nat_lt}
 use Rattle.std.proofs.lemmas.Bool.{cases_Bool}
 use Rattle.market_types.specs.declared.order.Symbol.{Symbol}
-use Rattle.market_types.specs.declared.order.Token.{Token}
 use Rattle.agent_shell.specs.declared.sending.Sending.{Sending}
 use Rattle.agent_shell.specs.declared.wish.Wish.{Wish}
-use Rattle.agent_shell.specs.Ordered.{all_ordered, ordered, sent_at, sent_price}
+use Rattle.agent_shell.specs.Ordered.{all_ordered, ordered, sent_at}
 use Rattle.agent_shell.specs.Own.{most_own}
 use Rattle.agent_shell.specs.Shell.{Orders}
 use Rattle.agent_shell.specs.Tokens.{AreNext, next_tokens, token_in, token_of, tokens_in}

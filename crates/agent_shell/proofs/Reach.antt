@@ -1,5 +1,5 @@
 -- Where a trader is after so many messages.
-use Rattle.std.proofs.Common.{◌≡◌, ℕ, ◌+◌, ◌*◌, ◌≤◌, ◌<◌, ◌^◌, arith, ℤ, pos}
+use Rattle.std.proofs.Common.{ℕ, ◌+◌, ◌*◌, ◌≤◌, ◌^◌, arith, ℤ}
 use Rattle.std.proofs.lemmas.Int.{ints}
 use Rattle.market_rules.specs.declared.edit.Param.{Param}
 use Rattle.agent_shell.specs.Bounds.{IsAfter, IsMoved, IsNear}

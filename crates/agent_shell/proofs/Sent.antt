@@ -1,17 +1,16 @@
 -- What a trader sends for one message.
-use Rattle.std.proofs.Common.{◌≡◌, ℕ, zero, suc, ◌+◌, ◌≤◌, ◌<◌, ◌^◌, ◌∙◌, true, false, List, [], ◌∷◌, ◌++◌, length, map, length-append, refl, inl, inr, arith, subst, sym, Option, Some, None, ℤ, pos, negsuc, All}
-use Rattle.std.specs.Prelude.{nat_lt, ◌==◌, if◌then◌else◌}
+use Rattle.std.proofs.Common.{◌≡◌, ℕ, ◌+◌, ◌≤◌, ◌<◌, List, [], ◌∷◌, length, map, length-append, refl, inl, inr, arith, subst, Option, Some, None, ℤ, pos, negsuc, All}
+use Rattle.std.specs.Prelude.{nat_lt, ◌==◌}
 use Rattle.std.specs.Int.{is_in_range}
 use Rattle.std.proofs.lemmas.Bool.{cases_Bool}
 use Rattle.std.proofs.lemmas.Bool.Decides.{nat_tests}
-use Rattle.std.proofs.lemmas.List.Elements.{All-append, All-cons, All-head, All-map, All-nil, All-tail}
+use Rattle.std.proofs.lemmas.List.Elements.{All-append, All-cons, All-head, All-nil, All-tail}
 use Rattle.std.proofs.lemmas.Option.{same_Some}
 use Rattle.market_types.specs.Limits.{highest_price}
 use Rattle.market_types.specs.declared.message.Body.{Body}
 use Rattle.market_types.specs.declared.message.Body.TheVariants.{Wake, Order, Answer, Ask, Quote as QuoteBody}
 use Rattle.market_types.specs.declared.message.Quote.{Quote}
 use Rattle.market_types.specs.declared.order.Inbound.TheVariants.{Enter as NewOrder}
-use Rattle.market_types.specs.declared.order.Symbol.{Symbol}
 use Rattle.market_types.specs.declared.order.Token.{Token}
 use Rattle.draw_streams.specs.Below.{below_of}
 use Rattle.draw_streams.proofs.Words.{below-low, word-low}
@@ -32,7 +31,7 @@ use Rattle.agent_shell.specs.Sound.{IsTrader}
 use Rattle.agent_shell.specs.Trader.{Trader, trader_word}
 use Rattle.agent_shell.specs.Wakeup.{cancel_of, next_wakeup, takes_back}
 use Rattle.agent_shell.specs.Tokens.{token_of}
-use Rattle.agent_shell.proofs.Few.{IsFew, IsWish, choice-few}
+use Rattle.agent_shell.proofs.Few.{IsWish, choice-few}
 
 pub none-sent : (v : Sight) (t : Trader) → AreSendings v t []
 none-sent v t = record { few = omega arith; each = All-nil (IsSending v t) }

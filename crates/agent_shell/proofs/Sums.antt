@@ -1,5 +1,5 @@
 -- The own account is the sum over executed replies.
-use Rattle.std.proofs.Common.{◌≡◌, ◌*◌, ℕ, List, [], ◌∷◌, ◌++◌, refl, arith, sym, ◌∙◌, ap, Option, Some, None, ℤ, pos}
+use Rattle.std.proofs.Common.{◌≡◌, ◌*◌, ℕ, List, [], ◌∷◌, ◌++◌, arith, Option, Some, None, ℤ, pos}
 use Rattle.std.specs.Prelude.{◌+ℤ◌, ◌-ℤ◌}
 use Rattle.std.proofs.lemmas.Int.{ints}
 use Rattle.market_types.specs.declared.order.Side.{Side}
@@ -8,7 +8,7 @@ use Rattle.market_types.specs.declared.order.Token.{Token}
 use Rattle.market_types.specs.declared.reply.Reply.{Reply}
 use Rattle.market_types.specs.declared.reply.Reply.TheVariants.{System, Accepted, Canceled, Executed, Rejected}
 use Rattle.agent_shell.specs.declared.shell.OwnOrder.{OwnOrder}
-use Rattle.agent_shell.specs.Account.{traded, cost_of}
+use Rattle.agent_shell.specs.Account.{traded}
 use Rattle.agent_shell.specs.Fills.{Fill, after_replies, fill_at, fill_of, fills_of, net_paid, net_shares, signed}
 use Rattle.agent_shell.specs.Own.{own_order}
 use Rattle.agent_shell.specs.Shell.{Orders, executed, replied}

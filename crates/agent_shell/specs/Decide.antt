@@ -1,5 +1,5 @@
 -- What a trader does with a message: its new data and what it sends.
-use Rattle.std.specs.Prelude.{ℕ, ◌+◌, ◌==◌, if◌then◌else◌, List, []}
+use Rattle.std.specs.Prelude.{◌+◌, ◌==◌, if◌then◌else◌, List, []}
 use Rattle.market_types.specs.declared.message.Body.{Body}
 use Rattle.market_types.specs.declared.message.Body.TheVariants.{Wake, Order, Answer, Ask, Quote as QuoteBody}
 use Rattle.market_types.specs.declared.message.Quote.{Quote}

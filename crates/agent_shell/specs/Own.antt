@@ -1,5 +1,5 @@
 -- A trader's own list of its open orders: pairs of a token and an order, the first sent first.
-use Rattle.std.specs.Prelude.{ℕ, ◌-◌, nat_le, Bool, if◌then◌else◌, bytes_eq, List, [], ◌∷◌, ◌++◌, length, map, Option}
+use Rattle.std.specs.Prelude.{ℕ, ◌-◌, nat_le, Bool, if◌then◌else◌, bytes_eq, List, [], ◌∷◌, Option}
 use Rattle.std.specs.Map.{lookup, remove_entry}
 use Rattle.market_types.specs.declared.order.Token.{Token}
 use Rattle.agent_shell.specs.declared.shell.OwnOrder.{OwnOrder}

@@ -1,5 +1,5 @@
 -- The parameters of a trader: their ranges, and how an edit replaces one.
-use Rattle.std.specs.Prelude.{◌≡◌, ◌≤◌, ◌<◌, ℕ, ⊤}
+use Rattle.std.specs.Prelude.{◌≤◌, ◌<◌, ℕ, ⊤}
 use Rattle.market_types.specs.Limits.{longest_delay}
 use Rattle.agent_shell.specs.declared.setting.Kind.{Kind}
 use Rattle.agent_shell.specs.declared.setting.Kind.TheVariants.{Watcher, Noise, Value, Momentum, Maker}

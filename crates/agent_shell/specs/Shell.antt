@@ -1,5 +1,5 @@
 -- What each trader keeps of its orders, and how replies change it.
-use Rattle.std.specs.Prelude.{◌≡◌, ℕ, ◌+◌, ℤ, pos, ◌-ℤ◌, ◌^◌, ◌≤ℤ◌, List, [], ◌∷◌, ◌++◌, Option, None, Some}
+use Rattle.std.specs.Prelude.{ℕ, ℤ, pos, ◌-ℤ◌, ◌^◌, ◌≤ℤ◌, [], ◌∷◌, ◌++◌, Option, None, Some}
 use Rattle.market_types.specs.declared.account.Account.{Account}
 use Rattle.market_types.specs.declared.order.Side.{Side}
 use Rattle.market_types.specs.declared.order.Token.{Token}

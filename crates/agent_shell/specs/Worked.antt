@@ -13,8 +13,6 @@ use Rattle.market_rules.specs.declared.bands.Band.{Band}
 use Rattle.agent_shell.specs.declared.sending.Sending.{Sending}
 use Rattle.agent_shell.specs.declared.sending.Sending.TheVariants.{To}
 use Rattle.agent_shell.specs.declared.setting.Kind.{Kind}
-use Rattle.agent_shell.specs.declared.setting.TraderSetting.{TraderSetting}
-use Rattle.agent_shell.specs.declared.shell.OwnOrder.{OwnOrder}
 use Rattle.agent_shell.specs.declared.wish.Wish.{Wish}
 use Rattle.agent_shell.specs.Choice.{day_order}
 use Rattle.agent_shell.specs.Own.{OwnList}

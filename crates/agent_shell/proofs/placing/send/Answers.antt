@@ -1,11 +1,7 @@
-use Rattle.std.proofs.Common.{rules, ◌≡◌, ◌<◌, ◌+◌, length, true, Some, None, arith, ap, subst, sym, ◌∙◌}
+use Rattle.std.proofs.Common.{rules, ◌≡◌, ◌<◌, length, true, Some, arith}
 use Rattle.std.specs.Prelude.{nat_lt}
 use Rattle.std.proofs.lemmas.Bool.Decides.{nat_tests}
 use Rattle.agent_shell.specs.Ordered.{sent_price}
-use Rattle.agent_shell.specs.Own.{own_order}
-use Rattle.agent_shell.specs.Shell.{Kept, Orders, with_order}
-use Rattle.agent_shell.specs.Sound.{IsOwn}
-use Rattle.agent_shell.specs.Tokens.{token_of}
 use Rattle.agent_shell.proofs.Differ.{next_is_fresh}
 use Rattle.agent_shell.proofs.Kept.{placed-own}
 use Rattle.agent_shell.proofs.placing.send.Goals as goal

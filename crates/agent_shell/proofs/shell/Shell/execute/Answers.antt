@@ -1,7 +1,6 @@
 use Rattle.std.proofs.Common.{◌≡◌, None, Some, sym, ◌∙◌, ap₂}
 use Rattle.std.specs.Map.{lookup}
 use Rattle.agent_shell.specs.Own.{same_token}
-use Rattle.agent_shell.specs.Shell.{Orders}
 use Rattle.agent_shell.proofs.shell.Shell.execute.Goals as goal
 
 pub returns-in_default-clause-value : goal.returns-in_default-clause-value

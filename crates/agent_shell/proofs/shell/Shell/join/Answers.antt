@@ -1,9 +1,8 @@
 use Rattle.std.proofs.Common.{◌≡◌, None, ◌∙◌, ap, sym, subst}
 use Rattle.std.specs.Map.{lookup}
 use Rattle.indexmap.proofs.CallerLemmas.{insert_entry-new}
-use Rattle.agent_shell.specs.declared.shell.OwnOrder.{OwnOrder}
 use Rattle.agent_shell.specs.Own.{same_token}
-use Rattle.agent_shell.specs.Shell.{Kept, Orders}
+use Rattle.agent_shell.specs.Shell.{Kept}
 use Rattle.agent_shell.proofs.shell.Shell.join.Goals as goal
 use Rattle.agent_shell.proofs.shell.Shell.join.Goals.{in-Ok, in-Err}
 

@@ -1,4 +1,4 @@
-use Rattle.std.proofs.Common.{◌≡◌, sym, subst}
+use Rattle.std.proofs.Common.{sym, subst}
 use Rattle.agent_shell.specs.Own.{own_order}
 use Rattle.agent_shell.specs.Shell.{Kept, Orders}
 use Rattle.agent_shell.specs.Sound.{IsOwn}
