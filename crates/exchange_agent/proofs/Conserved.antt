@@ -1,5 +1,5 @@
 -- Whole runs from an opening.
-use Rattle.std.proofs.Common.{◌≡◌, ℕ, zero, suc, ◌+◌, ◌<◌, ◌≤◌, Bool, ℤ, pos, ◌+ℤ◌, List, [], ◌∷◌, ◌++◌, map, length, replicate, All, arith, refl, subst, ap, sym, ◌∙◌, sum_by, true}
+use Rattle.std.proofs.Common.{◌≡◌, ℕ, zero, suc, ◌+◌, ◌<◌, ℤ, pos, ◌+ℤ◌, List, [], ◌∷◌, map, length, replicate, arith, refl, subst, sym, ◌∙◌, sum_by, true}
 use Rattle.std.specs.Prelude.{if◌then◌else◌, slice_index_or}
 use Rattle.std.specs.List.{AllByRecursion}
 use Rattle.std.proofs.lemmas.Int.{ints}
@@ -10,7 +10,7 @@ use Rattle.market_types.specs.declared.message.Body.{Body}
 use Rattle.price_time_book.specs.declared.resting.Resting.{Resting}
 use Rattle.exchange_agent.specs.declared.handled.Outgoing.{Outgoing}
 use Rattle.exchange_agent.specs.declared.told.StockRules.{StockRules}
-use Rattle.exchange_agent.specs.Open.{IsOpening, listed, opened}
+use Rattle.exchange_agent.specs.Open.{listed, opened}
 use Rattle.exchange_agent.specs.Runs.{Act, message, change, IsConserved, IsPossible, IsUncrossed, accepted_shares, canceled_shares, executed_shares, fees_taken, is_for, open_shares, removed_over, removed_shares, replies_over, replies_to, run, state_after, total, total_of}
 use Rattle.exchange_agent.specs.Sound.{is_trader}
 use Rattle.exchange_agent.specs.State.{State, Stock, no_stock, stock_at}

@@ -1,5 +1,5 @@
 -- The whole way of an accepted order: what it keeps and what it counts.
-use Rattle.std.proofs.Common.{◌≡◌, ◌≢◌, ℕ, zero, suc, ◌+◌, ◌-◌, ◌*◌, ◌<◌, ◌≤◌, ◌^◌, Bool, true, false, ℤ, pos, ◌+ℤ◌, List, [], ◌∷◌, ◌++◌, ◌⊎◌, inl, inr, length, All, Option, Some, None, arith, refl, subst, ap, sym, ◌∙◌, sum_by, append_assoc, length-append}
+use Rattle.std.proofs.Common.{◌≡◌, ◌≢◌, ℕ, zero, suc, ◌+◌, ◌-◌, ◌<◌, ◌≤◌, Bool, true, false, ◌+ℤ◌, List, [], ◌∷◌, ◌++◌, inl, inr, length, All, Option, Some, None, arith, refl, subst, ap, sym, ◌∙◌, sum_by, append_assoc}
 use Rattle.std.specs.Prelude.{◌==◌, ◌&&◌, nat_le, if◌then◌else◌}
 use Rattle.market_types.specs.declared.feed.What.TheVariants as what
 use Rattle.std.proofs.lemmas.Bool.Decides.{nat_tests}
@@ -18,7 +18,7 @@ use Rattle.price_time_book.specs.Orderly.{IsOrderly}
 use Rattle.price_time_book.specs.Orders.{changed, order_of, order_with, reduced}
 use Rattle.market_types.specs.declared.order.Token.{Token}
 use Rattle.exchange_agent.specs.declared.settle.Taking.{Taking}
-use Rattle.exchange_agent.specs.Enter.{remainder, resting_of, way_of}
+use Rattle.exchange_agent.specs.Enter.{resting_of, way_of}
 use Rattle.exchange_agent.specs.Settle.{Way, all_settled, settled}
 use Rattle.market_types.specs.declared.feed.Feed.{Feed}
 use Rattle.market_types.specs.declared.message.Body.{Body}

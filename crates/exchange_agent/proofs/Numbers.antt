@@ -1,7 +1,7 @@
 -- The stocks' numbers, and how many orders rest.
-use Rattle.std.proofs.Common.{◌≡◌, ℕ, ◌+◌, ◌≤◌, List, [], ◌∷◌, map, length, All, arith, ap, cond, ◌∙◌, refl, Option, Some, None}
+use Rattle.std.proofs.Common.{◌≡◌, ℕ, ◌+◌, ◌≤◌, List, [], ◌∷◌, map, length, All, arith, ap, cond, ◌∙◌, refl, Some, None}
 use Rattle.std.specs.Prelude.{bytes_eq, not, position, nat_lt}
-use Rattle.std.specs.List.{position_or_len, prefix_len}
+use Rattle.std.specs.List.{prefix_len}
 use Rattle.std.proofs.lemmas.List.{length-map}
 use Rattle.std.proofs.lemmas.List.Elements.{All-cons, All-head, All-nil, All-tail}
 use Rattle.market_types.specs.declared.order.Symbol.{Symbol}

@@ -1,5 +1,5 @@
 -- One stock of the inside is replaced, and the state is sound as before.
-use Rattle.std.proofs.Common.{◌≡◌, ℕ, zero, suc, ◌+◌, ◌<◌, ◌≤◌, ◌*◌, ◌^◌, ℤ, pos, neg_ℤ, ◌≤ℤ◌, List, [], ◌∷◌, map, length, replicate, slice_index_or, slice_set, All, arith, ap, subst, sym, ◌∙◌, refl, true}
+use Rattle.std.proofs.Common.{◌≡◌, ℕ, zero, suc, ◌<◌, ◌≤◌, ◌^◌, ℤ, pos, List, [], ◌∷◌, map, length, slice_index_or, slice_set, All, arith, ap, subst, sym, ◌∙◌, true}
 use Rattle.std.proofs.lemmas.List.{map-set, length-map, length-replicate}
 use Rattle.std.proofs.lemmas.List.Elements.{All-set, All-map, All-nil, All-replicate}
 use Rattle.exchange_agent.specs.declared.listing.Listing.{Listing}

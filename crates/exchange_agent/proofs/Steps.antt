@@ -1,5 +1,5 @@
 -- One message or change: what it keeps and what it counts.
-use Rattle.std.proofs.Common.{◌≡◌, ◌≢◌, ◌⊎◌, inl, inr, ℕ, zero, suc, ◌+◌, ◌-◌, ◌*◌, ◌<◌, ◌≤◌, Bool, true, false, cond, ℤ, pos, ◌+ℤ◌, List, [], ◌∷◌, ◌++◌, map, length, All, Option, Some, None, arith, refl, subst, ap, sym, ◌∙◌, sum_by, find}
+use Rattle.std.proofs.Common.{◌≡◌, ◌≢◌, ◌⊎◌, inl, inr, ℕ, zero, suc, ◌+◌, ◌-◌, ◌<◌, ◌≤◌, Bool, true, false, cond, ℤ, pos, ◌+ℤ◌, List, [], ◌∷◌, length, All, Option, Some, None, arith, refl, subst, ap, sym, ◌∙◌, sum_by, find}
 use Rattle.std.specs.Prelude.{◌==◌, nat_le, nat_lt, if◌then◌else◌, slice_index_or, slice_set}
 use Rattle.std.specs.List.{AllByRecursion}
 use Rattle.std.proofs.lemmas.Bool.Decides.{nat_tests}
@@ -7,7 +7,7 @@ use Rattle.std.proofs.lemmas.Bool.{false≢true}
 use Rattle.std.proofs.lemmas.Int.{ints}
 use Rattle.std.proofs.lemmas.List.{length-set}
 use Rattle.std.proofs.lemmas.List.Elements.{All-set, All-weaker}
-use Rattle.std.proofs.lemmas.List.Sums.{get_or-le-sum_by, sum_by-append, sum_by-set}
+use Rattle.std.proofs.lemmas.List.Sums.{get_or-le-sum_by, sum_by-set}
 use Rattle.std.proofs.lemmas.List.Quantifiers.{position-Some}
 use Rattle.market_types.specs.declared.message.Body.{Body}
 use Rattle.market_types.specs.declared.message.Body.TheVariants as body
@@ -30,12 +30,12 @@ use Rattle.exchange_agent.specs.Changes.{changed_by, turned}
 use Rattle.exchange_agent.specs.Enter.{accepted, entered_by, is_full, remembering, taking_of, verdict_of, way_from, way_of}
 use Rattle.exchange_agent.specs.Market.{asked, market}
 use Rattle.exchange_agent.specs.Outcome.{Outcome}
-use Rattle.exchange_agent.specs.Runs.{Act, message, accepted_shares, canceled_shares, executed_shares, fees_taken, is_for, is_number, open_shares, removed_shares, total, total_of}
+use Rattle.exchange_agent.specs.Runs.{message, accepted_shares, canceled_shares, executed_shares, fees_taken, is_for, is_number, open_shares, removed_shares, total, total_of}
 use Rattle.exchange_agent.specs.Sound.{is_trader}
 use Rattle.exchange_agent.specs.State.{State, Stock, no_stock, resting_over, stock_at, stock_number_of, with_stock}
 use Rattle.exchange_agent.proofs.Crossings.{IsApart, apart-kept}
 use Rattle.exchange_agent.proofs.Ends.{BookLaws, IsEnd, ended-way}
-use Rattle.exchange_agent.proofs.Verdicts.{IsAcceptable, acceptable}
+use Rattle.exchange_agent.proofs.Verdicts.{acceptable}
 
 -- a sum over stocks of which one becomes another
 fees-set : (xs : List Stock) (k : ℕ) (x : Stock) → k < length xs → fees_taken (slice_set xs k x) +ℤ (slice_index_or xs k no_stock).tally.taken ≡ fees_taken xs +ℤ x.tally.taken

@@ -1,6 +1,6 @@
 -- Whom replies are sent to, and when the feed is told.
-use Rattle.std.proofs.Common.{◌≡◌, ℕ, zero, suc, ◌+◌, ◌<◌, ◌≤◌, Bool, true, false, List, [], ◌∷◌, ◌++◌, length, map, All, Option, Some, None, arith, refl, subst, ap, sym, ◌∙◌}
-use Rattle.std.specs.Prelude.{◌==◌, nat_lt, if◌then◌else◌, slice_index_or}
+use Rattle.std.proofs.Common.{◌≡◌, ℕ, ◌+◌, ◌≤◌, Bool, true, false, List, [], ◌∷◌, length, All, Option, Some, None, arith, refl, ◌∙◌}
+use Rattle.std.specs.Prelude.{◌==◌, nat_lt, if◌then◌else◌}
 use Rattle.std.proofs.lemmas.Bool.Decides.{nat_tests}
 use Rattle.std.proofs.lemmas.List.Elements.{All-append, All-cons, All-head, All-nil, All-tail}
 use Rattle.std.proofs.lemmas.List.Quantifiers.{position-Some}
@@ -24,12 +24,12 @@ use Rattle.exchange_agent.specs.declared.verdict.Verdict.{Verdict}
 use Rattle.exchange_agent.specs.declared.verdict.Verdict.TheVariants.{Ignored, Forgotten, Refused, Accepted}
 use Rattle.exchange_agent.specs.Cancel.{cancel_of, canceled, found_from, unheard}
 use Rattle.exchange_agent.specs.Changes.{Changed, changed_by}
-use Rattle.exchange_agent.specs.Enter.{acceptance_of, entered, entered_by, remainder, remembering, taking_of, verdict_of, way_from, way_of}
+use Rattle.exchange_agent.specs.Enter.{acceptance_of, entered_by, remainder, remembering, taking_of, verdict_of, way_from, way_of}
 use Rattle.exchange_agent.specs.Market.{market}
 use Rattle.exchange_agent.specs.Outcome.{IsToTrader, Outcome}
 use Rattle.exchange_agent.specs.Settle.{Way, added, all_settled, execution_of, removed, settled}
 use Rattle.exchange_agent.specs.Sound.{IsSound, is_trader}
-use Rattle.exchange_agent.specs.State.{State, Stock, no_stock, stock_at, stock_number_of, with_stock}
+use Rattle.exchange_agent.specs.State.{State, no_stock, stock_at, with_stock}
 use Rattle.exchange_agent.proofs.Accepts.{traders-known}
 use Rattle.exchange_agent.proofs.Verdicts.{acceptable}
 use Rattle.exchange_agent.proofs.Ways.{settled-cash}

@@ -1,5 +1,5 @@
 -- Sums of accounts and of shares over a way.
-use Rattle.std.proofs.Common.{◌≡◌, ℕ, zero, suc, ◌+◌, ◌-◌, ◌*◌, ◌<◌, ◌≤◌, Bool, true, false, ℤ, pos, negsuc, neg_ℤ, ◌+ℤ◌, List, [], ◌∷◌, ◌++◌, length, All, arith, refl, subst, ap, sym, ◌∙◌, sum_by, append_assoc, length-append}
+use Rattle.std.proofs.Common.{◌≡◌, ℕ, zero, suc, ◌+◌, ◌-◌, ◌*◌, ◌<◌, ◌≤◌, true, ℤ, pos, neg_ℤ, ◌+ℤ◌, List, [], ◌∷◌, ◌++◌, length, All, arith, refl, subst, ap, sym, ◌∙◌, sum_by}
 use Rattle.std.specs.Prelude.{slice_index_or, slice_set}
 use Rattle.std.proofs.lemmas.Bool.Decides.{nat_tests}
 use Rattle.std.proofs.lemmas.Int.{ints}
@@ -8,18 +8,15 @@ use Rattle.std.proofs.lemmas.List.Sums.{sum_by-append, sum_by-cons}
 use Rattle.market_types.specs.declared.message.Body.{Body}
 use Rattle.market_types.specs.declared.message.Body.TheVariants.{Answer}
 use Rattle.market_types.specs.declared.reply.Reply.TheVariants.{Executed}
-use Rattle.market_types.specs.declared.order.Enter.{Enter}
 use Rattle.market_types.specs.declared.order.Side.{Side}
 use Rattle.market_types.specs.declared.order.Side.TheVariants.{Buy, Sell}
-use Rattle.market_rules.specs.declared.fees.FeeTable.{FeeTable}
 use Rattle.price_time_book.specs.declared.resting.Fill.{Fill}
 use Rattle.price_time_book.specs.declared.resting.Resting.{Resting}
-use Rattle.price_time_book.specs.Matched.{after_fill}
 use Rattle.market_types.specs.Sides.{opposite_of}
 use Rattle.exchange_agent.specs.declared.handled.Outgoing.{Outgoing}
 use Rattle.exchange_agent.specs.declared.settle.Taking.{Taking}
 use Rattle.exchange_agent.specs.Runs.{accepted_shares, canceled_shares, executed_shares, removed_shares, total, total_of}
-use Rattle.exchange_agent.specs.Settle.{Way, all_settled, both_fees_of, cash_after, fee_added, fee_taken, gained, money_gained, positions_after, settled, shares_gained, worth_of}
+use Rattle.exchange_agent.specs.Settle.{Way, all_settled, fee_added, fee_taken, gained, money_gained, settled, shares_gained, worth_of}
 use Rattle.exchange_agent.specs.Sound.{is_trader}
 use Rattle.exchange_agent.proofs.Withins.{length-gained}
 use Rattle.exchange_agent.proofs.Ways.{settled-cash, settled-positions}

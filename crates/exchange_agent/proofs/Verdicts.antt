@@ -1,12 +1,12 @@
 -- What a verdict says of the lines before it.
-use Rattle.std.proofs.Common.{◌≡◌, ℕ, zero, suc, ◌+◌, ◌<◌, ◌≤◌, Bool, true, false, List, [], ◌∷◌, length, Option, Some, None, arith, ap, refl, ◌||◌, subst}
-use Rattle.std.specs.Prelude.{nat_lt, nat_le, ◌==◌, if◌then◌else◌, position}
+use Rattle.std.proofs.Common.{◌≡◌, ℕ, ◌<◌, Bool, true, false, length, Option, Some, None, arith, ap, refl, ◌||◌}
+use Rattle.std.specs.Prelude.{nat_lt, nat_le, ◌==◌, if◌then◌else◌}
 use Rattle.std.proofs.lemmas.Bool.Decides.{nat_tests}
 use Rattle.market_types.specs.declared.order.Enter.{Enter}
 use Rattle.exchange_agent.specs.declared.verdict.Verdict.{Verdict}
 use Rattle.exchange_agent.specs.declared.verdict.Verdict.TheVariants.{Ignored, Forgotten, Refused, Accepted}
 use Rattle.exchange_agent.specs.Enter.{is_full, is_halted, is_memory_full, is_remembered, price_is_refused, shares_are_refused, terms_are_refused, verdict_at, verdict_of, verdict_there}
-use Rattle.exchange_agent.specs.State.{State, Stock, stock_at, stock_number_of}
+use Rattle.exchange_agent.specs.State.{State, stock_at, stock_number_of}
 
 -- the answer is past a line that has another
 past : (b : Bool) (x y v : Verdict) → (x ≡ v → ⊥) → (if b then x else y) ≡ v → (b ≡ false) × (y ≡ v)

@@ -1,5 +1,5 @@
 -- One match and then the rest of the way is the whole way.
-use Rattle.std.proofs.Common.{◌≡◌, ◌≢◌, ℕ, ◌+◌, ◌-◌, ◌*◌, ◌^◌, ◌≤◌, ◌+ℤ◌, neg_ℤ, ℤ, List, Bool, true, false, Some, length, ap, arith, ◌∙◌, sym, ◌∷◌}
+use Rattle.std.proofs.Common.{◌≡◌, ℕ, ◌+◌, ◌-◌, ◌*◌, ◌^◌, ◌≤◌, ◌+ℤ◌, neg_ℤ, ℤ, List, Bool, true, false, length, ap, arith, ◌∙◌, sym, ◌∷◌}
 use Rattle.std.specs.Prelude.{min, ◌==◌, if◌then◌else◌}
 use Rattle.market_types.specs.declared.order.Side.{Side}
 use Rattle.price_time_book.specs.declared.resting.Resting.{Resting}

@@ -1,6 +1,5 @@
 -- What the exchange does with a Cancel.
 use Rattle.std.specs.Prelude.{ℕ, ◌+◌, ◌-◌, ◌==◌, nat_lt, if◌then◌else◌, pos, List, [], ◌∷◌, Option, Some, None}
-use Rattle.market_types.specs.declared.feed.Feed.{Feed}
 use Rattle.market_types.specs.declared.feed.What.{What}
 use Rattle.market_types.specs.declared.feed.What.TheVariants as what
 use Rattle.market_types.specs.declared.message.Body.TheVariants.{Answer}

@@ -1,10 +1,10 @@
 -- Changes of a stock's rules.
-use Rattle.std.specs.Prelude.{ℕ, ◌+◌, ◌==◌, if◌then◌else◌, List, [], ◌∷◌, codes}
+use Rattle.std.specs.Prelude.{ℕ, ◌+◌, ◌==◌, if◌then◌else◌, List, [], ◌∷◌}
 use Rattle.market_types.specs.declared.feed.Feed.{Feed}
 use Rattle.market_types.specs.declared.feed.What.TheVariants as what
 use Rattle.market_rules.specs.declared.changes.Change.{Change}
 use Rattle.market_rules.specs.declared.changes.Change.TheVariants as change
-use Rattle.exchange_agent.specs.State.{State, Stock, stock_at, with_stock, trades, stands_still}
+use Rattle.exchange_agent.specs.State.{State, stock_at, with_stock, trades, stands_still}
 
 -- The state after a change, and its feed.
 pub record Changed : Type 0 where

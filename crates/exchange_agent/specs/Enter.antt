@@ -1,7 +1,6 @@
 -- What the exchange does with an Enter: of the nine lines of its table the first that applies answers.
-use Rattle.std.specs.Prelude.{ℕ, ◌+◌, ◌==◌, nat_lt, nat_le, not, ◌&&◌, ◌||◌, Bool, true, false, if◌then◌else◌, ℤ, pos, List, [], ◌∷◌, ◌++◌, length, Option, Some, None, slice_index_or}
+use Rattle.std.specs.Prelude.{ℕ, ◌+◌, ◌==◌, nat_lt, nat_le, not, ◌||◌, Bool, if◌then◌else◌, pos, [], ◌∷◌, ◌++◌, length, Option, Some, None}
 use Rattle.market_types.specs.declared.order.Enter.{Enter}
-use Rattle.market_types.specs.declared.feed.Feed.{Feed}
 use Rattle.market_types.specs.declared.feed.What.TheVariants as what
 use Rattle.market_types.specs.declared.reply.Reply.{Reply}
 use Rattle.market_types.specs.declared.reply.Reply.TheVariants.{Accepted, Canceled, Rejected}
@@ -9,7 +8,6 @@ use Rattle.market_types.specs.declared.message.Body.TheVariants.{Answer}
 use Rattle.market_rules.specs.Ticks.{is_allowed}
 use Rattle.price_time_book.specs.declared.resting.Resting.{Resting}
 use Rattle.price_time_book.specs.Matched.{matched}
-use Rattle.exchange_agent.specs.declared.handled.Outgoing.{Outgoing}
 use Rattle.exchange_agent.specs.declared.verdict.Verdict.{Verdict}
 use Rattle.exchange_agent.specs.declared.verdict.Verdict.TheVariants as verdict
 use Rattle.exchange_agent.specs.Pairs.{has_pair, pair_of, with_pair}

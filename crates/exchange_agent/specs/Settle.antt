@@ -3,17 +3,14 @@ use Rattle.std.specs.Prelude.{ℕ, ◌+◌, ◌-◌, ◌*◌, ℤ, pos, neg_ℤ,
 use Rattle.market_types.specs.declared.order.Side.{Side}
 use Rattle.market_types.specs.declared.order.Side.TheVariants.{Buy, Sell}
 use Rattle.market_types.specs.declared.order.Token.{Token}
-use Rattle.market_types.specs.declared.reply.Reply.{Reply}
 use Rattle.market_types.specs.declared.reply.Reply.TheVariants.{Executed}
 use Rattle.market_types.specs.declared.message.Body.{Body}
 use Rattle.market_types.specs.declared.message.Body.TheVariants.{Answer}
 use Rattle.market_types.specs.declared.feed.Feed.{Feed}
-use Rattle.market_types.specs.declared.feed.What.{What}
 use Rattle.market_types.specs.declared.feed.What.TheVariants as what
 use Rattle.market_rules.specs.declared.fees.FeeTable.{FeeTable}
 use Rattle.market_rules.specs.Fees.{fee_of}
 use Rattle.price_time_book.specs.declared.resting.Fill.{Fill}
-use Rattle.price_time_book.specs.declared.resting.Resting.{Resting}
 use Rattle.market_types.specs.Sides.{opposite_of}
 use Rattle.price_time_book.specs.Matched.{after_fill}
 use Rattle.exchange_agent.specs.declared.handled.Outgoing.{Outgoing}

@@ -1,5 +1,5 @@
 -- The exchange's state as plain data.
-use Rattle.std.specs.Prelude.{ℕ, ℤ, pos, List, [], ◌∷◌, length, slice_index_or, slice_set, sum_by, position, Option, bytes_eq}
+use Rattle.std.specs.Prelude.{ℕ, ℤ, pos, List, [], length, slice_index_or, slice_set, sum_by, position, Option, bytes_eq}
 use Rattle.market_types.specs.declared.order.Symbol.{Symbol}
 use Rattle.market_rules.specs.declared.bands.Band.{Band}
 use Rattle.market_rules.specs.declared.fees.FeeTable.{FeeTable}

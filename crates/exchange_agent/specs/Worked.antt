@@ -1,6 +1,5 @@
 -- Worked examples on one stock of cent ticks, fees of -20 and 30 millionths a share, and three traders.
-use Rattle.std.specs.Prelude.{ℕ, ℤ, pos, negsuc, List, [], ◌∷◌, codes}
-use Rattle.market_types.specs.declared.order.Cancel.{Cancel}
+use Rattle.std.specs.Prelude.{ℕ, pos, negsuc, [], ◌∷◌, codes}
 use Rattle.market_types.specs.declared.order.Enter.{Enter}
 use Rattle.market_types.specs.declared.order.Side.{Side}
 use Rattle.market_types.specs.declared.order.Side.TheVariants.{Buy, Sell}

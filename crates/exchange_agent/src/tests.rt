@@ -338,8 +338,16 @@ fn rules_change_between_messages(rt: HostRuntime) {
     let resting = order(b'A', Side::Buy, 10, 100_000);
     sent(&rt, alloc, &mut exchange, 4000, 1, Inbound::Enter(resting));
     let mut feed = FeedList::new(alloc);
-    assert!(rt; exchange.apply_change(4500, 0, &Change::Halt, &mut feed).is_ok());
-    assert!(rt; exchange.apply_change(4500, 0, &Change::Halt, &mut feed).is_ok());
+    assert!(rt;
+        exchange
+            .apply_change(4500, 0, &Change::Halt, &mut feed)
+            .is_ok()
+    );
+    assert!(rt;
+        exchange
+            .apply_change(4500, 0, &Change::Halt, &mut feed)
+            .is_ok()
+    );
     assert_eq!(rt; feed.len(), 1);
     let out = sent(
         &rt,

@@ -1,15 +1,13 @@
-use Rattle.std.proofs.Common.{◌≡◌, ◌≤◌, ◌<◌, ◌+◌, ◌*◌, ◌^◌, ℕ, ℤ, pos, List, All, length, true, arith, ap, ◌∙◌, sym, subst, rules}
+use Rattle.std.proofs.Common.{◌≡◌, ◌≤◌, ◌<◌, ◌+◌, ℕ, pos, List, All, length, true, arith, ap, ◌∙◌, sym, subst}
 use Rattle.std.specs.Prelude.{nat_le, ◌&&◌}
 use Rattle.std.proofs.lemmas.Bool.Decides.{nat_tests}
-use Rattle.std.proofs.lemmas.Int.{ints}
 use Rattle.std.proofs.lemmas.List.Elements.{All-weaker}
 use Rattle.price_time_book.specs.declared.resting.Resting.{Resting}
 use Rattle.price_time_book.specs.Orders.{order_of}
 use Rattle.exchange_agent.specs.declared.handled.Handled.{Handled}
 use Rattle.exchange_agent.specs.declared.pair.Pair.{Pair}
 use Rattle.exchange_agent.specs.Pairs.{has_pair, pair_of, with_pair}
-use Rattle.exchange_agent.specs.Sound.{IsSmall, IsSoundStock, IsWithin, is_known, is_trader}
-use Rattle.exchange_agent.specs.State.{Stock}
+use Rattle.exchange_agent.specs.Sound.{IsSmall, IsSoundStock, is_known, is_trader}
 use Rattle.exchange_agent.specs.View.{stock_of, way_at}
 use Rattle.exchange_agent.proofs.Accepts.{lacks-known, later-known, sound-traded, started, traders-known, money-traded}
 use Rattle.exchange_agent.proofs.Knowns.{and-both, known-more}
@@ -46,13 +44,13 @@ pub trade-requires-clause-small : goal.trade-requires-clause-small
 trade-requires-clause-small c =
     let fee : c.reply.new.self.fee ≡ pos 0 = ap (λ (h : Handled). h.fee) c.reply.ensures ∙ c.reserve.ensures.fee ∙ c.requires.no_fee in
     small-more c.args.counts.now.orders 131072 0 (way_at (record c.args.listing.now { book = c.reserve-2.new.self }) c.args.cash.now.items c.args.counts.now.matches c.reply.new.self) (omega (arith, c.requires.some_orders))
-      (started c.args.listing.now c.reserve-2.new.self c.args.cash.now.items c.args.pairs.now.keys c.args.counts.now.orders c.args.counts.now.matches c.reply.new.self c.requires.stock c.reserve-2.ensures.list c.requires.money c.requires.matches fee)
+    (started c.args.listing.now c.reserve-2.new.self c.args.cash.now.items c.args.pairs.now.keys c.args.counts.now.orders c.args.counts.now.matches c.reply.new.self c.requires.stock c.reserve-2.ensures.list c.requires.money c.requires.matches fee)
 
 ending : (c : After-trade) → IsSmall c.args.counts.now.orders c.args.e.now.shares (way_at c.trade.new.self c.trade.new.cash.items c.trade.new.matches c.trade.new.out)
 ending c =
     let fee : c.reply.new.self.fee ≡ pos 0 = ap (λ (h : Handled). h.fee) c.reply.ensures ∙ c.reserve.ensures.fee ∙ c.requires.no_fee in
     c.trade.ensures.small c.args.counts.now.orders
-      (started c.args.listing.now c.reserve-2.new.self c.args.cash.now.items c.args.pairs.now.keys c.args.counts.now.orders c.args.counts.now.matches c.reply.new.self c.requires.stock c.reserve-2.ensures.list c.requires.money c.requires.matches fee)
+    (started c.args.listing.now c.reserve-2.new.self c.args.cash.now.items c.args.pairs.now.keys c.args.counts.now.orders c.args.counts.now.matches c.reply.new.self c.requires.stock c.reserve-2.ensures.list c.requires.money c.requires.matches fee)
 
 pub returns-clause-matches : goal.returns-clause-matches
 returns-clause-matches c = let h = (ending c).matches in omega (arith, h, c.requires.few)

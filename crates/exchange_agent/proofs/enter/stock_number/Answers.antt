@@ -1,4 +1,4 @@
-use Rattle.std.proofs.Common.{◌≡◌, ◌∙◌, sym}
+use Rattle.std.proofs.Common.{◌∙◌, sym}
 use Rattle.exchange_agent.proofs.Numbers.{number-is_place}
 use Rattle.exchange_agent.proofs.enter.stock_number.Goals as goal
 

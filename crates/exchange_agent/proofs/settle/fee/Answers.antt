@@ -1,6 +1,6 @@
-use Rattle.std.proofs.Common.{◌≡◌, ◌≤◌, ◌*◌, ℤ, pos, ◌*ℤ◌, arith, sym, subst, rules, T}
+use Rattle.std.proofs.Common.{◌≤◌, ◌*◌, ℤ, arith, sym, subst}
 use Rattle.std.specs.Prelude.{unsigned_abs}
-use Rattle.std.proofs.lemmas.Int.{ints, to_z-of_z}
+use Rattle.std.proofs.lemmas.Int.{to_z-of_z}
 use Rattle.market_rules.specs.Fees.{each_of}
 use Rattle.exchange_agent.specs.Sound.{IsWithin}
 use Rattle.exchange_agent.proofs.Withins.{fee-within}

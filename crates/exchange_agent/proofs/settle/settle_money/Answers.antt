@@ -1,5 +1,4 @@
-use Rattle.std.proofs.Common.{◌≡◌, ◌≤◌, ◌+◌, ◌*◌, ◌^◌, ℕ, arith, sym, subst, rules}
-use Rattle.exchange_agent.specs.Sound.{IsWithin}
+use Rattle.std.proofs.Common.{◌+◌, ◌*◌, ◌^◌, arith, rules}
 use Rattle.exchange_agent.proofs.Withins.{gained-small, gained-twice, within-more}
 use Rattle.exchange_agent.proofs.settle.settle_money.Goals as goal
 

@@ -1,5 +1,4 @@
-use Rattle.std.proofs.Common.{◌≡◌, ◌≤◌, ◌+◌, ◌*◌, ℕ, arith, rules}
-use Rattle.exchange_agent.specs.Sound.{IsWithin}
+use Rattle.std.proofs.Common.{◌+◌, ◌*◌, arith, rules}
 use Rattle.exchange_agent.proofs.Withins.{gained-twice}
 use Rattle.exchange_agent.proofs.settle.settle_shares.Goals as goal
 

@@ -1,13 +1,8 @@
-use Rattle.std.proofs.Common.{◌≡◌, ◌≤◌, ◌<◌, ◌+◌, ◌*◌, ◌^◌, ℕ, ℤ, pos, List, [], ◌∷◌, ◌++◌, All, length, true, false, arith, ap, ◌∙◌, sym, subst, refl, rules}
-use Rattle.market_types.specs.declared.feed.Feed.{Feed}
+use Rattle.std.proofs.Common.{◌≡◌, ◌<◌, ◌+◌, ℕ, ℤ, List, length, false, arith, ap, ◌∙◌, sym, subst, refl, rules}
 use Rattle.market_types.specs.declared.message.Body.TheVariants.{Answer}
-use Rattle.exchange_agent.specs.declared.handled.Outgoing.{Outgoing}
-use Rattle.exchange_agent.specs.declared.settle.Taking.{Taking}
-use Rattle.exchange_agent.specs.Enter.{acceptance_of, accepted, remembering, taking_of, way_from, way_of}
+use Rattle.exchange_agent.specs.Enter.{acceptance_of, taking_of}
 use Rattle.exchange_agent.specs.Pairs.{has_pair, pair_of}
-use Rattle.exchange_agent.specs.Settle.{Way}
-use Rattle.exchange_agent.specs.Sound.{IsSoundStock, IsWithin}
-use Rattle.exchange_agent.specs.State.{State, stock_at}
+use Rattle.exchange_agent.specs.State.{State}
 use Rattle.exchange_agent.specs.View.{state_of, stock_of, way_at}
 use Rattle.std.specs.Prelude.{map, OnErr, Result, Ok, Err}
 use Rattle.exchange_agent.specs.declared.listing.Listing.{Listing}

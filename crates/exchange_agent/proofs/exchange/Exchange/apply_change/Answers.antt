@@ -1,8 +1,8 @@
-use Rattle.std.proofs.Common.{◌≡◌, ◌<◌, ℕ, length, rules, arith, ap, ◌∙◌, sym, refl}
+use Rattle.std.proofs.Common.{◌≡◌, length, rules, ap, ◌∙◌, sym}
 use Rattle.std.proofs.Common.{List}
 use Rattle.market_rules.specs.declared.bands.Band.{Band}
 use Rattle.exchange_agent.specs.Sound.{IsSoundStock}
-use Rattle.exchange_agent.specs.State.{State, Stock, stock_at, with_stock}
+use Rattle.exchange_agent.specs.State.{Stock, stock_at}
 use Rattle.exchange_agent.specs.View.{state_of, stock_of}
 use Rattle.exchange_agent.proofs.States.{at-stock, set-stock, sound-stock, sound_set}
 use Rattle.exchange_agent.proofs.exchange.Exchange.apply_change.Goals as goal

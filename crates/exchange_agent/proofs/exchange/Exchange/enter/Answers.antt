@@ -1,4 +1,4 @@
-use Rattle.std.proofs.Common.{◌≡◌, ◌<◌, ℕ, length, rules, false}
+use Rattle.std.proofs.Common.{◌≡◌, rules}
 use Rattle.std.proofs.lemmas.List.Quantifiers.{position-Some}
 use Rattle.exchange_agent.specs.declared.verdict.Verdict.TheVariants.{Accepted, Refused}
 use Rattle.exchange_agent.specs.Enter.{verdict_of}

@@ -1,9 +1,9 @@
-use Rattle.std.proofs.Common.{◌≡◌, ◌<◌, ◌≤◌, ℕ, List, All, Some, true, length, rules, arith, ap, ◌∙◌, sym, subst, refl}
+use Rattle.std.proofs.Common.{◌≡◌, ◌≤◌, ℕ, All, Some, true, length, rules, arith, ap, ◌∙◌, sym, subst, refl}
 use Rattle.price_time_book.specs.declared.resting.Resting.{Resting}
 use Rattle.price_time_book.specs.Orders.{changed, reduced, order_with}
 use Rattle.exchange_agent.specs.Cancel.{open_of}
 use Rattle.exchange_agent.specs.Sound.{IsSoundStock, is_known}
-use Rattle.exchange_agent.specs.State.{State, Stock, stock_at, with_stock}
+use Rattle.exchange_agent.specs.State.{Stock, stock_at}
 use Rattle.exchange_agent.specs.View.{state_of, stock_of}
 use Rattle.exchange_agent.proofs.States.{at-stock, set-stock, sound-stock, sound_set, rebooked-sound}
 use Rattle.exchange_agent.proofs.exchange.Exchange.lower.Goals as goal

@@ -1,4 +1,4 @@
-use Rattle.std.proofs.Common.{◌≡◌, ℤ, List, length, map, rules}
+use Rattle.std.proofs.Common.{◌≡◌, length, map, rules}
 use Rattle.exchange_agent.specs.Open.{listed}
 use Rattle.exchange_agent.specs.View.{stock_of}
 use Rattle.exchange_agent.proofs.States.{sound_opened}

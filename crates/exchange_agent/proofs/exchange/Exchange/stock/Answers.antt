@@ -1,4 +1,4 @@
-use Rattle.std.proofs.Common.{◌≡◌, ◌<◌, length, rules, arith}
+use Rattle.std.proofs.Common.{◌≡◌, length, rules, arith}
 use Rattle.exchange_agent.specs.Sound.{IsSoundStock}
 use Rattle.exchange_agent.specs.View.{state_of, stock_of}
 use Rattle.exchange_agent.proofs.States.{sound-stock}

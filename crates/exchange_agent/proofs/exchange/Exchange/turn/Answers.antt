@@ -1,6 +1,6 @@
-use Rattle.std.proofs.Common.{◌≡◌, ◌<◌, ℕ, length, rules, arith, ap, ◌∙◌, sym, refl}
-use Rattle.std.specs.Prelude.{if◌then◌else◌, false, ◌==◌}
-use Rattle.exchange_agent.specs.Changes.{turned, Changed}
+use Rattle.std.proofs.Common.{◌≡◌, ℕ, length, rules, ap, ◌∙◌, sym, refl}
+use Rattle.std.specs.Prelude.{false, ◌==◌}
+use Rattle.exchange_agent.specs.Changes.{turned}
 use Rattle.exchange_agent.specs.Sound.{IsSoundStock}
 use Rattle.exchange_agent.specs.State.{State, Stock, stock_at, with_stock}
 use Rattle.exchange_agent.specs.View.{state_of, stock_of}

@@ -1,11 +1,10 @@
-use Rattle.std.proofs.Common.{◌≡◌, ◌≢◌, ◌≤◌, ◌<◌, ◌+◌, ◌-◌, ◌*◌, ℕ, ℤ, List, All, length, subst, [], ◌∷◌, Option, Some, None, IfSome, IfNone, rules, arith, ap, ◌∙◌, sym, refl, inl, inr, true}
+use Rattle.std.proofs.Common.{◌≡◌, ◌≢◌, ◌≤◌, ◌<◌, ◌+◌, ◌-◌, ℕ, List, All, length, subst, [], ◌∷◌, Option, Some, None, IfSome, IfNone, rules, arith, ap, ◌∙◌, sym, refl, inl, inr, true}
 use Rattle.std.specs.Prelude.{min}
 use Rattle.price_time_book.specs.declared.resting.Resting.{Resting}
 use Rattle.price_time_book.specs.Matched.{Matching, fill_of, matched, after_fill}
 use Rattle.price_time_book.specs.Next.{next_of}
-use Rattle.exchange_agent.specs.declared.settle.Taking.{Taking}
 use Rattle.exchange_agent.specs.Settle.{Way, all_settled, settled}
-use Rattle.exchange_agent.specs.Sound.{IsFar, IsSmall, is_trader}
+use Rattle.exchange_agent.specs.Sound.{IsSmall, is_trader}
 use Rattle.exchange_agent.specs.View.{way_at}
 use Rattle.exchange_agent.proofs.Ways.{way-goes_on, left-goes_on, book-goes_on, fills-go_on, settled-cash, settled-positions}
 use Rattle.exchange_agent.proofs.Withins.{small-far}

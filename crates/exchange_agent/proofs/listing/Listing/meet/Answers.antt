@@ -1,5 +1,4 @@
-use Rattle.std.proofs.Common.{◌≡◌, ◌≤◌, ◌<◌, ◌+◌, ◌-◌, ◌+ℤ◌, ℕ, List, length, rules, arith, ap, ◌∙◌, sym, refl, All, Option, Some, None, IfSome, option_map, true, subst}
-use Rattle.std.specs.Prelude.{min}
+use Rattle.std.proofs.Common.{◌≡◌, ◌≤◌, ◌+◌, ◌-◌, ◌+ℤ◌, ℕ, length, rules, arith, ap, ◌∙◌, sym, refl, Option, Some, None, IfSome, option_map, true, subst}
 use Rattle.std.proofs.lemmas.Bool.Decides.{nat_tests}
 use Rattle.price_time_book.specs.declared.resting.Resting.{Resting}
 use Rattle.price_time_book.specs.declared.resting.Fill.{Fill}
@@ -11,7 +10,7 @@ use Rattle.exchange_agent.specs.declared.listing.Listing.{Listing}
 use Rattle.exchange_agent.specs.declared.settle.Taking.{Taking}
 use Rattle.exchange_agent.specs.Settle.{Way, both_fees_of, cash_after, settled, tally_after}
 use Rattle.exchange_agent.specs.Sound.{IsSmall}
-use Rattle.exchange_agent.specs.State.{Stock, Tally}
+use Rattle.exchange_agent.specs.State.{Tally}
 use Rattle.exchange_agent.specs.View.{stock_of, way_at}
 use Rattle.exchange_agent.proofs.Ways.{way-made}
 use Rattle.exchange_agent.proofs.listing.Listing.meet.Goals as goal

@@ -1,7 +1,7 @@
-use Rattle.std.proofs.Common.{◌≡◌, ◌≤◌, ◌<◌, ◌+◌, ◌-◌, ◌*◌, ℕ, List, [], All, length, true, arith, ap, ◌∙◌, sym, subst, rules}
+use Rattle.std.proofs.Common.{◌≡◌, ◌≤◌, ◌<◌, ◌+◌, ◌-◌, ℕ, List, [], All, length, true, arith, ap, ◌∙◌, sym, subst}
 use Rattle.market_types.specs.declared.order.Side.{Side}
 use Rattle.price_time_book.specs.declared.resting.Resting.{Resting}
-use Rattle.price_time_book.specs.Matched.{Matching, matched}
+use Rattle.price_time_book.specs.Matched.{matched}
 use Rattle.price_time_book.specs.Next.{crossing_of}
 use Rattle.price_time_book.specs.Orders.{order_of}
 use Rattle.exchange_agent.specs.Enter.{remainder}
