@@ -1,6 +1,6 @@
 use Rattle.std.proofs.Common.{refl}
 use Rattle.abides_run.specs.Words.{texts}
-use Rattle.abides_run.proofs.Answered.{read_failed, no_study_read}
+use Rattle.abides_run.proofs.Answered.{read_failed, memory_wanting, no_study_read}
 use Rattle.abides_run.proofs.find.find_study.Goals as goal
 
 pub returns-in-Err-Failed-clause-refused : goal.returns-in-Err-Failed-clause-refused
@@ -12,3 +12,8 @@ pub returns-clause-refused : goal.returns-clause-refused
 returns-clause-refused g c =
     no_study_read c.read_study.result (g.L.Library.files c.args.library.now) (texts c.args.words.now) c.in-Some.name.now c.in-Ok-Whole.bytes.items (g.L.Library.faults c.args.library.now) (g.L.Library.faults c.fetch.new.self)
     (rw c.deref.ensures.value at c.read_study.ensures.refused) c.in-Some.ensures (rw c.in-Ok-Whole.field-0-is at c.in-Ok-Whole.ensures.answer) c.fetch.ensures.never_falls
+
+pub returns-in-Err-Memory-clause-refused : goal.returns-in-Err-Memory-clause-refused
+returns-in-Err-Memory-clause-refused g c =
+    λ writes steps taken. memory_wanting (g.L.Library.files c.args.library.now) (texts c.args.words.now) c.in-Some.name.now (g.L.Library.faults c.args.library.now) (g.L.Library.faults c.fetch.new.self) writes steps taken
+    c.in-Some.ensures c.fetch.ensures.never_falls
