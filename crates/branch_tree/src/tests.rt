@@ -1,3 +1,5 @@
+ghost use Rattle.std.specs.Prelude.{◌≡◌, [], IfOk};
+
 use crate::{Branch, BranchPlan, Name, PlanError, plan};
 use market_rules::Edit;
 use market_types::{Memory, Sequence};
@@ -5,7 +7,11 @@ use std::alloc::Global;
 use std::test::Fail;
 
 // A branch with no edits.
-fn branch(alloc: Global, name: &[u8], parent: u16, stop: u32) -> Result<Branch, Fail> {
+fn branch(alloc: Global, name: &[u8], parent: u16, stop: u32) -> Result<Branch, Fail>
+    ensures parent { IfOk result (λ b. b.parent ≡ parent) }
+    ensures stop { IfOk result (λ b. b.stop ≡ stop) }
+    ensures edits { IfOk result (λ b. b.edits ≡ []) }
+{
     let Some(name) = Name::new(name) else {
         return Err(Fail::from("no name"));
     };

@@ -1,0 +1,4 @@
+pub mod Probe
+pub mod Columns
+pub mod Spans
+pub mod Worked
