@@ -4,7 +4,7 @@ use Rattle.std.specs.Prelude.{slice_index_or}
 use Rattle.std.proofs.lemmas.List.Elements.{All-push, All-nil}
 use Rattle.kernel_core.specs.State.{State}
 use Rattle.kernel_core.specs.Agents.{told_of, nobody}
-use Rattle.trace_bundle.specs.declared.closing.ClosingAgent.{ClosingAgent}
+use Rattle.bundle_frames.specs.declared.closing.ClosingAgent.{ClosingAgent}
 use Rattle.abides_run.specs.Closing.{agents_told, exchange_told, trader_told}
 
 pub few_positions : (s : State) (n : ℕ) → All (λ (a : ClosingAgent). length a.positions ≤ 16) (agents_told s n)

@@ -1,3 +1,4 @@
 pub mod Agents
-pub mod Told
+pub mod Answered
+pub mod Come
 pub mod Whole

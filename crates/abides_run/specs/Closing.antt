@@ -7,23 +7,23 @@ use Rattle.kernel_core.specs.declared.opening.Opening.{Opening}
 use Rattle.kernel_core.specs.State.{State}
 use Rattle.kernel_core.specs.Step.{end_of}
 use Rattle.kernel_core.specs.Agents.{told_of, nobody}
-use Rattle.trace_bundle.specs.declared.closing.Closing.{Closing}
-use Rattle.trace_bundle.specs.declared.closing.ClosingCounts.{ClosingCounts}
-use Rattle.trace_bundle.specs.declared.closing.ClosingStock.{ClosingStock}
-use Rattle.trace_bundle.specs.declared.closing.ClosingAgent.{ClosingAgent}
+use Rattle.bundle_frames.specs.declared.closing.Closing.{Closing}
+use Rattle.bundle_frames.specs.declared.closing.ClosingCounts.{ClosingCounts}
+use Rattle.bundle_frames.specs.declared.closing.ClosingStock.{ClosingStock}
+use Rattle.bundle_frames.specs.declared.closing.ClosingAgent.{ClosingAgent}
 
 -- `Q` no message waits, `C` the market is closed, `L` all events stand, `F` the queue was full, `-` not ended
-abbrev pub end_letter : Option End → ℕ
-end_letter None = 45
-end_letter (Some Quiet) = 81
-end_letter (Some Closed) = 67
-end_letter (Some EventLimit) = 76
-end_letter (Some QueueFull) = 70
+abbrev pub end_letter_of : Option End → ℕ
+end_letter_of None = 45
+end_letter_of (Some Quiet) = 81
+end_letter_of (Some Closed) = 67
+end_letter_of (Some EventLimit) = 76
+end_letter_of (Some QueueFull) = 70
 
 -- the counters; in a market without orders those of the exchange are 0
 abbrev pub counts_of : Opening → State → ClosingCounts
 counts_of o s = record {
-  end = end_letter (end_of o s);
+  end = end_letter_of (end_of o s);
   events = s.events;
   time = s.time;
   next_seq = s.post.next_seq;
@@ -36,8 +36,8 @@ counts_of o s = record {
 }
 
 -- a stock that trades and has matched nothing
-abbrev pub idle_stock : ClosingStock
-idle_stock = record { stock = 0; state = 84; last = 0; matched = 0; fees = pos 0; offset = pos 0; live = 0 }
+abbrev pub stock_of : ClosingStock
+stock_of = record { stock = 0; state = 84; last = 0; matched = 0; fees = pos 0; offset = pos 0; live = 0 }
 
 -- The exchange is agent 0. It has nothing but its own time.
 abbrev pub exchange_told : State → ClosingAgent
@@ -79,7 +79,7 @@ agents_told s (suc n) = agents_told s n ++ trader_told s (n + 1) (told_of (slice
 abbrev pub closing_of : Opening → State → Closing
 closing_of o s = record {
   counts = counts_of o s;
-  stocks = idle_stock ∷ [];
+  stocks = stock_of ∷ [];
   orders = [];
   agents = agents_told s (length s.traders);
 }

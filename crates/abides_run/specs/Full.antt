@@ -18,12 +18,12 @@ abbrev pub symbol : Symbol
 symbol = record { 0 = 65 ∷ 66 ∷ 77 ∷ 32 ∷ 32 ∷ 32 ∷ 32 ∷ 32 ∷ [] }
 
 -- a system event at a time: `O` starts the messages of the feed, `C` ends them
-abbrev pub system_event : ℕ → ℕ → Feed
-system_event time code = record { locate = 0; tracking = 0; time = time; what = System code }
+abbrev pub system_event_of : ℕ → ℕ → Feed
+system_event_of time code = record { locate = 0; tracking = 0; time = time; what = System code }
 
 -- the directory of the stock, with the fields that every stock has here
-abbrev pub directory : ℕ → Feed
-directory time = record {
+abbrev pub directory_of : ℕ → Feed
+directory_of time = record {
   locate = 1;
   tracking = 0;
   time = time;
@@ -31,8 +31,8 @@ directory time = record {
 }
 
 -- the stock trades
-abbrev pub trading : ℕ → Feed
-trading time = record {
+abbrev pub trading_of : ℕ → Feed
+trading_of time = record {
   locate = 1;
   tracking = 0;
   time = time;
@@ -40,8 +40,8 @@ trading time = record {
 }
 
 -- the feed of the opening: the messages start, and the stock is listed and trades
-abbrev pub opening_feed : ℕ → List Feed
-opening_feed time = system_event time 79 ∷ directory time ∷ trading time ∷ []
+abbrev pub opening_feed_of : ℕ → List Feed
+opening_feed_of time = system_event_of time 79 ∷ directory_of time ∷ trading_of time ∷ []
 
 -- The root branch, which has no parent.
 abbrev pub root_told : Opening → Run → BranchTold
@@ -50,8 +50,8 @@ root_told o r = record {
   parent = 65535;
   stop = 0;
   name = codes "root";
-  opening = opening_feed o.start;
+  opening = opening_feed_of o.start;
   entries = r.entries;
-  ended = system_event r.state.time 67;
+  ended = system_event_of r.state.time 67;
   closing = closing_of o r.state;
 }

@@ -1,70 +1,61 @@
--- What each status of a run says.
-use Rattle.std.specs.Prelude.{◌≡◌, ℕ, ◌+◌, ◌≤◌, List, Option}
-use Rattle.abides_run.specs.Verdict.{Verdict, usage, no_study, long_study, refused, study, IsStudy, IsAsked}
+-- What is promised of a run. The clauses of the one call stand here, as the fields of records.
+use Rattle.std.specs.Prelude.{◌≡◌, ◌⊎◌, ◌≤◌, ℕ, List, Option, IfSome, None}
+use Rattle.outside.specs.Rose.{Rose}
+use Rattle.outside.specs.Taken.{appended, TookPrefix}
+use Rattle.abides_run.specs.Words.{asked_of}
+use Rattle.abides_run.specs.Verdict.{Verdict, verdict, IsStudy, output, distinct}
+use Rattle.abides_run.specs.Statuses.{Cause, Counts, IsRefusal, status_of}
+use Rattle.abides_run.specs.Notes.{note}
 use Rattle.abides_run.specs.declared.status.Status.{Status}
-use Rattle.abides_run.specs.declared.status.Status.TheVariants.{Ok, Usage, NoStudy, TooLong, Refused, ReadFault, WriteFault, Memory}
+use Rattle.abides_run.specs.declared.status.Status.TheVariants.{Ok, Usage, ReadFault, WriteFault, Memory}
 
--- What words and files say of each status. Only want of memory may always come.
-abbrev pub Cause : Verdict → Status → Type 0
-Cause verdict Ok = IsStudy verdict
-Cause verdict Usage = verdict ≡ usage
-Cause verdict NoStudy = verdict ≡ no_study
-Cause verdict TooLong = verdict ≡ long_study
-Cause verdict (Refused rule place) = verdict ≡ refused rule place
-Cause verdict ReadFault = IsAsked verdict
-Cause verdict WriteFault = IsStudy verdict
-Cause verdict Memory = Unit {0}
+-- What is seen at one moment: how many reads of the library failed, how many writes to out, what out has taken where it
+-- tells its bytes, and how many steps were counted.
+pub record Seen : Type 0 where
+  pub reads : ℕ
+  pub writes : ℕ
+  pub taken : Option (List ℕ)
+  pub steps : ℕ
 
--- the status where nothing fails and memory is there
-abbrev pub status_of : Verdict → Status
-status_of usage = Usage
-status_of no_study = NoStudy
-status_of long_study = TooLong
-status_of (refused rule place) = Refused rule place
-status_of (study s) = Ok
+-- What holds where words and files come to this verdict, of which these bytes are to be written and so many events are
+-- to be simulated.
+pub record Fulfilled (come : Verdict) (bytes : List ℕ) (events : ℕ) (before after : Seen) (status : Status) : Type 0 where
+  -- At status 0 out took the output and nothing else.
+  pub output : status ≡ Ok → after.taken ≡ appended before.taken bytes
+  -- How many steps were counted: each event of the study once.
+  pub counter : Counts events before.steps after.steps before.taken after.taken status
+  -- Each status has its cause, and without a study and with no fault each cause its status.
+  pub cause : Cause come status
+  pub exact : ¬ IsStudy come → ¬ (Rose before.reads after.reads) → (status ≡ status_of come) ⊎ (status ≡ Memory)
+  -- Never more than a first part of the output is taken.
+  pub prefix : TookPrefix before.taken after.taken bytes
+  -- With a study and no fault, want of memory is the only other end.
+  pub complete : IsStudy come → ¬ (Rose before.reads after.reads) → ¬ (Rose before.writes after.writes) →
+      (status ≡ Ok) ⊎ (status ≡ Memory)
 
--- The rise of the counter at each status, where so many steps are to be counted, and out had taken this before and has
--- taken this now. No byte goes out before all steps are made.
-abbrev pub Counts : ℕ → ℕ → ℕ → Option (List ℕ) → Option (List ℕ) → Status → Type 0
-Counts distinct old new took_before took Ok = new ≡ old + distinct
-Counts distinct old new took_before took Usage = new ≡ old
-Counts distinct old new took_before took NoStudy = new ≡ old
-Counts distinct old new took_before took TooLong = new ≡ old
-Counts distinct old new took_before took (Refused rule place) = new ≡ old
-Counts distinct old new took_before took ReadFault = new ≡ old
-Counts distinct old new took_before took WriteFault = new ≡ old + distinct
-Counts distinct old new took_before took Memory =
-    (old ≤ new) × (new ≤ old + distinct) × (¬ (took ≡ took_before) → new ≡ old + distinct)
+-- What holds of all but the note. The files are there where the library tells them.
+pub record Answered (files : Option (List (List ℕ × List ℕ))) (words : List (List ℕ)) (before after : Seen) (status : Status) : Type 0 where
+  pub told : IfSome files (λ held. Fulfilled (verdict held words) (output (verdict held words)) (distinct (verdict held words)) before after status)
+  -- Faulty words are told as such, and the library is not asked: its count stands.
+  pub usage : status ≡ Usage → asked_of words ≡ None
+  pub not_asked : asked_of words ≡ None → (status ≡ Usage) ⊎ (status ≡ Memory)
+  pub unasked : status ≡ Usage → after.reads ≡ before.reads
+  -- A fault is told only where one was counted, and none is counted at status 0.
+  pub read_fault : status ≡ ReadFault → Rose before.reads after.reads
+  pub write_fault : status ≡ WriteFault → Rose before.writes after.writes
+  pub steady : status ≡ Ok → (after.reads ≡ before.reads) × (after.writes ≡ before.writes)
+  -- At a refusal nothing is taken, and the counter and out's count stand.
+  pub refused : IsRefusal status → after.taken ≡ before.taken
+  pub unmoved : IsRefusal status → after.steps ≡ before.steps
+  pub out_still : IsRefusal status → after.writes ≡ before.writes
+  pub reads_never_fall : before.reads ≤ after.reads
+  pub writes_never_fall : before.writes ≤ after.writes
 
--- a status that comes before the first step
-abbrev pub IsRefusal : Status → Type 0
-IsRefusal Ok = ⊥
-IsRefusal Usage = Unit {0}
-IsRefusal NoStudy = Unit {0}
-IsRefusal TooLong = Unit {0}
-IsRefusal (Refused rule place) = Unit {0}
-IsRefusal ReadFault = Unit {0}
-IsRefusal WriteFault = ⊥
-IsRefusal Memory = ⊥
-
--- a status that can come once there is a study
-abbrev pub IsPlayed : Status → Type 0
-IsPlayed Ok = Unit {0}
-IsPlayed Usage = ⊥
-IsPlayed NoStudy = ⊥
-IsPlayed TooLong = ⊥
-IsPlayed (Refused rule place) = ⊥
-IsPlayed ReadFault = ⊥
-IsPlayed WriteFault = Unit {0}
-IsPlayed Memory = Unit {0}
-
--- a status that can come before there is a study
-abbrev pub IsEarly : Status → Type 0
-IsEarly Ok = ⊥
-IsEarly Usage = Unit {0}
-IsEarly NoStudy = Unit {0}
-IsEarly TooLong = Unit {0}
-IsEarly (Refused rule place) = Unit {0}
-IsEarly ReadFault = Unit {0}
-IsEarly WriteFault = ⊥
-IsEarly Memory = Unit {0}
+-- What holds of the note, where the words name this study: the counts of failed writes to the notes, and what the notes
+-- have taken, before and after.
+pub record Noted (name : List ℕ) (faults_before faults_after : ℕ) (before after : Option (List ℕ)) (status : Status) : Type 0 where
+  -- The line for the status, and nothing at status 0.
+  pub whole : ¬ (Rose faults_before faults_after) → after ≡ appended before (note name status)
+  -- Where a write fails, a first part of the line at most.
+  pub cut : TookPrefix before after (note name status)
+  pub never_falls : faults_before ≤ faults_after

@@ -3,7 +3,8 @@ pub mod Closing
 pub mod Full
 pub mod Study
 pub mod Verdict
-pub mod Headline
+pub mod Statuses
 pub mod Notes
+pub mod Headline
 pub mod Code
 pub mod Worked

@@ -8,12 +8,12 @@ abbrev pub texts : List (String Global) → List (List ℕ)
 texts words = map string_bytes words
 
 -- The name of the study that the words ask for: they are `run` and a name that is not empty.
-abbrev pub asked : List (List ℕ) → Option (List ℕ)
-asked [] = None
-asked (command ∷ []) = None
-asked (command ∷ name ∷ []) = if bytes_eq command (codes "run") && not (length name == 0) then Some name else None
-asked (command ∷ name ∷ more ∷ rest) = None
+abbrev pub asked_of : List (List ℕ) → Option (List ℕ)
+asked_of [] = None
+asked_of (command ∷ []) = None
+asked_of (command ∷ name ∷ []) = if bytes_eq command (codes "run") && not (length name == 0) then Some name else None
+asked_of (command ∷ name ∷ more ∷ rest) = None
 
 -- that name, or nothing
-abbrev pub name_in : List (List ℕ) → List ℕ
-name_in words = unwrap_or (asked words) []
+abbrev pub study_name_of : List (List ℕ) → List ℕ
+study_name_of words = unwrap_or (asked_of words) []

@@ -2,8 +2,8 @@
 
 ghost use Rattle.std.specs.Prelude.{◌≡◌, ◌≤◌, ◌<◌, ◌+◌, ◌-◌, ◌∷◌, [], pos, IfOk, length, slice_index_or, All};
 ghost use Rattle.kernel_core.specs.Agents.{told_of, nobody};
-ghost use Rattle.trace_bundle.specs.declared.closing.ClosingAgent.{ClosingAgent};
-ghost use Rattle.abides_run.specs.Closing.{end_letter as letter_of_end, counts_of, idle_stock as stock_of, exchange_told, trader_told, agents_told, closing_of as closing_at};
+ghost use Rattle.bundle_frames.specs.declared.closing.ClosingAgent.{ClosingAgent};
+ghost use Rattle.abides_run.specs.Closing.{end_letter_of, counts_of, stock_of, exchange_told, trader_told, agents_told, closing_of};
 
 use kernel_core::{Kernel, Opening};
 use market_types::{AgentNo, End, Memory, Sequence};
@@ -11,7 +11,7 @@ use std::alloc::Global;
 use trace_bundle::{Closing, ClosingAgent, ClosingCounts, ClosingStock};
 
 fn end_letter(end: Option<End>) -> u8
-    ensures { result ≡ letter_of_end end }
+    ensures { result ≡ end_letter_of end }
 {
     match end {
         None => b'-',
@@ -40,7 +40,7 @@ fn counts(o: &Opening, kernel: &Kernel) -> ClosingCounts
     }
 }
 
-fn idle_stock() -> ClosingStock
+fn stock() -> ClosingStock
     ensures { result ≡ stock_of }
 {
     ClosingStock {
@@ -54,14 +54,12 @@ fn idle_stock() -> ClosingStock
     }
 }
 
-/// The position in the one stock, of which nothing was traded.
+// The position in the one stock, of which nothing was traded.
 fn no_position(alloc: Global) -> Result<Sequence<i64>, Memory>
     ensures { IfOk result (λ s. s ≡ pos 0 ∷ []) }
 {
-    match vec![in alloc; 0; 1] {
-        Ok(positions) => Ok(Sequence::new(positions)),
-        Err(_) => Err(Memory),
-    }
+    let positions = vec![in alloc; 0; 1]?;
+    Ok(Sequence::new(positions))
 }
 
 fn exchange(alloc: Global, kernel: &Kernel) -> Result<ClosingAgent, Memory>
@@ -105,7 +103,7 @@ fn trader(alloc: Global, kernel: &Kernel, agent: AgentNo) -> Result<ClosingAgent
     })
 }
 
-/// The exchange and each trader in order.
+// The exchange and each trader in order.
 fn agents(alloc: Global, kernel: &Kernel) -> Result<Vec<ClosingAgent>, Memory>
     ensures agents { IfOk result (λ v. v.items ≡ agents_told kernel.now (length kernel.now.traders)) }
     ensures positions { IfOk result (λ v. All (λ (a : ClosingAgent). length a.positions ≤ 16) v.items) }
@@ -113,27 +111,20 @@ fn agents(alloc: Global, kernel: &Kernel) -> Result<Vec<ClosingAgent>, Memory>
     let traders = kernel.agents() - 1;
     let mut agents = Vec::new(alloc);
     let first = exchange(alloc, kernel)?;
-    if agents.push(first).is_err() {
-        return Err(Memory);
-    }
+    agents.push(first)?;
     for i in 0..traders {
         let next = trader(alloc, kernel, i + 1)?;
-        if agents.push(next).is_err() {
-            return Err(Memory);
-        }
+        agents.push(next)?;
     }
     Ok(agents)
 }
 
 /// The closing of a state.
-pub fn closing_of(alloc: Global, o: &Opening, kernel: &Kernel) -> Result<Closing, Memory>
-    ensures closing { IfOk result (λ c. c ≡ closing_at o.now kernel.now) }
+pub fn closing(alloc: Global, o: &Opening, kernel: &Kernel) -> Result<Closing, Memory>
+    ensures closing { IfOk result (λ c. c ≡ closing_of o.now kernel.now) }
     ensures positions { IfOk result (λ c. All (λ (a : ClosingAgent). length a.positions ≤ 16) c.agents) }
 {
-    let stocks = match vec![in alloc; idle_stock(); 1] {
-        Ok(stocks) => stocks,
-        Err(_) => return Err(Memory),
-    };
+    let stocks = vec![in alloc; stock(); 1]?;
     Ok(Closing {
         counts: counts(o, kernel),
         stocks: Sequence::new(stocks),

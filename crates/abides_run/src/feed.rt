@@ -2,17 +2,17 @@
 
 ghost use Rattle.std.specs.Prelude.{◌≡◌, ◌<◌, ◌^◌, IfOk};
 ghost use Rattle.market_types.specs.Timely.{AreTimely};
-ghost use Rattle.abides_run.specs.Full.{system_event as system_at, directory as directory_at, trading as trading_at, opening_feed as feed_at, symbol as symbol_of};
+ghost use Rattle.abides_run.specs.Full.{system_event_of, directory_of, trading_of, opening_feed_of};
 
 use market_types::{Feed, FeedList, Memory, Symbol, Time, What};
 use std::alloc::Global;
 
-/// The symbol of the one stock.
+// The symbol of the one stock.
 const SYMBOL: Symbol = Symbol(*b"ABM     ");
 
 /// A system event.
 pub fn system_event(time: Time, code: u8) -> Feed
-    ensures { result ≡ system_at time code }
+    ensures { result ≡ system_event_of time code }
 {
     Feed {
         locate: 0,
@@ -22,9 +22,9 @@ pub fn system_event(time: Time, code: u8) -> Feed
     }
 }
 
-/// The directory of the stock.
+// The directory of the stock.
 fn directory(time: Time) -> Feed
-    ensures { result ≡ directory_at time }
+    ensures { result ≡ directory_of time }
 {
     Feed {
         locate: 1,
@@ -49,9 +49,9 @@ fn directory(time: Time) -> Feed
     }
 }
 
-/// The stock trades.
+// The stock trades.
 fn trading(time: Time) -> Feed
-    ensures { result ≡ trading_at time }
+    ensures { result ≡ trading_of time }
 {
     Feed {
         locate: 1,
@@ -69,8 +69,8 @@ fn trading(time: Time) -> Feed
 /// The feed of the opening.
 pub fn opening_feed(alloc: Global, time: Time) -> Result<FeedList, Memory>
     requires { time < 2 ^ 48 }
-    ensures feed { IfOk result (λ l. l.list ≡ feed_at time) }
-    ensures timely { AreTimely (feed_at time) }
+    ensures feed { IfOk result (λ l. l.list ≡ opening_feed_of time) }
+    ensures timely { AreTimely (opening_feed_of time) }
 {
     let mut feed = FeedList::new(alloc);
     feed.push(system_event(time, b'O'))?;

@@ -1,12 +1,11 @@
 //! From words and a library to a study.
 
-ghost use Rattle.std.specs.Prelude.{◌≡◌, ◌≤◌, IfOk, IfErr, IfSome, OnOk, None, Some};
-ghost use Rattle.outside.specs.Rose.{Rose};
+ghost use Rattle.std.specs.Prelude.{◌≡◌, ℕ, List, Option, IfOk, IfErr, IfSome, OnOk, None, Some};
 ghost use Rattle.study_rules.specs.Opening.{IsInRange};
 ghost use Rattle.study_rules.specs.Watchers.{study_of};
-ghost use Rattle.abides_run.specs.Words.{texts, asked as asked_of};
-ghost use Rattle.abides_run.specs.Verdict.{verdict, study};
-ghost use Rattle.abides_run.specs.Headline.{Cause, IsEarly};
+ghost use Rattle.abides_run.specs.Words.{texts, asked_of};
+ghost use Rattle.abides_run.specs.Verdict.{verdict, accepted};
+ghost use Rattle.abides_run.specs.Headline.{Answered};
 
 use crate::status::Status;
 use crate::words::asked;
@@ -15,10 +14,10 @@ use std::alloc::Global;
 use study_file::{StudyError, read_tables};
 use study_rules::{WatcherStudy, watcher_study};
 
-/// A study file may have so many bytes.
+// A study file may have so many bytes.
 const MOST_BYTES: u64 = 16_777_216;
 
-/// The study that a file's bytes say, or rule 99 where they say none.
+// The study that a file's bytes say, or rule 99 where they say none.
 fn read_study(alloc: Global, bytes: &[u8]) -> Result<WatcherStudy, Status>
     ensures study { IfOk result (λ s. study_of bytes.now ≡ Some s) }
     ensures in_range { IfOk result IsInRange }
@@ -34,26 +33,24 @@ fn read_study(alloc: Global, bytes: &[u8]) -> Result<WatcherStudy, Status>
     }
 }
 
-/// The study that the words ask for, or the status that refuses it.
+/// The study that the words ask for, or the status that refuses it. Whatever out took and however many steps were counted,
+/// that status answers the words where these stand.
 pub fn find_study<L: Library>(
     alloc: Global,
     words: &[String],
     library: &mut L,
 ) -> Result<WatcherStudy, Status>
     ensures study { IfOk result (λ s. IfSome (L.files library.old) (λ files.
-        verdict files (texts words.now) ≡ study s)) }
+        verdict files (texts words.now) ≡ accepted s)) }
     ensures in_range { IfOk result IsInRange }
     ensures asked { OnOk result (¬ (asked_of (texts words.now) ≡ None)) }
-    ensures early { IfErr result IsEarly }
-    ensures cause { IfErr result (λ status. IfSome (L.files library.old) (λ files.
-        Cause (verdict files (texts words.now)) status)) }
-    ensures usage { IfErr result (λ status. status ≡ Status.Usage → asked_of (texts words.now) ≡ None) }
-    ensures not_asked { asked_of (texts words.now) ≡ None → IfErr result (λ status. status ≡ Status.Usage) }
-    ensures read_fault { IfErr result (λ status.
-        status ≡ Status.ReadFault → Rose (L.faults library.old) (L.faults library.new)) }
     ensures steady { OnOk result (L.faults library.new ≡ L.faults library.old) }
+    ensures refused { IfErr result (λ status. (writes steps : ℕ) (taken : Option (List ℕ)) →
+        Answered (L.files library.old) (texts words.now)
+        (record { reads = L.faults library.old; writes = writes; taken = taken; steps = steps })
+        (record { reads = L.faults library.new; writes = writes; taken = taken; steps = steps })
+        status) }
     ensures files { L.files library.new ≡ L.files library.old }
-    ensures never_falls { L.faults library.old ≤ L.faults library.new }
 {
     let Some(name) = asked(words) else {
         return Err(Status::Usage);

@@ -5,11 +5,12 @@ mod closing;
 mod feed;
 mod find;
 mod notes;
-mod play;
+mod simulation;
 mod status;
 mod top;
 mod words;
 pub mod worked;
 
+pub use notes::write_note;
 pub use status::Status;
 pub use top::run;

@@ -1,15 +1,14 @@
 //! The line that a status leaves.
 
-ghost use Rattle.std.specs.Prelude.{◌≡◌, ◌⊎◌, ◌≤◌, IfOk, IsOk, string_bytes};
-ghost use Rattle.outside.specs.Rose.{Rose};
-ghost use Rattle.outside.specs.Taken.{appended};
+ghost use Rattle.std.specs.Prelude.{◌≡◌, ◌⊎◌, IfOk, IsOk, string_bytes};
+ghost use Rattle.abides_run.specs.Headline.{Noted};
 ghost use Rattle.abides_run.specs.Notes.{note, refused_line};
 
 use crate::status::Status;
 use outside::{Sink, write_all};
 use std::alloc::{AllocError, Global};
 
-/// The line for a rule that a file breaks.
+// The line for a rule that a file breaks.
 fn refused_text(alloc: Global, rule: u32, place: u32) -> Result<String, AllocError>
     ensures { IfOk result (λ text. string_bytes text ≡ refused_line rule place) }
 {
@@ -36,12 +35,11 @@ pub fn note_text(alloc: Global, name: &str, status: Status) -> Result<String, Al
     }
 }
 
-/// Writes the line for a status. Where there is no memory for it, that is the status.
-pub fn tell<N: Sink>(alloc: Global, name: &str, status: Status, notes: &mut N) -> Status
-    ensures told { (result ≡ status) ⊎ ((result ≡ Status.Memory) × ¬ (status ≡ Status.Ok)) }
-    ensures note { ¬ (Rose (N.faults notes.old) (N.faults notes.new)) →
-        N.taken notes.new ≡ appended (N.taken notes.old) (note name.now result) }
-    ensures never_falls { N.faults notes.old ≤ N.faults notes.new }
+/// Writes the line for a status, where the words name this study. Where there is no memory for the line, that is the
+/// status. A line that cannot be written is dropped.
+pub fn write_note<N: Sink>(alloc: Global, name: &str, status: Status, notes: &mut N) -> Status
+    ensures kept { (result ≡ status) ⊎ ((result ≡ Status.Memory) × ¬ (status ≡ Status.Ok)) }
+    ensures noted { Noted name.now (N.faults notes.old) (N.faults notes.new) (N.taken notes.old) (N.taken notes.new) result }
 {
     match note_text(alloc, name, status) {
         Ok(text) => {

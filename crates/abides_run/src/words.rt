@@ -1,7 +1,7 @@
 //! The words of a command line.
 
 ghost use Rattle.std.specs.Prelude.{◌≡◌, option_map};
-ghost use Rattle.abides_run.specs.Words.{texts, asked as asked_of, name_in as name_of};
+ghost use Rattle.abides_run.specs.Words.{texts, asked_of, study_name_of};
 
 /// The name of the study that the words ask for.
 pub fn asked(words: &[String]) -> Option<&str>
@@ -20,8 +20,8 @@ pub fn asked(words: &[String]) -> Option<&str>
 }
 
 /// That name, or nothing.
-pub fn name_in(words: &[String]) -> &str
-    ensures { result.now ≡ name_of (texts words.now) }
+pub fn study_name(words: &[String]) -> &str
+    ensures { result.now ≡ study_name_of (texts words.now) }
 {
     match asked(words) {
         Some(name) => name,

@@ -2,8 +2,8 @@
 //!
 //! A draw is one 32-bit word of the ChaCha20 key stream (the block function of RFC 8439 with a
 //! 64-bit block counter and a 64-bit nonce). It is fixed by a key of 32 bytes, the number of a
-//! stream and its place in that stream, so an answer never depends on who drew first: nothing is
-//! kept between two draws, and nothing is allocated.
+//! stream and its place in that stream, so an answer never depends on who drew first. Nothing is
+//! allocated; a `Stream` keeps a block of words for the draws that follow.
 #![tactic(auto)]
 
 ghost use Rattle.std.specs.Prelude.{◌≡◌, ◌<◌, ◌≤◌, ◌^◌, pos, ◌≤ℤ◌, ◌-ℤ◌};
@@ -14,10 +14,13 @@ ghost use Rattle.draw_streams.specs.Draw.{draw_of};
 use rand_chacha::ChaCha20Rng;
 use rand_core::SeedableRng;
 use rand_core::utils::NextWord;
+pub use stream::Stream;
 
-pub mod known;
+pub mod laws;
+mod stream;
 #[cfg(test)]
 mod tests;
+pub mod worked;
 
 /// The draw at a place of a stream: word `place` of ChaCha20 under `key`, whose nonce is `stream`.
 ///

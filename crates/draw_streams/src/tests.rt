@@ -1,5 +1,5 @@
-use super::known::{COUNTING_KEY, ZERO_KEY};
-use super::{below, centred, draw};
+use super::worked::{COUNTING_KEY, ZERO_KEY};
+use super::{Stream, below, centred, draw};
 
 // Words of RFC 8439 that follow one another in a key stream.
 #[derive(Clone, Copy)]
@@ -59,4 +59,24 @@ fn scales_words(rt: HostRuntime) {
     assert_eq!(rt; centred(0xade0b876, 1000), 359);
     assert_eq!(rt; centred(0xade0b876, 0), 0);
     assert_eq!(rt; centred(0, 1_000_000_000), -1_000_000_000);
+}
+
+#[test]
+fn a_stream_gives_the_same_words(rt: HostRuntime) {
+    let mut stream = Stream::new(0);
+    for (place, word) in [
+        (0, 0xade0b876),
+        (1, 0x903df1a0),
+        (2, 0xe56a5d40),
+        (16, 0xbee7079f),
+        (17, 0x7a385155),
+        (1, 0x903df1a0),
+    ] {
+        assert_eq!(rt; stream.draw(&ZERO_KEY, place), word, "place {place}");
+    }
+    let mut other = Stream::new(0x4a000000);
+    let place = 0x9000000000000010;
+    assert_eq!(rt; other.draw(&COUNTING_KEY, place), 0xe4e7f110);
+    assert_eq!(rt; other.draw(&COUNTING_KEY, place + 1), 0x15593bd1);
+    assert_eq!(rt; other.draw(&ZERO_KEY, 5), draw(&ZERO_KEY, 0x4a000000, 5));
 }

@@ -13,7 +13,7 @@ all-joined P m w p a = All-from_recursion P (joined m w) (each-joined P m w p (r
 pub all-without : (P : Message → Type 0) (n : ℕ) (w : List Message) → All P w → All P (without n w)
 all-without P n w a = All-filter (λ (m : Message). not (eqb m.seq n)) P w a
 
-best-all : (P : Message → Type 0) (a : Message) (w : List Message) → P a → AllByRecursion P w → P (best_of before a w)
+pub best-all : (P : Message → Type 0) (a : Message) (w : List Message) → P a → AllByRecursion P w → P (best_of before a w)
 best-all P a [] p q = p
 best-all P a (x ∷ w) p q = best-all P (cond (before x a) x a) w (elim (before x a) as (λ b. P (cond b x a)) [ true ↦ q.0 | false ↦ p ]) q.1
 

@@ -1,3 +1,5 @@
+pub mod First
 pub mod Kept
 pub mod Listing
+pub mod Numbers
 pub mod Orders

@@ -1,4 +1,6 @@
+pub mod Dues
 pub mod InOrder
-pub mod Known
+pub mod Numbered
 pub mod Rising
 pub mod Waiting
+pub mod Worked

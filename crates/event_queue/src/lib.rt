@@ -6,10 +6,11 @@
 //! number, so that messages due at one time are delivered in the order in which they first joined.
 #![tactic(auto)]
 
-pub mod known;
-mod order;
+mod due;
+pub mod laws;
 mod queue;
 #[cfg(test)]
 mod tests;
+pub mod worked;
 
 pub use queue::Queue;

@@ -3,33 +3,39 @@
 ghost use Rattle.std.specs.Prelude.{◌≡◌, ◌<◌, ◌≤◌, ◌+◌, ◌-◌, [], OnOk, OnErr, IfOk, IfSome, IfNone, OnSome, length, option_map};
 ghost use Rattle.std.specs.List.Sorted.{IsPermutation, IsSortedBy};
 ghost use Rattle.event_queue.specs.InOrder.{in_order};
+ghost use Rattle.event_queue.specs.Numbered.{messages_of};
+ghost use Rattle.event_queue.specs.Rising.{IsRising};
 ghost use Rattle.event_queue.specs.Waiting.{before, least, IsNew, joined, without};
 
-use crate::order::{place_of, place_of_least};
-use market_types::{Memory, Message};
+use crate::due::Due;
+use market_types::{Memory, Message, copied};
 use std::alloc::Global;
+use std::collections::BinaryHeap;
 use std::marker::Model;
 
 /// The waiting messages.
 #[derive(Drop)]
 pub struct Queue {
-    messages: Vec<Message>,
+    heap: BinaryHeap<Due>,
     spare: usize,
 }
 
 impl Model for Queue {
-    ghost use Rattle.std.specs.Prelude.{◌≤◌, ◌+◌, vec_len, vec_capacity};
+    ghost use Rattle.std.specs.Prelude.{◌≤◌, ◌+◌};
+    ghost use Rattle.std.specs.BinaryHeap.{heap_items, heap_len, heap_capacity, IsHeap};
     ghost use Rattle.market_types.specs.Room.{Room};
     ghost use Rattle.market_types.specs.declared.message.Message.{Message};
-    ghost use Rattle.event_queue.specs.Rising.{IsRising};
+    ghost use Rattle.event_queue.specs.Dues.{by_due};
+    ghost use Rattle.event_queue.specs.Numbered.{by_number, messages_of, IsApart};
 
     ghost Value = { Room Message };
 
-    ghost view = { λ q. record { list = q.messages.items; spare = q.spare } };
+    ghost view = { λ q. record { list = by_number (messages_of (heap_items q.heap)); spare = q.spare } };
 
     ghost invariant = { λ q. record {
-      room : vec_len q.messages + q.spare ≤ vec_capacity q.messages;
-      rising : IsRising q.messages.items;
+      room : heap_len q.heap + q.spare ≤ heap_capacity q.heap;
+      ordered : IsHeap by_due (heap_items q.heap);
+      apart : IsApart (messages_of (heap_items q.heap));
     } };
 }
 
@@ -39,7 +45,7 @@ impl Queue {
         ensures { result ≡ record { list = []; spare = 0 } }
     {
         Queue {
-            messages: Vec::new(alloc),
+            heap: BinaryHeap::new(alloc),
             spare: 0,
         }
     }
@@ -48,7 +54,14 @@ impl Queue {
     pub fn len(&self) -> usize
         ensures { result ≡ length self.now.list }
     {
-        self.messages.len()
+        self.heap.len()
+    }
+
+    /// The numbers of the waiting messages rise, so no two messages have one number.
+    pub fn numbers_rise(&self)
+        ensures { IsRising self.now.list }
+    {
+        let _heap = &self.heap;
     }
 
     /// Keeps places for `n` more messages.
@@ -61,13 +74,9 @@ impl Queue {
         if n <= self.spare {
             return Ok(());
         }
-        match self.messages.reserve(n) {
-            Ok(()) => {
-                self.spare = n;
-                Ok(())
-            }
-            Err(_) => Err(Memory),
-        }
+        self.heap.reserve(n)?;
+        self.spare = n;
+        Ok(())
     }
 
     /// A message joins. A place was kept for it, and no waiting message has its number.
@@ -77,8 +86,7 @@ impl Queue {
         ensures joins { self.new ≡ record { list = joined m self.old.list; spare = self.old.spare - 1 } }
         ensures grows { length self.new.list ≡ length self.old.list + 1 }
     {
-        let at = place_of(self.messages.as_slice(), m.seq);
-        match self.messages.insert(at, m) {
+        match self.heap.push(Due { message: m }) {
             Ok(()) => self.spare -= 1,
             Err(_) => unreachable!(),
         }
@@ -93,32 +101,34 @@ impl Queue {
         ensures shrinks { OnSome result (length self.new.list + 1 ≡ length self.old.list) }
         ensures empty { IfNone result (self.new ≡ self.old) }
     {
-        if self.messages.is_empty() {
-            return None;
+        match self.heap.pop() {
+            Some(due) => {
+                self.spare += 1;
+                Some(due.message)
+            }
+            None => None,
         }
-        let at = place_of_least(self.messages.as_slice());
-        let m = self.messages.remove(at);
-        self.spare += 1;
-        Some(m)
     }
 
     /// The least message, which stays. `None` where none waits.
     pub fn peek_least(&self) -> Option<&Message>
         ensures { option_map (λ m. m.now) result ≡ least self.now.list }
     {
-        if self.messages.is_empty() {
-            return None;
+        match self.heap.peek() {
+            Some(due) => Some(&due.message),
+            None => None,
         }
-        let at = place_of_least(self.messages.as_slice());
-        Some(&self.messages[at])
     }
 
     /// A queue with the same waiting messages, which may keep any number of places.
     pub fn copy(&self, alloc: Global) -> Result<Queue, Memory>
         ensures { IfOk result (λ q. q.list ≡ self.now.list) }
     {
-        let messages = copied(alloc, self.messages.as_slice())?;
-        Ok(Queue { messages, spare: 0 })
+        let dues = copied(alloc, self.heap.as_slice())?;
+        Ok(Queue {
+            heap: BinaryHeap::from(dues),
+            spare: 0,
+        })
     }
 
     /// The waiting messages in order of time, and at one time of number.
@@ -127,19 +137,16 @@ impl Queue {
         ensures same { IfOk result (λ v. IsPermutation self.now.list v.items) }
         ensures sorted { IfOk result (λ v. IsSortedBy before v.items) }
     {
-        let mut messages = copied(alloc, self.messages.as_slice())?;
+        let mut messages = messages_of(alloc, self.heap.as_slice())?;
         messages.sort_unstable_by_key(|m| (m.time, m.seq));
         Ok(messages)
     }
 }
 
-// The same messages.
-fn copied(alloc: Global, messages: &[Message]) -> Result<Vec<Message>, Memory>
-    ensures { IfOk result (λ v. v.items ≡ messages.now) }
+// The messages in the order in which the heap holds them.
+fn messages_of(alloc: Global, dues: &[Due]) -> Result<Vec<Message>, Memory>
+    ensures { IfOk result (λ v. v.items ≡ messages_of dues.now) }
 {
-    let mut copy = Vec::new(alloc);
-    match copy.extend_from_slice(messages) {
-        Ok(()) => Ok(copy),
-        Err(_) => Err(Memory),
-    }
+    let messages: Vec<Message> = dues.iter().map(|due| due.message).collect(alloc)?;
+    Ok(messages)
 }

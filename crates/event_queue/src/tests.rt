@@ -1,10 +1,10 @@
-ghost use Rattle.std.specs.Prelude.{◌≡◌, ◌<◌, ◌≤◌, ◌+◌, ◌-◌, ◌^◌, All, IfSome, OnSome, length};
+ghost use Rattle.std.specs.Prelude.{◌≡◌, ◌<◌, ◌≤◌, ◌+◌, ◌-◌, All};
 
 use super::Queue;
 use market_types::{Body, Message};
 use std::process::Abort;
 
-const PUSHES: u64 = 300;
+const PUSHES: u64 = 4_000;
 
 fn wakeup(time: u64, seq: u64) -> Message
     ensures { result.seq ≡ seq }
@@ -48,58 +48,87 @@ fn leave(queue: &mut Queue, next: u64) -> Option<Message>
     queue.pop_least()
 }
 
-// The first pair of a list in order, which leaves it.
-fn first(plain: &mut Vec<(u64, u64)>) -> Option<(u64, u64)> {
-    plain.sort_unstable();
-    if plain.is_empty() {
-        None
-    } else {
-        Some(plain.remove(0))
+// The queue as a plain program: a list that each call walks.
+#[derive(Drop)]
+struct PlainQueue {
+    messages: Vec<Message>,
+}
+
+// Whether a message is due before another.
+fn is_before(a: &Message, b: &Message) -> bool {
+    a.time < b.time || (a.time == b.time && a.seq < b.seq)
+}
+
+impl PlainQueue {
+    fn push(&mut self, rt: &impl Abort, m: Message) {
+        assert!(rt; self.messages.push(m).is_ok());
+    }
+
+    fn least(&self) -> Option<Message> {
+        let mut least: Option<Message> = None;
+        for m in &self.messages {
+            match least {
+                Some(x) if is_before(&x, m) => {}
+                _ => least = Some(*m),
+            }
+        }
+        least
+    }
+
+    fn pop_least(&mut self) -> Option<Message> {
+        let least = self.least()?;
+        let at = self.messages.iter().position(|m| m.seq == least.seq)?;
+        Some(self.messages.remove(at))
     }
 }
 
-fn pair(m: Option<&Message>) -> Option<(u64, u64)> {
-    m.map(|m| (m.time, m.seq))
-}
-
-// Compares a list of messages, and what leaves a queue, with these pairs in order.
-fn assert_same(rt: &impl Abort, listed: &[Message], queue: &mut Queue, plain: &[(u64, u64)]) {
-    assert_eq!(rt; listed.len(), plain.len());
-    for (i, want) in plain.iter().enumerate() {
-        assert_eq!(rt; pair(listed.get(i)), Some(*want));
-        assert_eq!(rt; pair(queue.peek_least()), Some(*want));
-        assert_eq!(rt; pair(queue.pop_least().as_ref()), Some(*want));
+// Compares a list of messages, and all that leaves a queue, with what leaves the plain queue.
+fn assert_same(rt: &impl Abort, listed: &[Message], queue: &mut Queue, plain: &mut PlainQueue) {
+    assert_eq!(rt; listed.len(), plain.messages.len());
+    for message in listed {
+        let least = plain.pop_least();
+        assert_eq!(rt; Some(*message), least);
+        assert_eq!(rt; queue.peek_least().copied(), least);
+        assert_eq!(rt; queue.pop_least(), least);
     }
     assert_eq!(rt; queue.len(), 0);
-    assert_eq!(rt; pair(queue.peek_least()), None);
-    assert_eq!(rt; pair(queue.pop_least().as_ref()), None);
+    assert_eq!(rt; queue.peek_least().copied(), None);
+    assert_eq!(rt; queue.pop_least(), None);
 }
 
 #[test]
-fn agrees_with_a_sorted_list(rt: HostRuntime) {
+fn agrees_with_a_plain_list(rt: HostRuntime) {
     let mut queue = Queue::new(rt.alloc());
     assert!(rt; queue.reserve(PUSHES as usize).is_ok());
-    let mut plain: Vec<(u64, u64)> = Vec::new(rt.alloc());
+    let mut plain = PlainQueue {
+        messages: Vec::new(rt.alloc()),
+    };
     for next in 0..PUSHES {
         let time = next.wrapping_mul(7919) % 101;
         join(&mut queue, time, next);
-        assert!(rt; plain.push((time, next)).is_ok());
+        plain.push(&rt, wakeup(time, next));
         if next % 5 == 3 {
-            let m = put_back(&mut queue, 200, next + 1);
-            let least = first(&mut plain);
-            assert_eq!(rt; pair(m.as_ref()), least);
-            if let Some((_, seq)) = least {
-                assert!(rt; plain.push((200, seq)).is_ok());
+            let moved = put_back(&mut queue, time + 50, next + 1);
+            let least = plain.pop_least();
+            assert_eq!(rt; moved, least);
+            if let Some(m) = least {
+                plain.push(
+                    &rt,
+                    Message {
+                        time: time + 50,
+                        ..m
+                    },
+                );
             }
-        } else if next % 5 == 1 {
-            let m = leave(&mut queue, next + 1);
-            assert_eq!(rt; pair(m.as_ref()), first(&mut plain));
+        } else if next % 5 < 3 {
+            let left = leave(&mut queue, next + 1);
+            assert_eq!(rt; left, plain.pop_least());
         }
+        assert_eq!(rt; queue.len(), plain.messages.len());
     }
-    plain.sort_unstable();
     let (Ok(listed), Ok(mut copy)) = (queue.messages(rt.alloc()), queue.copy(rt.alloc())) else {
         panic!(rt; "out of memory");
     };
-    assert_same(&rt, listed.as_slice(), &mut copy, plain.as_slice());
-    assert_eq!(rt; queue.len(), plain.len());
+    assert_same(&rt, listed.as_slice(), &mut copy, &mut plain);
+    assert_eq!(rt; queue.len(), listed.len());
 }

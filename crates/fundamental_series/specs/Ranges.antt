@@ -1,13 +1,14 @@
 -- The ranges of what a series is made of.
 use Rattle.std.specs.Prelude.{ℕ, ◌<◌, ◌≤◌, List, [], ◌∷◌, length, All}
 use Rattle.std.specs.List.{AllByRecursion}
+use Rattle.market_types.specs.Limits.{highest_price}
 use Rattle.fundamental_series.specs.declared.rule.SeriesRow.{SeriesRow}
 use Rattle.fundamental_series.specs.declared.rule.SeriesRule.{SeriesRule}
 
 -- from 0.0001 to 199,999.99 dollars
 pub record IsPrice (n : ℕ) : Type 0 where
   pub low : 1 ≤ n
-  pub high : n ≤ 1999999900
+  pub high : n ≤ highest_price
 
 pub record IsInRange (rule : SeriesRule) : Type 0 where
   pub start : IsPrice rule.start

@@ -6,17 +6,13 @@
 //! Contracts see a series as what it was made of.
 #![tactic(auto)]
 
-pub mod known;
 mod rows;
 mod rule;
 mod series;
 mod table;
 #[cfg(test)]
 mod tests;
+pub mod worked;
 
-pub use rule::{SeriesRow, SeriesRule};
+pub use rule::{SeriesRow, SeriesRule, with_offset};
 pub use series::{Series, series_by_rule, series_from_rows};
-
-/// The stream of a key's draws from which stock 0 takes its shocks; stock `k` takes its own from the
-/// `k`th stream after it.
-pub const SERIES_STREAMS: u64 = 1 << 33;

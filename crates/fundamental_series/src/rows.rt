@@ -6,7 +6,7 @@ ghost use Rattle.fundamental_series.specs.Made.{first_time, row_value};
 ghost use Rattle.fundamental_series.specs.Ranges.{AreRows, IsPrice, IsRising};
 
 use crate::rule::SeriesRow;
-use market_types::{Memory, Time};
+use market_types::{Memory, Time, copied};
 use std::alloc::Global;
 use std::marker::Model;
 
@@ -34,11 +34,8 @@ impl Rows {
         requires { AreRows rows.now }
         ensures { IfOk result (λ r. r ≡ rows.now) }
     {
-        let mut copy = Vec::new(alloc);
-        match copy.extend_from_slice(rows) {
-            Ok(()) => Ok(Rows { rows: copy }),
-            Err(_) => Err(Memory),
-        }
+        let rows = copied(alloc, rows)?;
+        Ok(Rows { rows })
     }
 
     /// The value of the last row that isn't later than a time in nanoseconds past midnight.

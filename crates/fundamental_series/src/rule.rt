@@ -1,12 +1,13 @@
 //! What a series is made of. Values are prices with four implied decimals.
 
-ghost use Rattle.std.specs.Prelude.{◌≡◌, ◌≤◌, pos, ◌-ℤ◌, ◌*ℤ◌, ◌≤ℤ◌};
+ghost use Rattle.std.specs.Prelude.{◌≡◌, ◌≤◌, ◌^◌, pos, ◌-ℤ◌, ◌*ℤ◌, ◌≤ℤ◌};
 ghost use Rattle.std.proofs.Common.{neg_ℤ};
-ghost use Rattle.fundamental_series.specs.Ranges.{IsInRange};
-ghost use Rattle.fundamental_series.specs.Value.{clamped, floor_of, stepped};
+ghost use Rattle.market_types.specs.Limits.{highest_price};
+ghost use Rattle.fundamental_series.specs.Ranges.{IsInRange, IsPrice};
+ghost use Rattle.fundamental_series.specs.Value.{clamped, floor_of, stepped, with_offset_of};
 
 use draw_streams::centred;
-use market_types::Time;
+use market_types::{HIGHEST_PRICE, Time};
 
 /// A rule by which a value goes from step to step.
 #[derive(Clone, Copy, PartialEq, Eq, Debug)]
@@ -33,13 +34,10 @@ pub struct SeriesRow {
     pub value: u32,
 }
 
-// The greatest price.
-const HIGHEST: i64 = 1_999_999_900;
-
 // By how much a value is drawn back to the mean, rounded down.
 fn pulled(rule: &SeriesRule, value: u32) -> i64
     requires rule { IsInRange rule.now }
-    requires price { value ≤ 1999999900 }
+    requires price { value ≤ highest_price }
     ensures value { result ≡ floor_of (pos rule.now.pull *ℤ (pos rule.now.mean -ℤ pos value)) 1000000 }
     ensures low { neg_ℤ (pos 2000000000000000) ≤ℤ result }
     ensures high { result ≤ℤ pos 2000000000000000 }
@@ -52,15 +50,26 @@ fn pulled(rule: &SeriesRule, value: u32) -> i64
 fn clamped(value: i64) -> u32
     ensures { result ≡ clamped value }
 {
-    value.clamp(1, HIGHEST) as u32
+    value.clamp(1, i64::from(HIGHEST_PRICE)) as u32
 }
 
 // The value one step later, by the word that is drawn for this step.
 pub fn stepped(rule: &SeriesRule, value: u32, word: u32) -> u32
     requires rule { IsInRange rule.now }
-    requires price { value ≤ 1999999900 }
+    requires price { value ≤ highest_price }
     ensures value { result ≡ stepped rule.now value word }
-    ensures high { result ≤ 1999999900 }
+    ensures high { result ≤ highest_price }
 {
     clamped(i64::from(value) + pulled(rule, value) + centred(word, rule.shock))
+}
+
+/// A value with the offset of edits, in dollars with four implied decimals, where the offset is within
+/// 2^62 of 0: the nearest price.
+pub fn with_offset(value: u32, offset: i64) -> u32
+    requires low { neg_ℤ (pos (2 ^ 62)) ≤ℤ offset }
+    requires high { offset ≤ℤ pos (2 ^ 62) }
+    ensures value { result ≡ with_offset_of value offset }
+    ensures price { IsPrice result }
+{
+    clamped(i64::from(value) + offset)
 }

@@ -5,7 +5,6 @@ ghost use Rattle.fundamental_series.specs.Made.{rule_value};
 ghost use Rattle.fundamental_series.specs.Ranges.{IsInRange, IsPrice};
 ghost use Rattle.fundamental_series.specs.Table.{IsTable};
 
-use crate::SERIES_STREAMS;
 use crate::rule::{SeriesRule, stepped};
 use draw_streams::draw;
 use market_types::{Memory, StockNo, Time};
@@ -77,6 +76,10 @@ impl Table {
     }
 }
 
+// The stream of a key's draws from which stock 0 takes its shocks; stock `k` takes its own from the
+// `k`th stream after it.
+const SERIES_STREAMS: u64 = 1 << 33;
+
 // The first values of a rule.
 fn values_of(
     alloc: Global,
@@ -93,9 +96,7 @@ fn values_of(
     let mut values = Vec::new(alloc);
     let mut value = rule.start;
     for step in 0..count {
-        if values.push(value).is_err() {
-            return Err(Memory);
-        }
+        values.push(value)?;
         value = stepped(rule, value, draw(key, stream, step as u64));
     }
     Ok(values)

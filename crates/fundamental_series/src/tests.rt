@@ -1,9 +1,9 @@
-ghost use Rattle.std.specs.Prelude.{◌≡◌, ◌∷◌, [], ◌<◌, ◌≤◌, ◌-◌, ◌/◌, IfOk};
+ghost use Rattle.std.specs.Prelude.{◌≡◌, ◌<◌, ◌≤◌, ◌-◌, ◌/◌, IfOk};
 ghost use Rattle.fundamental_series.specs.Made.{by_rows, first_time_of};
-ghost use Rattle.fundamental_series.specs.Known.{two_rows};
+ghost use Rattle.fundamental_series.specs.Worked.{two_rows};
 
-use super::{Series, SeriesRow, SeriesRule, series_by_rule, series_from_rows};
-use draw_streams::known::{COUNTING_KEY, ZERO_KEY};
+use super::{Series, SeriesRow, SeriesRule, series_by_rule, series_from_rows, with_offset};
+use draw_streams::worked::{COUNTING_KEY, ZERO_KEY};
 use market_types::{Memory, Time};
 use std::alloc::Global;
 
@@ -131,14 +131,17 @@ fn goes_by_its_rows(rt: HostRuntime) {
     let Ok(series) = file_series(rt.alloc()) else {
         panic!(rt; "out of memory");
     };
-    for (time, want) in [
-        (900, 99_000),
-        (1499, 99_000),
-        (1500, 98_000),
-        (9999, 98_000),
-    ] {
-        if time >= 900 {
-            assert_eq!(rt; series.value_at(time), want, "at {time}");
-        }
-    }
+    assert_eq!(rt; series.value_at(900), 99_000);
+    assert_eq!(rt; series.value_at(1499), 99_000);
+    assert_eq!(rt; series.value_at(1500), 98_000);
+    assert_eq!(rt; series.value_at(9999), 98_000);
+}
+
+#[test]
+fn offsets_stay_prices(rt: HostRuntime) {
+    assert_eq!(rt; with_offset(99_000, -500), 98_500);
+    assert_eq!(rt; with_offset(99_000, -99_000), 1);
+    assert_eq!(rt; with_offset(99_000, 2_000_000_000), 1_999_999_900);
+    assert_eq!(rt; with_offset(99_000, -(1 << 62)), 1);
+    assert_eq!(rt; with_offset(99_000, 1 << 62), 1_999_999_900);
 }

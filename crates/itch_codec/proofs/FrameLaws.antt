@@ -3,11 +3,15 @@ use Rattle.std.proofs.Common.{◌≡◌, ℕ, ◌+◌, ◌≤◌, false, ltb, Li
 use Rattle.std.proofs.lemmas.Bool.{le-ltb}
 use Rattle.market_types.specs.declared.error.CodecError.{CodecError}
 use Rattle.std.proofs.lemmas.List.{take_at, drop_at, take_all, length-append, length-drop, drop-drop}
-use Rattle.wire_fields.proofs.Digits.{number_of-number_bytes}
+use Rattle.wire_fields.specs.Numbers.{number_bytes, number_of}
 use Rattle.itch_codec.specs.Frames.{framed, framed_length, unframed}
 
+-- the number of two bytes
+two_again : (n : ℕ) → n ≤ 65535 → number_of (number_bytes 2 n) ≡ n
+two_again n le = omega arith
+
 length_again : (payload rest : List ℕ) → length payload ≤ 65535 → framed_length (framed payload ++ rest) ≡ length payload
-length_again payload rest le = number_of-number_bytes 2 (length payload) (omega arith)
+length_again payload rest le = two_again (length payload) le
 
 pub unframed_again : (payload rest : List ℕ) → length payload ≤ 65535 → unframed (framed payload ++ rest) ≡ Ok (payload, rest)
 unframed_again payload rest le =

@@ -1,2 +1,4 @@
+pub mod Back
 pub mod Frames
+pub mod Layouts
 pub mod Messages

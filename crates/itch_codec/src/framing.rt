@@ -13,11 +13,23 @@ pub fn frame(payload: &[u8], out: &mut Vec<u8>) -> Result<(), Memory>
     ensures within_room { vec_len out.old + (2 + length payload.now) ≤ vec_capacity out.old → IsOk result }
     ensures refused { OnErr result (out.new.items ≡ out.old.items) }
 {
-    if out.reserve(2 + payload.len()).is_err() {
-        return Err(Memory);
-    }
-    let len = (payload.len() as u16).to_be_bytes();
-    if out.extend_from_slice(&len).is_err() || out.extend_from_slice(payload).is_err() {
+    frame_of_two(payload, &[], out)
+}
+
+/// Appends a frame whose payload is given in two parts.
+pub fn frame_of_two(head: &[u8], rest: &[u8], out: &mut Vec<u8>) -> Result<(), Memory>
+    requires { length head.now + length rest.now ≤ 65535 }
+    ensures appended { OnOk result (out.new.items ≡ out.old.items ++ framed (head.now ++ rest.now)) }
+    ensures within_room { vec_len out.old + (2 + (length head.now + length rest.now)) ≤ vec_capacity out.old → IsOk result }
+    ensures refused { OnErr result (out.new.items ≡ out.old.items) }
+{
+    let size = head.len() + rest.len();
+    out.reserve(2 + size)?;
+    let len = (size as u16).to_be_bytes();
+    if out.extend_from_slice(&len).is_err()
+        || out.extend_from_slice(head).is_err()
+        || out.extend_from_slice(rest).is_err()
+    {
         unreachable!();
     }
     Ok(())

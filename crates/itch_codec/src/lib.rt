@@ -3,14 +3,16 @@
 
 mod feed;
 mod framing;
-mod laws;
 mod layouts;
 mod reading;
+mod worked;
 
 pub use feed::{FeedBytes, encode_feed};
-pub use framing::{frame, unframe};
-pub use laws::{added_order, one_spelling, published_layouts, refused_feed, small_frames};
+pub use framing::{frame, frame_of_two, unframe};
 pub use reading::decode_feed;
+pub use worked::{
+    added_order, one_spelling, published_layouts, published_types, refused_feed, small_frames,
+};
 
 #[cfg(test)]
 mod tests;

@@ -1,9 +1,9 @@
 //! Feed messages from bytes.
 
-ghost use Rattle.std.specs.Prelude.{◌≡◌, ◌≤◌, take, drop, length, IfOk, Ok, Some, slice_get};
+ghost use Rattle.std.specs.Prelude.{◌≡◌, ◌≤◌, take, drop, length, IfOk, Ok};
 ghost use Rattle.std.specs.Result.{result_err};
 ghost use Rattle.wire_fields.specs.Numbers.{number_of};
-ghost use Rattle.wire_fields.specs.Wire.{IsSpelled, IsRead, AreGood, wire_in, refusal};
+ghost use Rattle.wire_fields.specs.Wire.{IsSpelled, AreGood, wire_in, refusal};
 ghost use Rattle.itch_codec.specs.Messages.{feed_wire, feed_layout};
 ghost use Rattle.market_types.specs.declared.feed.Feed.{Feed};
 
@@ -13,7 +13,87 @@ use crate::layouts::{
     TRADING_TYPE,
 };
 use market_types::{CodecError, Feed, Symbol, What};
-use wire_fields::{array_at, byte_at, check, side_at, u16_at, u32_at, u48_at, u64_at};
+use wire_fields::{
+    Kind, MessageType, array_at, byte_at, decode, side_at, u16_at, u32_at, u48_at, u64_at,
+};
+
+// The types of feed messages.
+#[derive(Clone, Copy)]
+pub(crate) enum FeedType {
+    System,
+    Directory,
+    Trading,
+    Add,
+    Executed,
+    Cancel,
+    Delete,
+    Trade,
+    Cross,
+}
+
+impl MessageType for FeedType {
+    ghost use Rattle.itch_codec.specs.Messages.{feed_wire, feed_layout};
+    ghost use Rattle.itch_codec.specs.Back.{feed_of, feed_letter, feed_kinds, feed_told, feed_back};
+
+    type Message = Feed;
+
+    ghost wire = { feed_wire };
+
+    ghost message = { feed_of };
+
+    ghost layout = { feed_layout };
+
+    ghost letter = { feed_letter };
+
+    ghost kinds = { feed_kinds };
+
+    ghost told = { feed_told };
+
+    ghost back = { feed_back };
+
+    fn of_letter(first: u8) -> Option<FeedType> {
+        match first {
+            SYSTEM_TYPE => Some(FeedType::System),
+            DIRECTORY_TYPE => Some(FeedType::Directory),
+            TRADING_TYPE => Some(FeedType::Trading),
+            ADD_TYPE => Some(FeedType::Add),
+            EXECUTED_TYPE => Some(FeedType::Executed),
+            CANCEL_TYPE => Some(FeedType::Cancel),
+            DELETE_TYPE => Some(FeedType::Delete),
+            TRADE_TYPE => Some(FeedType::Trade),
+            CROSS_TYPE => Some(FeedType::Cross),
+            _ => None,
+        }
+    }
+
+    fn fields(self) -> &'static [Kind] {
+        match self {
+            FeedType::System => &SYSTEM,
+            FeedType::Directory => &DIRECTORY,
+            FeedType::Trading => &TRADING,
+            FeedType::Add => &ADD,
+            FeedType::Executed => &EXECUTED,
+            FeedType::Cancel => &CANCEL,
+            FeedType::Delete => &DELETE,
+            FeedType::Trade => &TRADE,
+            FeedType::Cross => &CROSS,
+        }
+    }
+
+    fn read(self, bytes: &[u8]) -> Feed {
+        match self {
+            FeedType::System => system_at(bytes),
+            FeedType::Directory => directory_at(bytes),
+            FeedType::Trading => trading_at(bytes),
+            FeedType::Add => add_at(bytes),
+            FeedType::Executed => executed_at(bytes),
+            FeedType::Cancel => cancel_at(bytes),
+            FeedType::Delete => delete_at(bytes),
+            FeedType::Trade => trade_at(bytes),
+            FeedType::Cross => cross_at(bytes),
+        }
+    }
+}
 
 /// The feed message that these bytes are. What it refuses, the first that applies: a type that is none of `S`, `R`, `H`,
 /// `A`, `E`, `X`, `D`, `P` and `Q`, another length than the type's, where 1 is needed of the empty input, and the least
@@ -23,94 +103,10 @@ pub fn decode_feed(bytes: &[u8]) -> Result<Feed, CodecError>
     ensures only { (m : Feed) → IsSpelled bytes.now (feed_wire m) → result ≡ Ok m }
     ensures refused { result_err result ≡ refusal feed_layout bytes.now }
 {
-    match bytes {
-        [] => Err(CodecError::WrongLength(0, 1)),
-        [SYSTEM_TYPE, ..] => decode_system(bytes),
-        [DIRECTORY_TYPE, ..] => decode_directory(bytes),
-        [TRADING_TYPE, ..] => decode_trading(bytes),
-        [ADD_TYPE, ..] => decode_add(bytes),
-        [EXECUTED_TYPE, ..] => decode_executed(bytes),
-        [CANCEL_TYPE, ..] => decode_cancel(bytes),
-        [DELETE_TYPE, ..] => decode_delete(bytes),
-        [TRADE_TYPE, ..] => decode_trade(bytes),
-        [CROSS_TYPE, ..] => decode_cross(bytes),
-        [letter, ..] => Err(CodecError::UnknownType(*letter)),
-    }
+    decode::<FeedType>(bytes)
 }
 
-fn decode_system(bytes: &[u8]) -> Result<Feed, CodecError>
-    requires { slice_get bytes.now 0 ≡ Some SYSTEM_TYPE }
-    ensures { IsRead feed_wire feed_layout bytes.now result }
-{
-    check(bytes, &SYSTEM)?;
-    Ok(system_at(bytes))
-}
-
-fn decode_directory(bytes: &[u8]) -> Result<Feed, CodecError>
-    requires { slice_get bytes.now 0 ≡ Some DIRECTORY_TYPE }
-    ensures { IsRead feed_wire feed_layout bytes.now result }
-{
-    check(bytes, &DIRECTORY)?;
-    Ok(directory_at(bytes))
-}
-
-fn decode_trading(bytes: &[u8]) -> Result<Feed, CodecError>
-    requires { slice_get bytes.now 0 ≡ Some TRADING_TYPE }
-    ensures { IsRead feed_wire feed_layout bytes.now result }
-{
-    check(bytes, &TRADING)?;
-    Ok(trading_at(bytes))
-}
-
-fn decode_add(bytes: &[u8]) -> Result<Feed, CodecError>
-    requires { slice_get bytes.now 0 ≡ Some ADD_TYPE }
-    ensures { IsRead feed_wire feed_layout bytes.now result }
-{
-    check(bytes, &ADD)?;
-    Ok(add_at(bytes))
-}
-
-fn decode_executed(bytes: &[u8]) -> Result<Feed, CodecError>
-    requires { slice_get bytes.now 0 ≡ Some EXECUTED_TYPE }
-    ensures { IsRead feed_wire feed_layout bytes.now result }
-{
-    check(bytes, &EXECUTED)?;
-    Ok(executed_at(bytes))
-}
-
-fn decode_cancel(bytes: &[u8]) -> Result<Feed, CodecError>
-    requires { slice_get bytes.now 0 ≡ Some CANCEL_TYPE }
-    ensures { IsRead feed_wire feed_layout bytes.now result }
-{
-    check(bytes, &CANCEL)?;
-    Ok(cancel_at(bytes))
-}
-
-fn decode_delete(bytes: &[u8]) -> Result<Feed, CodecError>
-    requires { slice_get bytes.now 0 ≡ Some DELETE_TYPE }
-    ensures { IsRead feed_wire feed_layout bytes.now result }
-{
-    check(bytes, &DELETE)?;
-    Ok(delete_at(bytes))
-}
-
-fn decode_trade(bytes: &[u8]) -> Result<Feed, CodecError>
-    requires { slice_get bytes.now 0 ≡ Some TRADE_TYPE }
-    ensures { IsRead feed_wire feed_layout bytes.now result }
-{
-    check(bytes, &TRADE)?;
-    Ok(trade_at(bytes))
-}
-
-fn decode_cross(bytes: &[u8]) -> Result<Feed, CodecError>
-    requires { slice_get bytes.now 0 ≡ Some CROSS_TYPE }
-    ensures { IsRead feed_wire feed_layout bytes.now result }
-{
-    check(bytes, &CROSS)?;
-    Ok(cross_at(bytes))
-}
-
-/// A feed message with the fields that each begins with.
+// A feed message with the fields that each begins with.
 fn feed_at(bytes: &[u8], what: What) -> Feed
     requires { 11 ≤ length bytes.now }
     ensures locate { result.locate ≡ number_of (take 2 (drop 1 bytes.now)) }

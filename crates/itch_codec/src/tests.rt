@@ -1,4 +1,4 @@
-ghost use Rattle.std.specs.Prelude.{◌≡◌, ◌≤◌, ◌<◌, ◌^◌, length};
+ghost use Rattle.std.specs.Prelude.{◌≡◌, ◌<◌, ◌^◌};
 
 use super::*;
 use market_types::{CodecError, Feed, Side, Symbol, What};
@@ -146,6 +146,9 @@ fn frames(rt: HostRuntime) {
     assert!(rt; frame(b"abc", &mut out).is_ok());
     assert!(rt; frame(&[], &mut out).is_ok());
     assert!(rt; out.as_slice() == b"\x00\x03abc\x00\x00".as_slice());
+    let mut parts = Vec::new(rt.alloc());
+    assert!(rt; frame_of_two(b"ab", b"c", &mut parts).is_ok());
+    assert!(rt; parts.as_slice() == b"\x00\x03abc".as_slice());
     assert!(rt;
         matches!(
             unframe(&out),
@@ -157,99 +160,4 @@ fn frames(rt: HostRuntime) {
     );
     assert!(rt; matches!(unframe(b"\x00\x03\x57"), Err(CodecError::Cut(3))));
     assert!(rt; matches!(unframe(b"\x00"), Err(CodecError::Cut(1))));
-}
-
-/// The offset of the field that a byte stands in, and whether the field takes any byte.
-fn field_of(fields: &[(usize, usize, bool)], at: usize) -> Option<(usize, bool)> {
-    for (offset, width, any) in fields {
-        if *offset <= at && at - *offset < *width {
-            return Some((*offset, *any));
-        }
-    }
-    None
-}
-
-/// Whether a message with one byte changed is read where the field takes any byte, and is written so again, and
-/// otherwise is refused at its field.
-fn is_answered(bytes: &[u8], at: usize, value: u8, fields: &[(usize, usize, bool)]) -> bool {
-    match (field_of(fields, at), decode_feed(bytes)) {
-        (None, Err(e)) => at == 0 && e == CodecError::UnknownType(value),
-        (Some((_, true)), Ok(m)) => m.time < 1 << 48 && encode_feed(&m).as_slice() == bytes,
-        (Some((offset, false)), Err(e)) => e == CodecError::BadField(offset),
-        _ => false,
-    }
-}
-
-/// Whether each byte, made 0x00, 0x7F and 0xFF, is answered by the ranges of the layout.
-fn are_answered(bytes: &[u8], fields: &[(usize, usize, bool)]) -> bool
-    requires { length bytes.now ≤ 44 }
-{
-    for at in 0..bytes.len() {
-        for value in [0x00, 0x7F, 0xFF] {
-            let mut changed = [0; 44];
-            changed[..bytes.len()].copy_from_slice(bytes);
-            changed[at] = value;
-            if !is_answered(&changed[..bytes.len()], at, value, fields) {
-                return false;
-            }
-        }
-    }
-    true
-}
-
-#[test]
-fn each_byte_changed(rt: HostRuntime) {
-    assert!(rt; are_answered(&SYSTEM_BYTES, &[(1, 10, true), (11, 1, false)]));
-    let directory = [
-        (1, 10, true),
-        (11, 8, false),
-        (19, 1, false),
-        (20, 1, false),
-        (21, 4, true),
-        (25, 1, false),
-        (26, 1, false),
-        (27, 2, false),
-        (29, 1, false),
-        (30, 1, false),
-        (31, 1, false),
-        (32, 1, false),
-        (33, 1, false),
-        (34, 4, true),
-        (38, 1, false),
-    ];
-    assert!(rt; are_answered(&DIRECTORY_BYTES, &directory));
-    let trading = [
-        (1, 10, true),
-        (11, 8, false),
-        (19, 1, false),
-        (20, 1, false),
-        (21, 4, false),
-    ];
-    assert!(rt; are_answered(&TRADING_BYTES, &trading));
-    let add = [
-        (1, 18, true),
-        (19, 1, false),
-        (20, 4, true),
-        (24, 8, false),
-        (32, 4, true),
-    ];
-    assert!(rt; are_answered(&ADD_BYTES, &add));
-    assert!(rt; are_answered(&EXECUTED_BYTES, &[(1, 30, true)]));
-    assert!(rt; are_answered(&CANCEL_BYTES, &[(1, 22, true)]));
-    assert!(rt; are_answered(&DELETE_BYTES, &[(1, 18, true)]));
-    let trade = [
-        (1, 18, true),
-        (19, 1, false),
-        (20, 4, true),
-        (24, 8, false),
-        (32, 12, true),
-    ];
-    assert!(rt; are_answered(&TRADE_BYTES, &trade));
-    let cross = [
-        (1, 18, true),
-        (19, 8, false),
-        (27, 12, true),
-        (39, 1, false),
-    ];
-    assert!(rt; are_answered(&CROSS_BYTES, &cross));
 }

@@ -4,6 +4,7 @@ use Rattle.std.specs.List.{AllByRecursion, best_of}
 use Rattle.std.proofs.lemmas.Bool.Decides.{nat_tests}
 use Rattle.std.proofs.lemmas.List.{at_drop_more}
 use Rattle.std.proofs.lemmas.List.Elements.{All-from_recursion, recursion_from_All, All-filter, All-weaker, filter_passes}
+use Rattle.market_types.specs.Limits.{most_waiting}
 use Rattle.market_types.specs.Room.{Room}
 use Rattle.market_types.specs.declared.message.Message.{Message}
 use Rattle.kernel_core.specs.declared.sending.Sending.{Sending}
@@ -12,7 +13,7 @@ use Rattle.event_queue.specs.Waiting.{before, least, without, joined}
 use Rattle.kernel_core.specs.declared.opening.Opening.{Opening}
 use Rattle.kernel_core.specs.State.{Post}
 use Rattle.latency_model.specs.Tables.{Tables}
-use Rattle.kernel_core.specs.Send.{most_waiting, sent, all_sent, message_of}
+use Rattle.kernel_core.specs.Send.{sent, all_sent, message_of}
 
 each-joined : (P : Message → Type 0) (m : Message) (w : List Message) → P m → AllByRecursion P w → AllByRecursion P (joined m w)
 each-joined P m [] p a = (p, tt)
@@ -65,6 +66,32 @@ sent-counts o groups from leave p x =
       | true ↦ (omega arith, omega arith)
       | false ↦ (omega arith, omega arith)
     ]
+
+-- a message that joins is one more
+pub length-joined : (m : Message) (w : List Message) → length (joined m w) ≡ length w + 1
+length-joined m [] = refl
+length-joined m (x ∷ w) = elim (ltb m.seq x.seq) as (λ b. length (cond b (m ∷ (x ∷ w)) (x ∷ joined m w)) ≡ length (x ∷ w) + 1) [ true ↦ omega arith | false ↦ omega (arith, length-joined m w) ]
+
+-- each number that is given waits
+pub sent-held : (o : Opening) (groups : Tables) (from leave : ℕ) (p : Post) (x : Sending) → (sent o groups from leave p x).next_seq + length p.waiting ≡ p.next_seq + length (sent o groups from leave p x).waiting
+sent-held o groups from leave p x =
+    let m = message_of o groups p.next_seq from leave x in
+    elim (ltb (length p.waiting) most_waiting) as (λ b. let q : Post = cond b (record { waiting = joined m p.waiting; next_seq = p.next_seq + 1; dropped = p.dropped }) (record { waiting = p.waiting; next_seq = p.next_seq; dropped = p.dropped + 1 }) in q.next_seq + length p.waiting ≡ p.next_seq + length q.waiting) [
+      | true ↦ omega (arith, length-joined m p.waiting)
+      | false ↦ omega arith
+    ]
+
+pub all_sent-held : (o : Opening) (groups : Tables) (from leave : ℕ) (p : Post) (xs : List Sending) → (all_sent o groups from leave p xs).next_seq + length p.waiting ≡ p.next_seq + length (all_sent o groups from leave p xs).waiting
+all_sent-held o groups from leave p [] = omega arith
+all_sent-held o groups from leave p (x ∷ xs) = omega (arith, all_sent-held o groups from leave (sent o groups from leave p x) xs, sent-held o groups from leave p x)
+
+-- the least message that was taken is one fewer
+pub taken : (r : Option Message) (m : Message) (old new : Post) → r ≡ Some m → IfSome r (λ (x : Message). new ≡ record old { waiting = without x.seq old.waiting }) → OnSome r (length new.waiting + 1 ≡ length old.waiting) → length (without m.seq old.waiting) + 1 ≡ length old.waiting
+taken None m old new e left shrinks = cc
+taken (Some x) m old new e left shrinks =
+    let same : x ≡ m = grind arith in
+    let w : new.waiting ≡ without x.seq old.waiting = ap (λ (q : Post). q.waiting) left in
+    subst (λ (y : Message). length (without y.seq old.waiting) + 1 ≡ length old.waiting) same (subst (λ (v : List Message). length v + 1 ≡ length old.waiting) w shrinks)
 
 -- the next sending of a list
 pub all_sent-next : (o : Opening) (groups : Tables) (from leave : ℕ) (p : Post) (xs : List Sending) (i : ℕ) (d : Sending) → i < length xs → all_sent o groups from leave p (drop i xs) ≡ all_sent o groups from leave (sent o groups from leave p (get_or xs i d)) (drop (i + 1) xs)

@@ -7,3 +7,4 @@ pub mod Open
 pub mod Step
 pub mod Until
 pub mod Worked
+pub mod View

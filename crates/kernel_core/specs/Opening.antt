@@ -1,16 +1,9 @@
 -- What a run starts from: the ranges that a study's rules give, and the settings of its agents.
 use Rattle.std.specs.Prelude.{◌<◌, ◌≤◌, ◌==◌, ℕ, ◌-◌, length, slice_index_or, if◌then◌else◌, All}
+use Rattle.market_types.specs.Limits.{longest_delay, last_time, most_traders, most_events}
 use Rattle.latency_model.specs.Tables.{group_count}
 use Rattle.kernel_core.specs.declared.opening.Opening.{Opening}
 use Rattle.kernel_core.specs.declared.opening.Waker.{Waker}
-
--- The longest delay that a study may ask for: an hour.
-abbrev pub longest_delay : ℕ
-longest_delay = 3600000000000
-
--- The last nanosecond of a day.
-abbrev pub last_time : ℕ
-last_time = 86399999999999
 
 -- a watcher's setting is in its ranges, where there are so many groups
 pub record IsWaker (groups : ℕ) (w : Waker) : Type 0 where
@@ -23,10 +16,10 @@ pub record IsWaker (groups : ℕ) (w : Waker) : Type 0 where
 pub record IsOpening (o : Opening) : Type 0 where
   pub close : o.close ≤ last_time
   pub start : o.start ≤ o.close
-  pub limit : o.limit ≤ 1000000
+  pub limit : o.limit ≤ most_events
   pub exchange_group : o.exchange_group < group_count o.groups
   pub exchange_delay : o.exchange_delay ≤ longest_delay
-  pub few : length o.traders ≤ 511
+  pub few : length o.traders ≤ most_traders
   pub traders : All (λ (w : Waker). IsWaker (group_count o.groups) w) o.traders
 
 -- the setting of no trader

@@ -1,5 +1,6 @@
 -- How what an agent sends joins the waiting messages.
 use Rattle.std.specs.Prelude.{ℕ, ◌+◌, nat_lt, if◌then◌else◌, List, [], ◌∷◌, length}
+use Rattle.market_types.specs.Limits.{most_waiting}
 use Rattle.market_types.specs.declared.message.Message.{Message}
 use Rattle.market_types.specs.declared.message.Body.TheVariants.{Wake}
 use Rattle.event_queue.specs.Waiting.{joined}
@@ -10,10 +11,6 @@ use Rattle.kernel_core.specs.declared.sending.Sending.{Sending}
 use Rattle.kernel_core.specs.declared.sending.Sending.TheVariants.{To, WakeAt}
 use Rattle.kernel_core.specs.Opening.{group_of}
 use Rattle.kernel_core.specs.State.{Post}
-
--- So many messages may wait.
-abbrev pub most_waiting : ℕ
-most_waiting = 65536
 
 -- how long the message of a number is under way from one agent to another, by the tables in force
 abbrev pub under_way : Opening → Tables → ℕ → ℕ → ℕ → ℕ

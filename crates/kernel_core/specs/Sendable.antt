@@ -1,5 +1,6 @@
 -- What the calls that send need, and what the mail keeps.
 use Rattle.std.specs.Prelude.{◌<◌, ◌≤◌, ℕ, ◌+◌, ◌^◌, length, All}
+use Rattle.market_types.specs.Limits.{most_waiting}
 use Rattle.market_types.specs.Room.{Room}
 use Rattle.market_types.specs.declared.message.Message.{Message}
 use Rattle.latency_model.specs.Tables.{Tables, group_count}
@@ -7,7 +8,6 @@ use Rattle.kernel_core.specs.declared.opening.Opening.{Opening}
 use Rattle.kernel_core.specs.declared.opening.Waker.{Waker}
 use Rattle.kernel_core.specs.declared.sending.Sending.{Sending}
 use Rattle.kernel_core.specs.declared.sending.Sending.TheVariants.{To, WakeAt}
-use Rattle.kernel_core.specs.Send.{most_waiting}
 
 -- how long after its leaving a sending is asked to go
 abbrev pub extra_of : Sending → ℕ

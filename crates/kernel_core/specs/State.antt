@@ -1,9 +1,9 @@
 -- The kernel's state as plain data.
 use Rattle.std.specs.Prelude.{◌≡◌, ◌<◌, ◌≤◌, ℕ, ◌+◌, ◌*◌, List, [], length, All}
+use Rattle.market_types.specs.Limits.{longest_delay, most_traders}
 use Rattle.market_types.specs.declared.message.Message.{Message}
 use Rattle.latency_model.specs.Tables.{Tables}
 use Rattle.kernel_core.specs.declared.trader.Trader.{Trader}
-use Rattle.kernel_core.specs.Opening.{longest_delay}
 
 -- The waiting messages in order of their numbers, the number of the next one that joins, and how many were dropped.
 pub record Post : Type 0 where
@@ -36,10 +36,10 @@ pub record IsAmong (agents : ℕ) (m : Message) : Type 0 where
   pub from : m.from < agents
   pub to : m.to < agents
 
--- What holds of every state that a kernel keeps.
+-- What holds of every state that a kernel keeps. Each number that was given waits, or left in an event.
 pub record IsSound (s : State) : Type 0 where
   pub agents : length s.own ≡ length s.traders + 1
-  pub few : length s.traders ≤ 511
+  pub few : length s.traders ≤ most_traders
   pub among : All (λ (m : Message). IsAmong (length s.own) m) s.post.waiting
   pub counted : All (λ (d : Trader). IsCounted s.events d) s.traders
-  pub numbers : s.post.next_seq ≤ 511 + 2 * s.events
+  pub numbers : s.post.next_seq ≤ length s.post.waiting + s.events

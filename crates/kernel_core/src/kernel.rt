@@ -1,14 +1,15 @@
 //! The kernel: its opening and its readers.
 
-ghost use Rattle.std.specs.Prelude.{◌≡◌, ◌<◌, ◌≤◌, ◌+◌, ◌-◌, ◌^◌, [], Some, None, IfOk, length, map, All, slice_index, slice_index_or};
+ghost use Rattle.std.specs.Prelude.{◌≡◌, ◌<◌, ◌≤◌, ◌+◌, ◌-◌, ◌^◌, [], Some, None, IfOk, IfErr, OnOk, length, map, All, slice_index, slice_index_or};
 ghost use Rattle.std.specs.List.Sorted.{IsPermutation, IsSortedBy};
-ghost use Rattle.event_queue.specs.Waiting.{before};
+ghost use Rattle.event_queue.specs.InOrder.{in_order};
+ghost use Rattle.event_queue.specs.Waiting.{before, least};
 ghost use Rattle.kernel_core.specs.declared.opening.Waker.{Waker};
 ghost use Rattle.kernel_core.specs.Agents.{trader_of, told_of, nobody};
 ghost use Rattle.kernel_core.specs.Open.{woken, opened};
 ghost use Rattle.kernel_core.specs.Opening.{IsOpening, IsWaker};
 ghost use Rattle.kernel_core.specs.Sendable.{IsGrouped};
-ghost use Rattle.kernel_core.specs.Step.{end_of};
+ghost use Rattle.kernel_core.specs.Step.{Fits, end_of};
 
 use crate::mail::Mail;
 use crate::opening::{Opening, Waker};
@@ -35,9 +36,11 @@ impl Model for Kernel {
 
     ghost Value = { State };
 
-    ghost view = { λ k. record { time = k.time; events = k.events; post = k.mail; own = k.own.items; traders = k.traders.items; groups = k.groups } };
+    ghost use Rattle.kernel_core.specs.View.{state_of};
 
-    ghost invariant = { λ k. IsSound (record { time = k.time; events = k.events; post = k.mail; own = k.own.items; traders = k.traders.items; groups = k.groups }) };
+    ghost view = { state_of };
+
+    ghost invariant = { λ k. IsSound (state_of k) };
 }
 
 /// The counters of the mail.
@@ -51,7 +54,7 @@ pub struct KernelTold {
     pub dropped: u64,
 }
 
-/// Each trader in order has a wakeup at its first time.
+// Each trader in order has a wakeup at its first time.
 fn wake_all(mail: &mut Mail, o: &Opening, wakers: &[Waker])
     requires few { length wakers.now ≤ length o.now.traders }
     requires traders { length o.now.traders ≤ 511 }
@@ -65,11 +68,11 @@ fn wake_all(mail: &mut Mail, o: &Opening, wakers: &[Waker])
     }
 }
 
-/// The traders' data at the opening.
+// The traders' data at the opening.
 fn traders_of(alloc: Global, wakers: &[Waker]) -> Result<Vec<Trader>, Memory>
     ensures { IfOk result (λ v. v.items ≡ map trader_of wakers.now) }
 {
-    let made: Result<Vec<Trader>, AllocError> = wakers
+    let traders: Result<Vec<Trader>, AllocError> = wakers
         .iter()
         .map(|waker| Trader {
             every: waker.every,
@@ -78,24 +81,19 @@ fn traders_of(alloc: Global, wakers: &[Waker]) -> Result<Vec<Trader>, Memory>
             quotes: 0,
         })
         .collect(alloc);
-    match made {
-        Ok(traders) => Ok(traders),
-        Err(_) => Err(Memory),
-    }
+    Ok(traders?)
 }
 
 impl Kernel {
     /// The state before the first event.
     pub fn open(alloc: Global, o: &Opening) -> Result<Kernel, Memory>
         requires { IsOpening o.now }
-        ensures { IfOk result (λ k. k ≡ opened o.now) }
+        ensures opened { IfOk result (λ k. k ≡ opened o.now) }
+        ensures fitting { IfOk result (λ k. Fits o.now k) }
     {
         let mut mail = Mail::new(alloc)?;
         wake_all(&mut mail, o, o.traders.as_slice());
-        let own = match vec![in alloc; o.start; o.traders.as_slice().len() + 1] {
-            Ok(own) => own,
-            Err(_) => return Err(Memory),
-        };
+        let own = vec![in alloc; o.start; o.traders.as_slice().len() + 1]?;
         let traders = traders_of(alloc, o.traders.as_slice())?;
         let groups = o.groups.copy(alloc)?;
         Ok(Kernel {
@@ -122,25 +120,37 @@ impl Kernel {
         self.time
     }
 
+    // The message of the next event, or why there is none.
+    pub(crate) fn next(&self, o: &Opening) -> Result<Message, End>
+        ensures least { IfOk result (λ m. least self.now.post.waiting ≡ Some m) }
+        ensures going { OnOk result (end_of o.now self.now ≡ None) }
+        ensures ended { IfErr result (λ end. end_of o.now self.now ≡ Some end) }
+    {
+        if self.mail.dropped() > 0 {
+            return Err(End::QueueFull);
+        }
+        if self.events == o.limit {
+            return Err(End::EventLimit);
+        }
+        match self.mail.least() {
+            None => Err(End::Quiet),
+            Some(m) => {
+                if m.time > o.close {
+                    Err(End::Closed)
+                } else {
+                    Ok(*m)
+                }
+            }
+        }
+    }
+
     /// Why the state has no next event, if it has none.
     pub fn end(&self, o: &Opening) -> Option<End>
         ensures { result ≡ end_of o.now self.now }
     {
-        if self.mail.dropped() > 0 {
-            return Some(End::QueueFull);
-        }
-        if self.events == o.limit {
-            return Some(End::EventLimit);
-        }
-        match self.mail.least() {
-            None => Some(End::Quiet),
-            Some(m) => {
-                if m.time > o.close {
-                    Some(End::Closed)
-                } else {
-                    None
-                }
-            }
+        match self.next(o) {
+            Ok(_) => None,
+            Err(end) => Some(end),
         }
     }
 
@@ -185,6 +195,7 @@ impl Kernel {
 
     /// The waiting messages in order of time and then of number.
     pub fn messages(&self, alloc: Global) -> Result<Vec<Message>, Memory>
+        ensures listed { IfOk result (λ v. v.items ≡ in_order self.now.post.waiting) }
         ensures same { IfOk result (λ v. IsPermutation self.now.post.waiting v.items) }
         ensures sorted { IfOk result (λ v. IsSortedBy before v.items) }
     {

@@ -1,8 +1,10 @@
 //! The waiting messages with their numbers.
 
-ghost use Rattle.std.specs.Prelude.{◌≡◌, ◌<◌, ◌≤◌, ◌+◌, ◌^◌, IfOk, IfSome, IfNone, option_map, length, All};
+ghost use Rattle.std.specs.Prelude.{◌≡◌, ◌<◌, ◌≤◌, ◌+◌, ◌^◌, IfOk, IfSome, IfNone, OnSome, option_map, length, All};
 ghost use Rattle.std.specs.List.Sorted.{IsPermutation, IsSortedBy};
+ghost use Rattle.event_queue.specs.InOrder.{in_order};
 ghost use Rattle.event_queue.specs.Waiting.{before, least, without, joined};
+ghost use Rattle.market_types.specs.Limits.{most_waiting};
 ghost use Rattle.latency_model.specs.Tables.{group_count};
 ghost use Rattle.kernel_core.specs.Opening.{group_of};
 ghost use Rattle.kernel_core.specs.Send.{sent, all_sent, message_of, under_way};
@@ -14,12 +16,9 @@ use crate::sending::Sending;
 use draw_streams::draw;
 use event_queue::Queue;
 use latency_model::{Groups, JITTER_STREAM};
-use market_types::{AgentNo, Body, Memory, Message, Time};
+use market_types::{AgentNo, Body, MOST_WAITING, Memory, Message, Time};
 use std::alloc::Global;
 use std::marker::Model;
-
-/// So many messages may wait.
-pub const MOST_WAITING: usize = 65_536;
 
 /// The waiting messages, the next number and the count of dropped messages.
 #[derive(Drop)]
@@ -40,7 +39,7 @@ impl Model for Mail {
     ghost invariant = { λ p. IsMail p.queue p.next_seq };
 }
 
-/// The latency group of an agent.
+// The latency group of an agent.
 fn group_number(o: &Opening, agent: AgentNo) -> u8
     requires { agent ≤ length o.now.traders }
     ensures { result ≡ group_of o.now agent }
@@ -51,7 +50,7 @@ fn group_number(o: &Opening, agent: AgentNo) -> u8
     o.traders.as_slice()[usize::from(agent) - 1].group
 }
 
-/// How long the message of a number is under way, in nanoseconds.
+// How long the message of a number is under way, in nanoseconds.
 fn latency(o: &Opening, groups: &Groups, from: AgentNo, to: AgentNo, seq: u64) -> Time
     requires fits { IsGrouped o.now groups.now }
     requires sender { from ≤ length o.now.traders }
@@ -63,7 +62,7 @@ fn latency(o: &Opening, groups: &Groups, from: AgentNo, to: AgentNo, seq: u64) -
     groups.delay(group_number(o, from), group_number(o, to), word)
 }
 
-/// The message that a sending becomes.
+// The message that a sending becomes.
 fn message_for(
     o: &Opening,
     groups: &Groups,
@@ -139,6 +138,7 @@ impl Mail {
 
     /// The waiting messages in order of time and then of number.
     pub fn messages(&self, alloc: Global) -> Result<Vec<Message>, Memory>
+        ensures listed { IfOk result (λ v. v.items ≡ in_order self.now.waiting) }
         ensures same { IfOk result (λ v. IsPermutation self.now.waiting v.items) }
         ensures sorted { IfOk result (λ v. IsSortedBy before v.items) }
     {
@@ -149,6 +149,8 @@ impl Mail {
     pub fn take(&mut self) -> Option<Message>
         ensures least { result ≡ least self.old.waiting }
         ensures left { IfSome result (λ m. self.new ≡ record self.old { waiting = without m.seq self.old.waiting }) }
+        ensures shrinks { OnSome result (length self.new.waiting + 1 ≡ length self.old.waiting) }
+        ensures few { length self.new.waiting ≤ most_waiting }
         ensures none { IfNone result (self.new ≡ self.old) }
     {
         self.queue.pop_least()
@@ -157,6 +159,7 @@ impl Mail {
     /// The next message is put back to a time, under its old number.
     pub fn put_back(&mut self, time: Time) -> Option<Message>
         ensures least { result ≡ least self.old.waiting }
+        ensures same { length self.new.waiting ≡ length self.old.waiting }
         ensures back { IfSome result (λ m. self.new ≡ record self.old { waiting = joined (record m { time = time }) (without m.seq self.old.waiting) }) }
         ensures none { IfNone result (self.new ≡ self.old) }
     {

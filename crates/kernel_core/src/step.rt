@@ -18,7 +18,7 @@ use market_types::{End, Entry, FeedList, Memory, Message, Record, Time, Trace};
 use outside::{Ledger, Steps};
 use std::alloc::Global;
 
-/// What the receiver of a message does, and how long it computes.
+// What the receiver of a message does, and how long it computes.
 fn react(
     traders: &mut Vec<Trader>,
     o: &Opening,
@@ -45,7 +45,7 @@ fn react(
 }
 
 impl Kernel {
-    /// The next message goes back to its receiver's own time.
+    // The next message goes back to its receiver's own time.
     fn back(&mut self, alloc: Global, m: Message, until: Time) -> Record
         requires next { least self.old.post.waiting ≡ Some m }
         requires room { self.old.events + 1 < 2 ^ 32 }
@@ -70,7 +70,7 @@ impl Kernel {
         }
     }
 
-    /// The next message is delivered.
+    // The next message is delivered.
     fn deliver(&mut self, alloc: Global, o: &Opening, m: Message) -> Result<Record, Memory>
         requires fits { Fits o.now self.old }
         requires next { least self.old.post.waiting ≡ Some m }
@@ -105,7 +105,7 @@ impl Kernel {
         })
     }
 
-    /// The event of the next message.
+    // The event of the next message.
     fn happen(&mut self, alloc: Global, o: &Opening, m: Message) -> Result<Record, Memory>
         requires fits { Fits o.now self.old }
         requires going { end_of o.now self.old ≡ None }
@@ -123,7 +123,7 @@ impl Kernel {
     }
 
     /// One event, unless the state is ended. The counter ticks once for an event and for nothing else; after want of
-    /// memory kernel, trace and counter are as they were.
+    /// memory kernel and counter are as they were, and so are the trace's entries (its kept places may have grown).
     pub fn step<L: Ledger>(
         &mut self,
         alloc: Global,
@@ -142,14 +142,11 @@ impl Kernel {
         ensures trace_refused { OnErr result (trace.new.list ≡ trace.old.list) }
         ensures steps_refused { OnErr result (steps.new ≡ steps.old) }
     {
-        if let Some(end) = self.end(o) {
-            return Ok(Stepped::Ended(end));
-        }
-        trace.reserve(1)?;
-        let m = match self.mail.least() {
-            Some(m) => *m,
-            None => unreachable!(),
+        let m = match self.next(o) {
+            Ok(m) => m,
+            Err(end) => return Ok(Stepped::Ended(end)),
         };
+        trace.reserve(1)?;
         let entry = self.happen(alloc, o, m)?;
         let number = entry.number;
         trace.put(Entry::Event(entry));
@@ -168,7 +165,7 @@ impl Kernel {
         steps: &mut Steps<L>,
     ) -> Result<Option<End>, Memory>
         requires fits { Fits o.now self.old }
-        requires count { steps.old + stop < 2 ^ 64 }
+        requires count { steps.old + (stop - self.old.events) < 2 ^ 64 }
         ensures answer { IfOk result (λ e. e ≡ end_of o.now self.new) }
         ensures reached { IfOk result (λ e. IsNone e → stop ≤ self.new.events) }
         ensures ran { OnOk result (record { state = self.new; entries = trace.new.list } ≡ until o.now stop (record { state = self.old; entries = trace.old.list })) }

@@ -1,3 +1,4 @@
 pub mod Latency
 pub mod Ranges
 pub mod Tables
+pub mod Worked

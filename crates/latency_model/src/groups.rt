@@ -1,11 +1,12 @@
 //! The latency tables in force.
 
 ghost use Rattle.std.specs.Prelude.{◌≡◌, ◌+◌, ◌<◌, ◌≤◌, IfOk, map};
+ghost use Rattle.market_types.specs.Limits.{longest_delay};
 ghost use Rattle.latency_model.specs.Latency.{delay_of};
 ghost use Rattle.latency_model.specs.Ranges.{IsInRange};
 ghost use Rattle.latency_model.specs.Tables.{group_count, with_pair};
 
-use crate::{MOST_BASE, rows};
+use crate::rows::{copied_rows, read, write};
 use draw_streams::below;
 use market_types::{Memory, Time};
 use std::alloc::Global;
@@ -41,8 +42,8 @@ impl Groups {
         ensures { IfOk result (λ g. g ≡ record { base = map (λ row. row.items) base.now; jitter = map (λ row. row.items) jitter.now }) }
     {
         Ok(Groups {
-            base: rows::copied(alloc, base)?,
-            jitter: rows::copied(alloc, jitter)?,
+            base: copied_rows(alloc, base)?,
+            jitter: copied_rows(alloc, jitter)?,
         })
     }
 
@@ -50,13 +51,13 @@ impl Groups {
     pub fn set(&mut self, from: u8, to: u8, base: Time, jitter: u32)
         requires sender { from < group_count self.old }
         requires receiver { to < group_count self.old }
-        requires hour { base ≤ MOST_BASE }
+        requires hour { base ≤ longest_delay }
         ensures replaced { self.new ≡ with_pair self.old from to base jitter }
         ensures groups { group_count self.new ≡ group_count self.old }
     {
         let (row, column) = (usize::from(from), usize::from(to));
-        rows::write(&mut self.base, row, column, base);
-        rows::write(&mut self.jitter, row, column, jitter);
+        write(&mut self.base, row, column, base);
+        write(&mut self.jitter, row, column, jitter);
     }
 
     /// Equal tables.
@@ -64,8 +65,8 @@ impl Groups {
         ensures { IfOk result (λ g. g ≡ self.now) }
     {
         Ok(Groups {
-            base: rows::copied(alloc, self.base.as_slice())?,
-            jitter: rows::copied(alloc, self.jitter.as_slice())?,
+            base: copied_rows(alloc, self.base.as_slice())?,
+            jitter: copied_rows(alloc, self.jitter.as_slice())?,
         })
     }
 
@@ -74,11 +75,11 @@ impl Groups {
         requires sender { from < group_count self.now }
         requires receiver { to < group_count self.now }
         ensures value { result ≡ delay_of self.now from to word }
-        ensures bound { result ≤ MOST_BASE + u32.MAX }
+        ensures bound { result ≤ longest_delay + u32.MAX }
     {
         let (row, column) = (usize::from(from), usize::from(to));
-        let base = rows::read(self.base.as_slice(), row, column);
-        let jitter = rows::read(self.jitter.as_slice(), row, column);
+        let base = read(self.base.as_slice(), row, column);
+        let jitter = read(self.jitter.as_slice(), row, column);
         base + Time::from(below(word, u64::from(jitter) + 1))
     }
 }

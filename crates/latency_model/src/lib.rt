@@ -7,19 +7,12 @@
 #![tactic(auto)]
 
 mod groups;
-pub mod known;
 mod rows;
 #[cfg(test)]
 mod tests;
+pub mod worked;
 
 pub use groups::Groups;
-use market_types::Time;
-
-/// The greatest number of groups.
-pub const MOST_GROUPS: usize = 32;
-
-/// The greatest base in nanoseconds: an hour.
-pub const MOST_BASE: Time = 3_600_000_000_000;
 
 /// The stream of a key's draws from which messages take their words.
 pub const JITTER_STREAM: u64 = 0;

@@ -3,22 +3,16 @@
 ghost use Rattle.std.specs.Prelude.{◌≡◌, ◌<◌, [], IfOk, Some, length, map, slice_get, slice_index_or, vec_len};
 ghost use Rattle.latency_model.specs.Tables.{with_number};
 
-use market_types::Memory;
+use market_types::{Memory, copied};
 use std::alloc::Global;
 
 // Equal rows.
-pub fn copied<T: Copy + Drop>(alloc: Global, rows: &[Vec<T>]) -> Result<Vec<Vec<T>>, Memory>
+pub fn copied_rows<T: Copy + Drop>(alloc: Global, rows: &[Vec<T>]) -> Result<Vec<Vec<T>>, Memory>
     ensures { IfOk result (λ copy. map (λ row. row.items) copy.items ≡ map (λ row. row.items) rows.now) }
 {
     let mut copy = Vec::new(alloc);
     for row in rows {
-        let mut items = Vec::new(alloc);
-        if items.extend_from_slice(row.as_slice()).is_err() {
-            return Err(Memory);
-        }
-        if copy.push(items).is_err() {
-            return Err(Memory);
-        }
+        copy.push(copied(alloc, row.as_slice())?)?;
     }
     Ok(copy)
 }

@@ -1,8 +1,9 @@
 ghost use Rattle.std.specs.Prelude.{◌≡◌, ◌∷◌, [], ◌≤◌, IfOk, map};
+ghost use Rattle.market_types.specs.Limits.{longest_delay};
 
-use super::{Groups, JITTER_STREAM, MOST_BASE};
+use super::{Groups, JITTER_STREAM};
 use draw_streams::draw;
-use draw_streams::known::ZERO_KEY;
+use draw_streams::worked::ZERO_KEY;
 use market_types::{Memory, Time};
 use std::alloc::{AllocError, Global};
 
@@ -19,7 +20,7 @@ fn table<T: Copy + Drop>(alloc: Global, number: T) -> Result<Vec<Vec<T>>, AllocE
 
 // Tables of one group.
 fn one_group(alloc: Global, base: Time, jitter: u32) -> Result<Groups, Memory>
-    requires { base ≤ MOST_BASE }
+    requires { base ≤ longest_delay }
     ensures { IfOk result (λ g. g ≡ record { base = (base ∷ []) ∷ []; jitter = (jitter ∷ []) ∷ [] }) }
 {
     let (Ok(base), Ok(jitter)) = (table(alloc, base), table(alloc, jitter)) else {

@@ -1,3 +1,4 @@
 pub mod Breaking
 pub mod Dates
+pub mod Due
 pub mod Tables

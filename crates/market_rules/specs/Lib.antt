@@ -1,7 +1,9 @@
 pub mod Breaks
 pub mod Changes
+pub mod EditRanges
+pub mod Edits
 pub mod Fees
-pub mod Known
 pub mod Nearest
 pub mod Refusals
 pub mod Ticks
+pub mod Worked

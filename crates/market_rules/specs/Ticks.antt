@@ -1,6 +1,7 @@
 -- A tick table: bands of prices, each with its tick. A band reaches from its first price up to the next band.
 use Rattle.std.specs.Prelude.{ℕ, ◌%◌, ◌==◌, Bool, nat_le, List, Option, None, filter, option_map, unwrap_or}
 use Rattle.std.specs.List.{last_or}
+use Rattle.std.specs.Ordering.{on, eq_of_both}
 use Rattle.market_rules.specs.declared.bands.Band.{Band}
 
 -- the last band that doesn't start above the price
@@ -14,3 +15,7 @@ tick_of bands price = unwrap_or (option_map (λ (b : Band). b.tick) (band_of ban
 -- whether the price is a multiple of its tick
 abbrev pub is_allowed : List Band → ℕ → Bool
 is_allowed bands price = price % tick_of bands price == 0
+
+-- whether two bands are the same
+abbrev pub is_same_band : Band → Band → Bool
+is_same_band = eq_of_both (on (λ (b : Band). b.from) ◌==◌) (on (λ (b : Band). b.tick) ◌==◌)

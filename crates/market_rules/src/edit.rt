@@ -1,6 +1,7 @@
 //! What a branch changes where it forks.
 
 ghost use Rattle.std.specs.Prelude.{◌≡◌, IfOk};
+ghost use Rattle.market_rules.specs.Edits.{letter_of};
 
 use crate::fees::FeeTable;
 use crate::ticks::TickTable;
@@ -33,7 +34,7 @@ pub enum Param {
 }
 
 /// A change that a branch makes where it forks, at the time of its state.
-#[derive(Drop)]
+#[derive(PartialEq, Eq, Debug, Drop)]
 pub enum Edit {
     /// Another tick table.
     Tick {
@@ -84,6 +85,23 @@ pub enum Edit {
 }
 
 impl Edit {
+    /// The letter by which records and bundles name the kind of an edit.
+    pub fn letter(&self) -> u8
+        ensures { result ≡ letter_of self.now }
+    {
+        match self {
+            Edit::Tick { .. } => b't',
+            Edit::Fee { .. } => b'f',
+            Edit::Halt { .. } => b'h',
+            Edit::Resume { .. } => b'r',
+            Edit::Latency { .. } => b'l',
+            Edit::Agent { .. } => b'p',
+            Edit::Silence { .. } => b's',
+            Edit::Inject { .. } => b'i',
+            Edit::Series { .. } => b'v',
+        }
+    }
+
     /// An equal edit.
     pub fn copy(&self, alloc: Global) -> Result<Edit, Memory>
         ensures { IfOk result (λ e. e ≡ self.now) }

@@ -10,12 +10,13 @@ mod changes;
 mod edit;
 mod error;
 mod fees;
-pub mod known;
+pub mod laws;
 mod refusals;
 #[cfg(test)]
 mod tests;
 mod ticks;
 mod view;
+pub mod worked;
 
 pub use bands::Band;
 pub use changes::{Change, Dated, DatedList};

@@ -1,4 +1,5 @@
 use crate::{Band, Change, Dated, DatedList, Edit, FeeTable, Param, RuleError, TickTable, View};
+use market_types::Symbol;
 use std::alloc::Global;
 use std::process::Abort;
 
@@ -29,6 +30,7 @@ fn prices_move_to_their_ticks(rt: HostRuntime) {
     let view = View {
         time: 5,
         key: &key,
+        symbol: Symbol(*b"ABM     "),
         value: 100_000,
         ticks: &table,
     };
@@ -118,35 +120,48 @@ fn changes_keep_their_order(rt: HostRuntime) {
     assert_eq!(rt; refused, Some(RuleError::DatesNotRising(2)));
 }
 
+// One edit of each kind but the one of a message, with its letter.
+fn edits(table: TickTable) -> [(Edit, u8); 8] {
+    let fees = FeeTable { add: -20, take: 30 };
+    let (stock, agent, from, to) = (3, 7, 0, 1);
+    let (base, jitter, offset) = (500, 9, -5);
+    let (name, value) = (Param::Pause, 9);
+    [
+        (Edit::Tick { stock, table }, b't'),
+        (Edit::Fee { stock, fees }, b'f'),
+        (Edit::Halt { stock }, b'h'),
+        (Edit::Resume { stock }, b'r'),
+        (
+            Edit::Latency {
+                from,
+                to,
+                base,
+                jitter,
+            },
+            b'l',
+        ),
+        (Edit::Agent { agent, name, value }, b'p'),
+        (Edit::Silence { agent }, b's'),
+        (Edit::Series { stock, offset }, b'v'),
+    ]
+}
+
 #[test]
 fn copies_are_equal(rt: HostRuntime) {
     let alloc = rt.alloc();
-    let Ok(table) = two_bands(&rt, alloc).copy(alloc) else {
+    for (edit, letter) in edits(two_bands(&rt, alloc)) {
+        let Ok(copy) = edit.copy(alloc) else {
+            panic!(rt; "out of memory");
+        };
+        assert_eq!(rt; copy, edit);
+        assert_eq!(rt; copy.letter(), letter);
+    }
+    let change = Change::Tick(two_bands(&rt, alloc));
+    let Ok(copy) = change.copy(alloc) else {
         panic!(rt; "out of memory");
     };
-    assert!(rt; table.bands() == TWO_BANDS.as_slice());
-    let Ok(Change::Tick(table)) = Change::Tick(table).copy(alloc) else {
-        panic!(rt; "no tick table");
-    };
-    let Ok(Edit::Tick { stock: 3, table }) = Edit::Tick { stock: 3, table }.copy(alloc) else {
-        panic!(rt; "no tick table");
-    };
-    assert!(rt; table.bands() == TWO_BANDS.as_slice());
-    let agent = Edit::Agent {
-        agent: 7,
-        name: Param::Pause,
-        value: 9,
-    };
-    assert!(rt;
-        matches!(
-            agent.copy(alloc),
-            Ok(Edit::Agent {
-                agent: 7,
-                name: Param::Pause,
-                value: 9,
-            })
-        )
-    );
+    assert_eq!(rt; copy, change);
+    assert!(rt; copy != Change::Halt);
 }
 
 #[test]

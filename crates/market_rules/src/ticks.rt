@@ -8,7 +8,7 @@ ghost use Rattle.market_rules.specs.Ticks.{tick_of, is_allowed};
 use crate::bands::{Band, greatest, least, place_of};
 use crate::error::RuleError;
 use crate::refusals::refusal_of;
-use market_types::Memory;
+use market_types::{Memory, copied};
 use std::alloc::Global;
 use std::marker::Model;
 
@@ -16,7 +16,7 @@ use std::marker::Model;
 ///
 /// The first band starts at 0 and each other above the one before it, at a multiple of its own tick. All prices
 /// are in dollars with four implied decimals.
-#[derive(Drop)]
+#[derive(Debug, Drop)]
 pub struct TickTable {
     bands: Vec<Band>,
 }
@@ -31,6 +31,28 @@ impl Model for TickTable {
     ghost view = { λ t. t.bands.items };
 
     ghost invariant = { λ t. table_refusal t.bands.items ≡ None };
+}
+
+impl PartialEq for TickTable {
+    ghost use Rattle.std.specs.Cmp.Lexicographic.{pointwise};
+    ghost use Rattle.std.specs.Cmp.Rules.{comparing};
+    ghost use Rattle.std.proofs.Common.{rules};
+    ghost use Rattle.market_rules.specs.Ticks.{is_same_band};
+
+    ghost eq = { pointwise is_same_band };
+
+    ghost laws = { Prim.search (comparing, rules) };
+
+    fn eq(&self, other: &TickTable) -> bool {
+        self.bands.as_slice() == other.bands.as_slice()
+    }
+}
+
+impl Eq for TickTable {
+    ghost use Rattle.std.specs.Cmp.Rules.{comparing};
+    ghost use Rattle.std.proofs.Common.{rules};
+
+    ghost laws = { Prim.search (comparing, rules) };
 }
 
 impl TickTable {
@@ -103,16 +125,5 @@ impl TickTable {
     {
         let bands = copied(alloc, self.bands.as_slice())?;
         Ok(TickTable { bands })
-    }
-}
-
-// The same bands.
-fn copied(alloc: Global, bands: &[Band]) -> Result<Vec<Band>, Memory>
-    ensures { IfOk result (λ v. v.items ≡ bands.now) }
-{
-    let mut copy = Vec::new(alloc);
-    match copy.extend_from_slice(bands) {
-        Ok(()) => Ok(copy),
-        Err(_) => Err(Memory),
     }
 }

@@ -8,7 +8,7 @@ ghost use Rattle.market_types.specs.Sides.{opposite_of};
 pub struct Symbol(pub [u8; 8]);
 
 /// An order token in ASCII, which its sender chose, padded with spaces on the right.
-#[derive(Clone, Copy, PartialEq, Eq, Debug)]
+#[derive(Clone, Copy, PartialEq, Eq, Hash, Debug)]
 pub struct Token(pub [u8; 14]);
 
 /// The side of an order.

@@ -7,7 +7,7 @@ use Rattle.market_types.specs.declared.order.Inbound.TheVariants as inbound
 use Rattle.wire_fields.specs.declared.kind.Kind.{Kind}
 use Rattle.wire_fields.specs.Values.{FieldValue, number, bytes, side_letter}
 use Rattle.wire_fields.specs.Wire.{Wire}
-use Rattle.ouch_codec.specs.declared.layouts.TheConstants.{CANCEL, CANCEL_TYPE, ENTER, ENTER_TYPE}
+use Rattle.ouch_codec.specs.Layouts.{enter_kinds, cancel_kinds}
 
 -- the values of an Enter Order's fields
 abbrev pub enter_values : Enter → List FieldValue
@@ -22,11 +22,11 @@ cancel_values m = bytes m.token.0 ∷ number m.shares ∷ []
 
 -- the message of an order: `O` is Enter Order, `X` is Cancel Order
 abbrev pub inbound_wire : Inbound → Wire
-inbound_wire (inbound.Enter m) = record { letter = ENTER_TYPE; kinds = ENTER; values = enter_values m }
-inbound_wire (inbound.Cancel m) = record { letter = CANCEL_TYPE; kinds = CANCEL; values = cancel_values m }
+inbound_wire (inbound.Enter m) = record { letter = 79; kinds = enter_kinds; values = enter_values m }
+inbound_wire (inbound.Cancel m) = record { letter = 88; kinds = cancel_kinds; values = cancel_values m }
 
--- the fields of the type of a letter
+-- the fields of the type of a letter, `O` or `X`
 abbrev pub inbound_layout : ℕ → Option (List Kind)
 inbound_layout letter =
-    if letter == ENTER_TYPE then Some ENTER else
-    (if letter == CANCEL_TYPE then Some CANCEL else None)
+    if letter == 79 then Some enter_kinds else
+    (if letter == 88 then Some cancel_kinds else None)

@@ -1,2 +1,5 @@
 pub mod Inbound
+pub mod InboundBack
+pub mod Layouts
 pub mod Outbound
+pub mod OutboundBack

@@ -1,15 +1,15 @@
 //! Orders to the exchange.
 
-ghost use Rattle.std.specs.Prelude.{◌≡◌, length, IfOk, Ok, Some, slice_get};
+ghost use Rattle.std.specs.Prelude.{◌≡◌, length, IfOk, Ok};
 ghost use Rattle.std.specs.Result.{result_err};
-ghost use Rattle.wire_fields.specs.Wire.{IsInRange, IsSpelled, IsRead, AreGood, spelling, wire_in, refusal};
+ghost use Rattle.wire_fields.specs.Wire.{IsInRange, IsSpelled, AreGood, spelling, wire_in, refusal};
 ghost use Rattle.ouch_codec.specs.Inbound.{inbound_wire, inbound_layout};
 ghost use Rattle.market_types.specs.declared.order.Inbound.TheVariants as inbound;
 ghost use Rattle.market_types.specs.declared.order.Inbound.{Inbound};
 
 use crate::layouts::{CANCEL, CANCEL_TYPE, ENTER, ENTER_TYPE};
 use market_types::{Cancel, CodecError, Enter, Inbound, Symbol, Token};
-use wire_fields::{Value, array_at, byte_at, check, message, side_at, u32_at};
+use wire_fields::{Kind, MessageType, Value, array_at, byte_at, decode, message, side_at, u32_at};
 
 /// The 49 bytes of an Enter Order. A field out of its range is written as it stands.
 pub fn encode_enter(m: &Enter) -> [u8; 49]
@@ -49,6 +49,56 @@ pub fn encode_cancel(m: &Cancel) -> [u8; 19]
     )
 }
 
+// The types of orders.
+#[derive(Clone, Copy)]
+pub(crate) enum OrderType {
+    Enter,
+    Cancel,
+}
+
+impl MessageType for OrderType {
+    ghost use Rattle.ouch_codec.specs.Inbound.{inbound_wire, inbound_layout};
+    ghost use Rattle.ouch_codec.specs.InboundBack.{inbound_of, order_letter, order_kinds, inbound_told, inbound_back};
+
+    type Message = Inbound;
+
+    ghost wire = { inbound_wire };
+
+    ghost message = { inbound_of };
+
+    ghost layout = { inbound_layout };
+
+    ghost letter = { order_letter };
+
+    ghost kinds = { order_kinds };
+
+    ghost told = { inbound_told };
+
+    ghost back = { inbound_back };
+
+    fn of_letter(first: u8) -> Option<OrderType> {
+        match first {
+            ENTER_TYPE => Some(OrderType::Enter),
+            CANCEL_TYPE => Some(OrderType::Cancel),
+            _ => None,
+        }
+    }
+
+    fn fields(self) -> &'static [Kind] {
+        match self {
+            OrderType::Enter => &ENTER,
+            OrderType::Cancel => &CANCEL,
+        }
+    }
+
+    fn read(self, bytes: &[u8]) -> Inbound {
+        match self {
+            OrderType::Enter => enter_at(bytes),
+            OrderType::Cancel => cancel_at(bytes),
+        }
+    }
+}
+
 /// The order that these bytes are. What it refuses, the first that applies: a type other than `O` and `X`, another
 /// length than the type's, where 1 is needed of the empty input, and the least offset of a field out of its range.
 pub fn decode_in(bytes: &[u8]) -> Result<Inbound, CodecError>
@@ -56,31 +106,10 @@ pub fn decode_in(bytes: &[u8]) -> Result<Inbound, CodecError>
     ensures only { (m : Inbound) → IsSpelled bytes.now (inbound_wire m) → result ≡ Ok m }
     ensures refused { result_err result ≡ refusal inbound_layout bytes.now }
 {
-    match bytes {
-        [] => Err(CodecError::WrongLength(0, 1)),
-        [ENTER_TYPE, ..] => decode_enter(bytes),
-        [CANCEL_TYPE, ..] => decode_cancel(bytes),
-        [letter, ..] => Err(CodecError::UnknownType(*letter)),
-    }
+    decode::<OrderType>(bytes)
 }
 
-fn decode_enter(bytes: &[u8]) -> Result<Inbound, CodecError>
-    requires { slice_get bytes.now 0 ≡ Some ENTER_TYPE }
-    ensures { IsRead inbound_wire inbound_layout bytes.now result }
-{
-    check(bytes, &ENTER)?;
-    Ok(enter_at(bytes))
-}
-
-fn decode_cancel(bytes: &[u8]) -> Result<Inbound, CodecError>
-    requires { slice_get bytes.now 0 ≡ Some CANCEL_TYPE }
-    ensures { IsRead inbound_wire inbound_layout bytes.now result }
-{
-    check(bytes, &CANCEL)?;
-    Ok(cancel_at(bytes))
-}
-
-/// The Enter Order of these bytes.
+// The Enter Order of these bytes.
 fn enter_at(bytes: &[u8]) -> Inbound
     requires length { length bytes.now ≡ 49 }
     requires good { AreGood ENTER 1 bytes.now }
@@ -103,7 +132,7 @@ fn enter_at(bytes: &[u8]) -> Inbound
     })
 }
 
-/// The Cancel Order of these bytes.
+// The Cancel Order of these bytes.
 fn cancel_at(bytes: &[u8]) -> Inbound
     requires { length bytes.now ≡ 19 }
     ensures { inbound_wire result ≡ wire_in CANCEL_TYPE CANCEL bytes.now }

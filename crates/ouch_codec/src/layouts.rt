@@ -2,7 +2,7 @@
 
 use wire_fields::Kind;
 
-/// In nanoseconds past midnight.
+// In nanoseconds past midnight.
 const TIMESTAMP: Kind = Kind::Number(8);
 
 const ORDER_TOKEN: Kind = Kind::Alphanumeric(14);
@@ -12,9 +12,9 @@ const BUY_SELL_INDICATOR: Kind = Kind::Side;
 const SHARES: Kind = Kind::Number(4);
 
 const STOCK: Kind = Kind::Text(8);
-/// With four implied decimals.
+// With four implied decimals.
 const PRICE: Kind = Kind::Number(4);
-/// In seconds.
+// In seconds.
 const TIME_IN_FORCE: Kind = Kind::Number(4);
 
 const FIRM: Kind = Kind::Letters(4);

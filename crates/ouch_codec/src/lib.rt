@@ -2,13 +2,13 @@
 #![tactic(auto)]
 
 mod inbound;
-mod laws;
 mod layouts;
 mod outbound;
+mod worked;
 
 pub use inbound::{decode_in, encode_cancel, encode_enter};
-pub use laws::{entered_order, one_spelling, published_layouts, refused_orders};
 pub use outbound::{ReplyBytes, decode_out, encode_reply};
+pub use worked::{entered_order, one_spelling, published_layouts, published_types, refused_orders};
 
 #[cfg(test)]
 mod tests;

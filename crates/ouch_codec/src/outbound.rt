@@ -1,8 +1,8 @@
 //! Replies of the exchange.
 
-ghost use Rattle.std.specs.Prelude.{◌≡◌, ◌≤◌, length, IfOk, Ok, Some, slice_get};
+ghost use Rattle.std.specs.Prelude.{◌≡◌, ◌≤◌, length, IfOk, Ok};
 ghost use Rattle.std.specs.Result.{result_err};
-ghost use Rattle.wire_fields.specs.Wire.{IsInRange, IsSpelled, IsRead, AreGood, spelling, wire_in, refusal};
+ghost use Rattle.wire_fields.specs.Wire.{IsInRange, IsSpelled, AreGood, spelling, wire_in, refusal};
 ghost use Rattle.ouch_codec.specs.Outbound.{reply_wire, reply_layout};
 ghost use Rattle.market_types.specs.declared.reply.Reply.{Reply};
 
@@ -11,7 +11,9 @@ use crate::layouts::{
     REJECTED_TYPE, SYSTEM, SYSTEM_TYPE,
 };
 use market_types::{CodecError, Reply, Symbol, Token};
-use wire_fields::{MessageBytes, Value, array_at, byte_at, check, side_at, u32_at, u64_at};
+use wire_fields::{
+    Kind, MessageBytes, MessageType, Value, array_at, byte_at, decode, side_at, u32_at, u64_at,
+};
 
 /// The bytes of a reply, at most 66, seen as their list.
 pub type ReplyBytes = MessageBytes<66>;
@@ -117,6 +119,68 @@ pub fn encode_reply(m: &Reply) -> ReplyBytes
     }
 }
 
+// The types of replies.
+#[derive(Clone, Copy)]
+pub(crate) enum ReplyType {
+    System,
+    Accepted,
+    Canceled,
+    Executed,
+    Rejected,
+}
+
+impl MessageType for ReplyType {
+    ghost use Rattle.ouch_codec.specs.Outbound.{reply_wire, reply_layout};
+    ghost use Rattle.ouch_codec.specs.OutboundBack.{reply_of, reply_letter, reply_kinds, reply_told, reply_back};
+
+    type Message = Reply;
+
+    ghost wire = { reply_wire };
+
+    ghost message = { reply_of };
+
+    ghost layout = { reply_layout };
+
+    ghost letter = { reply_letter };
+
+    ghost kinds = { reply_kinds };
+
+    ghost told = { reply_told };
+
+    ghost back = { reply_back };
+
+    fn of_letter(first: u8) -> Option<ReplyType> {
+        match first {
+            SYSTEM_TYPE => Some(ReplyType::System),
+            ACCEPTED_TYPE => Some(ReplyType::Accepted),
+            CANCELED_TYPE => Some(ReplyType::Canceled),
+            EXECUTED_TYPE => Some(ReplyType::Executed),
+            REJECTED_TYPE => Some(ReplyType::Rejected),
+            _ => None,
+        }
+    }
+
+    fn fields(self) -> &'static [Kind] {
+        match self {
+            ReplyType::System => &SYSTEM,
+            ReplyType::Accepted => &ACCEPTED,
+            ReplyType::Canceled => &CANCELED,
+            ReplyType::Executed => &EXECUTED,
+            ReplyType::Rejected => &REJECTED,
+        }
+    }
+
+    fn read(self, bytes: &[u8]) -> Reply {
+        match self {
+            ReplyType::System => system_at(bytes),
+            ReplyType::Accepted => accepted_at(bytes),
+            ReplyType::Canceled => canceled_at(bytes),
+            ReplyType::Executed => executed_at(bytes),
+            ReplyType::Rejected => rejected_at(bytes),
+        }
+    }
+}
+
 /// The reply that these bytes are. What it refuses, the first that applies: a type other than `S`, `A`, `C`, `E` and
 /// `J`, another length than the type's, where 1 is needed of the empty input, and the least offset of a field out of its
 /// range.
@@ -125,55 +189,7 @@ pub fn decode_out(bytes: &[u8]) -> Result<Reply, CodecError>
     ensures only { (m : Reply) → IsSpelled bytes.now (reply_wire m) → result ≡ Ok m }
     ensures refused { result_err result ≡ refusal reply_layout bytes.now }
 {
-    match bytes {
-        [] => Err(CodecError::WrongLength(0, 1)),
-        [SYSTEM_TYPE, ..] => decode_system(bytes),
-        [ACCEPTED_TYPE, ..] => decode_accepted(bytes),
-        [CANCELED_TYPE, ..] => decode_canceled(bytes),
-        [EXECUTED_TYPE, ..] => decode_executed(bytes),
-        [REJECTED_TYPE, ..] => decode_rejected(bytes),
-        [letter, ..] => Err(CodecError::UnknownType(*letter)),
-    }
-}
-
-fn decode_system(bytes: &[u8]) -> Result<Reply, CodecError>
-    requires { slice_get bytes.now 0 ≡ Some SYSTEM_TYPE }
-    ensures { IsRead reply_wire reply_layout bytes.now result }
-{
-    check(bytes, &SYSTEM)?;
-    Ok(system_at(bytes))
-}
-
-fn decode_accepted(bytes: &[u8]) -> Result<Reply, CodecError>
-    requires { slice_get bytes.now 0 ≡ Some ACCEPTED_TYPE }
-    ensures { IsRead reply_wire reply_layout bytes.now result }
-{
-    check(bytes, &ACCEPTED)?;
-    Ok(accepted_at(bytes))
-}
-
-fn decode_canceled(bytes: &[u8]) -> Result<Reply, CodecError>
-    requires { slice_get bytes.now 0 ≡ Some CANCELED_TYPE }
-    ensures { IsRead reply_wire reply_layout bytes.now result }
-{
-    check(bytes, &CANCELED)?;
-    Ok(canceled_at(bytes))
-}
-
-fn decode_executed(bytes: &[u8]) -> Result<Reply, CodecError>
-    requires { slice_get bytes.now 0 ≡ Some EXECUTED_TYPE }
-    ensures { IsRead reply_wire reply_layout bytes.now result }
-{
-    check(bytes, &EXECUTED)?;
-    Ok(executed_at(bytes))
-}
-
-fn decode_rejected(bytes: &[u8]) -> Result<Reply, CodecError>
-    requires { slice_get bytes.now 0 ≡ Some REJECTED_TYPE }
-    ensures { IsRead reply_wire reply_layout bytes.now result }
-{
-    check(bytes, &REJECTED)?;
-    Ok(rejected_at(bytes))
+    decode::<ReplyType>(bytes)
 }
 
 fn system_at(bytes: &[u8]) -> Reply

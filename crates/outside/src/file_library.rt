@@ -51,7 +51,7 @@ impl<R: Files> Library for FileLibrary<'_, R> {
     }
 }
 
-/// Opens a path and reads it to its end. A path that is not found is `Absent`.
+// Opens a path and reads it to its end. A path that is not found is `Absent`.
 fn open_and_read<R: Files>(
     system: &R,
     alloc: Global,
@@ -67,11 +67,11 @@ fn open_and_read<R: Files>(
     }
 }
 
-/// Bytes that are asked for in one read.
+// Bytes that are asked for in one read.
 const BLOCK: usize = 4096;
 
-/// Reads to the end. Each turn takes at least one byte, so the turns run out only at too many bytes. Of a reader that
-/// tells its bytes, the answer is exactly these.
+// Reads to the end. Each turn takes at least one byte, so the turns run out only at too many bytes. Of a reader that
+// tells its bytes, the answer is exactly these.
 fn read_whole<F: Read>(alloc: Global, file: &mut F, most: u64) -> Result<Fetched, FetchError>
     ensures answer { IfSome (F.remaining file.old) (λ bytes.
         IfOk result (λ fetched. content_of fetched ≡ content (Some bytes) most)) }

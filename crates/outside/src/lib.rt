@@ -21,11 +21,10 @@ pub use gate::{Gate, OpenGate};
 pub use library::Library;
 pub use memory_library::MemoryLibrary;
 pub use memory_sink::MemorySink;
+pub use plain_lists::Memory;
 pub use sink::{Sink, write_all};
 pub use steps::{Counted, Ledger, Steps};
 pub use stream_sink::{ErrSink, OutSink, StreamSink};
-
-pub use plain_lists::Memory;
 
 #[cfg(test)]
 mod tests;

@@ -88,7 +88,7 @@ impl Library for MemoryLibrary {
     }
 }
 
-/// The bytes under a name, copied where they are at most `most`.
+// The bytes under a name, copied where they are at most `most`.
 fn copy_of(
     alloc: Global,
     files: &[(String, Vec<u8>)],
@@ -107,7 +107,7 @@ fn copy_of(
     Ok(Fetched::Absent)
 }
 
-/// These bytes, copied where they are at most `most`.
+// These bytes, copied where they are at most `most`.
 fn copied(alloc: Global, bytes: &[u8], most: u64) -> Result<Fetched, FetchError>
     ensures answer { IfOk result (λ fetched. content_of fetched ≡ content (Some bytes.now) most) }
     ensures within { IfOk result (λ fetched. AtMost most (content_of fetched)) }

@@ -1,7 +1,8 @@
 //! The standard output and the standard error as sinks. They tell no content: what a stream took, no clause
 //! knows.
 
-ghost use Rattle.std.specs.Prelude.{◌≡◌, ◌≤◌, ◌<◌, IfOk, length};
+ghost use Rattle.std.specs.Prelude.{◌≡◌, ◌≤◌, ◌<◌, IfOk, length, take};
+ghost use Rattle.std.specs.Io.KnownBytes.{Appends};
 
 use crate::{Failed, Sink};
 use std::io::Write;
@@ -54,11 +55,12 @@ impl<W: Write + Drop> Sink for StreamSink<W> {
     }
 }
 
-/// Writes a first part of a piece, and sends it on. A refused flush fails, and so does a write that takes
-/// nothing of a piece that is not empty.
+// Writes a first part of a piece, and sends it on. A refused flush fails, and so does a write that takes
+// nothing of a piece that is not empty.
 fn write_flushed<W: Write>(stream: &mut W, piece: &[u8]) -> Result<usize, Failed>
     ensures within { IfOk result (λ n. n ≤ length piece.now) }
     ensures some { IfOk result (λ n. 0 < length piece.now → 0 < n) }
+    ensures bytes { IfOk result (λ n. Appends (W.contents stream.old) (W.contents stream.new) (take n piece.now)) }
 {
     let count = match stream.write(piece) {
         Ok(count) => count,

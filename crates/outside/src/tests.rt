@@ -6,7 +6,7 @@ use std::fs;
 use std::io::{Error, ErrorKind, Write};
 use std::test::Fail;
 
-/// What a fetch answered, in words.
+// What a fetch answered, in words.
 fn shown(answer: &Result<Fetched, FetchError>) -> &'static str {
     match answer {
         Ok(Fetched::Absent) => "absent",
@@ -31,6 +31,7 @@ fn files_of_the_system(rt: HostRuntime) -> Result<(), Fail> {
         ("/dev/null", 0, "whole"),
         ("/dev/zero", 9, "too long"),
         (".", 9, "failed"),
+        ("fetched.txt/x", 9, "failed"),
     ] {
         let answer = library.fetch(rt.alloc(), name, most);
         assert_eq!(rt; shown(&answer), want, "{name}");
@@ -52,8 +53,8 @@ fn errors_of_the_system(rt: HostRuntime) {
     assert_eq!(rt; errors.write(b"err\n"), Ok(4));
 }
 
-/// A stream that takes at most two bytes a call, and none of a piece that begins with `0`. It refuses a flush
-/// after a piece that begins with `f`, and a piece that begins with `w`.
+// A stream that takes at most two bytes a call, and none of a piece that begins with `0`. It refuses a flush
+// after a piece that begins with `f`, and a piece that begins with `w`.
 #[derive(Drop)]
 struct Narrow {
     flushes: bool,

@@ -8,7 +8,7 @@ use Rattle.market_types.specs.declared.order.Side.{Side}
 use Rattle.market_types.specs.declared.order.Side.TheVariants.{Buy, Sell}
 use Rattle.price_time_book.specs.declared.resting.Resting.{Resting}
 use Rattle.price_time_book.specs.Next.{crosses, first_best, next_of}
-use Rattle.price_time_book.specs.Sides.{is_better, opposite}
+use Rattle.price_time_book.specs.Sides.{is_better, opposite_of}
 
 -- what isn't better than another isn't better than one that is no worse
 no_better : (side : Side) (a b c : ℕ) → is_better side a b ≡ false → is_better side b c ≡ false → is_better side a c ≡ false
@@ -79,15 +79,15 @@ first_is_best side o (x ∷ w) e =
     subst (λ (y : Resting). AllByRecursion (NoBetter side y) (x ∷ w)) same (r.0, r.1)
 
 -- no order that crosses has a better price than the next
-pub next_is_best : (book : List Resting) (side : Side) (limit : ℕ) (o : Resting) → next_of book side limit ≡ Some o → All (λ x. crosses side limit x ≡ true → is_better (opposite side) x.price o.price ≡ false) book
+pub next_is_best : (book : List Resting) (side : Side) (limit : ℕ) (o : Resting) → next_of book side limit ≡ Some o → All (λ x. crosses side limit x ≡ true → is_better (opposite_of side) x.price o.price ≡ false) book
 next_is_best book side limit o e =
-    All-from_recursion (λ x. crosses side limit x ≡ true → is_better (opposite side) x.price o.price ≡ false) book (each_passing (NoBetter (opposite side) o) (crosses side limit) book (first_is_best (opposite side) o (filter (crosses side limit) book) e))
+    All-from_recursion (λ x. crosses side limit x ≡ true → is_better (opposite_of side) x.price o.price ≡ false) book (each_passing (NoBetter (opposite_of side) o) (crosses side limit) book (first_is_best (opposite_of side) o (filter (crosses side limit) book) e))
 
 -- where there is no next order none crosses
 pub none_crosses : (book : List Resting) (side : Side) (limit : ℕ) → next_of book side limit ≡ None → All (λ x. crosses side limit x ≡ false) book
 none_crosses book side limit e = All-from_recursion (λ x. crosses side limit x ≡ false) book (fails book (empty (filter (crosses side limit) book) e))
   where
-    empty : (w : List Resting) → first_best (opposite side) w ≡ None → w ≡ []
+    empty : (w : List Resting) → first_best (opposite_of side) w ≡ None → w ≡ []
     empty [] e = refl
     empty (x ∷ w) e = absurd (cc e)
 

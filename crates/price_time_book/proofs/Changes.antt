@@ -9,12 +9,8 @@ use Rattle.price_time_book.specs.declared.resting.Resting.{Resting}
 use Rattle.price_time_book.specs.Orders.{changed, without, with_order}
 use Rattle.price_time_book.specs.Orderly.{IsOrderly, IsRising}
 
-each-weaker : (P Q : Resting → Type 0) → ((x : Resting) → P x → Q x) → (w : List Resting) → AllByRecursion P w → AllByRecursion Q w
-each-weaker P Q f [] a = tt
-each-weaker P Q f (x ∷ w) a = (f x a.0, each-weaker P Q f w a.1)
-
 -- ---- an order leaves
-each-filter : (P : Resting → Type 0) (p : Resting → Bool) (w : List Resting) → AllByRecursion P w → AllByRecursion P (filter p w)
+pub each-filter : (P : Resting → Type 0) (p : Resting → Bool) (w : List Resting) → AllByRecursion P w → AllByRecursion P (filter p w)
 each-filter P p [] a = tt
 each-filter P p (x ∷ w) a = elim (p x) as (λ b. AllByRecursion P (cond b (x ∷ filter p w) (filter p w))) [ true ↦ (a.0, each-filter P p w a.1) | false ↦ each-filter P p w a.1 ]
 
@@ -35,11 +31,11 @@ orderly-without n w h = record {
 }
 
 -- ---- an order stands in another's place
-each-with : (P : Resting → Type 0) (o : Resting) (w : List Resting) → P o → AllByRecursion P w → AllByRecursion P (with_order o w)
+pub each-with : (P : Resting → Type 0) (o : Resting) (w : List Resting) → P o → AllByRecursion P w → AllByRecursion P (with_order o w)
 each-with P o [] p a = tt
 each-with P o (x ∷ w) p a = (elim (eqb x.reference o.reference) as (λ b. P (cond b o x)) [ true ↦ p | false ↦ a.0 ], each-with P o w p a.1)
 
-same_reference : (o x : Resting) → (cond (eqb x.reference o.reference) o x).reference ≡ x.reference
+pub same_reference : (o x : Resting) → (cond (eqb x.reference o.reference) o x).reference ≡ x.reference
 same_reference o x =
     elim (cases_eq x.reference o.reference) [
       | inl e ↦ rw (eq-eqb x.reference o.reference e) (sym e)
@@ -66,7 +62,7 @@ orderly-with o w some le h = record {
   few = omega (arith, length-with o w, h.few);
 }
 
-orderly-changed : (o : Resting) (w : List Resting) → o.left ≤ o.intended → IsOrderly w → IsOrderly (changed o w)
+pub orderly-changed : (o : Resting) (w : List Resting) → o.left ≤ o.intended → IsOrderly w → IsOrderly (changed o w)
 orderly-changed o w le h =
     elim (cases_eq o.left 0) [
       | inl none ↦ (let b : eqb o.left 0 ≡ true = eq-eqb o.left 0 none in subst (λ c. IsOrderly (cond c (without o.reference w) (with_order o w))) (sym b) (orderly-without o.reference w h))
@@ -89,72 +85,16 @@ pub length-changed : (o : Resting) (w : List Resting) → length (changed o w) �
 length-changed o w = elim (eqb o.left 0) as (λ b. length (cond b (without o.reference w) (with_order o w)) ≤ length w) [ true ↦ filter_le (λ (x : Resting). not (eqb x.reference o.reference)) w | false ↦ omega (arith, length-with o w) ]
 
 -- ---- the same at a place
-keep_all : (n : ℕ) (w : List Resting) → AllByRecursion (λ (y : Resting). n < y.reference) w → without n w ≡ w
+pub keep_all : (n : ℕ) (w : List Resting) → AllByRecursion (λ (y : Resting). n < y.reference) w → without n w ≡ w
 keep_all n [] a = refl
 keep_all n (x ∷ w) a = let e : eqb x.reference n ≡ false = grind (arith, nat_tests, a.0) in rw e (ap (λ r. x ∷ r) (keep_all n w a.1))
 
-leave_all : (o : Resting) (w : List Resting) → AllByRecursion (λ (y : Resting). o.reference < y.reference) w → with_order o w ≡ w
+pub leave_all : (o : Resting) (w : List Resting) → AllByRecursion (λ (y : Resting). o.reference < y.reference) w → with_order o w ≡ w
 leave_all o [] a = refl
 leave_all o (x ∷ w) a = let e : eqb x.reference o.reference ≡ false = grind (arith, nat_tests, a.0) in rw e (ap (λ r. x ∷ r) (leave_all o w a.1))
 
--- what stands at a place is above what comes before all
-above_at : (n r : ℕ) (w : List Resting) (i : ℕ) → AllByRecursion (λ (y : Resting). n < y.reference) w → option_map (λ (o : Resting). o.reference) (slice_get w i) ≡ Some r → n < r
-above_at n r [] i a e = absurd (cc e)
-above_at n r (x ∷ w) zero a e = let same : x.reference ≡ r = cc e in omega (arith, a.0)
-above_at n r (x ∷ w) (suc i) a e = above_at n r w i a.1 e
-
-removed_at : (r : ℕ) (w : List Resting) (i : ℕ) → IsRising w → option_map (λ (o : Resting). o.reference) (slice_get w i) ≡ Some r → remove w i ≡ without r w
-removed_at r [] i h e = absurd (cc e)
-removed_at r (x ∷ w) zero h e =
-    let same : x.reference ≡ r = cc e in
-    let b : eqb x.reference r ≡ true = eq-eqb x.reference r same in
-    rw b (sym (keep_all r w (subst (λ (n : ℕ). AllByRecursion (λ (y : Resting). n < y.reference) w) same h.0)))
-removed_at r (x ∷ w) (suc i) h e =
-    let more : x.reference < r = above_at x.reference r w i h.0 e in
-    let b : eqb x.reference r ≡ false = grind (arith, nat_tests) in
-    rw b (ap (λ v. x ∷ v) (removed_at r w i h.1 e))
-
-replaced_at : (o : Resting) (w : List Resting) (i : ℕ) → IsRising w → option_map (λ (x : Resting). x.reference) (slice_get w i) ≡ Some o.reference → slice_set w i o ≡ with_order o w
-replaced_at o [] i h e = absurd (cc e)
-replaced_at o (x ∷ w) zero h e =
-    let same : x.reference ≡ o.reference = cc e in
-    let b : eqb x.reference o.reference ≡ true = eq-eqb x.reference o.reference same in
-    rw b (ap (λ v. o ∷ v) (sym (leave_all o w (subst (λ (n : ℕ). AllByRecursion (λ (y : Resting). n < y.reference) w) same h.0))))
-replaced_at o (x ∷ w) (suc i) h e =
-    let more : x.reference < o.reference = above_at x.reference o.reference w i h.0 e in
-    let b : eqb x.reference o.reference ≡ false = grind (arith, nat_tests) in
-    rw b (ap (λ v. x ∷ v) (replaced_at o w i h.1 e))
-
--- an order with reference r stands at place i
-abbrev pub IsPlaced : ℕ → List Resting → ℕ → Type 0
-IsPlaced r w i = option_map (λ (o : Resting). o.reference) (slice_get w i) ≡ Some r
-
-pub placed_within : (r : ℕ) (w v : List Resting) (i : ℕ) → w ≡ v → IsPlaced r v i → i < length w
-placed_within r w v i same e = subst (λ (u : List Resting). i < length u) (sym same) (there v i e)
-  where
-    there : (v : List Resting) (i : ℕ) → IsPlaced r v i → i < length v
-    there [] i e = absurd (cc e)
-    there (x ∷ v) zero e = omega arith
-    there (x ∷ v) (suc i) e = omega (arith, there v i e)
-
--- to remove the place of an order without open shares is to change it; the list has two names
-pub removed-changed : (o : Resting) (w v : List Resting) (i : ℕ) → w ≡ v → IsRising w → IsPlaced o.reference v i → o.left ≡ 0 → remove w i ≡ changed o v
-removed-changed o w v i same r e none =
-    subst (λ (u : List Resting). remove w i ≡ changed o u) same
-    (rw none (removed_at o.reference w i r (subst (λ (u : List Resting). IsPlaced o.reference u i) (sym same) e)))
-
--- to write an order with open shares to its place is to change it
-pub replaced-changed : (o : Resting) (w v : List Resting) (i : ℕ) → w ≡ v → IsRising w → IsPlaced o.reference v i → o.left ≢ 0 → slice_set w i o ≡ changed o v
-replaced-changed o w v i same r e some =
-    subst (λ (u : List Resting). slice_set w i o ≡ changed o u) same
-    (let b : eqb o.left 0 ≡ false = ne_eqb o.left 0 some in rw b (replaced_at o w i r (subst (λ (u : List Resting). IsPlaced o.reference u i) (sym same) e)))
-
--- an orderly book stays so
-pub orderly-changed_to : (o : Resting) (w v u : List Resting) → w ≡ v → u ≡ changed o v → o.left ≤ o.intended → IsOrderly w → IsOrderly u
-orderly-changed_to o w v u same is le h = subst IsOrderly (sym is) (orderly-changed o v le (subst IsOrderly same h))
-
 -- ---- an order comes to rest
-each-push : (P : Resting → Type 0) (w : List Resting) (o : Resting) → AllByRecursion P w → P o → AllByRecursion P (w ++ o ∷ [])
+pub each-push : (P : Resting → Type 0) (w : List Resting) (o : Resting) → AllByRecursion P w → P o → AllByRecursion P (w ++ o ∷ [])
 each-push P [] o a p = (p, tt)
 each-push P (x ∷ w) o a p = (a.0, each-push P w o a.1 p)
 
@@ -170,26 +110,8 @@ orderly-push w o h some le few later = record {
   few = omega (arith, length-append w (o ∷ []), few);
 }
 
--- what holds of all orders holds of that at a place
-each_at : (P : Resting → Type 0) (w : List Resting) (i : ℕ) (o : Resting) → AllByRecursion P w → slice_get w i ≡ Some o → P o
-each_at P [] i o a e = absurd (cc e)
-each_at P (x ∷ w) zero o a e = let same : x ≡ o = cc e in subst P same a.0
-each_at P (x ∷ w) (suc i) o a e = each_at P w i o a.1 e
-
--- no order of an orderly book w, which a slice s shows, has more open shares than its intended size
-pub intended_at : (s w : List Resting) (i : ℕ) (o : Resting) → s ≡ w → IsOrderly w → slice_get s i ≡ Some o → o.left ≤ o.intended
-intended_at s w i o same h e = each_at (λ (x : Resting). x.left ≤ x.intended) w i o h.within (subst (λ (u : List Resting). slice_get u i ≡ Some o) same e)
-
--- each order of it has open shares
-pub live_at : (s w : List Resting) (i : ℕ) (o : Resting) → s ≡ w → IsOrderly w → slice_get s i ≡ Some o → 0 < o.left
-live_at s w i o same h e = each_at (λ (x : Resting). 0 < x.left) w i o h.live (subst (λ (u : List Resting). slice_get u i ≡ Some o) same e)
-
--- ---- the same after a call that may change an order
-pub below-kept : {X : Type 0} (g : X → Resting) (n : ℕ) (r : Option X) (old new : List Resting) → IfSome r (λ x. new ≡ changed (g x) old) → IfNone r (new ≡ old) → All (λ (o : Resting). o.reference < n) old → All (λ (o : Resting). o.reference < n) new
-below-kept g n None old new some none a = subst (λ (w : List Resting). All (λ (o : Resting). o.reference < n) w) (sym none) a
-below-kept g n (Some x) old new some none a =
-    subst (λ (w : List Resting). All (λ (o : Resting). o.reference < n) w) (sym some) (below-changed n (g x) old a)
-
-pub length-kept : {X : Type 0} (g : X → Resting) (r : Option X) (old new : List Resting) → IfSome r (λ x. new ≡ changed (g x) old) → IfNone r (new ≡ old) → length new ≤ length old
-length-kept g None old new some none = omega (arith, ap (λ (w : List Resting). length w) none)
-length-kept g (Some x) old new some none = omega (arith, ap (λ (w : List Resting). length w) some, length-changed (g x) old)
+-- ---- a call that may change an order
+-- what holds of the book, however an order of it changes, holds after the call
+pub kept : {X : Type 0} (P : List Resting → Type 0) (g : X → Resting) (r : Option X) (old new : List Resting) → IfSome r (λ x. new ≡ changed (g x) old) → IfNone r (new ≡ old) → ((o : Resting) → P (changed o old)) → P old → P new
+kept P g None old new some none f a = subst P (sym none) a
+kept P g (Some x) old new some none f a = subst P (sym some) (f (g x))

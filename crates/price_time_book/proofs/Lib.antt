@@ -1,6 +1,14 @@
 pub mod Bests
 pub mod Changes
+pub mod Counts
+pub mod Firsts
+pub mod Indexes
+pub mod Joins
+pub mod Lowers
 pub mod Matching
+pub mod Packs
 pub mod Places
+pub mod Prices
+pub mod Stays
+pub mod Takes
 pub mod Tops
-pub mod Shares

@@ -8,10 +8,10 @@ use Rattle.price_time_book.specs.declared.resting.Resting.{Resting}
 use Rattle.price_time_book.specs.Matched.{Matching, IsEnded, completed, fill_of, matched_by, with_fill, with_next}
 use Rattle.price_time_book.specs.Next.{crosses, first_best, next_of}
 use Rattle.price_time_book.specs.Orders.{changed, without}
-use Rattle.price_time_book.specs.Sides.{is_better, opposite}
+use Rattle.price_time_book.specs.Sides.{is_better, opposite_of}
 
 -- ---- the next order is one of the book
-abbrev IsAmong : Resting → List Resting → Type 0
+abbrev pub IsAmong : Resting → List Resting → Type 0
 IsAmong o [] = ⊥
 IsAmong o (x ∷ w) = (x ≡ o) ⊎ IsAmong o w
 
@@ -27,11 +27,11 @@ best_among beats a o (x ∷ w) e =
     keep (inl k) = inl k
     keep (inr k) = inr (inr k)
 
-first_among : (side : Side) (o : Resting) (w : List Resting) → first_best side w ≡ Some o → IsAmong o w
+pub first_among : (side : Side) (o : Resting) (w : List Resting) → first_best side w ≡ Some o → IsAmong o w
 first_among side o [] e = absurd (cc e)
 first_among side o (x ∷ w) e = let best : best_of (λ a b. is_better side a.price b.price) x w ≡ o = cc e in best_among (λ a b. is_better side a.price b.price) x o w best
 
-among-filter : (p : Resting → Bool) (o : Resting) (w : List Resting) → IsAmong o (filter p w) → IsAmong o w
+pub among-filter : (p : Resting → Bool) (o : Resting) (w : List Resting) → IsAmong o (filter p w) → IsAmong o w
 among-filter p o [] a = a
 among-filter p o (x ∷ w) a =
     elim (cases_Bool (p x)) [
@@ -48,7 +48,7 @@ without_le : (n : ℕ) (w : List Resting) → length (without n w) ≤ length w
 without_le n [] = omega arith
 without_le n (x ∷ w) = elim (not (eqb x.reference n)) as (λ b. length (cond b (x ∷ without n w) (without n w)) ≤ length (x ∷ w)) [ true ↦ omega (arith, without_le n w) | false ↦ omega (arith, without_le n w) ]
 
-without_lt : (o : Resting) (w : List Resting) → IsAmong o w → length (without o.reference w) < length w
+pub without_lt : (o : Resting) (w : List Resting) → IsAmong o w → length (without o.reference w) < length w
 without_lt o [] a = absurd a
 without_lt o (x ∷ w) (inl k) =
     let b : eqb x.reference o.reference ≡ true = eq-eqb x.reference o.reference (ap (λ (y : Resting). y.reference) k) in
@@ -62,15 +62,15 @@ changed_lt o x w a same none =
     rw b (subst (λ (n : ℕ). length (without n w) < length w) (sym same) (without_lt o w a))
 
 -- a fill ends an order or takes one out of the book
-progress : (side : Side) (limit : ℕ) (m : Matching) (o : Resting) → next_of m.book side limit ≡ Some o → ((with_fill (fill_of m.shares o) m).shares ≡ 0) ⊎ (length (with_fill (fill_of m.shares o) m).book < length m.book)
+pub progress : (side : Side) (limit : ℕ) (m : Matching) (o : Resting) → next_of m.book side limit ≡ Some o → ((with_fill (fill_of m.shares o) m).shares ≡ 0) ⊎ (length (with_fill (fill_of m.shares o) m).book < length m.book)
 progress side limit m o e =
     elim (cases_lt o.left m.shares) [
-      | inl h ↦ inr (changed_lt o (record o { left = o.left - min o.left m.shares }) m.book (among-filter (crosses side limit) o m.book (first_among (opposite side) o (filter (crosses side limit) m.book) e)) refl (omega arith))
+      | inl h ↦ inr (changed_lt o (record o { left = o.left - min o.left m.shares }) m.book (among-filter (crosses side limit) o m.book (first_among (opposite_of side) o (filter (crosses side limit) m.book) e)) refl (omega arith))
       | inr h ↦ inl (omega arith)
     ]
 
 -- ---- an ended way stays as it is
-still : (next : Option Resting) (m : Matching) → m.shares ≡ 0 → with_next next m ≡ m
+pub still : (next : Option Resting) (m : Matching) → m.shares ≡ 0 → with_next next m ≡ m
 still None m none = refl
 still (Some o) m none = let b : eqb m.shares 0 ≡ true = eq-eqb m.shares 0 none in ap (λ c. cond c m (with_fill (fill_of m.shares o) m)) b
 
@@ -82,7 +82,7 @@ pub matched_ended : (n : ℕ) (side : Side) (limit : ℕ) (m : Matching) → IsE
 matched_ended zero side limit m h = refl
 matched_ended (suc n) side limit m h = ap (matched_by n side limit) (stays side limit m h) ∙ matched_ended n side limit m h
 
-goes : (side : Side) (limit : ℕ) (m : Matching) (o : Resting) → next_of m.book side limit ≡ Some o → m.shares ≢ 0 → with_next (next_of m.book side limit) m ≡ with_fill (fill_of m.shares o) m
+pub goes : (side : Side) (limit : ℕ) (m : Matching) (o : Resting) → next_of m.book side limit ≡ Some o → m.shares ≢ 0 → with_next (next_of m.book side limit) m ≡ with_fill (fill_of m.shares o) m
 goes side limit m o e some =
     let b : eqb m.shares 0 ≡ false = ne_eqb m.shares 0 some in
     ap (λ (n : Option Resting). with_next n m) e ∙ ap (λ c. cond c m (with_fill (fill_of m.shares o) m)) b

@@ -1,4 +1,4 @@
--- Lemmas on an order that is found, and on the place at which it stands.
+-- Lemmas on an order that is found.
 use Rattle.std.proofs.Common.{◌≡◌, ℕ, ◌<◌, ◌≤◌, Bool, true, false, cond, ltb, eqb, List, [], ◌∷◌, Option, Some, None, length, sym, ap, ◌∙◌, arith, inl, inr, find, subst, option_map, IfSome}
 use denote.Bor.{Bor}
 use Rattle.std.specs.Prelude.{position, slice_get}
@@ -11,33 +11,8 @@ use Rattle.price_time_book.specs.declared.resting.Resting.{Resting}
 use Rattle.price_time_book.specs.Orderly.{IsOrderly, IsRising}
 use Rattle.price_time_book.specs.Orders.{order_with}
 
--- an order that has no place isn't found
-pub find-none : (p : Resting → Bool) (w : List Resting) → position p w ≡ None → find p w ≡ None
-find-none p w e =
-    elim (cases_Bool (ltb (position_or_len p w) (length w))) [
-      | inl h ↦ absurd (there h)
-      | inr h ↦ find_at p w ∙ slice_get_past w (position_or_len p w) (ltb-false (position_or_len p w) (length w) h)
-    ]
-  where
-    there : ltb (position_or_len p w) (length w) ≡ true → ⊥
-    there h = let k : cond (ltb (position_or_len p w) (length w)) (Some (position_or_len p w)) None ≡ None = e in cc
-
--- the order that is found stands at its place
-pub find-some : (p : Resting → Bool) (w : List Resting) (i : ℕ) → position p w ≡ Some i → (i < length w) × (find p w ≡ slice_get w i)
-find-some p w i e =
-    elim (cases_Bool (ltb (position_or_len p w) (length w))) [
-      | inl h ↦ (let same : position_or_len p w ≡ i = at h in (omega (arith, ltb-true (position_or_len p w) (length w) h, same), find_at p w ∙ ap (λ (k : ℕ). slice_get w k) same))
-      | inr h ↦ absurd (nowhere h)
-    ]
-  where
-    at : ltb (position_or_len p w) (length w) ≡ true → position_or_len p w ≡ i
-    at h = let k : cond (ltb (position_or_len p w) (length w)) (Some (position_or_len p w)) None ≡ Some i = e in (let m : cond true (Some (position_or_len p w)) None ≡ Some i = rw h at k in cc)
-
-    nowhere : ltb (position_or_len p w) (length w) ≡ false → ⊥
-    nowhere h = let k : cond (ltb (position_or_len p w) (length w)) (Some (position_or_len p w)) None ≡ Some i = e in (let m : cond false (Some (position_or_len p w)) None ≡ Some i = rw h at k in cc)
-
 -- what holds of all orders holds of one that is found
-each_found : (P : Resting → Type 0) (p : Resting → Bool) (w : List Resting) (o : Resting) → AllByRecursion P w → find p w ≡ Some o → P o
+pub each_found : (P : Resting → Type 0) (p : Resting → Bool) (w : List Resting) (o : Resting) → AllByRecursion P w → find p w ≡ Some o → P o
 each_found P p [] o a e = absurd (cc e)
 each_found P p (x ∷ w) o a e =
     elim (cases_Bool (p x)) [
@@ -52,7 +27,7 @@ each_found P p (x ∷ w) o a e =
     tail h = let k : cond (p x) (Some x) (find p w) ≡ Some o = e in (let m : cond false (Some x) (find p w) ≡ Some o = rw h at k in m)
 
 -- where references rise, an order that is found is the one with its reference
-found_by_reference : (p : Resting → Bool) (w : List Resting) (o : Resting) → IsRising w → find p w ≡ Some o → order_with o.reference w ≡ Some o
+pub found_by_reference : (p : Resting → Bool) (w : List Resting) (o : Resting) → IsRising w → find p w ≡ Some o → order_with o.reference w ≡ Some o
 found_by_reference p [] o r e = absurd (cc e)
 found_by_reference p (x ∷ w) o r e =
     elim (cases_Bool (p x)) [

@@ -11,8 +11,7 @@ use Rattle.market_types.specs.declared.order.Side.{Side}
 use Rattle.market_types.specs.declared.order.Side.TheVariants.{Buy, Sell}
 use Rattle.price_time_book.specs.declared.resting.Resting.{Resting}
 use Rattle.price_time_book.specs.Next.{crosses, first_best, next_of, top_of}
-use Rattle.price_time_book.specs.Search.{goes_first}
-use Rattle.price_time_book.specs.Sides.{is_on, is_better, is_within, opposite}
+use Rattle.price_time_book.specs.Sides.{is_on, is_better, is_within, opposite_of}
 
 abbrev beats : Side → Resting → Resting → Bool
 beats side a b = is_better side a.price b.price
@@ -43,49 +42,13 @@ folded side p (x ∷ w) =
       | inr fails ↦ rw fails (folded side p w)
     ]
 
-steps_first : (side : Side) (first : Option Resting) (x : Resting) → step side (is_on side) first x ≡ cond (goes_first side first x) (Some x) first
-steps_first side None x = refl
-steps_first side (Some b) x =
-    elim (is_on side x) as (λ c. cond c (Some (cond (is_better side x.price b.price) x b)) (Some b) ≡ cond (c && is_better side x.price b.price) (Some x) (Some b)) [
-      | true ↦ elim (is_better side x.price b.price) as (λ d. Some (cond d x b) ≡ cond d (Some x) (Some b)) [ true ↦ refl | false ↦ refl ]
-      | false ↦ refl
-    ]
-
--- one more order is the first of its side where it goes first
-top-push : (side : Side) (w : List Resting) (x : Resting) → top_of side (w ++ x ∷ []) ≡ cond (goes_first side (top_of side w) x) (Some x) (top_of side w)
-top-push side w x =
-    let before : fold (step side (is_on side)) None w ≡ top_of side w = sym (folded side (is_on side) w) in
-    folded side (is_on side) (w ++ x ∷ []) ∙ fold-append (step side (is_on side)) None w (x ∷ []) ∙ ap (λ (b : Option Resting). step side (is_on side) b x) before ∙ steps_first side (top_of side w) x
-
-pub top_more : (side : Side) (w : List Resting) (i : ℕ) (x : Resting) → i < length w → x ≡ get_or w i x → top_of side (take (i + 1) w) ≡ cond (goes_first side (top_of side (take i w)) x) (Some x) (top_of side (take i w))
-top_more side w i x h e =
-    ap (top_of side) (take_more w i x h ∙ ap (λ (o : Resting). take i w ++ o ∷ []) (sym e)) ∙ top-push side (take i w) x
-
--- the turn of a search at which an order goes first
-pub top_takes : (side : Side) (w : List Resting) (i : ℕ) (x : Resting) (first after : Option (ℕ × Resting)) → i < length w → x ≡ get_or w i x → option_map (λ p. p.1) first ≡ top_of side (take i w) → goes_first side (option_map (λ p. p.1) first) x ≡ true → after ≡ Some (i, x)
-    → (option_map (λ p. p.1) after ≡ top_of side (take (i + 1) w)) × IfSome after (λ p. slice_get w p.0 ≡ Some p.1)
-top_takes side w i x first after h e is goes new =
-    let now : goes_first side (top_of side (take i w)) x ≡ true = subst (λ (o : Option Resting). goes_first side o x ≡ true) is goes in (
-      ap (option_map (λ p. p.1)) new ∙ sym (top_more side w i x h e ∙ ap (λ b. cond b (Some x) (top_of side (take i w))) now),
-      subst (λ (a : Option (ℕ × Resting)). IfSome a (λ p. slice_get w p.0 ≡ Some p.1)) (sym new) (slice_get-get_or w i x h ∙ ap (λ (o : Resting). Some o) (sym e)),
-    )
-
--- the turn of a search at which the first one so far stays
-pub top_keeps : (side : Side) (w : List Resting) (i : ℕ) (x : Resting) (first after : Option (ℕ × Resting)) → i < length w → x ≡ get_or w i x → option_map (λ p. p.1) first ≡ top_of side (take i w) → goes_first side (option_map (λ p. p.1) first) x ≡ false → after ≡ first
-    → IfSome first (λ p. slice_get w p.0 ≡ Some p.1) → (option_map (λ p. p.1) after ≡ top_of side (take (i + 1) w)) × IfSome after (λ p. slice_get w p.0 ≡ Some p.1)
-top_keeps side w i x first after h e is goes same place =
-    let now : goes_first side (top_of side (take i w)) x ≡ false = subst (λ (o : Option Resting). goes_first side o x ≡ false) is goes in (
-      ap (option_map (λ p. p.1)) same ∙ is ∙ sym (top_more side w i x h e ∙ ap (λ b. cond b (Some x) (top_of side (take i w))) now),
-      subst (λ (a : Option (ℕ × Resting)). IfSome a (λ p. slice_get w p.0 ≡ Some p.1)) (sym same) place,
-    )
-
 -- an order if an incoming one of this side meets its price
 abbrev gate : Side → ℕ → Option Resting → Option Resting
 gate side limit None = None
 gate side limit (Some o) = cond (is_within side limit o.price) (Some o) None
 
 -- a better price than one within the limit is within it
-better_within : (side : Side) (limit a b : ℕ) → is_better (opposite side) a b ≡ true → is_within side limit b ≡ true → is_within side limit a ≡ true
+better_within : (side : Side) (limit a b : ℕ) → is_better (opposite_of side) a b ≡ true → is_within side limit b ≡ true → is_within side limit a ≡ true
 better_within Buy limit a b h k = buys a b limit h k
   where
     buys : (a b limit : ℕ) → ltb a b ≡ true → leb b limit ≡ true → leb a limit ≡ true
@@ -96,7 +59,7 @@ better_within Sell limit a b h k = sells a b limit h k
     sells a b limit h k = grind (arith, nat_tests)
 
 -- a price that isn't better than another is within the limit only where the other is
-worse_within : (side : Side) (limit a b : ℕ) → is_better (opposite side) a b ≡ false → is_within side limit a ≡ true → is_within side limit b ≡ true
+worse_within : (side : Side) (limit a b : ℕ) → is_better (opposite_of side) a b ≡ false → is_within side limit a ≡ true → is_within side limit b ≡ true
 worse_within Buy limit a b h k = buys a b limit h k
   where
     buys : (a b limit : ℕ) → ltb a b ≡ false → leb a limit ≡ true → leb b limit ≡ true
@@ -119,43 +82,43 @@ gated true false true false x b f g = absurd (cc (g refl refl))
 gated true false false true x b f g = refl
 gated true false false false x b f g = refl
 
-gate_step : (side : Side) (limit : ℕ) (first : Option Resting) (x : Resting) → step (opposite side) (crosses side limit) (gate side limit first) x ≡ gate side limit (step (opposite side) (is_on (opposite side)) first x)
+gate_step : (side : Side) (limit : ℕ) (first : Option Resting) (x : Resting) → step (opposite_of side) (crosses side limit) (gate side limit first) x ≡ gate side limit (step (opposite_of side) (is_on (opposite_of side)) first x)
 gate_step side limit None x =
-    elim (is_on (opposite side) x) as (λ c. cond (c && is_within side limit x.price) (Some x) None ≡ gate side limit (cond c (Some x) None)) [ true ↦ refl | false ↦ refl ]
+    elim (is_on (opposite_of side) x) as (λ c. cond (c && is_within side limit x.price) (Some x) None ≡ gate side limit (cond c (Some x) None)) [ true ↦ refl | false ↦ refl ]
 gate_step side limit (Some b) x =
-    left_side ∙ gated (is_on (opposite side) x) (is_better (opposite side) x.price b.price) (is_within side limit x.price) (is_within side limit b.price) x b (better_within side limit x.price b.price) (worse_within side limit x.price b.price) ∙ right_side
+    left_side ∙ gated (is_on (opposite_of side) x) (is_better (opposite_of side) x.price b.price) (is_within side limit x.price) (is_within side limit b.price) x b (better_within side limit x.price b.price) (worse_within side limit x.price b.price) ∙ right_side
   where
-    left_side : step (opposite side) (crosses side limit) (gate side limit (Some b)) x ≡ cond (is_on (opposite side) x && is_within side limit x.price) (Some (cond (is_within side limit b.price) (cond (is_better (opposite side) x.price b.price) x b) x)) (cond (is_within side limit b.price) (Some b) None)
-    left_side = elim (is_within side limit b.price) as (λ w. cond (is_on (opposite side) x && is_within side limit x.price) (Some (better (opposite side) (cond w (Some b) None) x)) (cond w (Some b) None) ≡ cond (is_on (opposite side) x && is_within side limit x.price) (Some (cond w (cond (is_better (opposite side) x.price b.price) x b) x)) (cond w (Some b) None)) [ true ↦ refl | false ↦ refl ]
+    left_side : step (opposite_of side) (crosses side limit) (gate side limit (Some b)) x ≡ cond (is_on (opposite_of side) x && is_within side limit x.price) (Some (cond (is_within side limit b.price) (cond (is_better (opposite_of side) x.price b.price) x b) x)) (cond (is_within side limit b.price) (Some b) None)
+    left_side = elim (is_within side limit b.price) as (λ w. cond (is_on (opposite_of side) x && is_within side limit x.price) (Some (better (opposite_of side) (cond w (Some b) None) x)) (cond w (Some b) None) ≡ cond (is_on (opposite_of side) x && is_within side limit x.price) (Some (cond w (cond (is_better (opposite_of side) x.price b.price) x b) x)) (cond w (Some b) None)) [ true ↦ refl | false ↦ refl ]
 
-    right_side : cond (is_on (opposite side) x) (cond (is_better (opposite side) x.price b.price) (cond (is_within side limit x.price) (Some x) None) (cond (is_within side limit b.price) (Some b) None)) (cond (is_within side limit b.price) (Some b) None) ≡ gate side limit (step (opposite side) (is_on (opposite side)) (Some b) x)
-    right_side = elim (is_on (opposite side) x) as (λ c. cond c (cond (is_better (opposite side) x.price b.price) (cond (is_within side limit x.price) (Some x) None) (cond (is_within side limit b.price) (Some b) None)) (cond (is_within side limit b.price) (Some b) None) ≡ gate side limit (cond c (Some (cond (is_better (opposite side) x.price b.price) x b)) (Some b))) [
-      | true ↦ elim (is_better (opposite side) x.price b.price) as (λ d. cond d (cond (is_within side limit x.price) (Some x) None) (cond (is_within side limit b.price) (Some b) None) ≡ gate side limit (Some (cond d x b))) [ true ↦ refl | false ↦ refl ]
+    right_side : cond (is_on (opposite_of side) x) (cond (is_better (opposite_of side) x.price b.price) (cond (is_within side limit x.price) (Some x) None) (cond (is_within side limit b.price) (Some b) None)) (cond (is_within side limit b.price) (Some b) None) ≡ gate side limit (step (opposite_of side) (is_on (opposite_of side)) (Some b) x)
+    right_side = elim (is_on (opposite_of side) x) as (λ c. cond c (cond (is_better (opposite_of side) x.price b.price) (cond (is_within side limit x.price) (Some x) None) (cond (is_within side limit b.price) (Some b) None)) (cond (is_within side limit b.price) (Some b) None) ≡ gate side limit (cond c (Some (cond (is_better (opposite_of side) x.price b.price) x b)) (Some b))) [
+      | true ↦ elim (is_better (opposite_of side) x.price b.price) as (λ d. cond d (cond (is_within side limit x.price) (Some x) None) (cond (is_within side limit b.price) (Some b) None) ≡ gate side limit (Some (cond d x b))) [ true ↦ refl | false ↦ refl ]
       | false ↦ refl
     ]
 
-gate_fold : (side : Side) (limit : ℕ) (first : Option Resting) (w : List Resting) → fold (step (opposite side) (crosses side limit)) (gate side limit first) w ≡ gate side limit (fold (step (opposite side) (is_on (opposite side))) first w)
+gate_fold : (side : Side) (limit : ℕ) (first : Option Resting) (w : List Resting) → fold (step (opposite_of side) (crosses side limit)) (gate side limit first) w ≡ gate side limit (fold (step (opposite_of side) (is_on (opposite_of side))) first w)
 gate_fold side limit first [] = refl
 gate_fold side limit first (x ∷ w) =
-    ap (λ (b : Option Resting). fold (step (opposite side) (crosses side limit)) b w) (gate_step side limit first x) ∙ gate_fold side limit (step (opposite side) (is_on (opposite side)) first x) w
+    ap (λ (b : Option Resting). fold (step (opposite_of side) (crosses side limit)) b w) (gate_step side limit first x) ∙ gate_fold side limit (step (opposite_of side) (is_on (opposite_of side)) first x) w
 
 -- the next order is the first of the other side, if that crosses
-pub next_by_top : (side : Side) (limit : ℕ) (w : List Resting) → next_of w side limit ≡ gate side limit (top_of (opposite side) w)
+pub next_by_top : (side : Side) (limit : ℕ) (w : List Resting) → next_of w side limit ≡ gate side limit (top_of (opposite_of side) w)
 next_by_top side limit w =
-    folded (opposite side) (crosses side limit) w ∙ gate_fold side limit None w ∙ ap (gate side limit) (sym (folded (opposite side) (is_on (opposite side)) w))
+    folded (opposite_of side) (crosses side limit) w ∙ gate_fold side limit None w ∙ ap (gate side limit) (sym (folded (opposite_of side) (is_on (opposite_of side)) w))
 
-first_at : (side other : Side) (s v : List Resting) (top : Option (ℕ × Resting)) → s ≡ v → other ≡ opposite side → option_map (λ p. p.1) top ≡ top_of other s → top_of (opposite side) v ≡ option_map (λ p. p.1) top
+first_at : (side other : Side) (s v : List Resting) (top : Option (ℕ × Resting)) → s ≡ v → other ≡ opposite_of side → option_map (λ p. p.1) top ≡ top_of other s → top_of (opposite_of side) v ≡ option_map (λ p. p.1) top
 first_at side other s v top same side_is first = cc
 
 -- the same by what the search answered for the slice s of the items w, which have two names
-pub next-none : (side other : Side) (limit : ℕ) (s w v : List Resting) (top : Option (ℕ × Resting)) → s ≡ w → w ≡ v → other ≡ opposite side → option_map (λ p. p.1) top ≡ top_of other s → top ≡ None → next_of v side limit ≡ None
+pub next-none : (side other : Side) (limit : ℕ) (s w v : List Resting) (top : Option (ℕ × Resting)) → s ≡ w → w ≡ v → other ≡ opposite_of side → option_map (λ p. p.1) top ≡ top_of other s → top ≡ None → next_of v side limit ≡ None
 next-none side other limit s w v top seen same side_is first is =
     next_by_top side limit v ∙ ap (gate side limit) (first_at side other s v top (seen ∙ same) side_is first ∙ ap (option_map (λ p. p.1)) is)
 
-pub next-beyond : (side other : Side) (limit : ℕ) (s w v : List Resting) (top : Option (ℕ × Resting)) (i : ℕ) (o : Resting) → s ≡ w → w ≡ v → other ≡ opposite side → option_map (λ p. p.1) top ≡ top_of other s → top ≡ Some (i, o) → is_within side limit o.price ≡ false → next_of v side limit ≡ None
+pub next-beyond : (side other : Side) (limit : ℕ) (s w v : List Resting) (top : Option (ℕ × Resting)) (i : ℕ) (o : Resting) → s ≡ w → w ≡ v → other ≡ opposite_of side → option_map (λ p. p.1) top ≡ top_of other s → top ≡ Some (i, o) → is_within side limit o.price ≡ false → next_of v side limit ≡ None
 next-beyond side other limit s w v top i o seen same side_is first is h =
     next_by_top side limit v ∙ ap (gate side limit) (first_at side other s v top (seen ∙ same) side_is first ∙ ap (option_map (λ p. p.1)) is) ∙ ap (λ b. cond b (Some o) None) h
 
-pub next-within : (side other : Side) (limit : ℕ) (s w v : List Resting) (top : Option (ℕ × Resting)) (i : ℕ) (o : Resting) → s ≡ w → w ≡ v → other ≡ opposite side → option_map (λ p. p.1) top ≡ top_of other s → top ≡ Some (i, o) → is_within side limit o.price ≡ true → next_of v side limit ≡ Some o
+pub next-within : (side other : Side) (limit : ℕ) (s w v : List Resting) (top : Option (ℕ × Resting)) (i : ℕ) (o : Resting) → s ≡ w → w ≡ v → other ≡ opposite_of side → option_map (λ p. p.1) top ≡ top_of other s → top ≡ Some (i, o) → is_within side limit o.price ≡ true → next_of v side limit ≡ Some o
 next-within side other limit s w v top i o seen same side_is first is h =
     next_by_top side limit v ∙ ap (gate side limit) (first_at side other s v top (seen ∙ same) side_is first ∙ ap (option_map (λ p. p.1)) is) ∙ ap (λ b. cond b (Some o) None) h

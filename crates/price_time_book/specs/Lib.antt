@@ -1,7 +1,10 @@
-pub mod Known
+pub mod Awaited
+pub mod Index
+pub mod Indexed
+pub mod Kept
 pub mod Matched
 pub mod Next
 pub mod Orderly
 pub mod Orders
-pub mod Search
 pub mod Sides
+pub mod Worked

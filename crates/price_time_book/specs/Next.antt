@@ -1,10 +1,10 @@
 -- Which resting order comes first. A book is the list of its orders in order of arrival.
-use Rattle.std.specs.Prelude.{ℕ, Bool, ◌&&◌, ◌==◌, List, [], ◌∷◌, Option, Some, None, option_map, filter, sum_by}
+use Rattle.std.specs.Prelude.{ℕ, Bool, ◌&&◌, ◌==◌, List, [], ◌∷◌, Option, Some, None, option_map, filter, count_by, sum_by}
 use Rattle.std.specs.List.{best_of}
 use Rattle.market_types.specs.declared.order.Side.{Side}
 use Rattle.price_time_book.specs.declared.resting.Best.{Best}
 use Rattle.price_time_book.specs.declared.resting.Resting.{Resting}
-use Rattle.price_time_book.specs.Sides.{opposite, is_on, is_better, is_within}
+use Rattle.price_time_book.specs.Sides.{opposite_of, is_on, is_better, is_within}
 
 -- of orders on one side that with the best price, and of those with one price the earliest
 abbrev pub first_best : Side → List Resting → Option Resting
@@ -13,12 +13,16 @@ first_best side (o ∷ book) = Some (best_of (λ a b. is_better side a.price b.p
 
 -- whether a resting order crosses an incoming order of this side: it rests on the other side at a price within the limit
 abbrev pub crosses : Side → ℕ → Resting → Bool
-crosses side limit o = is_on (opposite side) o && is_within side limit o.price
+crosses side limit o = is_on (opposite_of side) o && is_within side limit o.price
+
+-- how many orders cross an incoming order of this side and limit
+abbrev pub crossing_of : Side → ℕ → List Resting → ℕ
+crossing_of side limit book = count_by (crosses side limit) book
 
 -- the order that an incoming order of this side meets next: of those that cross the one with the best price, and among those the
 -- earliest
 abbrev pub next_of : List Resting → Side → ℕ → Option Resting
-next_of book side limit = first_best (opposite side) (filter (crosses side limit) book)
+next_of book side limit = first_best (opposite_of side) (filter (crosses side limit) book)
 
 -- the first order of a side
 abbrev pub top_of : Side → List Resting → Option Resting

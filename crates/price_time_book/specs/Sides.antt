@@ -1,19 +1,9 @@
 -- The two sides of a book.
-use Rattle.std.specs.Prelude.{ℕ, Bool, true, false, nat_lt, nat_le, List, count_by}
+use Rattle.std.specs.Prelude.{ℕ, Bool, nat_lt, nat_le, List, count_by}
 use Rattle.market_types.specs.declared.order.Side.{Side}
 use Rattle.market_types.specs.declared.order.Side.TheVariants.{Buy, Sell}
 use Rattle.price_time_book.specs.declared.resting.Resting.{Resting}
-
--- the side that an order of this side meets
-abbrev pub opposite : Side → Side
-opposite Buy = Sell
-opposite Sell = Buy
-
-abbrev pub is_same_side : Side → Side → Bool
-is_same_side Buy Buy = true
-is_same_side Buy Sell = false
-is_same_side Sell Buy = false
-is_same_side Sell Sell = true
+pub use Rattle.market_types.specs.Sides.{opposite_of, is_same_side}
 
 -- whether an order rests on this side
 abbrev pub is_on : Side → Resting → Bool

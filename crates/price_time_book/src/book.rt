@@ -1,37 +1,73 @@
 //! The book.
 
-ghost use Rattle.std.specs.Prelude.{◌≡◌, ◌<◌, ◌≤◌, ◌-◌, ◌∷◌, ◌++◌, [], OnErr, OnOk, IfOk, IfSome, IfNone, All, Some, None, length, option_map, slice_get};
+ghost use Rattle.std.specs.Prelude.{◌≡◌, ◌<◌, ◌≤◌, ◌-◌, ◌∷◌, ◌++◌, ◌↔◌, [], IsTrue, OnErr, OnOk, IfOk, IfSome, IfNone, All, Some, None, length, option_map, slice_get};
+ghost use Rattle.price_time_book.specs.Awaited.{AreAwaited};
+ghost use Rattle.price_time_book.specs.Indexed.{open_orders};
 ghost use Rattle.price_time_book.specs.Matched.{fill_of, after_fill};
-ghost use Rattle.price_time_book.specs.Next.{best_at, next_of};
+ghost use Rattle.price_time_book.specs.Next.{best_at, crossing_of, next_of};
+ghost use Rattle.price_time_book.specs.Orderly.{IsOrderly};
 ghost use Rattle.price_time_book.specs.Orders.{order_of, order_with, changed, reduced};
 ghost use Rattle.price_time_book.specs.Sides.{depth_of};
 
+use crate::index::{ReferenceEntry, TokenEntry, enter_reference, enter_token};
+use crate::levels::{Level, best_in, fits, join};
+use crate::lowering::{lower_at, take_first};
 use crate::resting::{Best, Fill, Resting};
-use crate::search::{held_at, is_within, opposite, order_of, shares_at, top_of};
-use market_types::{AgentNo, Memory, Side, Token};
+use crate::search::{crossing_in, held_at, is_crossed, open_of, order_of};
+use market_types::{AgentNo, Memory, Side, Token, copied};
 use std::alloc::Global;
 use std::marker::Model;
 
+// How many orders may have left before the vector of arrival is made anew.
+const LEFT_BEHIND: usize = 32;
+
 /// The resting orders of one stock.
+///
+/// The orders stand in one vector in order of arrival, those that have left at 0 open shares. Over it
+/// stand the levels of price of both sides, and an index by reference and one by agent and token. Where
+/// room is made for more orders and most in the vector have left, all of it is made anew.
 #[derive(Drop)]
 pub struct Book {
     orders: Vec<Resting>,
+    nexts: Vec<usize>,
+    buys: Vec<Level>,
+    sells: Vec<Level>,
+    buy_count: usize,
+    sell_count: usize,
+    references: Vec<ReferenceEntry>,
+    tokens: Vec<TokenEntry>,
     spare: usize,
 }
 
 impl Model for Book {
-    ghost use Rattle.std.specs.Prelude.{◌≤◌, ◌+◌, vec_len, vec_capacity};
+    ghost use Rattle.std.specs.Prelude.{◌≡◌, ◌≤◌, ◌+◌, vec_len, vec_capacity};
     ghost use Rattle.market_types.specs.Room.{Room};
+    ghost use Rattle.market_types.specs.declared.order.Side.TheVariants.{Buy, Sell};
     ghost use Rattle.price_time_book.specs.declared.resting.Resting.{Resting};
+    ghost use Rattle.price_time_book.specs.Index.{IsByReference, IsByToken};
+    ghost use Rattle.price_time_book.specs.Indexed.{IsIndexed, IsSmall, open_orders};
     ghost use Rattle.price_time_book.specs.Orderly.{IsOrderly};
+    ghost use Rattle.price_time_book.specs.Sides.{depth_of};
 
     ghost Value = { Room Resting };
 
-    ghost view = { λ b. record { list = b.orders.items; spare = b.spare } };
+    ghost view = { λ b. record { list = open_orders b.orders.items; spare = b.spare } };
 
     ghost invariant = { λ b. record {
-      room : vec_len b.orders + b.spare ≤ vec_capacity b.orders;
-      orderly : IsOrderly b.orders.items;
+      orders_room : vec_len b.orders + b.spare ≤ vec_capacity b.orders;
+      nexts_room : vec_len b.nexts + b.spare ≤ vec_capacity b.nexts;
+      buys_room : vec_len b.buys + b.spare ≤ vec_capacity b.buys;
+      sells_room : vec_len b.sells + b.spare ≤ vec_capacity b.sells;
+      references_room : vec_len b.references + b.spare ≤ vec_capacity b.references;
+      tokens_room : vec_len b.tokens + b.spare ≤ vec_capacity b.tokens;
+      buys : IsIndexed Buy b.orders.items b.nexts.items b.buys.items;
+      sells : IsIndexed Sell b.orders.items b.nexts.items b.sells.items;
+      buy_count : b.buy_count ≡ depth_of Buy (open_orders b.orders.items);
+      sell_count : b.sell_count ≡ depth_of Sell (open_orders b.orders.items);
+      references : IsByReference b.orders.items b.references.items;
+      tokens : IsByToken b.orders.items b.tokens.items;
+      orderly : IsOrderly (open_orders b.orders.items);
+      small : IsSmall (open_orders b.orders.items);
     } };
 }
 
@@ -42,6 +78,13 @@ impl Book {
     {
         Book {
             orders: Vec::new(alloc),
+            nexts: Vec::new(alloc),
+            buys: Vec::new(alloc),
+            sells: Vec::new(alloc),
+            buy_count: 0,
+            sell_count: 0,
+            references: Vec::new(alloc),
+            tokens: Vec::new(alloc),
             spare: 0,
         }
     }
@@ -56,13 +99,12 @@ impl Book {
         if n <= self.spare {
             return Ok(());
         }
-        match self.orders.reserve(n) {
-            Ok(()) => {
-                self.spare = n;
-                Ok(())
-            }
-            Err(_) => Err(Memory),
+        if !self.is_sparse() {
+            return self.widen(n);
         }
+        let packed = self.packed(n)?;
+        *self = packed;
+        Ok(())
     }
 
     /// A book with the same orders, which may keep any number of places.
@@ -70,19 +112,32 @@ impl Book {
         ensures { IfOk result (λ b. b.list ≡ self.now.list) }
     {
         let orders = copied(alloc, self.orders.as_slice())?;
-        Ok(Book { orders, spare: 0 })
+        let nexts = copied(alloc, self.nexts.as_slice())?;
+        let buys = copied(alloc, self.buys.as_slice())?;
+        let sells = copied(alloc, self.sells.as_slice())?;
+        let references = copied(alloc, self.references.as_slice())?;
+        let tokens = copied(alloc, self.tokens.as_slice())?;
+        Ok(Book {
+            orders,
+            nexts,
+            buys,
+            sells,
+            buy_count: self.buy_count,
+            sell_count: self.sell_count,
+            references,
+            tokens,
+            spare: 0,
+        })
     }
 
     /// The best price of a side and the open shares at it. `None` where no order rests there.
     pub fn best(&self, side: Side) -> Option<Best>
         ensures { result ≡ best_at side self.now.list }
     {
-        let (_, first) = top_of(self.orders.as_slice(), side)?;
-        let shares = shares_at(self.orders.as_slice(), side, first.price);
-        Some(Best {
-            price: first.price,
-            shares,
-        })
+        match side {
+            Side::Buy => best_in(side, self.buys.as_slice()),
+            Side::Sell => best_in(side, self.sells.as_slice()),
+        }
     }
 
     /// Matches an incoming order of `side`, which wants `shares` more and trades at no worse price than
@@ -97,14 +152,29 @@ impl Book {
         ensures unmatched { IfNone result (self.new.list ≡ self.old.list) }
         ensures room { self.old.spare ≤ self.new.spare }
     {
-        let (at, resting) = top_of(self.orders.as_slice(), opposite(side))?;
-        if !is_within(side, limit, resting.price) {
-            return None;
+        let (orders, nexts) = (&mut self.orders, self.nexts.as_slice());
+        match side {
+            Side::Buy => take_first(
+                Side::Sell,
+                orders,
+                &mut self.sells,
+                &mut self.sell_count,
+                nexts,
+                side,
+                limit,
+                shares,
+            ),
+            Side::Sell => take_first(
+                Side::Buy,
+                orders,
+                &mut self.buys,
+                &mut self.buy_count,
+                nexts,
+                side,
+                limit,
+                shares,
+            ),
         }
-        let shares = shares.min(resting.left);
-        let left = resting.left - shares;
-        self.change(at, Resting { left, ..resting });
-        Some(Fill { resting, shares })
     }
 
     /// An order comes to rest. A place was kept for it, its reference is greater than each that is
@@ -118,9 +188,21 @@ impl Book {
         requires fresh { order_of order.agent order.token self.old.list ≡ None }
         ensures { self.new ≡ record { list = self.old.list ++ order ∷ []; spare = self.old.spare - 1 } }
     {
-        match self.orders.push(order) {
-            Ok(()) => self.spare -= 1,
-            Err(_) => unreachable!(),
+        fits(order.left);
+        let place = self.orders.len();
+        enter_reference(&mut self.references, &order, place);
+        enter_token(&mut self.tokens, &order, place);
+        match order.side {
+            Side::Buy => {
+                join(&mut self.orders, &mut self.nexts, &mut self.buys, order);
+                self.buy_count += 1;
+                self.spare -= 1;
+            }
+            Side::Sell => {
+                join(&mut self.orders, &mut self.nexts, &mut self.sells, order);
+                self.sell_count += 1;
+                self.spare -= 1;
+            }
         }
     }
 
@@ -131,7 +213,7 @@ impl Book {
         ensures live { IfSome result (λ o. (0 < o.now.left) × (o.now.left ≤ o.now.intended)) }
         ensures by_reference { IfSome result (λ o. order_with o.now.reference self.now.list ≡ Some o.now) }
     {
-        order_of(self.orders.as_slice(), agent, token)
+        order_of(self.orders.as_slice(), self.tokens.as_slice(), agent, token)
     }
 
     /// Lowers the open shares of the order with this reference to `left`, and its intended size by as
@@ -144,55 +226,146 @@ impl Book {
         ensures absent { IfNone result (self.new.list ≡ self.old.list) }
         ensures room { self.old.spare ≤ self.new.spare }
     {
-        let (at, resting) = held_at(self.orders.as_slice(), reference)?;
+        let (at, resting) = held_at(
+            self.orders.as_slice(),
+            self.references.as_slice(),
+            reference,
+        )?;
         let intended = resting.intended - (resting.left - left);
-        self.change(
-            at,
-            Resting {
-                intended,
-                left,
-                ..resting
-            },
-        );
-        Some(resting)
+        let (orders, nexts) = (&mut self.orders, self.nexts.as_slice());
+        match resting.side {
+            Side::Buy => {
+                lower_at(
+                    Side::Buy,
+                    orders,
+                    &mut self.buys,
+                    &mut self.buy_count,
+                    nexts,
+                    at,
+                    left,
+                    intended,
+                );
+                Some(resting)
+            }
+            Side::Sell => {
+                lower_at(
+                    Side::Sell,
+                    orders,
+                    &mut self.sells,
+                    &mut self.sell_count,
+                    nexts,
+                    at,
+                    left,
+                    intended,
+                );
+                Some(resting)
+            }
+        }
     }
 
     /// How many orders rest on a side.
     pub fn depth(&self, side: Side) -> usize
         ensures { result ≡ depth_of side self.now.list }
     {
-        self.orders.iter().filter(|o| o.side == side).count()
+        match side {
+            Side::Buy => self.buy_count,
+            Side::Sell => self.sell_count,
+        }
+    }
+
+    /// How many orders cross an incoming order of `side` with this limit: no match has more fills.
+    pub fn crossing(&self, side: Side, limit: u32) -> usize
+        ensures { result ≡ crossing_of side limit self.now.list }
+    {
+        if !is_crossed(self.best(side.opposite()), side, limit) {
+            return 0;
+        }
+        crossing_in(self.orders.as_slice(), side, limit)
+    }
+
+    /// How many orders rest in the book.
+    pub fn len(&self) -> usize
+        ensures { result ≡ length self.now.list }
+    {
+        self.buy_count + self.sell_count
+    }
+
+    /// Whether no order rests in the book.
+    pub fn is_empty(&self) -> bool
+        ensures { IsTrue result ↔ (self.now.list ≡ []) }
+    {
+        self.len() == 0
+    }
+
+    /// What holds of the orders of each book: their references rise, each has open shares and no more
+    /// than its intended size, and they are few.
+    pub fn is_orderly(&self)
+        ensures { IsOrderly self.now.list }
+    {
+        let _orders = &self.orders;
     }
 
     /// The orders in order of arrival.
     pub fn orders(&self, alloc: Global) -> Result<Vec<Resting>, Memory>
         ensures { IfOk result (λ v. v.items ≡ self.now.list) }
     {
-        copied(alloc, self.orders.as_slice())
+        open_of(alloc, self.orders.as_slice())
     }
 
-    // The order at a place becomes another with its reference, which leaves where it has no open shares.
-    fn change(&mut self, at: usize, order: Resting)
-        requires place { option_map (λ o. o.reference) (slice_get self.old.list at) ≡ Some order.reference }
-        requires intended { order.left ≤ order.intended }
-        ensures list { self.new.list ≡ changed order self.old.list }
-        ensures room { self.old.spare ≤ self.new.spare }
+    // Whether so many orders of the vector of arrival have left, and more than half, that it is made anew.
+    fn is_sparse(&self) -> bool {
+        self.orders.len() / 2 > self.len().saturating_add(LEFT_BEHIND)
+    }
+
+    // Makes room for `n` more in every vector.
+    fn widen(&mut self, n: usize) -> Result<(), Memory>
+        ensures list { self.new.list ≡ self.old.list }
+        ensures room { OnOk result (n ≤ self.new.spare) }
+        ensures never_falls { self.old.spare ≤ self.new.spare }
+        ensures refused { OnErr result (self.new ≡ self.old) }
     {
-        if order.left == 0 {
-            self.orders.remove(at);
-        } else {
-            self.orders[at] = order;
+        if n <= self.spare {
+            return Ok(());
+        }
+        let orders = self.orders.reserve(n);
+        let nexts = self.nexts.reserve(n);
+        let buys = self.buys.reserve(n);
+        let sells = self.sells.reserve(n);
+        let references = self.references.reserve(n);
+        let tokens = self.tokens.reserve(n);
+        match (orders, nexts, buys, sells, references, tokens) {
+            (Ok(()), Ok(()), Ok(()), Ok(()), Ok(()), Ok(())) => {
+                self.spare = n;
+                Ok(())
+            }
+            _ => Err(Memory),
         }
     }
-}
 
-// The same orders.
-fn copied(alloc: Global, orders: &[Resting]) -> Result<Vec<Resting>, Memory>
-    ensures { IfOk result (λ v. v.items ≡ orders.now) }
-{
-    let mut copy = Vec::new(alloc);
-    match copy.extend_from_slice(orders) {
-        Ok(()) => Ok(copy),
-        Err(_) => Err(Memory),
+    // A book with the same orders and without those that have left, which keeps places for `n` more.
+    fn packed(&self, n: usize) -> Result<Book, Memory>
+        ensures list { IfOk result (λ b. b.list ≡ self.now.list) }
+        ensures room { IfOk result (λ b. n ≤ b.spare) }
+    {
+        let mut packed = Book::new(*self.orders.allocator());
+        packed.widen(self.len())?;
+        packed.rest_all(self.orders.as_slice());
+        packed.widen(n)?;
+        Ok(packed)
+    }
+
+    // The open orders of a vector come to rest in an empty book, one after another.
+    fn rest_all(&mut self, orders: &[Resting])
+        requires empty { self.old.list ≡ [] }
+        requires room { length (open_orders orders.now) ≤ self.old.spare }
+        requires few { length (open_orders orders.now) ≤ 4294967296 }
+        requires awaited { AreAwaited orders.now }
+        ensures { self.new.list ≡ open_orders orders.now }
+    {
+        for order in orders {
+            if order.left != 0 {
+                self.rest(*order);
+            }
+        }
     }
 }

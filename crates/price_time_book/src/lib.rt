@@ -6,12 +6,16 @@
 #![tactic(auto)]
 
 mod book;
-pub mod known;
+mod index;
+pub mod keeping;
 pub mod laws;
+mod levels;
+mod lowering;
 mod resting;
 mod search;
 #[cfg(test)]
 mod tests;
+pub mod worked;
 
 pub use book::Book;
 pub use resting::{Best, Fill, Resting};

@@ -1,33 +1,17 @@
 //! Searches in a list of orders.
 
-ghost use Rattle.std.specs.Prelude.{◌≡◌, ◌==◌, ◌≤◌, ◌^◌, IfSome, Some, length, option_map, position, slice_get};
-ghost use Rattle.price_time_book.specs.Next.{shares_at, top_of};
+ghost use Rattle.std.specs.Prelude.{◌≡◌, ◌==◌, ◌&&◌, not, count_by, filter, IfOk, IfSome, Some, false, option_map, slice_get};
+ghost use Rattle.std.specs.Option.{option_map_or};
+ghost use Rattle.price_time_book.specs.Index.{IsByReference, IsByToken};
+ghost use Rattle.price_time_book.specs.Indexed.{open_orders};
 ghost use Rattle.price_time_book.specs.Orders.{order_of, order_with};
-ghost use Rattle.price_time_book.specs.Search.{goes_first};
-ghost use Rattle.price_time_book.specs.Sides.{is_better, is_within, opposite};
+ghost use Rattle.price_time_book.specs.Next.{crosses, crossing_of};
+ghost use Rattle.price_time_book.specs.Sides.{is_within};
 
-use crate::resting::Resting;
-use market_types::{AgentNo, Side, Token};
-
-// The side that an order of this side meets.
-pub fn opposite(side: Side) -> Side
-    ensures { result ≡ opposite side }
-{
-    match side {
-        Side::Buy => Side::Sell,
-        Side::Sell => Side::Buy,
-    }
-}
-
-// Whether a price is better than another for orders that rest on this side.
-fn is_better(side: Side, a: u32, b: u32) -> bool
-    ensures { result ≡ is_better side a b }
-{
-    match side {
-        Side::Buy => b < a,
-        Side::Sell => a < b,
-    }
-}
+use crate::index::{ReferenceEntry, TokenEntry, by_reference, by_token};
+use crate::resting::{Best, Resting};
+use market_types::{AgentNo, Memory, Side, Token};
+use std::alloc::{AllocError, Global};
 
 // Whether an order of this side with this limit trades at a price.
 pub fn is_within(side: Side, limit: u32, price: u32) -> bool
@@ -39,66 +23,83 @@ pub fn is_within(side: Side, limit: u32, price: u32) -> bool
     }
 }
 
-// Whether an order comes before the first one so far.
-fn goes_first(side: Side, first: Option<(usize, Resting)>, order: &Resting) -> bool
-    ensures { result ≡ goes_first side (option_map (λ p. p.1) first) order.now }
+// Whether an order crosses an incoming order of this side with this limit.
+fn crosses(side: Side, limit: u32, order: &Resting) -> bool
+    ensures { result ≡ crosses side limit order.now }
 {
-    order.side == side
-        && match first {
-            None => true,
-            Some((_, first)) => is_better(side, order.price, first.price),
-        }
+    order.side == side.opposite() && is_within(side, limit, order.price)
 }
 
-// The first order of a side, and where it stands.
-pub fn top_of(orders: &[Resting], side: Side) -> Option<(usize, Resting)>
-    ensures first { option_map (λ p. p.1) result ≡ top_of side orders.now }
-    ensures place { IfSome result (λ p. slice_get orders.now p.0 ≡ Some p.1) }
+// Whether a best price crosses an incoming order of this side with this limit.
+pub fn is_crossed(best: Option<Best>, side: Side, limit: u32) -> bool
+    ensures { result ≡ option_map_or (λ b. is_within side limit b.price) best false }
 {
-    let mut first = None;
-    for (i, order) in orders.iter().enumerate() {
-        if goes_first(side, first, order) {
-            first = Some((i, *order));
-        }
+    match best {
+        None => false,
+        Some(best) => is_within(side, limit, best.price),
     }
-    first
 }
 
-// The open shares of a side at one price.
-pub fn shares_at(orders: &[Resting], side: Side, price: u32) -> u64
-    requires { length orders.now ≤ 2 ^ 32 }
-    ensures { result ≡ shares_at side price orders.now }
-{
-    let mut shares = 0;
-    for order in orders {
-        if order.side == side && order.price == price {
-            shares += u64::from(order.left);
-        }
-    }
-    shares
-}
-
-// Where the first order with this reference stands.
-fn place_of(orders: &[Resting], reference: u64) -> Option<usize>
-    ensures { result ≡ position (λ o. o.reference == reference) orders.now }
-{
-    orders.iter().position(|o| o.reference == reference)
-}
-
-// The order with this reference, and where it stands.
-pub fn held_at(orders: &[Resting], reference: u64) -> Option<(usize, Resting)>
-    ensures held { option_map (λ p. p.1) result ≡ order_with reference orders.now }
-    ensures place { IfSome result (λ p. slice_get orders.now p.0 ≡ Some p.1) }
-{
-    let at = place_of(orders, reference)?;
-    Some((at, orders[at]))
-}
-
-// The order that an agent sent under a token.
-pub fn order_of<'a>(orders: &'a [Resting], agent: AgentNo, token: &Token) -> Option<&'a Resting>
-    ensures { option_map (λ o. o.now) result ≡ order_of agent token.now orders.now }
+// How many orders are open and cross an incoming order of this side with this limit.
+fn count_crossing(orders: &[Resting], side: Side, limit: u32) -> usize
+    ensures { result ≡ count_by (λ o. not (o.left == 0) && crosses side limit o) orders.now }
 {
     orders
         .iter()
-        .find(|o| o.agent == agent && o.token == *token)
+        .filter(|o| o.left != 0 && crosses(side, limit, o))
+        .count()
+}
+
+// How many open orders cross an incoming order of this side with this limit.
+pub fn crossing_in(orders: &[Resting], side: Side, limit: u32) -> usize
+    ensures { result ≡ crossing_of side limit (open_orders orders.now) }
+{
+    count_crossing(orders, side, limit)
+}
+
+// The open order with this reference, and where it stands.
+pub fn held_at(
+    orders: &[Resting],
+    entries: &[ReferenceEntry],
+    reference: u64,
+) -> Option<(usize, Resting)>
+    requires { IsByReference orders.now entries.now }
+    ensures held { option_map (λ p. p.1) result ≡ order_with reference (open_orders orders.now) }
+    ensures place { IfSome result (λ p. slice_get orders.now p.0 ≡ Some p.1) }
+{
+    let at = by_reference(orders, entries, reference)?;
+    Some((at, orders[at]))
+}
+
+// The open order that an agent sent under a token.
+pub fn order_of<'a>(
+    orders: &'a [Resting],
+    entries: &[TokenEntry],
+    agent: AgentNo,
+    token: &Token,
+) -> Option<&'a Resting>
+    requires { IsByToken orders.now entries.now }
+    ensures { option_map (λ o. o.now) result ≡ order_of agent token.now (open_orders orders.now) }
+{
+    let at = by_token(orders, entries, agent, token)?;
+    Some(&orders[at])
+}
+
+// The orders that are open.
+fn kept(alloc: Global, orders: &[Resting]) -> Result<Vec<Resting>, Memory>
+    ensures { IfOk result (λ v. v.items ≡ filter (λ o. not (o.left == 0)) orders.now) }
+{
+    let open: Result<Vec<Resting>, AllocError> = orders
+        .iter()
+        .copied()
+        .filter(|o| o.left != 0)
+        .collect(alloc);
+    Ok(open?)
+}
+
+// The open orders in order of arrival.
+pub fn open_of(alloc: Global, orders: &[Resting]) -> Result<Vec<Resting>, Memory>
+    ensures { IfOk result (λ v. v.items ≡ open_orders orders.now) }
+{
+    kept(alloc, orders)
 }

@@ -1,2 +1,1 @@
-pub mod Appends
-pub mod Timely
+pub mod EntriesTold

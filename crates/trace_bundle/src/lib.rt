@@ -1,11 +1,10 @@
-//! The bundle of a study: its frames in bytes.
+//! The bundle of a study: the order of its frames.
 #![tactic(auto)]
 
 mod bundle;
-mod closing;
-mod frames;
-mod layouts;
 
-pub use bundle::{BranchRun, bundle_of};
-pub use closing::{Closing, ClosingAgent, ClosingCounts, ClosingOrder, ClosingStock};
-pub use layouts::{AGENT, BRANCH, COUNTS, EDIT, END, EVENT, HEADER, ORDER, POSITION, QUOTE, STOCK};
+pub use bundle::{BranchRun, bundle_of, put_run};
+pub use bundle_frames::{Closing, ClosingAgent, ClosingCounts, ClosingOrder, ClosingStock};
+
+#[cfg(test)]
+mod tests;

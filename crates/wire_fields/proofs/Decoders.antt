@@ -2,7 +2,7 @@
 use Rattle.std.proofs.Common.{◌≡◌, ℕ, ◌<◌, true, false, List, [], ◌∷◌, length, get_or, slice_get, Option, Some, None, Ok, Err, refl, sym, ap, ◌∙◌, arith}
 use Rattle.market_types.specs.declared.error.CodecError.{CodecError}
 use Rattle.wire_fields.specs.declared.kind.Kind.{Kind}
-use Rattle.wire_fields.proofs.Fields.{message_again}
+use Rattle.wire_fields.proofs.Spelled.{message_again}
 use Rattle.wire_fields.specs.Wire.{Wire, spelling, IsInRange, IsSpelled, IsRead, wire_in, wire_at, fault, refusal}
 
 -- The letter of each message tells its fields, and a message comes back from its wire.

@@ -1,5 +1,4 @@
-pub mod Back
 pub mod Decoders
 pub mod Digits
-pub mod Fields
+pub mod Spelled
 pub mod Tables

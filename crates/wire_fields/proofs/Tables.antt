@@ -1,7 +1,7 @@
 -- A message that is written field by field.
-use Rattle.std.proofs.Common.{◌≡◌, ℕ, suc, ◌+◌, ◌-◌, ◌<◌, ◌≤◌, List, [], ◌∷◌, ◌++◌, length, get_or, take, drop, set, map, refl, sym, ap, subst, ◌∙◌, append_assoc, add-one, arith}
+use Rattle.std.proofs.Common.{◌≡◌, ℕ, suc, ◌+◌, ◌-◌, ◌<◌, ◌≤◌, List, [], ◌∷◌, ◌++◌, length, get_or, take, drop, map, refl, sym, ap, subst, ◌∙◌, append_assoc, add-one, arith}
 use Rattle.std.proofs.Math.Seq.{drop-cons}
-use Rattle.std.proofs.lemmas.List.{take-append-drop, drop_all, drop-set-lt, append-nil}
+use Rattle.std.proofs.lemmas.List.{take-append-drop, drop_all, append-nil}
 use Rattle.std.proofs.lemmas.Slice.{take-put_mid, drop-put_mid}
 use borrow.Rule.Slice.PartMut.{put_mid}
 use Rattle.wire_fields.specs.declared.kind.Kind.{Kind}
@@ -65,11 +65,10 @@ write_at ks vs i k v at n message size before out part lt all is long n_is part_
     let both : P (get_or ks i k ∷ drop (i + 1) ks) (get_or vs i v ∷ drop (i + 1) vs) = rw (← next_kind ks i k lt, ← next_value vs i v there) is in
     write_field (get_or ks i k) (drop (i + 1) ks) (get_or vs i v) (drop (i + 1) vs) at n message size before out part both long n_is part_is len
 
--- the letter alone
-pub write_letter : (ks : List Kind) (vs : List Value) (letter : ℕ) (out : List ℕ) → HaveWidths ks vs → 1 ≤ length out
-    → IsWritten ks vs 1 (letter ∷ spelled_fields ks (map told vs)) (1 + total_width ks) (set out 0 letter) (set out 0 letter)
-write_letter ks vs letter [] h long = absurd (omega arith)
-write_letter ks vs letter (b ∷ out) h long = record { room = refl; fitting = h; written = refl; rest = refl }
+-- nothing yet
+pub write_first : (ks : List Kind) (vs : List Value) (out : List ℕ) → HaveWidths ks vs
+    → IsWritten ks vs 0 (spelled_fields ks (map told vs)) (total_width ks) out out
+write_first ks vs out h = record { room = omega arith; fitting = h; written = refl; rest = refl }
 
 nothing_left : (vs : List Value) (at : ℕ) (message : List ℕ) (size : ℕ) (before out : List ℕ) → IsWritten [] vs at message size before out → out ≡ message ++ drop size before
 nothing_left vs at message size before out is =
@@ -77,10 +76,10 @@ nothing_left vs at message size before out is =
     let front : take size out ≡ message = rw (← end) (sym (append-nil (take at out)) ∙ is.written) in
     sym (take-append-drop size out) ∙ rw (front, is.rest) refl
 
--- the whole message
-pub write_all : (ks : List Kind) (vs : List Value) (i letter at : ℕ) (message : List ℕ) (size : ℕ) (before out : List ℕ) → length ks ≤ i → 0 < size
-    → IsWritten (drop i ks) (drop i vs) at message size (set before 0 letter) out → out ≡ message ++ drop size before
-write_all ks vs i letter at message size before out le pos is =
+-- all fields
+pub write_all : (ks : List Kind) (vs : List Value) (i at : ℕ) (message : List ℕ) (size : ℕ) (before out : List ℕ) → length ks ≤ i
+    → IsWritten (drop i ks) (drop i vs) at message size before out → out ≡ message ++ drop size before
+write_all ks vs i at message size before out le is =
     let none : drop i ks ≡ [] = drop_all i ks le in
-    let P : List Kind → Type 0 = λ kinds. IsWritten kinds (drop i vs) at message size (set before 0 letter) out in
-    nothing_left (drop i vs) at message size (set before 0 letter) out (subst P none is) ∙ ap (λ (bs : List ℕ). message ++ bs) (drop-set-lt size before 0 letter pos)
+    let P : List Kind → Type 0 = λ kinds. IsWritten kinds (drop i vs) at message size before out in
+    nothing_left (drop i vs) at message size before out (subst P none is)

@@ -1,15 +1,18 @@
 -- Kinds of fields, and the bytes that may stand in them.
 use Rattle.std.specs.Prelude.{ℕ, Bool, true, false, ◌&&◌, ◌||◌, ◌==◌, nat_lt, List, drop, if◌then◌else◌}
 use Rattle.std.specs.Int.{is_in_range}
-use Rattle.std.specs.List.{list_all, prefix_len}
+use Rattle.std.specs.List.{list_all, list_any, prefix_len}
 use Rattle.std.specs.Char.{is_ascii_graphic, is_ascii_alphanumeric}
 use Rattle.wire_fields.specs.declared.kind.Kind.{Kind}
-use Rattle.wire_fields.specs.declared.kind.Kind.TheVariants.{Number, Byte, Letters, Text, Alphanumeric, Side, OrderState, TradingState}
+use Rattle.wire_fields.specs.declared.kind.Kind.TheVariants.{Number, Byte, Bytes, Either, OneOf, Letters, Text, Alphanumeric, Side, OrderState, TradingState}
 
 -- how many bytes a field has
 abbrev pub width : Kind → ℕ
 width (Number n) = n
 width Byte = 1
+width (Bytes n) = n
+width (Either letters) = 1
+width (OneOf letters) = 1
 width (Letters n) = n
 width (Text n) = n
 width (Alphanumeric n) = n
@@ -23,6 +26,9 @@ width TradingState = 1
 abbrev pub admits : Kind → ℕ → Bool
 admits (Number n) b = true
 admits Byte b = true
+admits (Bytes n) b = true
+admits (Either letters) b = list_any (λ letter. letter == b) letters
+admits (OneOf letters) b = list_any (λ letter. letter == b) letters
 admits (Letters n) b = is_in_range 0x20 0x7E b
 admits (Text n) b = is_ascii_graphic b
 admits (Alphanumeric n) b = is_ascii_alphanumeric b
@@ -34,6 +40,9 @@ admits TradingState b = (b == 72) || ((b == 80) || ((b == 81) || (b == 84)))
 abbrev pub is_padded : Kind → Bool
 is_padded (Number n) = false
 is_padded Byte = false
+is_padded (Bytes n) = false
+is_padded (Either letters) = false
+is_padded (OneOf letters) = false
 is_padded (Letters n) = false
 is_padded (Text n) = true
 is_padded (Alphanumeric n) = true

@@ -1,6 +1,7 @@
 //! Kinds of fields.
 
-ghost use Rattle.std.specs.Prelude.{◌≡◌, ℕ};
+ghost use Rattle.std.specs.Prelude.{◌≡◌, ℕ, ◌==◌};
+ghost use Rattle.std.specs.List.{list_any};
 ghost use Rattle.wire_fields.specs.Kinds.{width, admits, is_padded};
 
 /// What stands in a field of a message.
@@ -10,6 +11,12 @@ pub enum Kind {
     Number(usize),
     /// Any byte.
     Byte,
+    /// So many bytes, any.
+    Bytes(usize),
+    /// One of these two letters.
+    Either([u8; 2]),
+    /// One of these five letters.
+    OneOf([u8; 5]),
     /// So many bytes from 0x20 to 0x7E.
     Letters(usize),
     /// So many bytes: one or more from 0x21 to 0x7E, and then only spaces.
@@ -30,8 +37,17 @@ impl Kind {
         ensures { result ≡ width self.now }
     {
         match self {
-            Kind::Number(n) | Kind::Letters(n) | Kind::Text(n) | Kind::Alphanumeric(n) => *n,
-            Kind::Byte | Kind::Side | Kind::OrderState | Kind::TradingState => 1,
+            Kind::Number(n)
+            | Kind::Bytes(n)
+            | Kind::Letters(n)
+            | Kind::Text(n)
+            | Kind::Alphanumeric(n) => *n,
+            Kind::Byte
+            | Kind::Either(_)
+            | Kind::OneOf(_)
+            | Kind::Side
+            | Kind::OrderState
+            | Kind::TradingState => 1,
         }
     }
 
@@ -40,7 +56,9 @@ impl Kind {
         ensures { result ≡ admits self.now b }
     {
         match self {
-            Kind::Number(_) | Kind::Byte => true,
+            Kind::Number(_) | Kind::Byte | Kind::Bytes(_) => true,
+            Kind::Either(letters) => is_among(b, letters),
+            Kind::OneOf(letters) => is_among(b, letters),
             Kind::Letters(_) => matches!(b, b' '..=b'~'),
             Kind::Text(_) => b.is_ascii_graphic(),
             Kind::Alphanumeric(_) => b.is_ascii_alphanumeric(),
@@ -56,4 +74,11 @@ impl Kind {
     {
         matches!(self, Kind::Text(_) | Kind::Alphanumeric(_))
     }
+}
+
+/// Whether a byte is one of these.
+fn is_among(b: u8, letters: &[u8]) -> bool
+    ensures { result ≡ list_any (λ letter. letter == b) letters.now }
+{
+    letters.iter().any(|letter| *letter == b)
 }

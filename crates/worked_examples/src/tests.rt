@@ -4,7 +4,7 @@ use outside::{Counted, MemoryLibrary, MemorySink, OpenGate, Steps};
 use std::alloc::Global;
 use std::test::Fail;
 
-/// A watcher study before its close, and what stands between its free values.
+// A watcher study before its close, and what stands between its free values.
 const BEFORE_CLOSE: &str =
     "version = 1\nkey = \"0000000000000000000000000000000000000000000000000000000000000000\"\nopen = 1000\nclose = ";
 
@@ -29,7 +29,7 @@ fn words_of(alloc: Global, words: &[&str]) -> Result<Vec<String>, Fail> {
     Ok(all)
 }
 
-/// A library with one file.
+// A library with one file.
 fn library(
     alloc: Global,
     name: &str,
@@ -45,7 +45,7 @@ fn sink(alloc: Global, room: usize, most: usize, failing: &[u32]) -> Result<Memo
     Ok(MemorySink::new(alloc, room, most, failing.to_vec(alloc)?)?)
 }
 
-/// Runs words over one file `s`; answers the status and the counted steps.
+// Runs words over one file `s`; answers the status and the counted steps.
 fn run_over(
     alloc: Global,
     words: &[&str],
@@ -69,7 +69,7 @@ fn run_over(
     Ok((status, steps.close()))
 }
 
-/// Whether the bytes are these frames one after another.
+// Whether the bytes are these frames one after another.
 fn are_frames(bytes: &[u8], frames: &[&[u8]]) -> bool {
     let mut rest = bytes;
     for frame in frames {
@@ -150,21 +150,22 @@ fn failing_writes_leave_a_first_part(rt: HostRuntime) -> Result<(), Fail> {
         &mut notes,
     )?;
     assert_eq!(rt; ended, (Status::Ok, 4));
-    for (room, most, failing) in [
-        (666, 64, 1),
-        (666, 64, 2),
-        (666, 64, 3),
-        (666, 64, 4),
-        (666, 64, 5),
-        (666, 64, 6),
-        (666, 64, 7),
-        (666, 64, 8),
-        (666, 64, 9),
-        (666, 64, 10),
-        (666, 64, 11),
-        (256, 64, 0),
-        (665, 64, 0),
-        (666, 0, 0),
+    // room, the most bytes a call, the failing call (0: none), and how many bytes are taken
+    for (room, most, failing, taken) in [
+        (666, 64, 1, 0),
+        (666, 64, 2, 64),
+        (666, 64, 3, 128),
+        (666, 64, 4, 192),
+        (666, 64, 5, 256),
+        (666, 64, 6, 320),
+        (666, 64, 7, 384),
+        (666, 64, 8, 448),
+        (666, 64, 9, 512),
+        (666, 64, 10, 576),
+        (666, 64, 11, 640),
+        (256, 64, 0, 256),
+        (665, 64, 0, 665),
+        (666, 0, 0, 0),
     ] {
         let mut out = sink(alloc, room, most, &[failing])?;
         let mut notes = sink(alloc, 100, 64, &[])?;
@@ -177,7 +178,7 @@ fn failing_writes_leave_a_first_part(rt: HostRuntime) -> Result<(), Fail> {
             &mut notes,
         )?;
         assert_eq!(rt; ended, (Status::WriteFault, 4));
-        assert!(rt; whole.taken().starts_with(out.taken()) && out.taken().len() < 666);
+        assert!(rt; whole.taken().starts_with(out.taken()) && out.taken().len() == taken);
         assert_eq!(rt; notes.taken(), b"write failed\n".as_slice());
     }
     Ok(())

@@ -1,5 +1,5 @@
 use Rattle.std.proofs.Common.{◌≡◌, ◌≤◌, List, length, sym, subst, rules, All}
-use Rattle.trace_bundle.specs.declared.closing.ClosingAgent.{ClosingAgent}
+use Rattle.bundle_frames.specs.declared.closing.ClosingAgent.{ClosingAgent}
 use Rattle.abides_run.specs.Closing.{agents_told}
 use Rattle.abides_run.proofs.Agents.{few_positions}
 use Rattle.abides_run.proofs.closing.agents.Goals as goal

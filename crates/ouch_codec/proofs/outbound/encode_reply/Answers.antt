@@ -1,5 +1,3 @@
-use Rattle.wire_fields.proofs.Decoders.{spelled_by}
-use Rattle.ouch_codec.specs.Outbound.{reply_wire}
 use Rattle.ouch_codec.proofs.outbound.encode_reply.Goals as goal
 
 pub returns-in-Accepted-clause-spelling : goal.returns-in-Accepted-clause-spelling
@@ -7,4 +5,4 @@ returns-in-Accepted-clause-spelling c =
     rw (c.in-Accepted.is, c.of-in-Accepted.ensures.spelling, c.from.ensures, c.from-in-Accepted.ensures, c.from-in-Accepted-2.ensures, c.from-in-Accepted-3.ensures)
 
 pub returns-in-Accepted-clause-spelled : goal.returns-in-Accepted-clause-spelled
-returns-in-Accepted-clause-spelled c = spelled_by c.of-in-Accepted.result (reply_wire c.args.m.now) (returns-in-Accepted-clause-spelling c)
+returns-in-Accepted-clause-spelled c = λ in_range. record { same = returns-in-Accepted-clause-spelling c; in_range = in_range }

@@ -1,5 +1,12 @@
 use Rattle.price_time_book.proofs.Bests.{next_is_best, none_crosses}
+use Rattle.price_time_book.proofs.Stays.{next_crosses, next_held, next_passes}
 use Rattle.price_time_book.proofs.laws.next_is_best.Goals as goal
 
 pub returns : goal.returns
-returns c = record { best = next_is_best; none = none_crosses }
+returns c = record {
+  held = λ book side limit. next_held side limit book;
+  tested = next_passes;
+  crosses = λ book side limit. next_crosses side limit book;
+  best = next_is_best;
+  none = none_crosses;
+}

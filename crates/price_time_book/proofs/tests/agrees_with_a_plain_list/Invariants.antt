@@ -6,5 +6,4 @@ abbrev pub invariant-loop-next : goal.invariant-loop-next
 invariant-loop-next g l = record {
   before : All (λ (o : Resting). o.reference < l.next) l.book.list;
   few : length l.book.list ≤ l.next;
-  room : 300 ≤ l.book.spare + l.next;
 }

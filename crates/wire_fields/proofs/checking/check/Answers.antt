@@ -1,5 +1,5 @@
 use Rattle.std.proofs.Common.{arith, refl, rules}
-use Rattle.wire_fields.proofs.Fields.{message_read, message_again, good_read}
+use Rattle.wire_fields.proofs.Spelled.{message_read, message_again, good_read}
 use Rattle.wire_fields.proofs.checking.check.Goals as goal
 
 pub returns-then-bytes-needed-clause-only : goal.returns-then-bytes-needed-clause-only

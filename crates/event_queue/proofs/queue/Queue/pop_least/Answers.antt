@@ -1,33 +1,40 @@
-use Rattle.std.proofs.Common.{◌≡◌, not, sym, ap, subst, ◌∙◌, refl, rules, eqb}
+use Rattle.std.proofs.Common.{◌∷◌, length, sym, ap, ◌∙◌, refl, arith, rules}
+use Rattle.std.specs.BinaryHeap.{heap_items}
+use Rattle.std.proofs.lemmas.List.Sorted.{length_permutation}
 use Rattle.market_types.specs.Room.{Room}
 use Rattle.market_types.specs.declared.message.Message.{Message}
-use Rattle.event_queue.specs.Waiting.{least, without}
-use Rattle.event_queue.specs.Rising.{IsRising}
-use Rattle.event_queue.proofs.Orders.{least_here, without_here, rising-filter, new-without}
+use Rattle.event_queue.specs.Waiting.{least}
+use Rattle.event_queue.specs.Numbered.{by_number, messages_of}
+use Rattle.event_queue.proofs.Orders.{new-without}
+use Rattle.event_queue.proofs.Numbers.{popped, length_seen}
 use Rattle.event_queue.proofs.queue.Queue.pop_least.Goals as goal
 
 pub invariant_of-self : goal.invariant_of-self
 invariant_of-self c =
-    let w = c.self.inside.messages.items in
-    let left : c.remove-m.new.self.items ≡ without c.remove-m.result.seq w = c.remove-m.ensures.items ∙ without_here c.as_slice.result.now w c.place_of_least-at.result c.remove-m.result c.as_slice.ensures.value c.remove-m.ensures.value c.self.invariant.rising c.place_of_least-at.ensures in
-    record {
-      room = search rules;
-      rising = subst IsRising (sym left) (rising-filter (λ (m : Message). not (eqb m.seq c.remove-m.result.seq)) w c.self.invariant.rising);
-    }
+    let e = c.in-Some.ensures in
+    let p = popped (heap_items c.self.inside.heap) (heap_items c.pop.new.self) c.in-Some.due e.permutation (e.below_top c.self.invariant.ordered) c.self.invariant.apart in
+    record { room = search rules; ordered = (e.heap_order c.self.invariant.ordered).0; apart = p.apart }
 
-pub returns-clause-least : goal.returns-clause-least
-returns-clause-least c =
-    sym (least_here c.as_slice.result.now c.self.inside.messages.items c.place_of_least-at.result c.remove-m.result c.as_slice.ensures.value c.remove-m.ensures.value c.place_of_least-at.ensures)
-    ∙ ap (λ (r : Room Message). least r.list) c.self.view_is
+pub returns-in-Some-clause-least : goal.returns-in-Some-clause-least
+returns-in-Some-clause-least c =
+    let e = c.in-Some.ensures in
+    let p = popped (heap_items c.self.inside.heap) (heap_items c.pop.new.self) c.in-Some.due e.permutation (e.below_top c.self.invariant.ordered) c.self.invariant.apart in
+    sym p.first ∙ ap (λ (r : Room Message). least r.list) c.self.view_is
 
-pub returns-clause-left : goal.returns-clause-left
-returns-clause-left c =
-    let w = c.self.inside.messages.items in
-    let left : c.remove-m.new.self.items ≡ without c.remove-m.result.seq w = c.remove-m.ensures.items ∙ without_here c.as_slice.result.now w c.place_of_least-at.result c.remove-m.result c.as_slice.ensures.value c.remove-m.ensures.value c.self.invariant.rising c.place_of_least-at.ensures in
-    rw (left, ← c.self.view_is) refl
+pub returns-in-Some-clause-left : goal.returns-in-Some-clause-left
+returns-in-Some-clause-left c =
+    let e = c.in-Some.ensures in
+    let p = popped (heap_items c.self.inside.heap) (heap_items c.pop.new.self) c.in-Some.due e.permutation (e.below_top c.self.invariant.ordered) c.self.invariant.apart in
+    rw (p.left, ← c.self.view_is) refl
 
-pub returns-clause-gone : goal.returns-clause-gone
-returns-clause-gone c =
-    let w = c.self.inside.messages.items in
-    let left : c.remove-m.new.self.items ≡ without c.remove-m.result.seq w = c.remove-m.ensures.items ∙ without_here c.as_slice.result.now w c.place_of_least-at.result c.remove-m.result c.as_slice.ensures.value c.remove-m.ensures.value c.self.invariant.rising c.place_of_least-at.ensures in
-    rw left (new-without c.remove-m.result.seq w)
+pub returns-in-Some-clause-shrinks : goal.returns-in-Some-clause-shrinks
+returns-in-Some-clause-shrinks c =
+    let v = heap_items c.self.inside.heap in
+    let w = heap_items c.pop.new.self in
+    omega (arith, length_seen v, length_seen w, length_permutation v (c.in-Some.due ∷ w) c.in-Some.ensures.permutation, ap (λ (r : Room Message). length r.list) c.self.view_is)
+
+pub returns-in-Some-clause-gone : goal.returns-in-Some-clause-gone
+returns-in-Some-clause-gone c =
+    let e = c.in-Some.ensures in
+    let p = popped (heap_items c.self.inside.heap) (heap_items c.pop.new.self) c.in-Some.due e.permutation (e.below_top c.self.invariant.ordered) c.self.invariant.apart in
+    rw p.left (new-without c.in-Some.due.message.seq (by_number (messages_of (heap_items c.self.inside.heap))))

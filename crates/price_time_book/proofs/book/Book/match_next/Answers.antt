@@ -1,26 +1,46 @@
-use Rattle.std.proofs.Common.{ap, ◌∙◌, sym, arith, Some, option_map}
-use Rattle.price_time_book.specs.Matched.{fill_of}
-use Rattle.price_time_book.proofs.Changes.{intended_at, live_at}
-use Rattle.price_time_book.proofs.Tops.{next-none, next-beyond, next-within}
+use Rattle.std.proofs.Common.{◌≡◌, ◌∙◌, sym, subst, refl, arith, rules}
+use Rattle.market_types.specs.declared.order.Side.TheVariants.{Buy, Sell}
+use Rattle.price_time_book.specs.Indexed.{IsIndexed}
+use Rattle.price_time_book.proofs.Indexes.{references_lessened, tokens_lessened}
+use Rattle.price_time_book.proofs.Takes.{others_buy, others_sell}
 use Rattle.price_time_book.proofs.book.Book.match_next.Goals as goal
 
-pub returns-in_err-at-clause-next : goal.returns-in_err-at-clause-next
-returns-in_err-at-clause-next c =
-    c.from_residual.ensures ∙ sym (ap (option_map (fill_of c.args.shares)) (next-none c.args.side c.opposite.result c.args.limit c.as_slice.result.now c.self.inside.orders.items c.args.self.now.list c.top_of.result c.as_slice.ensures.value (ap (λ b. b.list) c.self.view_is) c.opposite.ensures c.top_of.ensures.first c.in_err-at.was))
+pub invariant_of-self : goal.invariant_of-self
+invariant_of-self c =
+    let k = c.self.inside in
+    record {
+      orders_room = search rules;
+      nexts_room = c.self.invariant.nexts_room;
+      buys_room = search rules;
+      sells_room = search rules;
+      references_room = c.self.invariant.references_room;
+      tokens_room = c.self.invariant.tokens_room;
+      sell_count = c.take_first.ensures.count;
+      buy_count = c.self.invariant.buy_count ∙ sym (c.take_first.ensures.other_count Buy (others_sell Sell refl));
+      references = references_lessened k.orders.items c.take_first.new.orders.items k.references.items c.take_first.ensures.lessened c.self.invariant.references;
+      tokens = tokens_lessened k.orders.items c.take_first.new.orders.items k.tokens.items c.take_first.ensures.lessened c.self.invariant.tokens;
+      sells = subst (λ n. IsIndexed Sell c.take_first.new.orders.items n c.take_first.new.levels.items) c.as_slice-nexts.ensures.value c.take_first.ensures.indexed;
+      buys = subst (λ n. IsIndexed Buy c.take_first.new.orders.items n k.buys.items) c.as_slice-nexts.ensures.value (c.take_first.ensures.others Buy k.buys.items (others_sell Sell refl) (subst (λ n. IsIndexed Buy k.orders.items n k.buys.items) (sym c.as_slice-nexts.ensures.value) c.self.invariant.buys));
+      orderly = c.take_first.ensures.orderly;
+      small = c.take_first.ensures.small c.self.invariant.small;
+    }
 
-pub returns-then-not-is_within-clause-next : goal.returns-then-not-is_within-clause-next
-returns-then-not-is_within-clause-next c =
-    sym (ap (option_map (fill_of c.args.shares)) (next-beyond c.args.side c.opposite.result c.args.limit c.as_slice.result.now c.self.inside.orders.items c.args.self.now.list c.top_of.result c.in_ok-at.at c.in_ok-at.resting c.as_slice.ensures.value (ap (λ b. b.list) c.self.view_is) c.opposite.ensures c.top_of.ensures.first c.in_ok-at.was (sym c.is_within.ensures ∙ c.if-not-is_within.true)))
-
-pub change-requires-clause-intended : goal.change-requires-clause-intended
-change-requires-clause-intended c =
-    omega (arith, intended_at c.as_slice.result.now c.self.inside.orders.items c.in_ok-at.at c.in_ok-at.resting c.as_slice.ensures.value c.self.invariant.orderly c.in_ok-at.ensures.place)
-
-pub returns-clause-next : goal.returns-clause-next
-returns-clause-next c =
-    let next = next-within c.args.side c.opposite.result c.args.limit c.as_slice.result.now c.self.inside.orders.items c.args.self.now.list c.top_of.result c.in_ok-at.at c.in_ok-at.resting c.as_slice.ensures.value (ap (λ b. b.list) c.self.view_is) c.opposite.ensures c.top_of.ensures.first c.in_ok-at.was (sym c.is_within.ensures ∙ c.if-not-is_within.false) in
-    ap (λ n. Some (record { resting = c.in_ok-at.resting; shares = n })) (c.min-shares.ensures ∙ omega arith) ∙ sym (ap (option_map (fill_of c.args.shares)) next)
-
-pub returns-clause-gives : goal.returns-clause-gives
-returns-clause-gives c =
-    omega (arith, live_at c.as_slice.result.now c.self.inside.orders.items c.in_ok-at.at c.in_ok-at.resting c.as_slice.ensures.value c.self.invariant.orderly c.in_ok-at.ensures.place, c.min-shares.ensures)
+pub invariant_of-self-in-Sell : goal.invariant_of-self-in-Sell
+invariant_of-self-in-Sell c =
+    let k = c.self.inside in
+    record {
+      orders_room = search rules;
+      nexts_room = c.self.invariant.nexts_room;
+      buys_room = search rules;
+      sells_room = search rules;
+      references_room = c.self.invariant.references_room;
+      tokens_room = c.self.invariant.tokens_room;
+      buy_count = c.take_first-in-Sell.ensures.count;
+      sell_count = c.self.invariant.sell_count ∙ sym (c.take_first-in-Sell.ensures.other_count Sell (others_buy Buy refl));
+      references = references_lessened k.orders.items c.take_first-in-Sell.new.orders.items k.references.items c.take_first-in-Sell.ensures.lessened c.self.invariant.references;
+      tokens = tokens_lessened k.orders.items c.take_first-in-Sell.new.orders.items k.tokens.items c.take_first-in-Sell.ensures.lessened c.self.invariant.tokens;
+      buys = subst (λ n. IsIndexed Buy c.take_first-in-Sell.new.orders.items n c.take_first-in-Sell.new.levels.items) c.as_slice-nexts.ensures.value c.take_first-in-Sell.ensures.indexed;
+      sells = subst (λ n. IsIndexed Sell c.take_first-in-Sell.new.orders.items n k.sells.items) c.as_slice-nexts.ensures.value (c.take_first-in-Sell.ensures.others Sell k.sells.items (others_buy Buy refl) (subst (λ n. IsIndexed Sell k.orders.items n k.sells.items) (sym c.as_slice-nexts.ensures.value) c.self.invariant.sells));
+      orderly = c.take_first-in-Sell.ensures.orderly;
+      small = c.take_first-in-Sell.ensures.small c.self.invariant.small;
+    }

@@ -1,16 +1,85 @@
-use Rattle.std.proofs.Common.{◌<◌, All, List, length, ap, subst, sym, arith}
+use Rattle.std.proofs.Common.{◌≡◌, ◌≢◌, ◌+◌, None, ◌<◌, ◌≤◌, ◌-◌, ◌++◌, ◌∷◌, [], All, List, length, sym, ap, ◌∙◌, subst, refl, arith, rules}
+use Rattle.market_types.specs.Room.{Room}
+use Rattle.market_types.specs.declared.order.Side.{Side}
+use Rattle.market_types.specs.declared.order.Side.TheVariants.{Buy, Sell}
 use Rattle.price_time_book.specs.declared.resting.Resting.{Resting}
+use Rattle.price_time_book.specs.Index.{IsByReference, IsByToken}
+use Rattle.price_time_book.specs.Indexed.{IsIndexed, IsSmall, open_orders}
+use Rattle.price_time_book.specs.Orders.{order_of}
+use Rattle.price_time_book.specs.Sides.{depth_of}
+use Rattle.price_time_book.proofs.Counts.{depth-push_off, depth-push_on}
 use Rattle.price_time_book.specs.Orderly.{IsOrderly}
-use Rattle.price_time_book.proofs.Changes.{orderly-push}
+use Rattle.price_time_book.proofs.Changes.{each-push, orderly-push}
+use Rattle.price_time_book.proofs.Joins.{open_orders-push}
+use Rattle.price_time_book.proofs.Takes.{levels_fit, others_buy, others_sell}
 use Rattle.price_time_book.proofs.book.Book.rest.Goals as goal
+
+pub join-requires-clause-small : goal.join-requires-clause-small
+join-requires-clause-small c =
+    let k = c.self.inside in
+    let few : length (open_orders k.orders.items) < 4294967296 = subst (λ (r : Room Resting). length r.list < 4294967296) (sym c.self.view_is) c.requires.few in
+    levels_fit Buy k.orders.items k.nexts.items k.buys.items c.self.invariant.buys c.self.invariant.small few
 
 pub invariant_of-self : goal.invariant_of-self
 invariant_of-self c =
+    let k = c.self.inside in
     let order = c.args.order in
-    let same = ap (λ b. b.list) c.self.view_is in
-    let P : List Resting → Type 0 = λ w. (length w < 4294967296) × All (λ (o : Resting). o.reference < order.reference) w in
-    let old = subst P (sym same) (c.requires.few, c.requires.later) in
+    let few : length (open_orders k.orders.items) < 4294967296 = subst (λ (r : Room Resting). length r.list < 4294967296) (sym c.self.view_is) c.requires.few in
+    let later = subst (λ (r : Room Resting). All (λ (o : Resting). o.reference < order.reference) r.list) (sym c.self.view_is) c.requires.later in
+    let fresh = subst (λ (r : Room Resting). order_of order.agent order.token r.list ≡ None) (sym c.self.view_is) c.requires.fresh in
+    let list : open_orders c.join.new.orders.items ≡ open_orders k.orders.items ++ order ∷ [] = ap open_orders c.join.ensures.orders ∙ open_orders-push k.orders.items order c.requires.shares in
     record {
-      room = omega (arith, c.in-Ok.ensures.len, c.in-Ok.ensures.capacity, c.self.invariant.room, ap (λ b. b.spare) c.self.view_is, c.requires.room);
-      orderly = subst IsOrderly (sym c.in-Ok.ensures.items) (orderly-push c.self.inside.orders.items order c.self.invariant.orderly c.requires.shares c.requires.intended old.0 old.1);
+      orders_room = search rules;
+      nexts_room = search rules;
+      buys_room = search rules;
+      sells_room = search rules;
+      references_room = search rules;
+      tokens_room = search rules;
+      buy_count = ap (λ n. n + 1) c.self.invariant.buy_count ∙ sym (depth-push_on Buy (open_orders k.orders.items) order c.in-Buy.is) ∙ ap (depth_of Buy) (sym list);
+      sell_count = c.self.invariant.sell_count ∙ sym (depth-push_off Sell (open_orders k.orders.items) order (λ q. others_buy order.side c.in-Buy.is (sym q))) ∙ ap (depth_of Sell) (sym list);
+      references = subst (λ (w : List Resting). IsByReference w c.enter_reference.new.entries.items) (sym c.join.ensures.orders) (c.enter_reference.ensures.indexed k.orders.items (search rules) c.self.invariant.references later);
+      tokens = subst (λ (w : List Resting). IsByToken w c.enter_token.new.entries.items) (sym c.join.ensures.orders) (c.enter_token.ensures.indexed k.orders.items (search rules) c.self.invariant.tokens fresh);
+      buys = subst (λ (s : Side). IsIndexed s c.join.new.orders.items c.join.new.nexts.items c.join.new.levels.items) c.in-Buy.is c.join.ensures.indexed;
+      sells = c.join.ensures.others Sell k.sells.items (others_buy order.side c.in-Buy.is) c.self.invariant.sells;
+      orderly = subst IsOrderly (sym list) (orderly-push (open_orders k.orders.items) order c.self.invariant.orderly c.requires.shares c.requires.intended few later);
+      small = subst IsSmall (sym list) (each-push (λ (o : Resting). o.left ≤ 4294967295) (open_orders k.orders.items) order c.self.invariant.small c.fits.ensures);
     }
+
+pub returns-in-Buy : goal.returns-in-Buy
+returns-in-Buy c =
+    rw (c.join.ensures.orders, open_orders-push c.self.inside.orders.items c.args.order c.requires.shares, ← c.self.view_is) refl
+
+pub join-requires-in-Sell-clause-small : goal.join-requires-in-Sell-clause-small
+join-requires-in-Sell-clause-small c =
+    let k = c.self.inside in
+    let few : length (open_orders k.orders.items) < 4294967296 = subst (λ (r : Room Resting). length r.list < 4294967296) (sym c.self.view_is) c.requires.few in
+    levels_fit Sell k.orders.items k.nexts.items k.sells.items c.self.invariant.sells c.self.invariant.small few
+
+pub invariant_of-self-in-Sell : goal.invariant_of-self-in-Sell
+invariant_of-self-in-Sell c =
+    let k = c.self.inside in
+    let order = c.args.order in
+    let few : length (open_orders k.orders.items) < 4294967296 = subst (λ (r : Room Resting). length r.list < 4294967296) (sym c.self.view_is) c.requires.few in
+    let later = subst (λ (r : Room Resting). All (λ (o : Resting). o.reference < order.reference) r.list) (sym c.self.view_is) c.requires.later in
+    let fresh = subst (λ (r : Room Resting). order_of order.agent order.token r.list ≡ None) (sym c.self.view_is) c.requires.fresh in
+    let list : open_orders c.join-in-Sell.new.orders.items ≡ open_orders k.orders.items ++ order ∷ [] = ap open_orders c.join-in-Sell.ensures.orders ∙ open_orders-push k.orders.items order c.requires.shares in
+    record {
+      orders_room = search rules;
+      nexts_room = search rules;
+      buys_room = search rules;
+      sells_room = search rules;
+      references_room = search rules;
+      tokens_room = search rules;
+      sell_count = ap (λ n. n + 1) c.self.invariant.sell_count ∙ sym (depth-push_on Sell (open_orders k.orders.items) order c.in-Sell.is) ∙ ap (depth_of Sell) (sym list);
+      buy_count = c.self.invariant.buy_count ∙ sym (depth-push_off Buy (open_orders k.orders.items) order (λ q. others_sell order.side c.in-Sell.is (sym q))) ∙ ap (depth_of Buy) (sym list);
+      references = subst (λ (w : List Resting). IsByReference w c.enter_reference.new.entries.items) (sym c.join-in-Sell.ensures.orders) (c.enter_reference.ensures.indexed k.orders.items (search rules) c.self.invariant.references later);
+      tokens = subst (λ (w : List Resting). IsByToken w c.enter_token.new.entries.items) (sym c.join-in-Sell.ensures.orders) (c.enter_token.ensures.indexed k.orders.items (search rules) c.self.invariant.tokens fresh);
+      sells = subst (λ (s : Side). IsIndexed s c.join-in-Sell.new.orders.items c.join-in-Sell.new.nexts.items c.join-in-Sell.new.levels.items) c.in-Sell.is c.join-in-Sell.ensures.indexed;
+      buys = c.join-in-Sell.ensures.others Buy k.buys.items (others_sell order.side c.in-Sell.is) c.self.invariant.buys;
+      orderly = subst IsOrderly (sym list) (orderly-push (open_orders k.orders.items) order c.self.invariant.orderly c.requires.shares c.requires.intended few later);
+      small = subst IsSmall (sym list) (each-push (λ (o : Resting). o.left ≤ 4294967295) (open_orders k.orders.items) order c.self.invariant.small c.fits.ensures);
+    }
+
+pub returns-in-Sell : goal.returns-in-Sell
+returns-in-Sell c =
+    rw (c.join-in-Sell.ensures.orders, open_orders-push c.self.inside.orders.items c.args.order c.requires.shares, ← c.self.view_is) refl

@@ -1,0 +1,56 @@
+//! The program as the system runs it: words of the command line, files and streams in, an exit status out. It stands
+//! apart from `main` so that several stored runs show one and the same function.
+#![tactic(auto)]
+
+use abides_run::{Status, run, write_note};
+use outside::{Counted, FileLibrary, OpenGate, Sink, Steps};
+use std::env;
+use std::io::ErrorKind;
+use std::process::ExitCode;
+use std::rt::{Env, Files};
+
+/// Runs the command line over the system's files. The bundle goes to `out`, the line for the status to `notes`, and the
+/// status is the exit status.
+pub fn run_command_line<R: Env + Files + AllocGlobal, O: Sink, N: Sink>(
+    rt: &R,
+    out: &mut O,
+    notes: &mut N,
+) -> ExitCode {
+    let mut library = FileLibrary::new(rt);
+    let mut steps: Steps<Counted> = Steps::new();
+    let status = match command_words(rt) {
+        Ok(words) => run(
+            rt.alloc(),
+            &words,
+            &mut library,
+            out,
+            notes,
+            &OpenGate,
+            &mut steps,
+        ),
+        Err(status) => write_note(rt.alloc(), "", status, notes),
+    };
+    steps.close();
+    ExitCode::from(status.code())
+}
+
+// The command line without the program's name. Words that are no text are faulty words.
+fn command_words<R: Env + AllocGlobal>(rt: &R) -> Result<Vec<String>, Status> {
+    let args = match env::args(rt) {
+        Ok(args) => args,
+        Err(e) => {
+            return if e.kind() == ErrorKind::OutOfMemory {
+                Err(Status::Memory)
+            } else {
+                Err(Status::Usage)
+            };
+        }
+    };
+    let mut words = Vec::new(rt.alloc());
+    for word in args.skip(1) {
+        if words.push(word).is_err() {
+            return Err(Status::Memory);
+        }
+    }
+    Ok(words)
+}

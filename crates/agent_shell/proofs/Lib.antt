@@ -1,0 +1,11 @@
+pub mod Cancels
+pub mod Differ
+pub mod Few
+pub mod Kept
+pub mod Lowered
+pub mod Moves
+pub mod Named
+pub mod Next
+pub mod Reach
+pub mod Sent
+pub mod Sums

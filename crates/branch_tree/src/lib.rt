@@ -1,0 +1,24 @@
+//! The tree of a study's branches: which segments it takes to run each branch, and what each goes on from.
+#![tactic(auto)]
+
+mod branch;
+mod branch_plan;
+mod children;
+mod cuts;
+mod error;
+mod lay;
+mod lists;
+mod name;
+mod paths;
+mod refusals;
+mod segment;
+pub mod worked;
+
+pub use branch::Branch;
+pub use branch_plan::{BranchPlan, plan};
+pub use error::PlanError;
+pub use name::Name;
+pub use segment::Segment;
+
+#[cfg(test)]
+mod tests;

@@ -1,0 +1,61 @@
+//! Names of branches.
+
+ghost use Rattle.std.specs.Prelude.{◌≡◌, ◌≤◌, length, IfSome, IfNone, Some, None};
+ghost use Rattle.branch_tree.specs.Names.{name_of};
+
+use std::marker::Model;
+
+/// The most bytes of a name.
+pub const LONGEST: usize = 32;
+
+/// A name of 1 to 32 bytes, seen as their list.
+#[derive(Drop)]
+pub struct Name {
+    bytes: [u8; LONGEST],
+    len: usize,
+}
+
+impl Model for Name {
+    ghost use Rattle.std.specs.Prelude.{List, ℕ, take};
+    ghost use Rattle.branch_tree.specs.Names.{IsNameLength};
+
+    ghost Value = { List ℕ };
+
+    ghost view = { λ a. take a.len a.bytes };
+
+    ghost invariant = { λ a. IsNameLength a.len };
+}
+
+impl Name {
+    /// These bytes, unless they are none or more than 32. It takes no memory.
+    pub fn new(text: &[u8]) -> Option<Name>
+        ensures { result ≡ name_of text.now }
+    {
+        if text.is_empty() || text.len() > LONGEST {
+            return None;
+        }
+        let mut bytes = [0; LONGEST];
+        bytes[..text.len()].copy_from_slice(text);
+        Some(Name {
+            bytes,
+            len: text.len(),
+        })
+    }
+
+    /// The bytes.
+    pub fn as_slice(&self) -> &[u8]
+        ensures { result.now ≡ self.now }
+    {
+        &self.bytes[..self.len]
+    }
+
+    /// An equal name.
+    pub fn copy(&self) -> Name
+        ensures { result ≡ self.now }
+    {
+        Name {
+            bytes: self.bytes,
+            len: self.len,
+        }
+    }
+}

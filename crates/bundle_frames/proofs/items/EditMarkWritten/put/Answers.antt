@@ -1,0 +1,9 @@
+use Rattle.market_types.specs.Told.{edit_told}
+use Rattle.bundle_frames.specs.Frames.{edit_frame, feed_frames}
+use Rattle.bundle_frames.proofs.Appends.{then_last}
+use Rattle.bundle_frames.proofs.items.EditMarkWritten.put.Goals as goal
+
+pub returns : goal.returns
+returns c =
+    then_last _ _ _ _ (edit_frame (edit_told c.args.self.now)) (feed_frames c.args.self.now.feed.list) c.in_ok-put_mark.ensures.appended
+    (rw c.as_slice.ensures at c.put_all.ensures)

@@ -1,0 +1,4 @@
+pub mod Frames
+pub mod Layouts
+pub mod Wires
+pub mod Worked

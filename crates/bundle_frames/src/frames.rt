@@ -1,0 +1,252 @@
+//! The fixed fields of each frame in bytes.
+
+ghost use Rattle.std.specs.Prelude.{◌≡◌, ◌<◌, ◌/◌, ◌%◌, ◌^◌, ◌∷◌, [], length};
+ghost use Rattle.std.specs.Int.{cast_unsigned, w64, w128};
+ghost use Rattle.market_types.specs.Told.{event_told, edit_told};
+ghost use Rattle.wire_fields.specs.Values.{number};
+ghost use Rattle.wire_fields.specs.Wire.{spelling, spelled_fields};
+ghost use Rattle.bundle_frames.specs.Layouts.{ask_kinds, quote_kinds};
+ghost use Rattle.bundle_frames.specs.Wires.{header_wire, branch_wire, event_wire, edit_wire, counts_wire, stock_wire, order_wire, agent_wire, end_wire, quote_values, position_bytes, letter_of_delivery, letter_of_silence, letter_of_body};
+
+use crate::closing::{ClosingAgent, ClosingCounts, ClosingOrder, ClosingStock};
+use crate::layouts::{
+    AGENT, ASK, BRANCH, COUNTS, EDIT, END, EVENT, HEADER, ORDER, POSITION, QUOTE, STOCK,
+};
+use market_types::{Body, EditMark, Quote, Record, StockNo};
+use wire_fields::{Value, fields, message};
+
+// The header, for so many agents with the exchange, stocks and branches.
+pub(crate) fn header(agents: u16, stocks: u16, branches: u16) -> [u8; 9]
+    ensures { result ≡ spelling (header_wire agents stocks branches) }
+{
+    message(
+        b'h',
+        &HEADER,
+        &[
+            Value::Number(1),
+            Value::Number(u64::from(agents)),
+            Value::Number(u64::from(stocks)),
+            Value::Number(u64::from(branches)),
+        ],
+    )
+}
+
+// A branch, before its name.
+pub(crate) fn branch_head(branch: u16, parent: u16, stop: u32, name: &[u8]) -> [u8; 10]
+    requires { length name.now < 256 }
+    ensures { result ≡ spelling (branch_wire branch parent stop name.now) }
+{
+    message(
+        b'b',
+        &BRANCH,
+        &[
+            Value::Number(u64::from(branch)),
+            Value::Number(u64::from(parent)),
+            Value::Number(u64::from(stop)),
+            Value::Byte(name.len() as u8),
+        ],
+    )
+}
+
+fn delivery_letter(put_back: bool) -> u8
+    ensures { result ≡ letter_of_delivery put_back }
+{
+    if put_back { b'P' } else { b'D' }
+}
+
+fn body_letter(body: &Body) -> u8
+    ensures { result ≡ letter_of_body body.now }
+{
+    match body {
+        Body::Wake => b'w',
+        Body::Order(_) => b'i',
+        Body::Answer(_) => b'o',
+        Body::Ask(_) => b'a',
+        Body::Quote(_) => b'q',
+    }
+}
+
+// An event, before its body.
+pub(crate) fn event_head(r: &Record) -> [u8; 43]
+    ensures { result ≡ spelling (event_wire (event_told r.now)) }
+{
+    message(
+        b'e',
+        &EVENT,
+        &[
+            Value::Number(u64::from(r.number)),
+            Value::Number(r.time),
+            Value::Number(r.seq),
+            Value::Number(u64::from(r.from)),
+            Value::Number(u64::from(r.to)),
+            Value::Byte(delivery_letter(r.put_back)),
+            Value::Number(r.until),
+            Value::Number(r.fee.cast_unsigned()),
+            Value::Byte(body_letter(&r.body)),
+        ],
+    )
+}
+
+// The body of a question.
+pub(crate) fn ask_body(stock: StockNo) -> [u8; 2]
+    ensures { result ≡ spelled_fields ask_kinds (number stock ∷ []) }
+{
+    fields(&ASK, &[Value::Number(u64::from(stock))])
+}
+
+// The body of a quote.
+pub(crate) fn quote_body(q: &Quote) -> [u8; 31]
+    ensures { result ≡ spelled_fields quote_kinds (quote_values q.now) }
+{
+    fields(
+        &QUOTE,
+        &[
+            Value::Number(u64::from(q.stock)),
+            Value::Byte(q.state),
+            Value::Number(u64::from(q.bid)),
+            Value::Number(q.bid_shares),
+            Value::Number(u64::from(q.ask)),
+            Value::Number(q.ask_shares),
+            Value::Number(u64::from(q.last)),
+        ],
+    )
+}
+
+// An edit.
+pub(crate) fn edit_frame(m: &EditMark) -> [u8; 18]
+    ensures { result ≡ spelling (edit_wire (edit_told m.now)) }
+{
+    message(
+        b'd',
+        &EDIT,
+        &[
+            Value::Number(u64::from(m.events)),
+            Value::Number(m.time),
+            Value::Number(u64::from(m.branch)),
+            Value::Number(u64::from(m.index)),
+            Value::Byte(m.letter),
+        ],
+    )
+}
+
+// The counters of a closing.
+pub(crate) fn counts_frame(c: &ClosingCounts) -> [u8; 66]
+    ensures { result ≡ spelling (counts_wire c.now) }
+{
+    message(
+        b'c',
+        &COUNTS,
+        &[
+            Value::Byte(c.end),
+            Value::Number(u64::from(c.events)),
+            Value::Number(c.time),
+            Value::Number(c.next_seq),
+            Value::Number(u64::from(c.waiting)),
+            Value::Number(c.dropped),
+            Value::Number(c.enters),
+            Value::Number(c.cancels),
+            Value::Number(c.orders),
+            Value::Number(c.matches),
+        ],
+    )
+}
+
+// The higher half of a signed number of sixteen bytes.
+fn high_half(z: i128) -> u64
+    ensures { result ≡ cast_unsigned w128 z / 2 ^ 64 }
+{
+    (z.cast_unsigned() >> 64) as u64
+}
+
+// The lower half of a signed number of sixteen bytes.
+fn low_half(z: i128) -> u64
+    ensures { result ≡ cast_unsigned w128 z % 2 ^ 64 }
+{
+    (z.cast_unsigned() % (1 << 64)) as u64
+}
+
+// A stock of a closing.
+pub(crate) fn stock_frame(s: &ClosingStock) -> [u8; 44]
+    ensures { result ≡ spelling (stock_wire s.now) }
+{
+    message(
+        b's',
+        &STOCK,
+        &[
+            Value::Number(u64::from(s.stock)),
+            Value::Byte(s.state),
+            Value::Number(u64::from(s.last)),
+            Value::Number(s.matched),
+            Value::Number(high_half(s.fees)),
+            Value::Number(low_half(s.fees)),
+            Value::Number(s.offset.cast_unsigned()),
+            Value::Number(u64::from(s.live)),
+        ],
+    )
+}
+
+// A live order of a closing.
+pub(crate) fn order_frame(o: &ClosingOrder) -> [u8; 44]
+    ensures { result ≡ spelling (order_wire o.now) }
+{
+    message(
+        b'l',
+        &ORDER,
+        &[
+            Value::Number(o.reference),
+            Value::Number(u64::from(o.agent)),
+            Value::Token(o.token),
+            Value::Side(o.side),
+            Value::Number(u64::from(o.intended)),
+            Value::Number(u64::from(o.left)),
+            Value::Number(u64::from(o.stock)),
+            Value::Number(u64::from(o.price)),
+            Value::Number(u64::from(o.tif)),
+        ],
+    )
+}
+
+fn silence_letter(silenced: bool) -> u8
+    ensures { result ≡ letter_of_silence silenced }
+{
+    if silenced { b'Y' } else { b'N' }
+}
+
+// An agent of a closing, before its positions.
+pub(crate) fn agent_head(a: &ClosingAgent) -> [u8; 70]
+    ensures { result ≡ spelling (agent_wire a.now) }
+{
+    message(
+        b'a',
+        &AGENT,
+        &[
+            Value::Number(u64::from(a.agent)),
+            Value::Byte(silence_letter(a.silenced)),
+            Value::Number(a.time),
+            Value::Number(u64::from(a.tokens)),
+            Value::Number(a.draws),
+            Value::Number(high_half(a.cash)),
+            Value::Number(low_half(a.cash)),
+            Value::Number(high_half(a.own_cash)),
+            Value::Number(low_half(a.own_cash)),
+            Value::Number(a.own_position.cast_unsigned()),
+            Value::Number(u64::from(a.live)),
+            Value::Number(u64::from(a.quotes)),
+        ],
+    )
+}
+
+// A position.
+#[tactic(auto, unfolding(crate::specs::Wires::position_bytes))]
+pub(crate) fn position(shares: i64) -> [u8; 8]
+    ensures { result ≡ position_bytes shares }
+{
+    fields(&POSITION, &[Value::Number(shares.cast_unsigned())])
+}
+
+// The end of the bundle.
+pub(crate) fn end(branches: u16) -> [u8; 3]
+    ensures { result ≡ spelling (end_wire branches) }
+{
+    message(b'z', &END, &[Value::Number(u64::from(branches))])
+}

@@ -1,0 +1,193 @@
+//! The frames of what happens and of a closing.
+
+ghost use Rattle.std.specs.Prelude.{◌≡◌, ◌<◌, ◌≤◌, ◌+◌, ◌++◌, length, OnOk, OnErr};
+ghost use Rattle.market_types.specs.Told.{event_told, edit_told};
+ghost use Rattle.itch_codec.specs.Frames.{framed};
+ghost use Rattle.bundle_frames.specs.Wires.{body_bytes};
+ghost use Rattle.bundle_frames.specs.Frames.{event_frame, edit_frame};
+
+use crate::closing::{Closing, ClosingAgent, ClosingCounts, ClosingOrder, ClosingStock};
+use crate::frames;
+use crate::written::{Written, put_all};
+use itch_codec::{encode_feed, frame, frame_of_two};
+use market_types::{Body, EditMark, Entry, Feed, Inbound, Memory, Record};
+use ouch_codec::{encode_cancel, encode_enter, encode_reply};
+
+impl Written for Feed {
+    ghost use Rattle.std.specs.Prelude.{◌<◌, ◌^◌};
+    ghost use Rattle.bundle_frames.specs.Frames.{message_frame};
+
+    ghost bytes = { message_frame };
+
+    ghost fits = { λ m. m.time < 2 ^ 48 };
+
+    #[tactic(auto, unfolding(crate::specs::Frames::message_frame))]
+    fn put(&self, out: &mut Vec<u8>) -> Result<(), Memory> {
+        frame(encode_feed(self).as_slice(), out)
+    }
+}
+
+// Appends a frame that ends in a body.
+fn put_with_body(out: &mut Vec<u8>, head: &[u8], body: &Body) -> Result<(), Memory>
+    requires { length head.now < 65000 }
+    ensures appended { OnOk result (out.new.items ≡ out.old.items ++ framed (head.now ++ body_bytes body.now)) }
+    ensures refused { OnErr result (out.new.items ≡ out.old.items) }
+{
+    match body {
+        Body::Wake => frame_of_two(head, &[], out),
+        Body::Order(Inbound::Enter(enter)) => frame_of_two(head, &encode_enter(enter), out),
+        Body::Order(Inbound::Cancel(cancel)) => frame_of_two(head, &encode_cancel(cancel), out),
+        Body::Answer(reply) => frame_of_two(head, encode_reply(reply).as_slice(), out),
+        Body::Ask(stock) => frame_of_two(head, &frames::ask_body(*stock), out),
+        Body::Quote(quote) => frame_of_two(head, &frames::quote_body(quote), out),
+    }
+}
+
+/// Appends an event without its feed.
+#[tactic(auto, unfolding(crate::specs::Frames::event_frame))]
+pub fn put_event(out: &mut Vec<u8>, event: &Record) -> Result<(), Memory>
+    ensures appended { OnOk result (out.new.items ≡ out.old.items ++ event_frame (event_told event.now)) }
+    ensures refused { OnErr result (out.new.items ≡ out.old.items) }
+{
+    put_with_body(out, &frames::event_head(event), &event.body)
+}
+
+/// Appends an edit without its feed.
+#[tactic(auto, unfolding(crate::specs::Frames::edit_frame))]
+pub fn put_mark(out: &mut Vec<u8>, mark: &EditMark) -> Result<(), Memory>
+    ensures appended { OnOk result (out.new.items ≡ out.old.items ++ edit_frame (edit_told mark.now)) }
+    ensures refused { OnErr result (out.new.items ≡ out.old.items) }
+{
+    frame(&frames::edit_frame(mark), out)
+}
+
+impl Written for Record {
+    ghost use Rattle.market_types.specs.Timely.{AreTimely};
+    ghost use Rattle.market_types.specs.Told.{event_told};
+    ghost use Rattle.bundle_frames.specs.Frames.{event_frames};
+
+    ghost bytes = { λ e. event_frames (event_told e) };
+
+    ghost fits = { λ e. AreTimely e.before.list × AreTimely e.after.list };
+
+    fn put(&self, out: &mut Vec<u8>) -> Result<(), Memory> {
+        put_all(out, self.before.as_slice())?;
+        put_event(out, self)?;
+        put_all(out, self.after.as_slice())
+    }
+}
+
+impl Written for EditMark {
+    ghost use Rattle.market_types.specs.Timely.{AreTimely};
+    ghost use Rattle.market_types.specs.Told.{edit_told};
+    ghost use Rattle.bundle_frames.specs.Frames.{edit_frames};
+
+    ghost bytes = { λ m. edit_frames (edit_told m) };
+
+    ghost fits = { λ m. AreTimely m.feed.list };
+
+    fn put(&self, out: &mut Vec<u8>) -> Result<(), Memory> {
+        put_mark(out, self)?;
+        put_all(out, self.feed.as_slice())
+    }
+}
+
+impl Written for Entry {
+    ghost use Rattle.market_types.specs.Timely.{IsTimely};
+    ghost use Rattle.market_types.specs.Told.{entry_told};
+    ghost use Rattle.bundle_frames.specs.Frames.{entry_frames};
+
+    ghost bytes = { λ e. entry_frames (entry_told e) };
+
+    ghost fits = { λ e. IsTimely (entry_told e) };
+
+    fn put(&self, out: &mut Vec<u8>) -> Result<(), Memory> {
+        match self {
+            Entry::Event(event) => event.put(out),
+            Entry::Edit(mark) => mark.put(out),
+        }
+    }
+}
+
+impl Written for ClosingCounts {
+    ghost use Rattle.bundle_frames.specs.Frames.{counts_frame};
+
+    ghost bytes = { counts_frame };
+
+    ghost fits = { λ c. Unit {0} };
+
+    #[tactic(auto, unfolding(crate::specs::Frames::counts_frame))]
+    fn put(&self, out: &mut Vec<u8>) -> Result<(), Memory> {
+        frame(&frames::counts_frame(self), out)
+    }
+}
+
+impl Written for ClosingStock {
+    ghost use Rattle.bundle_frames.specs.Frames.{stock_frame};
+
+    ghost bytes = { stock_frame };
+
+    ghost fits = { λ s. Unit {0} };
+
+    #[tactic(auto, unfolding(crate::specs::Frames::stock_frame))]
+    fn put(&self, out: &mut Vec<u8>) -> Result<(), Memory> {
+        frame(&frames::stock_frame(self), out)
+    }
+}
+
+impl Written for ClosingOrder {
+    ghost use Rattle.bundle_frames.specs.Frames.{order_frame};
+
+    ghost bytes = { order_frame };
+
+    ghost fits = { λ o. Unit {0} };
+
+    #[tactic(auto, unfolding(crate::specs::Frames::order_frame))]
+    fn put(&self, out: &mut Vec<u8>) -> Result<(), Memory> {
+        frame(&frames::order_frame(self), out)
+    }
+}
+
+// A position in shares.
+impl Written for i64 {
+    ghost use Rattle.bundle_frames.specs.Wires.{position_bytes};
+
+    ghost bytes = { position_bytes };
+
+    ghost fits = { λ p. Unit {0} };
+
+    fn put(&self, out: &mut Vec<u8>) -> Result<(), Memory> {
+        out.extend_from_slice(&frames::position(*self))?;
+        Ok(())
+    }
+}
+
+impl Written for ClosingAgent {
+    ghost use Rattle.bundle_frames.specs.Frames.{agent_frame, HasFewPositions};
+
+    ghost bytes = { agent_frame };
+
+    ghost fits = { HasFewPositions };
+
+    fn put(&self, out: &mut Vec<u8>) -> Result<(), Memory> {
+        let mut positions = Vec::new(*out.allocator());
+        put_all(&mut positions, self.positions.as_slice())?;
+        frame_of_two(&frames::agent_head(self), &positions, out)
+    }
+}
+
+impl Written for Closing {
+    ghost use Rattle.std.specs.Prelude.{All};
+    ghost use Rattle.bundle_frames.specs.Frames.{closing_frames, HasFewPositions};
+
+    ghost bytes = { closing_frames };
+
+    ghost fits = { λ c. All HasFewPositions c.agents };
+
+    fn put(&self, out: &mut Vec<u8>) -> Result<(), Memory> {
+        self.counts.put(out)?;
+        put_all(out, self.stocks.as_slice())?;
+        put_all(out, self.orders.as_slice())?;
+        put_all(out, self.agents.as_slice())
+    }
+}

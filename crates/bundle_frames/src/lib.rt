@@ -1,0 +1,22 @@
+//! The frames of a bundle, one by one, and the values of a closing.
+#![tactic(auto)]
+
+mod closing;
+mod ends;
+mod frames;
+mod items;
+mod layouts;
+mod worked;
+mod written;
+
+pub use closing::{Closing, ClosingAgent, ClosingCounts, ClosingOrder, ClosingStock};
+pub use ends::{put_branch, put_end, put_header};
+pub use items::{put_event, put_mark};
+pub use layouts::{
+    AGENT, ASK, BRANCH, COUNTS, EDIT, END, EVENT, HEADER, ORDER, POSITION, QUOTE, STOCK,
+};
+pub use worked::{one_of_each, published_kinds, published_layouts};
+pub use written::{Written, put_all};
+
+#[cfg(test)]
+mod tests;

@@ -1,0 +1,14 @@
+pub mod Accepts
+pub mod Conserved
+pub mod Crossings
+pub mod Ends
+pub mod Knowns
+pub mod Numbers
+pub mod Pairs
+pub mod States
+pub mod Steps
+pub mod Tellings
+pub mod Totals
+pub mod Verdicts
+pub mod Ways
+pub mod Withins

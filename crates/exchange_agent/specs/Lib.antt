@@ -1,0 +1,13 @@
+pub mod Cancel
+pub mod Changes
+pub mod Enter
+pub mod Market
+pub mod Open
+pub mod Outcome
+pub mod Pairs
+pub mod Runs
+pub mod Settle
+pub mod Sound
+pub mod State
+pub mod View
+pub mod Worked

@@ -1,0 +1,31 @@
+-- The plain data of the exchange's inside.
+use Rattle.std.specs.Prelude.{ℕ, ℤ, List, map}
+use Rattle.exchange_agent.specs.declared.listing.Listing.{Listing}
+use Rattle.exchange_agent.specs.declared.pair.Pair.{Pair}
+use Rattle.exchange_agent.specs.declared.told.Counts.{Counts}
+use Rattle.exchange_agent.specs.declared.handled.Handled.{Handled}
+use Rattle.exchange_agent.specs.Settle.{Way}
+use Rattle.exchange_agent.specs.State.{State, Stock}
+
+abbrev pub stock_of : Listing → Stock
+stock_of k = record {
+  symbol = k.symbol;
+  bands = k.ticks;
+  fees = k.fees;
+  trading = k.trading;
+  book = k.book.list;
+  tally = record { last = k.last; matched = k.matched; taken = k.taken; positions = k.positions.items };
+}
+
+abbrev pub state_of : List Listing → List ℤ → List Pair → Counts → State
+state_of stocks cash pairs counts = record { stocks = map stock_of stocks; cash = cash; pairs = pairs; counts = counts }
+
+abbrev pub way_at : Listing → List ℤ → ℕ → Handled → Way
+way_at k cash matches out = record {
+  stock = stock_of k;
+  cash = cash;
+  matches = matches;
+  replies = out.replies.list;
+  feed = out.feed.list;
+  fee = out.fee;
+}

@@ -1,0 +1,352 @@
+//! Enters.
+
+ghost use Rattle.std.specs.Prelude.{◌≡◌, ◌<◌, ◌≤◌, ◌+◌, ◌*◌, ◌++◌, ◌∷◌, ◌^◌, [], pos, false, OnOk, OnErr, All, map, length, position, bytes_eq};
+ghost use Rattle.exchange_agent.specs.Enter.{acceptance_of, accepted, entered, is_remembered, price_is_refused, shares_are_refused, terms_are_refused, rejection_of, remembering, verdict_of, verdict_there, way_of};
+ghost use Rattle.exchange_agent.specs.Pairs.{has_pair, pair_of, with_pair};
+ghost use Rattle.exchange_agent.specs.Sound.{IsSoundStock, IsWithin};
+ghost use Rattle.exchange_agent.specs.State.{stock_number_of, resting_over};
+ghost use Rattle.exchange_agent.specs.View.{stock_of, way_at};
+
+use crate::exchange::Exchange;
+use crate::handled::Handled;
+use crate::listing::Listing;
+use crate::pair::Pair;
+use crate::settle::Taking;
+use crate::told::Counts;
+use crate::verdict::Verdict;
+use market_types::{AgentNo, Body, Enter, Memory, Money, Reply, Symbol, Time};
+use price_time_book::keeping::changes_keep;
+use std::collections::BTreeSet;
+
+// How many pairs are remembered at most.
+const MOST_PAIRS: usize = 131_072;
+
+// How many orders rest at most over all stocks.
+const MOST_RESTING: usize = 16_384;
+
+// The display is not 'Y', there is a minimum, it is for a cross, or the time in force is none of the three.
+fn has_strange_terms(e: &Enter) -> bool
+    ensures { result ≡ terms_are_refused e.now }
+{
+    e.display != b'Y' || e.minimum != 0 || e.cross != b'N' || !matches!(e.tif, 0 | 99_998 | 99_999)
+}
+
+// The shares are 0 or above 999,999.
+fn has_strange_size(e: &Enter) -> bool
+    ensures { result ≡ shares_are_refused e.now }
+{
+    e.shares == 0 || e.shares > 999_999
+}
+
+// The price is out of range or off its tick.
+fn has_strange_price(listing: &Listing, e: &Enter) -> bool
+    ensures { result ≡ price_is_refused (stock_of listing.now) e.now }
+{
+    e.price == 0 || e.price > 1_999_999_900 || !listing.ticks.allowed(e.price)
+}
+
+// The place of the first stock with a symbol.
+fn place_of(stocks: &[Listing], symbol: &Symbol) -> Option<usize>
+    ensures { result ≡ position (λ k. bytes_eq k.symbol.0 symbol.now.0) stocks.now }
+{
+    stocks.iter().position(|k| k.symbol == *symbol)
+}
+
+// The number of the stock with a symbol.
+fn stock_number(stocks: &[Listing], symbol: &Symbol) -> Option<usize>
+    ensures { result ≡ stock_number_of symbol.now (map stock_of stocks.now) }
+{
+    place_of(stocks, symbol)
+}
+
+// How many orders rest over all stocks.
+fn resting(stocks: &[Listing]) -> usize
+    requires few { length stocks.now ≤ 16 }
+    requires each { All (λ k. length k.book.list ≤ 131072) stocks.now }
+    ensures { result ≡ resting_over (map stock_of stocks.now) }
+{
+    let mut count = 0;
+    for listing in stocks {
+        count += listing.book.len();
+    }
+    count
+}
+
+// The reply Accepted.
+fn acceptance(time: Time, e: &Enter, reference: u64) -> Reply
+    ensures { result ≡ acceptance_of time e.now reference }
+{
+    Reply::Accepted {
+        time,
+        token: e.token,
+        side: e.side,
+        shares: e.shares,
+        stock: e.stock,
+        price: e.price,
+        tif: e.tif,
+        firm: e.firm,
+        display: e.display,
+        reference,
+        capacity: e.capacity,
+        sweep: e.sweep,
+        minimum: e.minimum,
+        cross: e.cross,
+        state: b'L',
+        bbo: b' ',
+    }
+}
+
+impl Exchange {
+    // Which of the nine lines answers an Enter.
+    fn verdict(&self, agent: AgentNo, e: &Enter) -> Verdict
+        ensures { result ≡ verdict_of self.now agent e.now }
+    {
+        let pair = Pair {
+            agent,
+            token: e.token.0,
+        };
+        if self.pairs.contains(&pair) {
+            return Verdict::Ignored;
+        }
+        if self.pairs.len() >= MOST_PAIRS {
+            return Verdict::Forgotten(b'O');
+        }
+        match stock_number(self.stocks.as_slice(), &e.stock) {
+            Some(stock) => self.verdict_there(e, stock),
+            None => Verdict::Refused(b'S'),
+        }
+    }
+
+    // Which of the lines from the fourth on answers it, at the stock of this number.
+    fn verdict_there(&self, e: &Enter, stock: usize) -> Verdict
+        requires { stock < length self.now.stocks }
+        ensures { result ≡ verdict_there self.now e.now stock }
+    {
+        let listing = &self.stocks[stock];
+        if has_strange_terms(e) {
+            return Verdict::Refused(b'O');
+        }
+        if listing.trading != b'T' {
+            return Verdict::Refused(b'H');
+        }
+        if has_strange_size(e) {
+            return Verdict::Refused(b'O');
+        }
+        if has_strange_price(listing, e) {
+            return Verdict::Refused(b'X');
+        }
+        if resting(self.stocks.as_slice()) >= MOST_RESTING {
+            return Verdict::Refused(b'O');
+        }
+        Verdict::Accepted(stock)
+    }
+
+    // The pair of agent and token is remembered. After want of memory the exchange is as it was.
+    fn remember(&mut self, agent: AgentNo, e: &Enter) -> Result<(), Memory>
+        requires { length self.old.pairs < 131072 }
+        ensures state { OnOk result (self.new ≡ remembering self.old agent e.now) }
+        ensures refused { OnErr result (self.new ≡ self.old) }
+    {
+        let pair = Pair {
+            agent,
+            token: e.token.0,
+        };
+        self.pairs.insert(pair)?;
+        Ok(())
+    }
+
+    // An Enter is rejected, and the pair is remembered.
+    fn reject(
+        &mut self,
+        time: Time,
+        from: AgentNo,
+        e: &Enter,
+        reason: u8,
+        out: &mut Handled,
+    ) -> Result<(), Memory>
+        requires { length self.old.pairs < 131072 }
+        ensures state { OnOk result (self.new ≡ remembering self.old from e.now) }
+        ensures replies { OnOk result (out.new.replies.list ≡ out.old.replies.list ++ record { to = from; body = Body.Answer (rejection_of time e.now reason) } ∷ []) }
+        ensures feed { out.new.feed.list ≡ out.old.feed.list }
+        ensures fee { out.new.fee ≡ out.old.fee }
+        ensures exchange_refused { OnErr result (self.new ≡ self.old) }
+        ensures replies_refused { OnErr result (out.new.replies.list ≡ out.old.replies.list) }
+    {
+        out.reserve(1, 0)?;
+        self.remember(from, e)?;
+        out.reply(
+            from,
+            Body::Answer(Reply::Rejected {
+                time,
+                token: e.token,
+                reason,
+            }),
+        );
+        Ok(())
+    }
+}
+
+// An Enter is rejected, and the pair is not remembered.
+fn forget(time: Time, from: AgentNo, e: &Enter, reason: u8, out: &mut Handled) -> Result<(), Memory>
+    ensures replies { OnOk result (out.new.replies.list ≡ out.old.replies.list ++ record { to = from; body = Body.Answer (rejection_of time e.now reason) } ∷ []) }
+    ensures feed { out.new.feed.list ≡ out.old.feed.list }
+    ensures fee { out.new.fee ≡ out.old.fee }
+    ensures replies_refused { OnErr result (out.new.replies.list ≡ out.old.replies.list) }
+{
+    out.reserve(1, 0)?;
+    out.reply(
+        from,
+        Body::Answer(Reply::Rejected {
+            time,
+            token: e.token,
+            reason,
+        }),
+    );
+    Ok(())
+}
+
+// Room is made and the pair is remembered; then nothing fails, and the order trades. After want of memory all is
+// as it was.
+fn admit(
+    listing: &mut Listing,
+    cash: &mut Vec<Money>,
+    pairs: &mut BTreeSet<Pair>,
+    counts: &mut Counts,
+    taking: &Taking,
+    e: &Enter,
+    out: &mut Handled,
+) -> Result<(), Memory>
+    requires same_side { taking.now.side ≡ e.now.side }
+    requires same_token { taking.now.token ≡ e.now.token }
+    requires few { e.now.shares < 1000000 }
+    requires trader { 1 ≤ taking.now.agent }
+    requires exists { taking.now.agent ≤ length cash.old.items }
+    requires stock { IsSoundStock (length cash.old.items) counts.old.orders pairs.old.keys (stock_of listing.old) }
+    requires new { has_pair (pair_of taking.now.agent e.now.token) pairs.old.keys ≡ false }
+    requires some_orders { counts.old.orders < 131072 }
+    requires matches { counts.old.matches ≤ 1000000 * counts.old.orders }
+    requires money { All (IsWithin (2 ^ 63 + 2 ^ 61 * counts.old.orders)) cash.old.items }
+    requires no_fee { out.old.fee ≡ pos 0 }
+    ensures way { OnOk result (way_at listing.new cash.new.items counts.new.matches out.new ≡ way_of taking.now e.now (counts.old.orders + 1) (record (way_at listing.old cash.old.items counts.old.matches out.old) { replies = out.old.replies.list ++ record { to = taking.now.agent; body = Body.Answer (acceptance_of taking.now.time e.now (counts.old.orders + 1)) } ∷ [] })) }
+    ensures pairs { OnOk result (pairs.new.keys ≡ with_pair (pair_of taking.now.agent e.now.token) pairs.old.keys) }
+    ensures counts { OnOk result (counts.new ≡ record counts.old { orders = counts.old.orders + 1; matches = counts.new.matches }) }
+    ensures stock { OnOk result (IsSoundStock (length cash.new.items) counts.new.orders pairs.new.keys (stock_of listing.new)) }
+    ensures matches { OnOk result (counts.new.matches ≤ 1000000 * (counts.old.orders + 1)) }
+    ensures money { OnOk result (All (IsWithin (2 ^ 63 + 2 ^ 61 * (counts.old.orders + 1))) cash.new.items) }
+    ensures same { length cash.new.items ≡ length cash.old.items }
+    ensures stock_refused { OnErr result (stock_of listing.new ≡ stock_of listing.old) }
+    ensures cash_refused { OnErr result (cash.new.items ≡ cash.old.items) }
+    ensures pairs_refused { OnErr result (pairs.new.keys ≡ pairs.old.keys) }
+    ensures counts_refused { OnErr result (counts.new ≡ counts.old) }
+    ensures replies_refused { OnErr result (out.new.replies.list ≡ out.old.replies.list) }
+    ensures feed_refused { OnErr result (out.new.feed.list ≡ out.old.feed.list) }
+    ensures fee_refused { OnErr result (out.new.fee ≡ out.old.fee) }
+{
+    changes_keep();
+    let most = listing.book.crossing(e.side, e.price);
+    out.reserve(2 * most + 2, most + 1)?;
+    listing.book.reserve(1)?;
+    let pair = Pair {
+        agent: taking.agent,
+        token: e.token.0,
+    };
+    pairs.insert(pair)?;
+    counts.orders += 1;
+    out.reply(
+        taking.agent,
+        Body::Answer(acceptance(taking.time, e, counts.orders)),
+    );
+    listing.trade(taking, e, counts.orders, cash, &mut counts.matches, out);
+    Ok(())
+}
+
+impl Exchange {
+    // An Enter is accepted at the stock of this number.
+    fn accept(
+        &mut self,
+        time: Time,
+        from: AgentNo,
+        e: &Enter,
+        stock: usize,
+        out: &mut Handled,
+    ) -> Result<(), Memory>
+        requires stock { stock < length self.old.stocks }
+        requires few { e.now.shares < 1000000 }
+        requires new { is_remembered self.old from e.now ≡ false }
+        requires room { length self.old.pairs < 131072 }
+        requires trader { 1 ≤ from }
+        requires exists { from ≤ length self.old.cash }
+        requires no_replies { out.old.replies.list ≡ [] }
+        requires no_feed { out.old.feed.list ≡ [] }
+        requires no_fee { out.old.fee ≡ pos 0 }
+        ensures state { OnOk result (self.new ≡ (accepted (remembering self.old from e.now) time from e.now stock).state) }
+        ensures replies { OnOk result (out.new.replies.list ≡ (accepted (remembering self.old from e.now) time from e.now stock).replies) }
+        ensures feed { OnOk result (out.new.feed.list ≡ (accepted (remembering self.old from e.now) time from e.now stock).feed) }
+        ensures fee { OnOk result (out.new.fee ≡ (accepted (remembering self.old from e.now) time from e.now stock).fee) }
+        ensures exchange_refused { OnErr result (self.new ≡ self.old) }
+        ensures replies_refused { OnErr result (out.new.replies.list ≡ out.old.replies.list) }
+        ensures feed_refused { OnErr result (out.new.feed.list ≡ out.old.feed.list) }
+        ensures fee_refused { OnErr result (out.new.fee ≡ out.old.fee) }
+    {
+        let listing = &mut self.stocks[stock];
+        let taking = Taking {
+            time,
+            agent: from,
+            locate: stock as u16 + 1,
+            side: e.side,
+            token: e.token,
+        };
+        admit(
+            listing,
+            &mut self.cash,
+            &mut self.pairs,
+            &mut self.counts,
+            &taking,
+            e,
+            out,
+        )?;
+        Ok(())
+    }
+
+    // An Enter is ignored.
+    fn ignore_enter(&mut self)
+        requires { self.old.counts.enters < 2 ^ 63 }
+        ensures { self.new ≡ record self.old { counts = record self.old.counts { enters = self.old.counts.enters + 1 } } }
+    {
+        self.counts.enters += 1;
+    }
+
+    /// An Enter: the first of the nine lines that applies answers.
+    pub(crate) fn enter(
+        &mut self,
+        time: Time,
+        from: AgentNo,
+        e: &Enter,
+        out: &mut Handled,
+    ) -> Result<(), Memory>
+        requires ignored { self.old.counts.enters < 2 ^ 63 }
+        requires trader { 1 ≤ from }
+        requires exists { from ≤ length self.old.cash }
+        requires no_replies { out.old.replies.list ≡ [] }
+        requires no_feed { out.old.feed.list ≡ [] }
+        requires no_fee { out.old.fee ≡ pos 0 }
+        ensures state { OnOk result (self.new ≡ (entered self.old time from e.now).state) }
+        ensures replies { OnOk result (out.new.replies.list ≡ (entered self.old time from e.now).replies) }
+        ensures feed { OnOk result (out.new.feed.list ≡ (entered self.old time from e.now).feed) }
+        ensures fee { OnOk result (out.new.fee ≡ (entered self.old time from e.now).fee) }
+        ensures exchange_refused { OnErr result (self.new ≡ self.old) }
+        ensures replies_refused { OnErr result (out.new.replies.list ≡ out.old.replies.list) }
+        ensures feed_refused { OnErr result (out.new.feed.list ≡ out.old.feed.list) }
+        ensures fee_refused { OnErr result (out.new.fee ≡ out.old.fee) }
+    {
+        match self.verdict(from, e) {
+            Verdict::Ignored => {
+                self.ignore_enter();
+                Ok(())
+            }
+            Verdict::Forgotten(reason) => forget(time, from, e, reason, out),
+            Verdict::Refused(reason) => self.reject(time, from, e, reason, out),
+            Verdict::Accepted(stock) => self.accept(time, from, e, stock, out),
+        }
+    }
+}

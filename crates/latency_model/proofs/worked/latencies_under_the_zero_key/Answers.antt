@@ -1,0 +1,13 @@
+use Rattle.std.proofs.Common.{refl}
+use Rattle.rand_core.specs.Steps.{u32_at}
+use Rattle.rand_chacha.specs.Block.{block_word, column_round, diagonal_round, double_rounds, quarter_round}
+use Rattle.latency_model.proofs.worked.latencies_under_the_zero_key.Goals as goal
+
+pub returns : goal.returns
+unfolding u32_at block_word double_rounds column_round diagonal_round quarter_round
+returns c = record {
+  without_jitter = refl;
+  little_jitter = refl;
+  next_block = refl;
+  most_jitter = refl;
+}

@@ -1,2 +1,0 @@
-pub mod InboundBack
-pub mod OutboundBack

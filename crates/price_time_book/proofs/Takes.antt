@@ -1,0 +1,162 @@
+-- An order of the vector of arrival gives shares or is lowered.
+use Rattle.std.proofs.Common.{◌≡◌, ◌≢◌, ℕ, ◌+◌, ◌-◌, ◌*◌, ◌<◌, ◌≤◌, Bool, true, false, not, cond, ◌&&◌, eqb, filter, count_by, IfSome, List, [], ◌∷◌, ◌++◌, Option, Some, None, length, get_or, set, refl, sym, ap, ◌∙◌, arith, inl, inr, suc, zero, subst, All, Contains, find, option_map, length-append}
+use Rattle.std.specs.Prelude.{slice_get}
+use Rattle.std.specs.List.{AllByRecursion}
+use Rattle.std.proofs.lemmas.Bool.{cases_eq, cases_lt, eq-eqb, ne_eqb}
+use Rattle.std.proofs.lemmas.Bool.Decides.{nat_tests}
+use Rattle.std.proofs.lemmas.List.{get_or_default, length-map}
+use Rattle.std.proofs.lemmas.List.Sums.{sum_by-cons}
+use Rattle.market_types.specs.declared.order.Side.{Side}
+use Rattle.market_types.specs.declared.order.Side.TheVariants.{Buy, Sell}
+use Rattle.price_time_book.specs.declared.resting.Resting.{Resting}
+use Rattle.price_time_book.specs.declared.levels.Level.{Level}
+use Rattle.price_time_book.specs.Indexed.{bit, key, key_of, open_orders, prices, shares_by, IsImproving, IsNoBetter, IsWorse, nothing, IsOpenAt, IsRight, IsIndexed, IsSmall}
+use Rattle.std.specs.Option.{option_map_or}
+use Rattle.std.proofs.lemmas.List.Elements.{recursion_from_All}
+use Rattle.price_time_book.specs.declared.resting.Best.{Best}
+use Rattle.price_time_book.specs.Next.{best_at, crosses, crossing_of, next_of, shares_at, top_of}
+use Rattle.price_time_book.proofs.Bests.{none_crosses}
+use Rattle.price_time_book.specs.Orderly.{IsOrderly, IsRising}
+use Rattle.price_time_book.specs.Orders.{changed, order_with}
+use Rattle.price_time_book.specs.Sides.{is_within, opposite_of}
+use Rattle.price_time_book.proofs.Changes.{orderly-changed}
+use Rattle.price_time_book.proofs.Firsts.{key_side, open-changed}
+use Rattle.price_time_book.proofs.Joins.{price_at}
+use Rattle.price_time_book.proofs.Lowers.{indexed_lower-other, open_each, with_left}
+use Rattle.price_time_book.proofs.Prices.{no_better_both, rising_le, worse_apart, worse_before}
+use Rattle.price_time_book.proofs.Stays.{each-changed}
+use Rattle.price_time_book.proofs.Tops.{next-beyond, next-none, next-within}
+
+-- the next order is the first of the other side, if the limit allows
+pub next_is : (side mine : Side) (limit : ℕ) (w : List Resting) (o : Resting) → mine ≡ opposite_of side → top_of mine w ≡ Some o → is_within side limit o.price ≡ true → next_of w side limit ≡ Some o
+next_is side mine limit w o s top h = next-within side mine limit w w w (Some (0, o)) 0 o refl refl s (sym top) refl h
+
+pub next_none : (side mine : Side) (limit : ℕ) (w : List Resting) → mine ≡ opposite_of side → top_of mine w ≡ None → next_of w side limit ≡ None
+next_none side mine limit w s top = next-none side mine limit w w w None refl refl s (sym top) refl
+
+pub next_beyond : (side mine : Side) (limit : ℕ) (w : List Resting) (o : Resting) → mine ≡ opposite_of side → top_of mine w ≡ Some o → is_within side limit o.price ≡ false → next_of w side limit ≡ None
+next_beyond side mine limit w o s top h = next-beyond side mine limit w w w (Some (0, o)) 0 o refl refl s (sym top) refl h
+
+-- what a change of the order o at place i leaves
+pub record IsLowered (os new : List Resting) (o : Resting) (v w : ℕ) : Type 0 where
+  pub list : open_orders new ≡ changed (record o { left = v; intended = w }) (open_orders os)
+  pub orderly : IsOrderly (open_orders new)
+  pub small : IsSmall (open_orders os) → IsSmall (open_orders new)
+
+pub lowered : (os new : List Resting) (i : ℕ) (o : Resting) (v w : ℕ) → o ≡ get_or os i nothing → IsOrderly (open_orders os) → i < length os → v < o.left → v ≤ w → new ≡ with_left os i v w → IsLowered os new o v w
+lowered os new i o v w same h in_range less le is =
+    let some : 0 < (get_or os i nothing).left = omega (arith, ap (λ (q : Resting). q.left) same) in
+    let list : open_orders new ≡ changed (record o { left = v; intended = w }) (open_orders os) =
+    ap open_orders is ∙ open-changed os i (record (get_or os i nothing) { left = v; intended = w }) h.rising in_range some refl ∙ ap (λ (q : Resting). changed (record q { left = v; intended = w }) (open_orders os)) (sym same) in
+    record {
+      list = list;
+      orderly = subst IsOrderly (sym list) (orderly-changed (record o { left = v; intended = w }) (open_orders os) le h);
+      small = λ a. subst IsSmall (sym list) (each-changed (λ (x : Resting). x.left ≤ 4294967295) (record o { left = v; intended = w }) (open_orders os) (omega (arith, few a)) a);
+    }
+  where
+    few : IsSmall (open_orders os) → o.left ≤ 4294967295
+    few a = omega (arith, ap (λ (q : Resting). q.left) same, open_each (λ (x : Resting). x.left ≤ 4294967295) os i in_range (omega (arith, ap (λ (q : Resting). q.left) same)) a)
+
+pub others_lowered : (mine t : Side) (os new : List Resting) (nx : List ℕ) (ls : List Level) (i v w p : ℕ) → t ≢ mine → IsOpenAt os (key mine p) i → v ≤ (get_or os i nothing).left → new ≡ with_left os i v w → IsIndexed t os nx ls → IsIndexed t new nx ls
+others_lowered mine t os new nx ls i v w p n o le is x =
+    subst (λ (u : List Resting). IsIndexed t u nx ls) (sym is) (indexed_lower-other t os nx ls i v w x o.within (λ e. n (e ∙ key_side mine p (get_or os i nothing) o.price)) le)
+
+-- the level of a price that has an open order stands where the price does
+pub level_found : (s : Side) (os : List Resting) (nx : List ℕ) (ls : List Level) (at p k : ℕ) → IsIndexed s os nx ls → IsOpenAt os (key s p) k → at ≤ length ls → ((d : Level) → 0 < at → IsWorse s (get_or ls (at - 1) d).price p) → ((d : Level) → at < length ls → IsNoBetter s p (get_or ls at d).price) → (at < length ls) × ((d : Level) → (get_or ls at d).price ≡ p)
+level_found s os nx ls at p k x o le low high =
+    let d : Level = record { price = 0; first = 0; last = 0; shares = 0 } in
+    let ps = prices ls in
+    let c = x.covered p k o in
+    let long = length-map ls (λ (l : Level). l.price) in
+    let value : get_or ps c.0 0 ≡ p = get_or_default ps c.0 0 p c.1 ∙ c.2 in
+    let from : at ≤ c.0 = elim (cases_lt c.0 at) [
+      | inl h ↦
+          let worse : IsWorse s (get_or ps (at - 1) 0) p = subst (λ n. IsWorse s n p) (sym (price_at ls (at - 1) d (omega arith))) (low d (omega arith)) in
+          absurd (worse_apart s (get_or ps c.0 0) p (worse_before s (get_or ps c.0 0) (get_or ps (at - 1) 0) p (rising_le s ps c.0 (at - 1) x.rising (omega arith) (omega (arith, long))) worse) value)
+      | inr h ↦ h
+    ] in
+    let within : at < length ls = omega (arith, from, c.1, long) in
+    let most : IsNoBetter s (get_or ps at 0) p = subst (λ n. IsNoBetter s (get_or ps at 0) n) value (rising_le s ps at c.0 x.rising from c.1) in
+    (within, λ e. no_better_both s (get_or ls at e).price p (subst (λ n. IsNoBetter s n p) (price_at ls at e within) most) (high e within))
+
+-- ---- the fit of a level's shares
+shares_few : (p : ℕ) (w : List Resting) → IsSmall w → shares_by p w ≤ 4294967295 * length w
+shares_few p [] a = omega arith
+shares_few p (o ∷ w) a = elim (eqb (key_of o) p) as (λ b. cond b o.left 0 + shares_by p w ≤ 4294967295 * length (o ∷ w)) [ true ↦ omega (arith, a.0, shares_few p w a.1) | false ↦ omega (arith, shares_few p w a.1) ]
+
+pub levels_fit : (s : Side) (os : List Resting) (nx : List ℕ) (ls : List Level) → IsIndexed s os nx ls → IsSmall (open_orders os) → length (open_orders os) < 4294967296 → All (λ (l : Level). l.shares < 18446744069414584320) ls
+levels_fit s os nx ls x small few = λ k d h. omega (arith, (x.right k d h).shares, shares_few (key s (get_or ls k d).price) (open_orders os) small, few)
+
+pub taken : (os new : List Resting) (i : ℕ) (o : Resting) (v : ℕ) → o ≡ get_or os i nothing → IsOrderly (open_orders os) → i < length os → v < o.left → new ≡ with_left os i v o.intended → IsLowered os new o v o.intended
+taken os new i o v same h in_range less is =
+    let left = ap (λ (q : Resting). q.left) same in
+    let intended = ap (λ (q : Resting). q.intended) same in
+    let le = open_each (λ (x : Resting). x.left ≤ x.intended) os i in_range (omega (arith, left)) h.within in
+    lowered os new i o v o.intended same h in_range less (omega (arith, left, intended, le)) is
+
+-- the same at slices of the vectors
+pub placed_seen : (mine : Side) (s w : List Resting) (t v : List Level) (at i : ℕ) → s ≡ w → t ≡ v → ((d : Level) → IsOpenAt s (key mine (get_or t at d).price) i) → (d : Level) → IsOpenAt w (key mine (get_or v at d).price) i
+placed_seen mine s w t v at i e f h d = subst (λ (u : List Resting). IsOpenAt u (key mine (get_or v at d).price) i) e (subst (λ (u : List Level). IsOpenAt s (key mine (get_or u at d).price) i) f (h d))
+
+pub top_seen : (mine : Side) (s w : List Resting) (i : ℕ) (o : Resting) → s ≡ w → o ≡ get_or w i nothing → top_of mine (open_orders s) ≡ Some (get_or s i nothing) → top_of mine (open_orders w) ≡ Some o
+top_seen mine s w i o e same h = subst (λ (u : List Resting). top_of mine (open_orders u) ≡ Some (get_or u i nothing)) e h ∙ ap (λ (q : Resting). Some q) (sym same)
+
+abbrev pub no_level : Level
+no_level = record { price = 0; first = 0; last = 0; shares = 0 }
+
+-- ---- searches that pass over closed orders
+abbrev is_open : Resting → Bool
+is_open o = not (eqb o.left 0)
+
+pub filter_open : (os : List Resting) → filter is_open os ≡ open_orders os
+filter_open [] = refl
+filter_open (o ∷ os) = elim (eqb o.left 0) as (λ b. cond (not b) (o ∷ filter is_open os) (filter is_open os) ≡ cond b (open_orders os) (o ∷ open_orders os)) [ true ↦ filter_open os | false ↦ ap (λ v. o ∷ v) (filter_open os) ]
+
+one_open : (b : Bool) (p : Resting → Bool) (n : ℕ) (o : Resting) (w : List Resting) → n ≡ count_by p w → cond (not b && p o) 1 0 + n ≡ count_by p (cond b w (o ∷ w))
+one_open true p n o w e = omega (arith, e)
+one_open false p n o w e = omega (arith, e, sum_by-cons (λ (x : Resting). cond (p x) 1 0) o w)
+
+pub count_open : (p : Resting → Bool) (os : List Resting) → count_by (λ (o : Resting). is_open o && p o) os ≡ count_by p (open_orders os)
+count_open p [] = refl
+count_open p (o ∷ os) =
+    let one : count_by (λ (x : Resting). is_open x && p x) (o ∷ os) ≡ cond (is_open o && p o) 1 0 + count_by (λ (x : Resting). is_open x && p x) os = sum_by-cons (λ (x : Resting). cond (is_open x && p x) 1 0) o os in
+    one ∙ one_open (eqb o.left 0) p (count_by (λ (x : Resting). is_open x && p x) os) o (open_orders os) (count_open p os)
+
+-- ---- an order that is held
+got : (w : List Resting) (i : ℕ) (o : Resting) → slice_get w i ≡ Some o → (i < length w) × (get_or w i nothing ≡ o)
+got [] i o e = absurd (cc e)
+got (x ∷ w) zero o e = (omega arith, cc e)
+got (x ∷ w) (suc i) o e = let rest = got w i o e in (omega (arith, rest.0), rest.1)
+
+pub record IsHeld (os : List Resting) (i : ℕ) (o : Resting) (left : ℕ) : Type 0 where
+  pub within : i < length os
+  pub same : get_or os i nothing ≡ o
+  pub less : left < o.left
+  pub size : o.left ≤ o.intended
+
+pub held : (s os list : List Resting) (reference left i : ℕ) (o : Resting) → s ≡ os → open_orders os ≡ list → Some o ≡ order_with reference (open_orders s) → slice_get s i ≡ Some o → IfSome (order_with reference list) (λ (q : Resting). left < q.left) → IsOrderly (open_orders os) → IsHeld os i o left
+held s os list reference left i o e f found at wants h =
+    let there : order_with reference list ≡ Some o = sym (found ∙ ap (λ (u : List Resting). order_with reference (open_orders u)) e ∙ ap (order_with reference) f) in
+    let less : left < o.left = subst (λ (r : Option Resting). IfSome r (λ (q : Resting). left < q.left)) there wants in
+    let g = got os i o (subst (λ (u : List Resting). slice_get u i ≡ Some o) e at) in
+    let le = open_each (λ (x : Resting). x.left ≤ x.intended) os i g.0 (omega (arith, less, ap (λ (q : Resting). q.left) g.1)) h.within in
+    record { within = g.0; same = g.1; less = less; size = subst (λ (q : Resting). q.left ≤ q.intended) g.1 le }
+
+pub others_buy : (t : Side) → t ≡ Buy → Sell ≢ t
+others_buy t e f = cc
+
+pub others_sell : (t : Side) → t ≡ Sell → Buy ≢ t
+others_sell t e f = cc
+
+-- ---- orders that cross
+-- where the best price of the other side does not cross nothing does
+pub none_cross : (side : Side) (limit : ℕ) (w : List Resting) → option_map_or (λ (b : Best). is_within side limit b.price) (best_at (opposite_of side) w) false ≡ false → crossing_of side limit w ≡ 0
+none_cross side limit w h = none_counted (crosses side limit) w (recursion_from_All (λ (o : Resting). crosses side limit o ≡ false) w (none_crosses w side limit (by_top (top_of (opposite_of side) w) refl)))
+  where
+    none_counted : (p : Resting → Bool) (w : List Resting) → AllByRecursion (λ (o : Resting). p o ≡ false) w → count_by p w ≡ 0
+    none_counted p [] a = refl
+    none_counted p (o ∷ w) a = sum_by-cons (λ (x : Resting). cond (p x) 1 0) o w ∙ ap (λ b. cond b 1 0 + count_by p w) a.0 ∙ omega (arith, none_counted p w a.1)
+
+    by_top : (top : Option Resting) → top_of (opposite_of side) w ≡ top → next_of w side limit ≡ None
+    by_top None e = next_none side (opposite_of side) limit w refl e
+    by_top (Some o) e = next_beyond side (opposite_of side) limit w o refl e (sym (ap (λ (t : Option Resting). option_map_or (λ (b : Best). is_within side limit b.price) (option_map (λ (y : Resting). let b : Best = record { price = y.price; shares = shares_at (opposite_of side) y.price w } in b) t) false) e) ∙ h)

@@ -1,0 +1,117 @@
+use Rattle.std.proofs.Common.{◌≡◌, ◌<◌, ◌≤◌, ◌-◌, List, Some, length, get_or, sym, ap, ◌∙◌, subst, refl, arith, rules}
+use Rattle.market_types.specs.Room.{Room}
+use Rattle.market_types.specs.declared.order.Side.{Side}
+use Rattle.market_types.specs.declared.order.Side.TheVariants.{Buy, Sell}
+use Rattle.price_time_book.specs.declared.resting.Resting.{Resting}
+use Rattle.price_time_book.specs.Indexed.{IsIndexed, nothing, open_orders}
+use Rattle.price_time_book.specs.Orders.{changed}
+use Rattle.price_time_book.proofs.Indexes.{references_lessened, tokens_lessened}
+use Rattle.price_time_book.proofs.Takes.{IsHeld, held, others_buy, others_sell}
+use Rattle.price_time_book.proofs.book.Book.reduce.Goals as goal
+
+pub overflow_sub-intended-2 : goal.overflow_sub-intended-2
+overflow_sub-intended-2 c =
+    let k = c.self.inside in
+    let o = c.in_ok-at.resting in
+    let seen = held c.as_slice.result.now k.orders.items c.args.self.now.list c.args.reference c.args.left c.in_ok-at.at o c.as_slice.ensures.value (ap (λ (r : Room Resting). r.list) c.self.view_is) c.in_ok-at.ensures.held c.in_ok-at.ensures.place c.requires c.self.invariant.orderly in
+    omega (arith, seen.size)
+
+pub lower_at-requires-clause-within : goal.lower_at-requires-clause-within
+lower_at-requires-clause-within c =
+    let k = c.self.inside in
+    let o = c.in_ok-at.resting in
+    let seen = held c.as_slice.result.now k.orders.items c.args.self.now.list c.args.reference c.args.left c.in_ok-at.at o c.as_slice.ensures.value (ap (λ (r : Room Resting). r.list) c.self.view_is) c.in_ok-at.ensures.held c.in_ok-at.ensures.place c.requires c.self.invariant.orderly in
+    seen.within
+
+pub lower_at-requires-clause-side : goal.lower_at-requires-clause-side
+lower_at-requires-clause-side c =
+    let k = c.self.inside in
+    let o = c.in_ok-at.resting in
+    let seen = held c.as_slice.result.now k.orders.items c.args.self.now.list c.args.reference c.args.left c.in_ok-at.at o c.as_slice.ensures.value (ap (λ (r : Room Resting). r.list) c.self.view_is) c.in_ok-at.ensures.held c.in_ok-at.ensures.place c.requires c.self.invariant.orderly in
+    ap (λ (q : Resting). q.side) seen.same ∙ c.in-Buy.is
+
+pub lower_at-requires-clause-lower : goal.lower_at-requires-clause-lower
+lower_at-requires-clause-lower c =
+    let k = c.self.inside in
+    let o = c.in_ok-at.resting in
+    let seen = held c.as_slice.result.now k.orders.items c.args.self.now.list c.args.reference c.args.left c.in_ok-at.at o c.as_slice.ensures.value (ap (λ (r : Room Resting). r.list) c.self.view_is) c.in_ok-at.ensures.held c.in_ok-at.ensures.place c.requires c.self.invariant.orderly in
+    omega (arith, seen.less, ap (λ (q : Resting). q.left) seen.same)
+
+pub lower_at-requires-clause-size : goal.lower_at-requires-clause-size
+lower_at-requires-clause-size c =
+    let k = c.self.inside in
+    let o = c.in_ok-at.resting in
+    let seen = held c.as_slice.result.now k.orders.items c.args.self.now.list c.args.reference c.args.left c.in_ok-at.at o c.as_slice.ensures.value (ap (λ (r : Room Resting). r.list) c.self.view_is) c.in_ok-at.ensures.held c.in_ok-at.ensures.place c.requires c.self.invariant.orderly in
+    omega (arith, seen.less, seen.size)
+
+pub invariant_of-self : goal.invariant_of-self
+invariant_of-self c =
+    let k = c.self.inside in
+    let o = c.in_ok-at.resting in
+    let seen = held c.as_slice.result.now k.orders.items c.args.self.now.list c.args.reference c.args.left c.in_ok-at.at o c.as_slice.ensures.value (ap (λ (r : Room Resting). r.list) c.self.view_is) c.in_ok-at.ensures.held c.in_ok-at.ensures.place c.requires c.self.invariant.orderly in
+    record {
+      orders_room = search rules;
+      nexts_room = c.self.invariant.nexts_room;
+      buys_room = search rules;
+      sells_room = search rules;
+      references_room = c.self.invariant.references_room;
+      tokens_room = c.self.invariant.tokens_room;
+      buy_count = c.lower_at.ensures.count;
+      sell_count = c.self.invariant.sell_count ∙ sym (c.lower_at.ensures.other_count Sell (others_buy Buy refl));
+      references = references_lessened k.orders.items c.lower_at.new.orders.items k.references.items c.lower_at.ensures.lessened c.self.invariant.references;
+      tokens = tokens_lessened k.orders.items c.lower_at.new.orders.items k.tokens.items c.lower_at.ensures.lessened c.self.invariant.tokens;
+      buys = subst (λ n. IsIndexed Buy c.lower_at.new.orders.items n c.lower_at.new.levels.items) c.as_slice-nexts.ensures.value c.lower_at.ensures.indexed;
+      sells = subst (λ n. IsIndexed Sell c.lower_at.new.orders.items n k.sells.items) c.as_slice-nexts.ensures.value (c.lower_at.ensures.others Sell k.sells.items (others_buy Buy refl) (subst (λ n. IsIndexed Sell k.orders.items n k.sells.items) (sym c.as_slice-nexts.ensures.value) c.self.invariant.sells));
+      orderly = c.lower_at.ensures.orderly;
+      small = c.lower_at.ensures.small c.self.invariant.small;
+    }
+
+pub lower_at-requires-in-Sell-clause-within : goal.lower_at-requires-in-Sell-clause-within
+lower_at-requires-in-Sell-clause-within c =
+    let k = c.self.inside in
+    let o = c.in_ok-at.resting in
+    let seen = held c.as_slice.result.now k.orders.items c.args.self.now.list c.args.reference c.args.left c.in_ok-at.at o c.as_slice.ensures.value (ap (λ (r : Room Resting). r.list) c.self.view_is) c.in_ok-at.ensures.held c.in_ok-at.ensures.place c.requires c.self.invariant.orderly in
+    seen.within
+
+pub lower_at-requires-in-Sell-clause-side : goal.lower_at-requires-in-Sell-clause-side
+lower_at-requires-in-Sell-clause-side c =
+    let k = c.self.inside in
+    let o = c.in_ok-at.resting in
+    let seen = held c.as_slice.result.now k.orders.items c.args.self.now.list c.args.reference c.args.left c.in_ok-at.at o c.as_slice.ensures.value (ap (λ (r : Room Resting). r.list) c.self.view_is) c.in_ok-at.ensures.held c.in_ok-at.ensures.place c.requires c.self.invariant.orderly in
+    ap (λ (q : Resting). q.side) seen.same ∙ c.in-Sell.is
+
+pub lower_at-requires-in-Sell-clause-lower : goal.lower_at-requires-in-Sell-clause-lower
+lower_at-requires-in-Sell-clause-lower c =
+    let k = c.self.inside in
+    let o = c.in_ok-at.resting in
+    let seen = held c.as_slice.result.now k.orders.items c.args.self.now.list c.args.reference c.args.left c.in_ok-at.at o c.as_slice.ensures.value (ap (λ (r : Room Resting). r.list) c.self.view_is) c.in_ok-at.ensures.held c.in_ok-at.ensures.place c.requires c.self.invariant.orderly in
+    omega (arith, seen.less, ap (λ (q : Resting). q.left) seen.same)
+
+pub lower_at-requires-in-Sell-clause-size : goal.lower_at-requires-in-Sell-clause-size
+lower_at-requires-in-Sell-clause-size c =
+    let k = c.self.inside in
+    let o = c.in_ok-at.resting in
+    let seen = held c.as_slice.result.now k.orders.items c.args.self.now.list c.args.reference c.args.left c.in_ok-at.at o c.as_slice.ensures.value (ap (λ (r : Room Resting). r.list) c.self.view_is) c.in_ok-at.ensures.held c.in_ok-at.ensures.place c.requires c.self.invariant.orderly in
+    omega (arith, seen.less, seen.size)
+
+pub invariant_of-self-in-Sell : goal.invariant_of-self-in-Sell
+invariant_of-self-in-Sell c =
+    let k = c.self.inside in
+    let o = c.in_ok-at.resting in
+    let seen = held c.as_slice.result.now k.orders.items c.args.self.now.list c.args.reference c.args.left c.in_ok-at.at o c.as_slice.ensures.value (ap (λ (r : Room Resting). r.list) c.self.view_is) c.in_ok-at.ensures.held c.in_ok-at.ensures.place c.requires c.self.invariant.orderly in
+    record {
+      orders_room = search rules;
+      nexts_room = c.self.invariant.nexts_room;
+      buys_room = search rules;
+      sells_room = search rules;
+      references_room = c.self.invariant.references_room;
+      tokens_room = c.self.invariant.tokens_room;
+      sell_count = c.lower_at-in-Sell.ensures.count;
+      buy_count = c.self.invariant.buy_count ∙ sym (c.lower_at-in-Sell.ensures.other_count Buy (others_sell Sell refl));
+      references = references_lessened k.orders.items c.lower_at-in-Sell.new.orders.items k.references.items c.lower_at-in-Sell.ensures.lessened c.self.invariant.references;
+      tokens = tokens_lessened k.orders.items c.lower_at-in-Sell.new.orders.items k.tokens.items c.lower_at-in-Sell.ensures.lessened c.self.invariant.tokens;
+      sells = subst (λ n. IsIndexed Sell c.lower_at-in-Sell.new.orders.items n c.lower_at-in-Sell.new.levels.items) c.as_slice-nexts.ensures.value c.lower_at-in-Sell.ensures.indexed;
+      buys = subst (λ n. IsIndexed Buy c.lower_at-in-Sell.new.orders.items n k.buys.items) c.as_slice-nexts.ensures.value (c.lower_at-in-Sell.ensures.others Buy k.buys.items (others_sell Sell refl) (subst (λ n. IsIndexed Buy k.orders.items n k.buys.items) (sym c.as_slice-nexts.ensures.value) c.self.invariant.buys));
+      orderly = c.lower_at-in-Sell.ensures.orderly;
+      small = c.lower_at-in-Sell.ensures.small c.self.invariant.small;
+    }

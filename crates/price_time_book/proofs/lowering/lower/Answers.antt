@@ -1,0 +1,32 @@
+use Rattle.std.proofs.Common.{◌≡◌, ◌+◌, ◌-◌, ◌<◌, ◌≤◌, get_or, set, sym, ap, ◌∙◌, subst, arith, rules}
+use Rattle.std.proofs.lemmas.List.{get_or_default}
+use Rattle.price_time_book.specs.declared.levels.Level.{Level}
+use Rattle.price_time_book.specs.declared.resting.Resting.{Resting}
+use Rattle.price_time_book.specs.Indexed.{IsOpenAt, IsIndexed, key, nothing}
+use Rattle.price_time_book.proofs.Lowers.{indexed_lower}
+use Rattle.price_time_book.proofs.lowering.lower.Goals as goal
+
+pub index-order-requires : goal.index-order-requires
+index-order-requires c = omega (arith, (c.requires.place (record { price = 0; first = 0; last = 0; shares = 0 })).within, c.args.orders.now.ok.0)
+
+pub index_mut-requires : goal.index_mut-requires
+index_mut-requires c = omega (arith, (c.requires.place (record { price = 0; first = 0; last = 0; shares = 0 })).within, c.args.orders.now.ok.0)
+
+pub returns-clause-indexed : goal.returns-clause-indexed
+returns-clause-indexed c =
+    let os = c.args.orders.now.items in
+    let ls = c.args.levels.now.items in
+    let i = c.args.place in
+    let l = c.index-level.result.now in
+    let o = c.index-order.result.now in
+    let e : l ≡ get_or ls c.args.at l = c.index-level.ensures in
+    let placed : IsOpenAt os (key c.args.side l.price) i = subst (λ (m : Level). IsOpenAt os (key c.args.side m.price) i) (sym e) (c.requires.place l) in
+    let within = (c.requires.place l).within in
+    let same : o ≡ get_or os i nothing = c.index-order.ensures ∙ get_or_default os i o nothing within in
+    let lower = c.requires.lower nothing in
+    let some = c.requires.some l nothing in
+    let shares : (get_or ls c.args.at l).shares ≡ l.shares = ap (λ (m : Level). m.shares) (sym e) in
+    let left : o.left ≡ (get_or os i nothing).left = ap (λ (m : Resting). m.left) same in
+    let by : c.from.result ≡ o.left - c.args.left = c.from.ensures in
+    let t = indexed_lower c.args.side os c.args.nexts.now ls c.args.at l i c.args.left c.args.intended (l.shares - c.from.result) c.requires.indexed (search rules) e placed (omega arith) (omega arith) (omega arith) in
+    subst (λ (q : Resting). IsIndexed c.args.side (set os i (record q { left = c.args.left; intended = c.args.intended })) c.args.nexts.now (set ls c.args.at (record l { shares = l.shares - c.from.result }))) (sym same) t

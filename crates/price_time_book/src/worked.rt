@@ -1,0 +1,50 @@
+//! What the definitions give on worked examples.
+
+ghost use Rattle.std.specs.Prelude.{◌≡◌, ◌∷◌, []};
+ghost use Rattle.price_time_book.specs.Matched.{fill_of, after_fill};
+ghost use Rattle.price_time_book.specs.Next.{best_at, crossing_of, next_of};
+ghost use Rattle.price_time_book.specs.Orders.{order_with, changed, reduced};
+ghost use Rattle.price_time_book.specs.Sides.{depth_of};
+ghost use Rattle.price_time_book.specs.Worked.{bought, dear, early, given, late, three_sells};
+
+use market_types::Side;
+
+/// Three sells are swept by an order to buy 700 shares at 10.01 dollars: the two at 10.00 come first,
+/// the earlier of them before the later, and 100 shares stay unmatched.
+pub fn sweep()
+    ensures fills { (bought 100100 700).fills ≡
+        given (early 200) 200 ∷ given (late 300) 300 ∷ given (dear 100) 100 ∷ [] }
+    ensures book { (bought 100100 700).book ≡ [] }
+    ensures left { (bought 100100 700).shares ≡ 100 }
+    ensures within_limit { bought 100000 700 ≡ record {
+      fills = given (early 200) 200 ∷ given (late 300) 300 ∷ [];
+      book = dear 100 ∷ [];
+      shares = 200;
+    } }
+    ensures in_part { bought 100100 250 ≡ record {
+      fills = given (early 200) 200 ∷ given (late 300) 50 ∷ [];
+      book = dear 100 ∷ late 250 ∷ [];
+      shares = 0;
+    } }
+    ensures none_below { bought 99999 700 ≡ record { fills = []; book = three_sells; shares = 700 } }
+    ensures none_of_its_side { next_of three_sells Side.Sell 1 ≡ None }
+{}
+
+/// The best price of three sells has the shares of two of them, and an order to buy crosses one more
+/// from 10.01 dollars on.
+pub fn depth()
+    ensures best { best_at Side.Sell three_sells ≡ Some (record { price = 100000; shares = 500 }) }
+    ensures empty { best_at Side.Buy three_sells ≡ None }
+    ensures depth { depth_of Side.Sell three_sells ≡ 3 }
+    ensures crossing { crossing_of Side.Buy 100099 three_sells ≡ 2 }
+    ensures all_cross { crossing_of Side.Buy 100100 three_sells ≡ 3 }
+    ensures none_crosses { crossing_of Side.Buy 99999 three_sells ≡ 0 }
+{}
+
+/// The second of three sells is found by its reference, and it is lowered or leaves.
+pub fn change()
+    ensures with { order_with 2 three_sells ≡ Some (early 200) }
+    ensures reduced { (reduced 50 (early 200)).intended ≡ 150 }
+    ensures removed { changed (early 0) three_sells ≡ dear 100 ∷ late 300 ∷ [] }
+    ensures lowered { changed (early 50) three_sells ≡ dear 100 ∷ early 50 ∷ late 300 ∷ [] }
+{}

@@ -1,0 +1,13 @@
+//! Traders that keep or make a market: momentum and makers.
+#![tactic(auto)]
+
+mod history;
+mod levels;
+mod momentum;
+mod quoter;
+pub mod worked;
+
+pub use quoter::Quoter;
+
+#[cfg(test)]
+mod tests;

@@ -1,9 +1,0 @@
-use Rattle.std.proofs.Common.{◌+◌, ◌∷◌, drop, map}
-use Rattle.wire_fields.specs.Values.{told}
-use Rattle.wire_fields.specs.Wire.{total_width, spelled_fields}
-use Rattle.wire_fields.proofs.Tables.{IsWritten}
-use Rattle.wire_fields.proofs.writing.write.Given as goal
-
-abbrev pub invariant-loop-i : goal.invariant-loop-i
-invariant-loop-i l =
-    IsWritten (drop l.i l.kinds) (drop l.i l.values) l.at (l.letter ∷ spelled_fields l.kinds (map told l.values)) (1 + total_width l.kinds) l.initial.out l.out
