@@ -13,3 +13,6 @@ pub use lane::Lane;
 pub use lanes::open_lanes;
 pub use plain_lists::Memory;
 pub use rule::{LaneView, Room};
+
+#[cfg(test)]
+mod tests;
