@@ -1,6 +1,6 @@
 //! Two lanes, of which the second takes from the first.
 
-ghost use Rattle.std.specs.Prelude.{◌≡◌};
+ghost use Rattle.std.specs.Prelude.{◌≡◌, []};
 
 use crate::{Lane, Memory, Room, open_lanes};
 use std::alloc::Global;
@@ -9,31 +9,38 @@ use std::sync::Wait;
 use std::test::Fail;
 
 // The segments 0, 1 and 2 are pushed on the first lane, which the second lane takes from until it finds none, and whose
-// owner then pops until there is none: first what came out, then how much of it the owner got.
+// owner then pops until there is none: what came out, and whether the owner found none.
 fn share_three<B: Room, R: Wait>(
     rt: &R,
     alloc: Global,
     room: u32,
-) -> Result<(Vec<u32>, usize), Memory>
+) -> Result<(Vec<u32>, bool), Memory>
     requires room { room ≡ B.room }
     requires three { room ≡ 3 }
 {
     let mut lanes = open_lanes::<B>(alloc, 2, room)?;
     let mut got = Vec::new(alloc);
     let Some(mut second) = lanes.pop() else {
-        return Ok((got, 0));
+        return Ok((got, false));
     };
     let Some(mut first) = lanes.pop() else {
-        return Ok((got, 0));
+        return Ok((got, false));
     };
-    first.push(0);
-    first.push(1);
-    first.push(2);
+    push_three(&mut first);
     take_some(rt, &mut second, &mut got)?;
     let stolen = got.len();
     pop_some(&mut first, &mut got)?;
-    let popped = got.len() - stolen;
-    Ok((got, popped))
+    let all_stolen = got.len() == stolen;
+    Ok((got, all_stolen))
+}
+
+fn push_three<B: Room>(lane: &mut Lane<B>)
+    requires fresh { lane.old.own.view.pushed ≡ [] }
+    requires three { B.room ≡ 3 }
+{
+    lane.push(0);
+    lane.push(1);
+    lane.push(2);
 }
 
 fn take_some<B: Room, R: Wait>(
@@ -58,7 +65,7 @@ fn pop_some<B: Room>(lane: &mut Lane<B>, got: &mut Vec<u32>) -> Result<(), Memor
     Ok(())
 }
 
-fn share_picked<R: Wait>(rt: &R, alloc: Global) -> Result<(Vec<u32>, usize), Memory> {
+fn share_picked<R: Wait>(rt: &R, alloc: Global) -> Result<(Vec<u32>, bool), Memory> {
     share_three::<Brand, R>(rt, alloc, 3)
 }
 
@@ -71,8 +78,8 @@ fn lanes_cross<B: Room + Send>(lane: &Lane<B>) {
 
 #[test]
 fn a_thief_takes_each_once(rt: HostRuntime) -> Result<(), Fail> {
-    let (got, popped) = share_picked(&rt, rt.alloc())?;
+    let (got, all_stolen) = share_picked(&rt, rt.alloc())?;
     assert_eq!(rt; got.as_slice(), [0, 1, 2].as_slice());
-    assert_eq!(rt; popped, 0);
+    assert!(rt; all_stolen);
     Ok(())
 }
