@@ -12,3 +12,4 @@ pub mod Facts
 pub mod Opens
 pub mod Closes
 pub mod Backs
+pub mod Trials

@@ -1,5 +1,9 @@
 //! Two seats at one fork.
 
+mod abandoned;
+mod closing;
+mod seats;
+
 ghost use Rattle.std.specs.Prelude.{◌≡◌, ◌<◌, IsSome, Some};
 ghost use Rattle.shelf_core.specs.Plan.{place_of};
 
