@@ -103,13 +103,13 @@ fn two_seats_at_one_fork(rt: HostRuntime) -> Result<(), Fail> {
     };
     let (shelf, mut seats) = Shelf::<Item>::open(rt.alloc(), &7, plan, 2)?;
     let Some(mut one) = seats.pop() else {
-        return Ok(());
+        return Err(Fail::from("no seats, or no place"));
     };
     let Some(mut zero) = seats.pop() else {
-        return Ok(());
+        return Err(Fail::from("no seats, or no place"));
     };
     if shelf.place_of(k).is_none() {
-        return Ok(());
+        return Err(Fail::from("no seats, or no place"));
     }
     let seen = two_seats(rt.alloc(), &shelf, &mut zero, &mut one, k, other)?;
     assert_eq!(rt; seen.as_slice(), [true; 5].as_slice());
