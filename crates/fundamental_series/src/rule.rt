@@ -63,13 +63,10 @@ pub fn stepped(rule: &SeriesRule, value: u32, word: u32) -> u32
     clamped(i64::from(value) + pulled(rule, value) + centred(word, rule.shock))
 }
 
-/// A value with the offset of edits, in dollars with four implied decimals, where the offset is within
-/// 2^62 of 0: the nearest price.
+/// A value with the offset of edits, both in dollars with four implied decimals: the nearest price.
 pub fn with_offset(value: u32, offset: i64) -> u32
-    requires low { neg_ℤ (pos (2 ^ 62)) ≤ℤ offset }
-    requires high { offset ≤ℤ pos (2 ^ 62) }
     ensures value { result ≡ with_offset_of value offset }
     ensures price { IsPrice result }
 {
-    clamped(i64::from(value) + offset)
+    clamped(i64::from(value).saturating_add(offset))
 }

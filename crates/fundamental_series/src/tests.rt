@@ -142,6 +142,6 @@ fn offsets_stay_prices(rt: HostRuntime) {
     assert_eq!(rt; with_offset(99_000, -500), 98_500);
     assert_eq!(rt; with_offset(99_000, -99_000), 1);
     assert_eq!(rt; with_offset(99_000, 2_000_000_000), 1_999_999_900);
-    assert_eq!(rt; with_offset(99_000, -(1 << 62)), 1);
-    assert_eq!(rt; with_offset(99_000, 1 << 62), 1_999_999_900);
+    assert_eq!(rt; with_offset(99_000, i64::MIN), 1);
+    assert_eq!(rt; with_offset(99_000, i64::MAX), 1_999_999_900);
 }

@@ -5,7 +5,7 @@ use wire_fields::Kind;
 const STOCK_LOCATE: Kind = Kind::Number(2);
 
 const TRACKING_NUMBER: Kind = Kind::Number(2);
-/// In nanoseconds past midnight.
+// In nanoseconds past midnight.
 const TIMESTAMP: Kind = Kind::Number(6);
 
 const EVENT_CODE: Kind = Kind::Letters(1);
@@ -49,7 +49,7 @@ const ORDER_REFERENCE_NUMBER: Kind = Kind::Number(8);
 const BUY_SELL_INDICATOR: Kind = Kind::Side;
 
 const SHARES: Kind = Kind::Number(4);
-/// With four implied decimals.
+// With four implied decimals.
 const PRICE: Kind = Kind::Number(4);
 
 const EXECUTED_SHARES: Kind = Kind::Number(4);
@@ -59,9 +59,9 @@ const MATCH_NUMBER: Kind = Kind::Number(8);
 const CANCELED_SHARES: Kind = Kind::Number(4);
 
 const CROSS_SHARES: Kind = Kind::Number(8);
-/// With four implied decimals.
+// With four implied decimals.
 const CROSS_PRICE: Kind = Kind::Number(4);
-/// Cross Type.
+// Cross Type.
 const TYPE_OF_CROSS: Kind = Kind::Letters(1);
 
 /// The type of System Event.

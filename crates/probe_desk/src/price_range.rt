@@ -7,7 +7,7 @@ use crate::Probe;
 use crate::removal::taken;
 use market_types::Record;
 
-/// The least and the greatest price with four implied decimals.
+// The least and the greatest price with four implied decimals.
 #[derive(Clone, Copy)]
 struct Span {
     least: u32,

@@ -80,14 +80,14 @@ pub fn pair_of(array: &Array) -> Option<(&Value, &Value)>
     Some((&array[0], &array[1]))
 }
 
-/// Whether a key is one of these names.
+// Whether a key is one of these names.
 fn is_named(names: &[&str], key: &str) -> bool
     ensures { result ≡ list_any (λ name. bytes_eq name.now key.now) names.now }
 {
     names.iter().any(|name| *name == key)
 }
 
-/// Whether each key of a table is one of these names.
+// Whether each key of a table is one of these names.
 fn each_is_named(table: &Table, names: &[&str]) -> bool
     ensures { result ≡ list_all (λ key. list_any (λ name. bytes_eq name.now (string_bytes key)) names.now) (keys_of table.now.entries) }
 {

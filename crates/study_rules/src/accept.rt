@@ -23,7 +23,7 @@ pub struct WatcherStudy {
     pub count: u16,
 }
 
-/// The free values, each within its ends.
+// The free values, each within its ends.
 fn free_values(table: &Table, agent: &Table) -> Option<WatcherStudy>
     ensures values { result ≡ values_of (table_view table.now) (table_view agent.now) }
     ensures in_range { IfSome result IsInRange }

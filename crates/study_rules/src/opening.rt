@@ -10,7 +10,7 @@ use latency_model::Groups;
 use market_types::{Memory, Sequence};
 use std::alloc::{AllocError, Global};
 
-/// The watchers of a study.
+// The watchers of a study.
 fn watchers(alloc: Global, study: &WatcherStudy) -> Result<Vec<Waker>, AllocError>
     ensures { IfOk result (λ v. v.items ≡ replicate study.now.count (waker_of study.now)) }
 {
@@ -23,7 +23,7 @@ fn watchers(alloc: Global, study: &WatcherStudy) -> Result<Vec<Waker>, AllocErro
     vec![in alloc; waker; usize::from(study.count)]
 }
 
-/// The latencies of one group whose messages are under way for 5 nanoseconds.
+// The latencies of one group whose messages are under way for 5 nanoseconds.
 fn latencies(alloc: Global) -> Result<Groups, Memory>
     ensures { IfOk result (λ g. g ≡ record { base = (5 ∷ []) ∷ []; jitter = (0 ∷ []) ∷ [] }) }
 {

@@ -40,7 +40,7 @@ pub fn has_text(table: &Table, key: &str, text: &str) -> bool
     }
 }
 
-/// The array that is the one item of the array at a key.
+// The array that is the one item of the array at a key.
 fn lone_array<'a>(table: &'a Table, key: &str) -> Option<&'a Array>
     ensures { option_map (λ a. array_view a.now) result ≡ option_and_then as_array (option_and_then single (items_at key.now (table_view table.now))) }
 {

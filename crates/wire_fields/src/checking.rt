@@ -42,7 +42,7 @@ pub fn total_width(kinds: &[Kind]) -> usize
     total
 }
 
-/// The least offset of a field that is out of its range.
+// The least offset of a field that is out of its range.
 fn bad_at(bytes: &[u8], kinds: &[Kind]) -> Option<usize>
     requires { length bytes.now ≡ 1 + total_width kinds.now }
     ensures { result ≡ bad_at kinds.now 1 bytes.now }
@@ -58,7 +58,7 @@ fn bad_at(bytes: &[u8], kinds: &[Kind]) -> Option<usize>
     None
 }
 
-/// Whether these bytes may stand in a field.
+// Whether these bytes may stand in a field.
 #[tactic(auto, unfolding(crate::specs::Kinds::is_good))]
 fn is_good(kind: &Kind, bytes: &[u8]) -> bool
     ensures { result ≡ is_good kind.now bytes.now }
@@ -76,7 +76,7 @@ fn are_admitted(kind: &Kind, bytes: &[u8]) -> bool
     bytes.iter().all(|b| kind.admits(*b))
 }
 
-/// Whether some bytes that the field admits stand first, and then only spaces.
+// Whether some bytes that the field admits stand first, and then only spaces.
 fn is_filled(kind: &Kind, bytes: &[u8]) -> bool
     ensures { result ≡ is_filled (admits kind.now) bytes.now }
 {

@@ -76,7 +76,7 @@ impl Kind {
     }
 }
 
-/// Whether a byte is one of these.
+// Whether a byte is one of these.
 fn is_among(b: u8, letters: &[u8]) -> bool
     ensures { result ≡ list_any (λ letter. letter == b) letters.now }
 {

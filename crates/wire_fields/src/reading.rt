@@ -8,7 +8,7 @@ ghost use Rattle.wire_fields.specs.declared.kind.Kind.TheVariants as kind;
 
 use market_types::Side;
 
-/// The number of the `n` bytes at an offset.
+// The number of the `n` bytes at an offset.
 fn number_at(bytes: &[u8], at: usize, n: usize) -> u64
     requires within { at + n ≤ length bytes.now }
     requires width { n ≤ 8 }
@@ -18,7 +18,7 @@ fn number_at(bytes: &[u8], at: usize, n: usize) -> u64
     u64::from_be_bytes(widened(&bytes[at..at + n]))
 }
 
-/// Eight bytes of the same number.
+// Eight bytes of the same number.
 fn widened(bytes: &[u8]) -> [u8; 8]
     requires { length bytes.now ≤ 8 }
     ensures { result ≡ replicate (8 - length bytes.now) 0 ++ bytes.now }
