@@ -1,3 +1,4 @@
 pub mod Opening
 pub mod Groups
+pub mod Postings
 pub mod Worked

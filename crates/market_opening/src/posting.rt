@@ -1,0 +1,16 @@
+//! What an agent gives to the mail.
+
+use market_types::{AgentNo, Body, Time};
+
+/// One message that is to leave for an agent, or a wakeup that the agent asks for.
+#[derive(Clone, Copy, PartialEq, Eq, Debug)]
+pub enum Posting {
+    To {
+        to: AgentNo,
+        body: Body,
+        /// Nanoseconds from the end of the agent's computation to its leaving.
+        extra: Time,
+    },
+    /// In nanoseconds past midnight.
+    WakeAt(Time),
+}
