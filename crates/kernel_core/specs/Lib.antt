@@ -1,10 +1,8 @@
-pub mod Opening
 pub mod State
-pub mod Agents
-pub mod Send
-pub mod Sendable
 pub mod Open
 pub mod Step
 pub mod Until
-pub mod Worked
+pub mod Edited
+pub mod Sound
 pub mod View
+pub mod Worked

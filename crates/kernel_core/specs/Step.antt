@@ -1,19 +1,20 @@
 -- One event of the kernel.
-use Rattle.std.specs.Prelude.{◌≡◌, ◌≤◌, ℕ, ◌+◌, ◌-◌, pos, ◌==◌, true, false, nat_lt, if◌then◌else◌, List, [], length, Option, Some, None, option_map, slice_index, slice_index_or, slice_set, is_some}
+use Rattle.std.specs.Prelude.{◌≡◌, ◌≤◌, ℕ, ◌+◌, pos, ◌==◌, true, false, nat_lt, if◌then◌else◌, List, [], length, Option, Some, None, option_map, slice_index, slice_set, is_some}
 use Rattle.market_types.specs.declared.message.Message.{Message}
 use Rattle.market_types.specs.declared.entry.End.{End}
 use Rattle.market_types.specs.declared.entry.End.TheVariants.{Quiet, Closed, EventLimit, QueueFull}
+use Rattle.market_types.specs.declared.feed.Feed.{Feed}
 use Rattle.market_types.specs.Told.{EventTold}
 use Rattle.latency_model.specs.Tables.{group_count}
-use Rattle.event_queue.specs.Waiting.{least, without, joined}
-use Rattle.kernel_core.specs.declared.opening.Opening.{Opening}
-use Rattle.kernel_core.specs.declared.opening.Stepped.{Stepped}
-use Rattle.kernel_core.specs.declared.opening.Stepped.TheVariants.{Event, Ended}
-use Rattle.kernel_core.specs.declared.sending.Sending.{Sending}
-use Rattle.kernel_core.specs.declared.trader.Trader.{Trader}
-use Rattle.kernel_core.specs.Agents.{Decided, decided, answered, nobody}
-use Rattle.kernel_core.specs.Opening.{IsOpening}
-use Rattle.kernel_core.specs.Send.{all_sent}
+use Rattle.event_queue.specs.Waiting.{least}
+use Rattle.market_opening.specs.declared.opening.Opening.{Opening}
+use Rattle.market_opening.specs.Opening.{IsOpening}
+use Rattle.kernel_mail.specs.Post.{put_back as back_in_post, taken}
+use Rattle.kernel_mail.specs.Send.{all_sent}
+use Rattle.market_floor.specs.Ruled.{applied_by, ruled}
+use Rattle.market_floor.specs.Reaction.{Reaction, reaction}
+use Rattle.kernel_core.specs.declared.stepped.Stepped.{Stepped}
+use Rattle.kernel_core.specs.declared.stepped.Stepped.TheVariants.{Event, Ended}
 use Rattle.kernel_core.specs.State.{State}
 
 -- the end that the least waiting message tells
@@ -33,14 +34,22 @@ pub record Happened : Type 0 where
   pub state : State
   pub entry : EventTold
 
--- The message is put back until its receiver is free, under its old number.
-abbrev pub put_back : State → Message → ℕ → Happened
-put_back s m until = record {
-  state = record s {
-    time = m.time;
-    events = s.events + 1;
-    post = record s.post { waiting = joined (record m { time = until }) (without m.seq s.post.waiting) };
-  };
+-- A state after the dated changes up to a time, and their feed.
+pub record InForce : Type 0 where
+  pub state : State
+  pub feed : List Feed
+
+-- the dated changes up to a time are made, but for those that were made before
+abbrev pub in_force : Opening → State → ℕ → InForce
+in_force o s time = record {
+  state = record s { applied = applied_by o s.applied time; floor = (ruled o s.applied time s.floor).floor };
+  feed = (ruled o s.applied time s.floor).feed;
+}
+
+-- The message is put back until its receiver is free, under its old number; the feed of the dated changes comes before.
+abbrev pub put_back : State → Message → ℕ → List Feed → Happened
+put_back s m until before = record {
+  state = record s { time = m.time; events = s.events + 1; post = back_in_post s.post m until };
   entry = record {
     number = s.events + 1;
     time = m.time;
@@ -51,42 +60,20 @@ put_back s m until = record {
     until = until;
     fee = pos 0;
     body = m.body;
-    before = [];
+    before = before;
     after = [];
   };
 }
 
--- What the receiver of a message does: the traders' new data, what is sent, and how long it computes.
-pub record Reaction : Type 0 where
-  pub traders : List Trader
-  pub sends : List Sending
-  pub delay : ℕ
-
--- a trader's data once it computed, beside all others
-abbrev pub trader_reaction : List Trader → ℕ → Decided → Reaction
-trader_reaction traders at d = record {
-  traders = slice_set traders at d.trader;
-  sends = d.sends;
-  delay = (slice_index_or traders at nobody).delay;
-}
-
--- The exchange is agent 0; the traders follow in their order.
-abbrev pub reaction : Opening → List Trader → Message → Reaction
-reaction o traders m =
-    if m.to == 0
-    then record { traders = traders; sends = answered m.from m.body; delay = o.exchange_delay }
-    else trader_reaction traders (m.to - 1) (decided (slice_index_or traders (m.to - 1) nobody) m.time m.body)
-
--- The message is delivered: its receiver is busy for its delay, and then its sendings leave.
-abbrev pub delivered_with : Opening → State → Message → Reaction → Happened
-delivered_with o s m r = record {
-  state = record {
+-- The message is delivered: its receiver is busy for its delay, and then what it posts leaves.
+abbrev pub delivered_with : Opening → State → Message → Reaction → List Feed → Happened
+delivered_with o s m r before = record {
+  state = record s {
     time = m.time;
     events = s.events + 1;
-    post = all_sent o s.groups m.to (m.time + r.delay) (record s.post { waiting = without m.seq s.post.waiting }) r.sends;
+    post = all_sent o s.groups m.to (m.time + r.delay) (taken s.post m) r.postings;
     own = slice_set s.own m.to (m.time + r.delay);
-    traders = r.traders;
-    groups = s.groups;
+    floor = r.floor;
   };
   entry = record {
     number = s.events + 1;
@@ -96,20 +83,27 @@ delivered_with o s m r = record {
     to = m.to;
     put_back = false;
     until = m.time + r.delay;
-    fee = pos 0;
+    fee = r.fee;
     body = m.body;
-    before = [];
-    after = [];
+    before = before;
+    after = r.feed;
   };
 }
 
-abbrev pub delivered : Opening → State → Message → Happened
-delivered o s m = delivered_with o s m (reaction o s.traders m)
+-- the event of a message whose receiver is busy until later
+abbrev pub event_back : Opening → State → Message → ℕ → Happened
+event_back o s m until = put_back (in_force o s m.time).state m until (in_force o s m.time).feed
 
--- The event of a message: it is put back where its receiver is still busy at its time.
+-- the event of a message that is delivered
+abbrev pub event_delivered : Opening → State → Message → Happened
+event_delivered o s m =
+    delivered_with o (in_force o s m.time).state m (reaction o (in_force o s m.time).state.floor m) (in_force o s m.time).feed
+
+-- The event of a message. The dated changes up to its time come first; then it is put back where its receiver is still busy
+-- at its time, and else delivered.
 unfoldable pub event_of : Opening → State → Message → Happened
 event_of o s m =
-    if nat_lt m.time (slice_index s.own m.to) then put_back s m (slice_index s.own m.to) else delivered o s m
+    if nat_lt m.time (slice_index s.own m.to) then event_back o s m (slice_index s.own m.to) else event_delivered o s m
 
 -- The next event is that of the least waiting message; an ended state has none.
 abbrev pub step_of : Opening → State → Option Happened
@@ -125,10 +119,13 @@ abbrev pub raised : Stepped → ℕ
 raised (Event n) = 1
 raised (Ended e) = 0
 
--- An opening fits a state: it is in its ranges, it has as many traders and groups, and its limit is at least the
--- count of events.
+-- An opening fits a state: it is in its ranges; it has as many stocks, traders and groups; it has at least as many dated
+-- changes as were applied; it starts no later than the state's time; and its limit is at least the count of events.
 pub record Fits (o : Opening) (s : State) : Type 0 where
   pub opening : IsOpening o
-  pub traders : length o.traders ≡ length s.traders
+  pub stocks : length o.stocks ≡ length s.floor.exchange.stocks
+  pub traders : length o.traders ≡ length s.floor.parties
   pub groups : group_count o.groups ≡ group_count s.groups
+  pub dated : s.applied ≤ length o.dated
+  pub start : o.start ≤ s.time
   pub limit : s.events ≤ o.limit

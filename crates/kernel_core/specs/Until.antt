@@ -1,7 +1,7 @@
 -- A run of events.
 use Rattle.std.specs.Prelude.{ℕ, ◌-◌, zero, suc, List, [], ◌∷◌, ◌++◌, Option, Some, None}
 use Rattle.market_types.specs.Told.{EntryTold, event}
-use Rattle.kernel_core.specs.declared.opening.Opening.{Opening}
+use Rattle.market_opening.specs.declared.opening.Opening.{Opening}
 use Rattle.kernel_core.specs.State.{State}
 use Rattle.kernel_core.specs.Step.{Happened, step_of}
 
@@ -26,3 +26,7 @@ advanced_by (suc n) o r = advanced_by n o (advanced o r)
 -- on until so many events stand or the state is ended
 abbrev pub until : Opening → ℕ → Run → Run
 until o stop r = advanced_by (stop - r.state.events) o r
+
+-- a run with entries in front of its own
+abbrev pub behind : List EntryTold → Run → Run
+behind xs r = record { state = r.state; entries = xs ++ r.entries }

@@ -1,4 +1,0 @@
-pub mod Posts
-pub mod Sound
-pub mod Runs
-pub mod Opened
