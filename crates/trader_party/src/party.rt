@@ -164,10 +164,13 @@ impl Party {
         ensures after { (n : ℕ) → IsAfter n self.old.trader → IsAfter (n + 1) self.new.trader }
     {
         traders_stay_in_range();
-        if self.silent && !is_answer(body) {
-            return Ok(());
+        if !self.silent {
+            return self.form.decide(view, body, out);
         }
-        self.form.decide(view, body, out)
+        match body {
+            Body::Answer(_) => self.form.decide(view, body, out),
+            Body::Wake | Body::Order(_) | Body::Ask(_) | Body::Quote(_) => Ok(()),
+        }
     }
 
     /// Replaces one parameter.
@@ -232,10 +235,4 @@ impl Party {
             silent: self.silent,
         })
     }
-}
-
-// Whether a message is a reply.
-fn is_answer(body: &Body) -> bool
-{
-    matches!(body, Body::Answer(_))
 }
