@@ -1,10 +1,10 @@
 //! The floor: its opening, its copies and its readers.
 
-ghost use Rattle.std.specs.Prelude.{◌≡◌, ◌<◌, ◌≤◌, ◌+◌, IfOk, length, map};
+ghost use Rattle.std.specs.Prelude.{◌≡◌, ◌<◌, ◌≤◌, All, IfOk, length, map};
 ghost use Rattle.agent_shell.specs.Trader.{told_of};
-ghost use Rattle.market_opening.specs.Opening.{IsOpening, IsTraderOf, cash_of};
+ghost use Rattle.market_opening.specs.Opening.{IsOpening};
 ghost use Rattle.market_floor.specs.Floor.{floor_at_opening, offset_at, parties_from, party_at};
-ghost use Rattle.market_floor.specs.Sound.{FitsFloor, IsSoundFloor};
+ghost use Rattle.market_floor.specs.Sound.{FitsFloor, IsSoundFloor, IsSoundParty};
 
 use agent_shell::TraderSetting;
 use exchange_agent::Exchange;
@@ -41,14 +41,15 @@ fn cash_of(alloc: Global, traders: &[TraderSetting]) -> Result<Vec<i64>, Memory>
     Ok(cash)
 }
 
-// The traders of these settings at the opening, from agent 1 on.
-fn open_all(alloc: Global, traders: &[TraderSetting]) -> Result<Vec<Party>, Memory>
-    ensures { IfOk result (λ v. v.items ≡ parties_from 1 traders.now) }
+// The traders at the opening, from agent 1 on.
+fn open_all(alloc: Global, o: &Opening) -> Result<Vec<Party>, Memory>
+    requires { IsOpening o.now }
+    ensures value { IfOk result (λ v. v.items ≡ parties_from 1 o.now.traders) }
+    ensures sound { IfOk result (λ v. All (IsSoundParty (length o.now.stocks) 0) v.items) }
 {
     let mut parties = Vec::new(alloc);
-    for setting in traders {
-        let agent = parties.len() as u16 + 1;
-        parties.push(Party::open(alloc, agent, setting)?)?;
+    for (i, setting) in o.traders.as_slice().iter().enumerate() {
+        parties.push(Party::open(alloc, i as u16 + 1, setting)?)?;
     }
     Ok(parties)
 }
@@ -77,7 +78,7 @@ impl Floor {
     {
         let cash = cash_of(alloc, o.traders.as_slice())?;
         let exchange = Exchange::open(alloc, o.stocks.as_slice(), cash.as_slice())?;
-        let parties = open_all(alloc, o.traders.as_slice())?;
+        let parties = open_all(alloc, o)?;
         let offsets = vec![in alloc; 0i64; o.stocks.len()]?;
         Ok(Floor {
             exchange,
