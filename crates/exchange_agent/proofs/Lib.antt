@@ -5,6 +5,8 @@ pub mod Ends
 pub mod Knowns
 pub mod Numbers
 pub mod Pairs
+pub mod Replied
+pub mod Shorts
 pub mod States
 pub mod Steps
 pub mod Tellings

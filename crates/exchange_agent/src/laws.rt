@@ -1,12 +1,19 @@
 //! Laws of whole runs: for every list of messages and changes.
 
-ghost use Rattle.std.specs.Prelude.{◌≡◌, ℤ, List, length};
+ghost use Rattle.std.specs.Prelude.{◌≡◌, ◌≤◌, ◌+◌, ◌*◌, ℕ, ℤ, List, All, length};
 ghost use Rattle.std.specs.List.{AllByRecursion};
 ghost use Rattle.exchange_agent.specs.declared.told.StockRules.{StockRules};
+ghost use Rattle.market_types.specs.declared.message.Body.{Body};
+ghost use Rattle.market_rules.specs.declared.changes.Change.{Change};
+ghost use Rattle.exchange_agent.specs.Changes.{changed_by};
+ghost use Rattle.exchange_agent.specs.Market.{IsAskable, market};
 ghost use Rattle.exchange_agent.specs.Open.{IsOpening};
 ghost use Rattle.exchange_agent.specs.Runs.{Act, IsConserved, IsPossible};
+ghost use Rattle.exchange_agent.specs.State.{State, Stock};
 
-use price_time_book::keeping::{a_match_keeps, a_reduce_keeps, fills_add_up, orderly_books_stay};
+use price_time_book::keeping::{
+    a_match_keeps, a_reduce_keeps, changes_keep, fills_add_up, orderly_books_stay,
+};
 use price_time_book::laws::{matching_ends, next_is_best};
 
 /// From an opening on, whatever messages and changes come: the settled cash of all traders and all fees are
@@ -26,3 +33,27 @@ pub fn runs_are_conserved()
     matching_ends();
     next_is_best();
 }
+
+/// Where no book has more than so many orders, a message makes none longer by more than one and gives at most two
+/// replies for each order of a book and two more; a change of rules makes no book longer.
+pub fn books_stay_short()
+    ensures books { (s : State) (time agent n : ℕ) (b : Body) →
+        All (λ (k : Stock). length k.book ≤ n) s.stocks →
+        All (λ (k : Stock). length k.book ≤ n + 1) (market s time agent b).state.stocks }
+    ensures replies { (s : State) (time agent n : ℕ) (b : Body) →
+        All (λ (k : Stock). length k.book ≤ n) s.stocks →
+        length (market s time agent b).replies ≤ 2 * n + 2 }
+    ensures changes { (s : State) (time stock n : ℕ) (c : Change) →
+        All (λ (k : Stock). length k.book ≤ n) s.stocks →
+        All (λ (k : Stock). length k.book ≤ n) (changed_by s time stock c).state.stocks }
+{
+    fills_add_up();
+    a_match_keeps();
+    changes_keep();
+}
+
+/// No reply to a message is a question, whatever the number of stocks.
+pub fn replies_ask_nothing()
+    ensures { (s : State) (time agent stocks : ℕ) (b : Body) →
+        All (λ r. IsAskable stocks r.body) (market s time agent b).replies }
+{}

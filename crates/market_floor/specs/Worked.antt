@@ -1,0 +1,1 @@
+-- A floor for worked examples.
