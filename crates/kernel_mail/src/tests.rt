@@ -1,6 +1,7 @@
 //! The mail when it is sent to, copied and full.
 
 ghost use Rattle.std.specs.Prelude.{◌≡◌, ◌<◌, ◌≤◌, ◌+◌, ◌^◌, IfOk};
+ghost use Rattle.market_opening.specs.Postings.{IsAddressed};
 ghost use Rattle.kernel_mail.specs.Worked.{two_agents};
 ghost use Rattle.latency_model.specs.Worked.{two_groups};
 
@@ -55,6 +56,17 @@ fn fill(mail: &mut Mail, orders: u32)
     }
 }
 
+// What the watcher posts at 1000 is sent.
+fn post(mail: &mut Mail, o: &Opening, groups: &Groups, posting: Posting)
+    requires opening { o.now ≡ two_agents }
+    requires groups { groups.now ≡ two_groups }
+    requires addressed { IsAddressed 1 1 1 posting }
+    requires few { mail.old.next_seq + mail.old.dropped < 2 ^ 63 }
+    ensures { mail.new.next_seq + mail.new.dropped ≡ mail.old.next_seq + mail.old.dropped + 1 }
+{
+    mail.send(o, groups, 1, 1000, posting);
+}
+
 // The time, the number, the sender and the receiver of each message.
 fn rows(alloc: Global, messages: &[Message]) -> Result<Vec<(u64, u64, u16, u16)>, Memory> {
     let rows: Vec<(u64, u64, u16, u16)> = messages
@@ -75,8 +87,8 @@ fn messages_are_under_way_by_their_own_draws(rt: HostRuntime) -> Result<(), Fail
         body: Body::Ask(0),
         extra: 7,
     };
-    mail.send(&o, &groups, 1, 1000, question);
-    mail.send(&o, &groups, 1, 1000, Posting::WakeAt(1200));
+    post(&mut mail, &o, &groups, question);
+    post(&mut mail, &o, &groups, Posting::WakeAt(1200));
     let copy = mail.copy(alloc)?;
     let put_back = mail.put_back(1500);
     assert!(rt; put_back.map_or(false, |m| m.time == 1039 && m.body == Body::Ask(0)));
@@ -101,10 +113,10 @@ fn full_mail_drops_what_is_to_join(rt: HostRuntime) -> Result<(), Fail> {
     assert_eq!(rt; (mail.len(), mail.next_seq(), mail.dropped()), (65_536, 65_536, 0));
     let mut copy = mail.copy(alloc)?;
     copy.inject(1, 0, CANCEL);
-    copy.send(&o, &groups, 1, 1000, Posting::WakeAt(1200));
+    post(&mut copy, &o, &groups, Posting::WakeAt(1200));
     assert_eq!(rt; (copy.len(), copy.next_seq(), copy.dropped()), (65_536, 65_536, 2));
     let last = copy.take();
-    copy.send(&o, &groups, 1, 1000, Posting::WakeAt(0));
+    post(&mut copy, &o, &groups, Posting::WakeAt(0));
     assert!(rt; last.map_or(false, |m| m.seq == 65_535));
     assert!(rt; copy.least().map_or(false, |m| m.seq == 65_536));
     assert_eq!(rt; (copy.len(), copy.next_seq(), copy.dropped()), (65_536, 65_537, 2));
