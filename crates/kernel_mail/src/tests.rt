@@ -34,7 +34,7 @@ fn two_agents(alloc: Global) -> Result<Opening, Memory>
         delay: 0,
         cash: 0,
     })?;
-    opening(alloc, 2000, 0, traders)
+    opening(alloc, 2000, 100, 0, traders)
 }
 
 // A base from 10 to 40 and a jitter of 3 or 4 for what group 1 sends.
