@@ -1,1 +1,4 @@
 pub mod Posts
+pub mod Queues
+pub mod Sends
+pub mod Sound

@@ -182,7 +182,8 @@ impl Mail {
         requires number { m.seq ≡ self.old.next_seq }
         requires numbers { self.old.next_seq + 1 < 2 ^ 64 }
         requires drops { self.old.dropped + 1 < 2 ^ 64 }
-        ensures { self.new ≡ joins self.old (λ _. m) }
+        ensures joins { self.new ≡ joins self.old (λ _. m) }
+        ensures counted { self.new.next_seq + self.new.dropped ≡ self.old.next_seq + self.old.dropped + 1 }
     {
         if self.queue.len() < MOST_WAITING {
             self.queue.push(m);
@@ -207,7 +208,8 @@ impl Mail {
         requires leaves { leave < 2 ^ 60 }
         requires numbers { self.old.next_seq + 1 < 2 ^ 64 }
         requires drops { self.old.dropped + 1 < 2 ^ 64 }
-        ensures { self.new ≡ sent o.now groups.now from leave self.old posting }
+        ensures sent { self.new ≡ sent o.now groups.now from leave self.old posting }
+        ensures counted { self.new.next_seq + self.new.dropped ≡ self.old.next_seq + self.old.dropped + 1 }
     {
         let m = message_for(o, groups, from, leave, posting, self.next_seq);
         self.join(m);
@@ -218,7 +220,8 @@ impl Mail {
     pub fn inject(&mut self, from: AgentNo, time: Time, order: Inbound)
         requires numbers { self.old.next_seq + 1 < 2 ^ 64 }
         requires drops { self.old.dropped + 1 < 2 ^ 64 }
-        ensures { self.new ≡ injected from time order self.old }
+        ensures injected { self.new ≡ injected from time order self.old }
+        ensures counted { self.new.next_seq + self.new.dropped ≡ self.old.next_seq + self.old.dropped + 1 }
     {
         self.join(Message {
             time,
