@@ -7,7 +7,6 @@ use Rattle.market_rules.specs.declared.changes.Dated.{Dated}
 use Rattle.market_rules.specs.declared.changes.Change.{Change}
 use Rattle.market_rules.specs.declared.changes.Change.TheVariants as change
 use Rattle.market_rules.specs.declared.bands.Band.{Band}
-use Rattle.market_rules.specs.declared.fees.FeeTable.{FeeTable}
 use Rattle.market_rules.specs.Changes.{dates_refusal}
 use Rattle.market_rules.specs.EditRanges.{is_modest_table, is_modest_fee}
 use Rattle.market_rules.specs.Refusals.{table_refusal}
@@ -39,23 +38,23 @@ pub record IsStock (r : StockRules) : Type 0 where
   pub fees : is_modest_fee r.fees ≡ true
 
 -- a rule for the stock of a number, under the opening's key and over its hours, in at most 65,535 steps
-pub record IsRuleFor (o : Opening) (stock : ℕ) (m : RuleMade) : Type 0 where
+pub record IsRuleFor (o : Opening) (k : ℕ) (m : RuleMade) : Type 0 where
   pub key : m.key ≡ o.key
-  pub stock : m.stock ≡ stock
+  pub stock : m.stock ≡ k
   pub start : m.start ≡ o.start
   pub close : m.close ≡ o.close
   pub rule : IsSeriesRule m.rule
   pub steps : (o.close - o.start) / m.rule.every ≤ 65535
 
 -- rows of which the first is not later than the start
-pub record AreRowsFor (o : Opening) (rows : List SeriesRow) : Type 0 where
-  pub rows : AreRows rows
-  pub first : first_time rows ≤ o.start
+pub record AreRowsFor (o : Opening) (xs : List SeriesRow) : Type 0 where
+  pub rows : AreRows xs
+  pub first : first_time xs ≤ o.start
 
 -- a series is that of the stock of a number
 abbrev pub IsSeriesFor : Opening → ℕ → Made → Type 0
-IsSeriesFor o stock (by_rule m) = IsRuleFor o stock m
-IsSeriesFor o stock (by_rows rows) = AreRowsFor o rows
+IsSeriesFor o k (by_rule m) = IsRuleFor o k m
+IsSeriesFor o k (by_rows rows) = AreRowsFor o rows
 
 -- the series of no stock
 abbrev pub no_series : Made

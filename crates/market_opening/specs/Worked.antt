@@ -31,12 +31,12 @@ ten_dollars close = by_rule (record {
   close = close;
 })
 
--- a market that opens at 1000, of an exchange that computes for so long
-abbrev pub market : ℕ → ℕ → List TraderSetting → Opening
-market close delay traders = record {
+-- a market that opens at 1000, of at most so many events, and of an exchange that computes for so long
+abbrev pub market_of : ℕ → ℕ → ℕ → List TraderSetting → Opening
+market_of close limit delay traders = record {
   start = 1000;
   close = close;
-  limit = 100;
+  limit = limit;
   key = replicate 32 0;
   groups = record { base = (5 ∷ []) ∷ []; jitter = (0 ∷ []) ∷ [] };
   exchange_group = 0;
@@ -46,3 +46,7 @@ market close delay traders = record {
   dated = [];
   traders = traders;
 }
+
+-- the same of at most a hundred events
+abbrev pub market : ℕ → ℕ → List TraderSetting → Opening
+market close delay traders = market_of close 100 delay traders

@@ -21,8 +21,15 @@ fn agents_are_in_their_groups(rt: HostRuntime) -> Result<(), Fail> {
             cash: 0,
         })?;
     }
-    let o = opening(alloc, 2000, 3, traders)?;
+    let o = opening(alloc, 2000, 100, 3, traders)?;
     assert!(rt; o.traders.len() == 2);
-    assert_eq!(rt; (group_number(&o, 0), group_number(&o, 1), group_number(&o, 2)), (0, 3, 4));
+    assert_eq!(rt;
+        (
+            group_number(&o, 0),
+            group_number(&o, 1),
+            group_number(&o, 2)
+        ),
+        (0, 3, 4)
+    );
     Ok(())
 }

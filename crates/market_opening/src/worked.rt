@@ -1,9 +1,10 @@
 //! What the definitions give on worked examples, and their opening in code.
 
-ghost use Rattle.std.specs.Prelude.{◌≡◌, ◌∷◌, [], ◌≤◌, IfOk, pos};
+ghost use Rattle.std.specs.Prelude.{◌≡◌, ◌∷◌, [], ◌≤◌, ℕ, List, All, IfOk, length, pos};
+ghost use Rattle.market_types.specs.Limits.{longest_delay, most_events, most_traders};
 ghost use Rattle.market_opening.specs.Groups.{group_of};
-ghost use Rattle.market_opening.specs.Opening.{IsOpening, cash_of};
-ghost use Rattle.market_opening.specs.Worked.{abm, market, ten_dollars, watcher};
+ghost use Rattle.market_opening.specs.Opening.{IsOpening, IsTraderOf, cash_of};
+ghost use Rattle.market_opening.specs.Worked.{abm, market, market_of, ten_dollars, watcher};
 
 use crate::opening::Opening;
 use agent_shell::TraderSetting;
@@ -15,9 +16,16 @@ use market_rules::{Band, DatedList, FeeTable, TickTable};
 use market_types::{Memory, Sequence, Symbol, Time};
 use std::alloc::Global;
 
-/// A market of two watchers is in the ranges; all its agents are in one group, and its traders begin without cash.
+/// The market of the examples is in the ranges wherever its close, its limit, its delay and its traders are.
+pub fn markets_are_openings()
+    ensures { (close limit delay : ℕ) (traders : List TraderSetting) →
+        1000 ≤ close → close ≤ 65535001000 → delay ≤ longest_delay → 1 ≤ limit → limit ≤ most_events →
+        1 ≤ length traders → length traders ≤ most_traders → All (λ s. IsTraderOf (market_of close limit delay traders) s) traders →
+        IsOpening (market_of close limit delay traders) }
+{}
+
+/// All agents of a market of two watchers are in one group, and its traders begin without cash.
 pub fn two_watchers()
-    ensures opening { IsOpening (market 2000 0 (watcher 1000 ∷ watcher 1003 ∷ [])) }
     ensures exchange { group_of (market 2000 0 (watcher 1000 ∷ watcher 1003 ∷ [])) 0 ≡ 0 }
     ensures trader { group_of (market 2000 0 (record (watcher 1000) { group = 4 } ∷ record (watcher 1003) { group = 7 } ∷ [])) 2 ≡ 7 }
     ensures cash { cash_of (market 2000 0 (watcher 1000 ∷ watcher 1003 ∷ [])) ≡ pos 0 ∷ pos 0 ∷ [] }
@@ -61,16 +69,17 @@ fn latencies(alloc: Global) -> Result<Groups, Memory>
     Groups::new(alloc, &[base], &[jitter])
 }
 
-/// One stock that opens at 1000 nanoseconds past midnight under the zero key, with one latency of 5 nanoseconds and an
-/// exchange that computes for `delay` nanoseconds.
+/// One stock that opens at 1000 nanoseconds past midnight under the zero key, with one latency of 5 nanoseconds, at most
+/// `limit` events, and an exchange that computes for `delay` nanoseconds.
 pub fn opening(
     alloc: Global,
     close: Time,
+    limit: u32,
     delay: Time,
     traders: Vec<TraderSetting>,
 ) -> Result<Opening, Memory>
     requires { close ≤ 65535001000 }
-    ensures { IfOk result (λ o. o ≡ market close delay traders.items) }
+    ensures { IfOk result (λ o. o ≡ market_of close limit delay traders.items) }
 {
     let mut stocks = Vec::new(alloc);
     stocks.push(stock(alloc)?)?;
@@ -82,7 +91,7 @@ pub fn opening(
     Ok(Opening {
         start: 1000,
         close,
-        limit: 100,
+        limit,
         key: ZERO_KEY,
         groups: latencies(alloc)?,
         exchange_group: 0,
