@@ -18,7 +18,7 @@ use Rattle.exchange_agent.specs.Cancel.{cancel_of, canceled, found_from, unheard
 use Rattle.exchange_agent.specs.Enter.{entered_by, remainder, remembering, taking_of, verdict_of, way_from}
 use Rattle.exchange_agent.specs.Market.{IsAskable, market}
 use Rattle.exchange_agent.specs.Outcome.{Outcome}
-use Rattle.exchange_agent.specs.Settle.{Way, all_settled, settled}
+use Rattle.exchange_agent.specs.Settle.{Way, added, all_settled, execution_of, removed, settled}
 use Rattle.exchange_agent.specs.State.{State}
 
 abbrev pub Asks : ℕ → Outgoing → Type 0
@@ -31,7 +31,10 @@ one : (n : ℕ) (r : Outgoing) → Asks n r → All (Asks n) (r ∷ [])
 one n r h = All-cons (Asks n) r [] h (none n)
 
 settled-asks : (n : ℕ) (t : Taking) (f : Fill) (w : Way) → All (Asks n) w.replies → All (Asks n) (settled t f w).replies
-settled-asks n t f w h = All-append (Asks n) w.replies _ h (All-cons (Asks n) _ _ tt (one n _ tt))
+settled-asks n t f w h =
+    let first : Outgoing = record { to = f.resting.agent; body = execution_of t.time f.resting.token added (w.matches + 1) f } in
+    let second : Outgoing = record { to = t.agent; body = execution_of t.time t.token removed (w.matches + 1) f } in
+    All-append (Asks n) w.replies (first ∷ second ∷ []) h (All-cons (Asks n) first (second ∷ []) tt (one n second tt))
 
 all-asks : (n : ℕ) (t : Taking) (fills : List Fill) (w : Way) → All (Asks n) w.replies → All (Asks n) (all_settled t fills w).replies
 all-asks n t [] w h = h

@@ -1,9 +1,10 @@
 -- How long books grow, and how many replies a message gives.
-use Rattle.std.proofs.Common.{◌≡◌, ℕ, ◌+◌, ◌*◌, ◌≤◌, ◌<◌, ◌++◌, Bool, true, false, List, [], ◌∷◌, length, All, Option, Some, None, arith, refl, ap, inl, inr}
+use Rattle.std.proofs.Common.{◌≡◌, ℕ, zero, suc, ◌+◌, ◌*◌, ◌≤◌, ◌<◌, ◌++◌, Bool, true, false, List, [], ◌∷◌, length, All, Option, Some, None, arith, refl, ap, inl, inr}
 use Rattle.std.specs.Prelude.{◌==◌, nat_lt, if◌then◌else◌, slice_index_or, slice_set}
 use Rattle.std.proofs.lemmas.List.{length-append}
 use Rattle.std.proofs.lemmas.List.Elements.{All-set, All-weaker}
 use Rattle.std.proofs.lemmas.List.Sums.{count_by-le-length}
+use Rattle.market_types.specs.declared.feed.What.TheVariants as what
 use Rattle.market_types.specs.declared.message.Body.{Body}
 use Rattle.market_types.specs.declared.message.Body.TheVariants as body
 use Rattle.market_types.specs.declared.order.Cancel.{Cancel}
@@ -16,13 +17,13 @@ use Rattle.price_time_book.specs.declared.resting.Fill.{Fill}
 use Rattle.price_time_book.specs.declared.resting.Resting.{Resting}
 use Rattle.price_time_book.specs.Matched.{Matching, completed, matched}
 use Rattle.price_time_book.specs.Next.{crosses, crossing_of}
-use Rattle.price_time_book.specs.Orders.{changed}
+use Rattle.price_time_book.specs.Orders.{changed, reduced}
 use Rattle.exchange_agent.specs.declared.cancel.Found.{Found}
 use Rattle.exchange_agent.specs.declared.handled.Outgoing.{Outgoing}
 use Rattle.exchange_agent.specs.declared.settle.Taking.{Taking}
 use Rattle.exchange_agent.specs.declared.verdict.Verdict.{Verdict}
 use Rattle.exchange_agent.specs.declared.verdict.Verdict.TheVariants.{Ignored, Forgotten, Refused, Accepted}
-use Rattle.exchange_agent.specs.Cancel.{cancel_of, canceled, found_from, unheard}
+use Rattle.exchange_agent.specs.Cancel.{cancel_of, canceled, found_from, open_of, unheard}
 use Rattle.exchange_agent.specs.Changes.{Changed, changed_by, turned}
 use Rattle.exchange_agent.specs.Enter.{entered_by, remainder, remembering, taking_of, verdict_of, way_from, way_of}
 use Rattle.exchange_agent.specs.Market.{market}
@@ -43,7 +44,7 @@ IsShort n k = length k.book ≤ n
 
 short-at : (n : ℕ) (xs : List Stock) (k : ℕ) → All (IsShort n) xs → length (slice_index_or xs k no_stock).book ≤ n
 short-at n [] k h = omega arith
-short-at n (x ∷ xs) 0 h = h 0 no_stock (omega arith)
+short-at n (x ∷ xs) zero h = h 0 no_stock (omega arith)
 short-at n (x ∷ xs) (suc k) h = short-at n xs k (λ j d lt. h (suc j) d (omega (arith, lt)))
 
 later : (n : ℕ) (xs : List Stock) → All (IsShort n) xs → All (IsShort (n + 1)) xs
@@ -112,14 +113,18 @@ short-entered laws n s time agent e (Refused reason) h = record { books = later 
 short-entered laws n s time agent e (Accepted k) h =
     let w = way_from (remembering s agent e) time agent e k in
     let way = short-way laws n (taking_of time agent e k) e (s.counts.orders + 1) w (short-at n s.stocks k h) (omega arith) in
-    record { books = with-short (n + 1) s k _ way.book (later n s.stocks h); replies = way.replies }
+    record { books = with-short (n + 1) s k (way_of (taking_of time agent e k) e (s.counts.orders + 1) w).stock way.book (later n s.stocks h); replies = way.replies }
 
 abbrev cancel-by : Bool → State → ℕ → ℕ → Cancel → Found → Outcome
 cancel-by t s time agent c f = if t then canceled s time agent c f.stock f.order else unheard s
 
+-- the stock of an order that is lowered
+abbrev canceled-stock : State → Cancel → Found → Stock
+canceled-stock s c f = record (stock_at s f.stock) { book = changed (reduced (open_of f.order c.shares) f.order) (stock_at s f.stock).book }
+
 short-cancel-by : (laws : LengthLaws) (b : Bool) (n : ℕ) (s : State) (time agent : ℕ) (c : Cancel) (f : Found) → All (IsShort n) s.stocks → IsShortOutcome n (cancel-by b s time agent c f)
 short-cancel-by laws true n s time agent c f h = record {
-  books = with-short (n + 1) s f.stock _ (omega (arith, laws.changed _ (stock_at s f.stock).book, short-at n s.stocks f.stock h)) (later n s.stocks h);
+  books = with-short (n + 1) s f.stock (canceled-stock s c f) (omega (arith, laws.changed (reduced (open_of f.order c.shares) f.order) (stock_at s f.stock).book, short-at n s.stocks f.stock h)) (later n s.stocks h);
   replies = omega arith;
 }
 short-cancel-by laws false n s time agent c f h = record { books = later n s.stocks h; replies = omega arith }
@@ -136,13 +141,21 @@ short-market laws n s time agent body.Wake h = record { books = later n s.stocks
 short-market laws n s time agent (body.Answer r) h = record { books = later n s.stocks h; replies = omega arith }
 short-market laws n s time agent (body.Quote q) h = record { books = later n s.stocks h; replies = omega arith }
 
-short-turned : (b : Bool) (n : ℕ) (s : State) (time k letter : ℕ) → (stock_at s k).trading == letter ≡ b → All (IsShort n) s.stocks → All (IsShort n) (turned s time k letter).state.stocks
-short-turned true n s time k letter is h = rw is h
-short-turned false n s time k letter is h = rw is (with-short n s k (record (stock_at s k) { trading = letter }) (short-at n s.stocks k h) h)
+abbrev turned-way : Bool → State → ℕ → ℕ → ℕ → Changed
+turned-way b s time k letter =
+    if b then record { state = s; feed = [] }
+    else record {
+      state = with_stock s k (record (stock_at s k) { trading = letter });
+      feed = record { locate = k + 1; tracking = 0; time = time; what = what.Trading (stock_at s k).symbol letter 32 (32 ∷ 32 ∷ 32 ∷ 32 ∷ []) } ∷ [];
+    }
+
+short-turned : (n : ℕ) (s : State) (time k letter : ℕ) → All (IsShort n) s.stocks → All (IsShort n) (turned s time k letter).state.stocks
+short-turned n s time k letter h =
+    elim ((stock_at s k).trading == letter) as (λ b. All (IsShort n) (turned-way b s time k letter).state.stocks) [ true ↦ h | false ↦ with-short n s k (record (stock_at s k) { trading = letter }) (short-at n s.stocks k h) h ]
 
 -- a change of rules leaves books as they are
 pub short-change : (n : ℕ) (s : State) (time k : ℕ) (c : Change) → All (IsShort n) s.stocks → All (IsShort n) (changed_by s time k c).state.stocks
-short-change n s time k (change.Tick bands) h = with-short n s k _ (short-at n s.stocks k h) h
-short-change n s time k (change.Fee fees) h = with-short n s k _ (short-at n s.stocks k h) h
-short-change n s time k change.Halt h = short-turned ((stock_at s k).trading == 72) n s time k 72 refl h
-short-change n s time k change.Resume h = short-turned ((stock_at s k).trading == 84) n s time k 84 refl h
+short-change n s time k (change.Tick bands) h = with-short n s k (record (stock_at s k) { bands = bands }) (short-at n s.stocks k h) h
+short-change n s time k (change.Fee fees) h = with-short n s k (record (stock_at s k) { fees = fees }) (short-at n s.stocks k h) h
+short-change n s time k change.Halt h = short-turned n s time k 72 h
+short-change n s time k change.Resume h = short-turned n s time k 84 h
