@@ -1,0 +1,7 @@
+pub mod Runs
+pub mod Sound
+pub mod Begun
+pub mod Editing
+pub mod Posted
+pub mod Kept
+pub mod Possible
