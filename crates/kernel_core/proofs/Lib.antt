@@ -5,3 +5,4 @@ pub mod Editing
 pub mod Posted
 pub mod Kept
 pub mod Possible
+pub mod Testing
