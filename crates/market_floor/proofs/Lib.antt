@@ -1,0 +1,4 @@
+pub mod Changes
+pub mod Posts
+pub mod Reactions
+pub mod Sounds

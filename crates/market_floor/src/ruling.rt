@@ -7,8 +7,10 @@ ghost use Rattle.market_floor.specs.Sound.{FitsFloor, IsSoundFloor};
 
 use crate::floor::Floor;
 use exchange_agent::Exchange;
+use exchange_agent::laws::books_stay_short;
 use market_opening::Opening;
 use market_rules::Dated;
+use market_rules::laws::first_changes_are_due;
 use market_types::{FeedList, Memory, Time};
 use std::alloc::Global;
 
@@ -76,6 +78,8 @@ impl Floor {
         ensures traders { length self.new.parties ≡ length self.old.parties }
         ensures refused { OnErr result (self.new ≡ self.old) }
     {
+        books_stay_short();
+        first_changes_are_due();
         let mut feed = FeedList::new(alloc);
         if o.dated.rules_at(time) <= applied {
             return Ok(feed);
