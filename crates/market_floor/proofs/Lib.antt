@@ -1,4 +1,5 @@
 pub mod Changes
 pub mod Posts
 pub mod Reactions
+pub mod Rulings
 pub mod Sounds

@@ -50,9 +50,10 @@ pub(crate) fn changed(
 {
     let mut copy = exchange.copy(alloc)?;
     let due = o.dated.rules_at(time);
-    if applied < due {
-        change_all(&mut copy, &o.dated.as_slice()[applied..due], feed)?;
+    if due <= applied {
+        return Ok(copy);
     }
+    change_all(&mut copy, &o.dated.as_slice()[applied..due], feed)?;
     Ok(copy)
 }
 
