@@ -207,6 +207,7 @@ impl Floor {
         ensures traders { length self.new.parties ≡ length self.old.parties }
         ensures refused { OnErr result (self.new ≡ self.old) }
     {
+        traders_stay_in_range();
         books_stay_short();
         first_changes_are_due();
         let mut before = FeedList::new(alloc);
