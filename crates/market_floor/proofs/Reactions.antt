@@ -1,6 +1,7 @@
 -- The two cases of a reaction.
 use Rattle.std.proofs.Common.{◌≡◌, ◌≢◌, ◌<◌, ◌-◌, ℕ, zero, suc, false, List, [], ◌∷◌, length, All, Result, Ok, Err, ap, arith, refl, subst, sym, ◌∙◌}
 use Rattle.std.specs.Prelude.{◌==◌, IfOk, OnOk, slice_index_or}
+use Rattle.std.proofs.lemmas.Bool.Decides.{nat_tests}
 use Rattle.std.proofs.lemmas.List.Elements.{All-nil}
 use Rattle.market_types.specs.declared.feed.Feed.{Feed}
 use Rattle.trader_party.specs.Party.{PartyState}
@@ -20,8 +21,7 @@ unfolding reaction
 to-trader o f m e = rw e refl
 
 pub not-zero : (n : ℕ) → n ≢ 0 → (n == 0) ≡ false
-not-zero zero h = absurd (h refl)
-not-zero (suc n) h = refl
+not-zero n h = grind (arith, nat_tests)
 
 -- what follows of a call's answer
 pub ok-map : {A E : Type 0} (r : Result A E) (P Q : Type 0) → (P → Q) → OnOk r P → OnOk r Q

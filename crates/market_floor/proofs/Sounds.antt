@@ -1,5 +1,5 @@
 -- What holds of a floor after more events, and once its parts changed.
-use Rattle.std.proofs.Common.{◌≡◌, ℕ, ◌+◌, ◌≤◌, List, length, All, arith, ap, subst, sym, ◌∙◌}
+use Rattle.std.proofs.Common.{◌≡◌, ℕ, ℤ, ◌+◌, ◌≤◌, List, length, All, arith, ap, subst, sym, ◌∙◌}
 use Rattle.std.specs.Prelude.{slice_set}
 use Rattle.std.proofs.lemmas.List.{length-set}
 use Rattle.std.proofs.lemmas.List.Elements.{All-set, All-weaker}
@@ -8,7 +8,7 @@ use Rattle.agent_shell.specs.Trader.{Trader}
 use Rattle.exchange_agent.specs.declared.told.Counts.{Counts}
 use Rattle.exchange_agent.specs.State.{State, Stock}
 use Rattle.trader_party.specs.Party.{PartyState}
-use Rattle.market_floor.specs.Floor.{FloorState, with_exchange}
+use Rattle.market_floor.specs.Floor.{FloorState, floor_of, with_exchange}
 use Rattle.market_floor.specs.Sound.{IsSoundFloor, IsSoundParty}
 use Rattle.market_floor.proofs.Changes.{IsLike, IsShort}
 
@@ -68,3 +68,9 @@ decided-sound law n i f p here h =
       books = all.books;
       parties = All-set (IsSoundParty (length f.exchange.stocks) (n + 1)) f.parties i p here all.parties;
     }
+
+-- the parts of a floor with as many other offsets
+pub shifted-sound : (n : ℕ) (f : FloorState) (s : State) (ps : List PartyState) (os xs : List ℤ) → floor_of s ps os ≡ f → length xs ≡ length os → IsSoundFloor n f → IsSoundFloor n (floor_of s ps xs)
+shifted-sound n f s ps os xs seen long sound =
+    let h : IsSoundFloor n (floor_of s ps os) = subst (λ (q : FloorState). IsSoundFloor n q) (sym seen) sound in
+    record { traders = h.traders; few = h.few; offsets = long ∙ h.offsets; enters = h.enters; cancels = h.cancels; books = h.books; parties = h.parties }
