@@ -1,8 +1,6 @@
 -- Lemmas on what an agent posts.
-use Rattle.std.proofs.Common.{◌≡◌, ℕ, ◌+◌, ◌<◌, ◌≤◌, List, [], ◌∷◌, ◌++◌, length, refl, sym, subst, arith, All, inl, inr}
+use Rattle.std.proofs.Common.{◌≡◌, ℕ, ◌+◌, ◌<◌, ◌≤◌, List, [], ◌∷◌, ◌++◌, length, refl, sym, subst, arith, inl, inr}
 use Rattle.std.proofs.lemmas.Bool.{cases_eq}
-use Rattle.market_types.specs.declared.message.Body.TheVariants.{Wake}
-use Rattle.market_types.specs.declared.message.Message.{Message}
 use Rattle.latency_model.specs.Tables.{Tables, group_count}
 use Rattle.market_opening.specs.declared.opening.Opening.{Opening}
 use Rattle.market_opening.specs.declared.posting.Posting.{Posting}
