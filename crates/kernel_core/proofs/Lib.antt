@@ -6,3 +6,7 @@ pub mod Posted
 pub mod Kept
 pub mod Possible
 pub mod Testing
+pub mod Stops
+pub mod EditRuns
+pub mod Ahead
+pub mod Fitting

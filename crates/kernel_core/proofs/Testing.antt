@@ -28,7 +28,7 @@ use Rattle.kernel_core.specs.Open.{opened, woken}
 use Rattle.kernel_core.proofs.Posted.{joins-counts}
 use Rattle.kernel_core.specs.Step.{Fits}
 use Rattle.kernel_core.specs.Edited.{IsEditOf}
-use Rattle.kernel_core.specs.Worked.{IsPlain, IsSteady, each_kind}
+use Rattle.kernel_core.specs.Worked.{IsPlain, each_kind}
 
 -- traders of kinds in their ranges are in those of a market
 pub kinds-admitted : (close limit delay : ℕ) (ts : List TraderSetting) (ks : List (Kind × ℕ)) → All (λ (k : Kind × ℕ). IsKind k.0) ks → All (λ (k : Kind × ℕ). 1000 ≤ k.1) ks
@@ -58,15 +58,14 @@ woken-drops o k p (s ∷ ss) =
     let counts = joins-counts p (message_of o o.groups k o.start x) in
     omega (arith, counts.1, woken-drops o (k + 1) (sent o o.groups k o.start p x) ss)
 
--- the state at the opening
-pub steady-opened : (o : Opening) (s : State) → Fits o s → s ≡ opened o → IsSteady o 0 s
-steady-opened o s f is =
-    let none = All-replicate (λ (z : ℤ). is_near_zero 0 z ≡ true) (length o.stocks) (pos 0) refl in
-    record {
-      fits = f;
-      near = subst (λ (q : State). All (λ (z : ℤ). is_near_zero 0 z ≡ true) q.floor.offsets) (sym is) none;
-      drops = omega (arith, ap (λ (q : State). q.post.dropped) is, woken-drops o 1 nothing_waits o.traders, f.opening.market.traders, length-map o.traders (λ (t : TraderSetting). t.cash));
-    }
+-- no value has an offset at the opening, and few messages were dropped
+pub opened-near : (o : Opening) (s : State) → s ≡ opened o → All (λ (z : ℤ). is_near_zero 0 z ≡ true) s.floor.offsets
+opened-near o s is =
+    subst (λ (q : State). All (λ (z : ℤ). is_near_zero 0 z ≡ true) q.floor.offsets) (sym is) (All-replicate (λ (z : ℤ). is_near_zero 0 z ≡ true) (length o.stocks) (pos 0) refl)
+
+pub opened-drops : (o : Opening) (s : State) → IsOpening o → s ≡ opened o → s.post.dropped ≤ 511
+opened-drops o s h is =
+    omega (arith, ap (λ (q : State). q.post.dropped) is, woken-drops o 1 nothing_waits o.traders, h.market.traders, length-map o.traders (λ (t : TraderSetting). t.cash))
 
 -- each state that an opening fits takes a plain edit
 pub plain-edit : (o : Opening) (s : State) (e : Edit) → Fits o s → IsPlain e → IsEditOf s e
@@ -92,18 +91,8 @@ watcher-delay = lit≤ tt
 -- the first state of a market of one watcher takes each kind of edit
 pub each-possible : (close limit delay first : ℕ) → All (λ (e : Edit). IsEditOf (opened (market_of close limit delay (trader Watcher first ∷ []))) e) each_kind
 each-possible close limit delay first =
-    All-from_recursion (λ (e : Edit). IsEditOf (opened (market_of close limit delay (trader Watcher first ∷ []))) e) each_kind (
-      record { among = refl; range = refl; parameter = tt },
-      record { among = refl; range = refl; parameter = tt },
-      record { among = refl; range = refl; parameter = tt },
-      record { among = refl; range = refl; parameter = tt },
-      record { among = refl; range = refl; parameter = tt },
-      record { among = refl; range = refl; parameter = watcher-delay },
-      record { among = refl; range = refl; parameter = tt },
-      record { among = refl; range = refl; parameter = tt },
-      record { among = refl; range = refl; parameter = tt },
-      tt
-    )
+    All-from_recursion (λ (e : Edit). IsEditOf (opened (market_of close limit delay (trader Watcher first ∷ []))) e) each_kind
+    (record { among = refl; range = refl; parameter = tt }, (record { among = refl; range = refl; parameter = tt }, (record { among = refl; range = refl; parameter = tt }, (record { among = refl; range = refl; parameter = tt }, (record { among = refl; range = refl; parameter = tt }, (record { among = refl; range = refl; parameter = watcher-delay }, (record { among = refl; range = refl; parameter = tt }, (record { among = refl; range = refl; parameter = tt }, (record { among = refl; range = refl; parameter = tt }, tt)))))))))
 
 -- An opening with other dated changes.
 abbrev pub with_dated : Opening → List Dated → Opening

@@ -1,5 +1,5 @@
 -- Worked runs, told in short.
-use Rattle.std.specs.Prelude.{◌≡◌, ◌≤◌, ℕ, ◌+◌, ◌*◌, negsuc, pos, Bool, true, false, List, [], ◌∷◌, map, length, Option, All}
+use Rattle.std.specs.Prelude.{◌≡◌, ◌≤◌, ℕ, negsuc, pos, Bool, false, List, [], ◌∷◌, map, length, Option}
 use Rattle.market_types.specs.declared.entry.End.{End}
 use Rattle.market_types.specs.Told.{EntryTold, event, edit}
 use Rattle.market_types.specs.Limits.{longest_delay}
@@ -8,12 +8,10 @@ use Rattle.market_types.specs.declared.order.Side.TheVariants.{Sell}
 use Rattle.market_rules.specs.declared.edit.Edit.{Edit}
 use Rattle.market_rules.specs.declared.edit.Edit.TheVariants as kind
 use Rattle.market_rules.specs.declared.edit.Param.TheVariants as parameter
-use Rattle.market_rules.specs.EditRanges.{is_near_zero}
 use Rattle.exchange_agent.specs.Worked.{order}
 use Rattle.market_opening.specs.declared.opening.Opening.{Opening}
 use Rattle.kernel_core.specs.Open.{opened}
-use Rattle.kernel_core.specs.State.{State}
-use Rattle.kernel_core.specs.Step.{Fits, end_of}
+use Rattle.kernel_core.specs.Step.{end_of}
 use Rattle.kernel_core.specs.Until.{Run, until}
 
 abbrev pub opening_run : Opening → Run
@@ -62,9 +60,3 @@ IsPlain (kind.Latency from to base jitter) = (from ≡ 0) × (to ≡ 0) × (base
 IsPlain (kind.Silence agent) = agent ≡ 1
 IsPlain (kind.Inject agent after message) = (agent ≡ 1) × (after ≤ 1000)
 IsPlain e = ⊥
-
--- a state of a market after so many edits, which bring offsets and drops
-pub record IsSteady (o : Opening) (n : ℕ) (s : State) : Type 0 where
-  pub fits : Fits o s
-  pub near : All (λ z. is_near_zero (2000000000 * n) z ≡ true) s.floor.offsets
-  pub drops : s.post.dropped ≤ 2000002 + n

@@ -1,16 +1,15 @@
 //! Worked runs over the code.
 
-ghost use Rattle.std.specs.Prelude.{◌≡◌, ◌≤◌, ◌<◌, ◌+◌, ◌*◌, ◌^◌, ℕ, ◌∷◌, [], true, IfOk, OnOk, OnErr, map, length, All};
+ghost use Rattle.std.specs.Prelude.{◌≡◌, ◌≤◌, ◌∷◌, [], ℕ, IfOk, max, map, length, All};
+ghost use Rattle.agent_shell.specs.declared.setting.Kind.TheVariants.{Watcher};
 ghost use Rattle.agent_shell.specs.Parameters.{IsKind};
-ghost use Rattle.market_rules.specs.EditRanges.{is_near_zero};
+ghost use Rattle.market_types.specs.Limits.{longest_delay};
 ghost use Rattle.market_opening.specs.Opening.{IsOpening};
 ghost use Rattle.market_opening.specs.Worked.{market_of, trader};
-ghost use Rattle.kernel_core.specs.Edited.{IsEditOf};
-ghost use Rattle.kernel_core.specs.Open.{opened};
 ghost use Rattle.kernel_core.specs.Step.{Fits};
-ghost use Rattle.kernel_core.specs.Worked.{IsPlain, IsSteady, each_kind, sold};
+ghost use Rattle.kernel_core.specs.Worked.{IsPlain, each_kind};
 
-use crate::{Kernel, KernelTold, Opening, Stepped};
+use crate::{Kernel, KernelTold, Opening};
 use agent_shell::{Kind, TraderSetting};
 use market_opening::worked::{markets_are_openings, opening};
 use market_rules::{Band, Change, Dated, DatedList, Edit, FeeTable, Param, TickTable};
@@ -67,6 +66,25 @@ fn market(
     opening(alloc, close, 100_000, delay, settings)
 }
 
+// Events until so many of them stand.
+fn run(
+    alloc: Global,
+    o: &Opening,
+    kernel: &mut Kernel,
+    stop: u32,
+    trace: &mut Trace,
+) -> Result<Option<End>, Memory>
+    requires { Fits o.now kernel.old }
+    ensures fits { Fits o.now kernel.new }
+    ensures offsets { kernel.new.floor.offsets ≡ kernel.old.floor.offsets }
+    ensures drops { kernel.new.post.dropped ≤ max kernel.old.post.dropped 2000002 }
+{
+    let mut steps: Steps<Counted> = Steps::new();
+    let end = kernel.run_until(alloc, o, stop, trace, &mut steps);
+    steps.close();
+    end
+}
+
 // An event's time, its message's number, whether it was put back, and until when its receiver is busy.
 fn row(entry: &Entry) -> Option<(Time, u64, bool, Time)> {
     match entry {
@@ -75,94 +93,26 @@ fn row(entry: &Entry) -> Option<(Time, u64, bool, Time)> {
     }
 }
 
-#[test]
-fn asks_are_put_back_until_the_exchange_is_free(rt: HostRuntime) -> Result<(), Fail> {
-    let alloc = rt.alloc();
-    let o = market(
-        alloc,
-        2000,
-        3,
-        &[
-            (Kind::Watcher, 1000),
-            (Kind::Watcher, 1000),
-            (Kind::Watcher, 1003),
-        ],
-    )?;
-    let mut kernel = Kernel::open(alloc, &o)?;
-    let mut trace = Trace::new(alloc);
-    let mut steps: Steps<Counted> = Steps::new();
-    let end = kernel.run_until(alloc, &o, 100, &mut trace, &mut steps);
-    let stepped = kernel.step(alloc, &o, &mut trace, &mut steps);
-    let ticks = steps.close();
-    assert_eq!(rt; kernel.agents(), 4);
-    assert!(rt; end == Ok(Some(End::Closed)) && stepped == Ok(Stepped::Ended(End::Closed)));
-    assert_eq!(rt;
-        (ticks, kernel.events(), kernel.time(), kernel.own_time(0)),
-        (11, 11, 1019, 1014)
-    );
-    let rows = [
-        (1000, 0, false, 1000),
-        (1000, 1, false, 1000),
-        (1003, 2, false, 1003),
-        (1005, 3, false, 1008),
-        (1005, 5, true, 1008),
-        (1008, 5, false, 1011),
-        (1008, 7, true, 1011),
-        (1011, 7, false, 1014),
-        (1013, 9, false, 1013),
-        (1016, 10, false, 1016),
-        (1019, 11, false, 1019),
-    ];
-    assert_eq!(rt; trace.len(), rows.len());
-    for (entry, want) in trace.as_slice().iter().zip(rows.as_slice()) {
-        assert_eq!(rt; row(entry), Some(*want));
+// A run from the opening on: before each edit events until so many of them stand, and so many at last.
+fn branch(
+    alloc: Global,
+    o: &Opening,
+    edits: &[(u32, Edit)],
+    last: u32,
+    trace: &mut Trace,
+) -> Result<Kernel, Memory>
+    requires opening { IsOpening o.now }
+    requires few { length edits.now ≤ 16 }
+    requires plain { All (λ (e : ℕ × Edit). IsPlain e.1) edits.now }
+    ensures { IfOk result (λ k. Fits o.now k) }
+{
+    let mut kernel = Kernel::open(alloc, o)?;
+    for i in 0..edits.len() {
+        run(alloc, o, &mut kernel, edits[i].0, trace)?;
+        kernel.apply(alloc, o, &edits[i].1, 1, i as u16, trace)?;
     }
-    let waiting = kernel.messages(alloc)?;
-    assert_eq!(rt; (waiting.len(), kernel.counts().next_seq), (3, 12));
-    assert_eq!(rt; (kernel.trader(3).quotes, kernel.trader(3).draws), (1, 1));
-    Ok(())
-}
-
-// The state at the opening.
-fn begun(alloc: Global, o: &Opening) -> Result<Kernel, Memory>
-    requires { IsOpening o.now }
-    ensures steady { IfOk result (λ k. IsSteady o.now 0 k) }
-{
-    Kernel::open(alloc, o)
-}
-
-// Events until so many of them stand, in a run with so many edits so far.
-fn run(
-    alloc: Global,
-    o: &Opening,
-    kernel: &mut Kernel,
-    edits: u16,
-    stop: u32,
-    trace: &mut Trace,
-) -> Result<Option<End>, Memory>
-    requires { IsSteady o.now edits kernel.old }
-    ensures { IsSteady o.now edits kernel.new }
-{
-    let mut steps: Steps<Counted> = Steps::new();
-    let end = kernel.run_until(alloc, o, stop, trace, &mut steps);
-    steps.close();
-    end
-}
-
-// One edit of branch 1, of this index.
-fn edit(
-    alloc: Global,
-    o: &Opening,
-    kernel: &mut Kernel,
-    index: u16,
-    edit: &Edit,
-    trace: &mut Trace,
-) -> Result<(), Memory>
-    requires steady { IsSteady o.now index kernel.old }
-    requires plain { IsPlain edit.now }
-    ensures { IsSteady o.now (index + 1) kernel.new }
-{
-    kernel.apply(alloc, o, edit, 1, index, trace)
+    run(alloc, o, &mut kernel, last, trace)?;
+    Ok(kernel)
 }
 
 // An order of the first trader that is due so long after the state's time: 100 shares to sell at 10.01 dollars.
@@ -193,26 +143,68 @@ fn order(letter: u8, after: Time) -> Edit
     }
 }
 
+// Other latencies from now on.
+fn latency(base: Time, jitter: u32) -> Edit
+    requires { base ≤ longest_delay }
+    ensures { IsPlain result }
+{
+    Edit::Latency {
+        from: 0,
+        to: 0,
+        base,
+        jitter,
+    }
+}
+
+#[test]
+fn asks_are_put_back_until_the_exchange_is_free(rt: HostRuntime) -> Result<(), Fail> {
+    let alloc = rt.alloc();
+    let o = market(
+        alloc,
+        2000,
+        3,
+        &[
+            (Kind::Watcher, 1000),
+            (Kind::Watcher, 1000),
+            (Kind::Watcher, 1003),
+        ],
+    )?;
+    let mut trace = Trace::new(alloc);
+    let kernel = branch(alloc, &o, &[], 100, &mut trace)?;
+    assert!(rt; kernel.end(&o) == Some(End::Closed));
+    let rows = [
+        (1000, 0, false, 1000),
+        (1000, 1, false, 1000),
+        (1003, 2, false, 1003),
+        (1005, 3, false, 1008),
+        (1005, 5, true, 1008),
+        (1008, 5, false, 1011),
+        (1008, 7, true, 1011),
+        (1011, 7, false, 1014),
+        (1013, 9, false, 1013),
+        (1016, 10, false, 1016),
+        (1019, 11, false, 1019),
+    ];
+    assert_eq!(rt; trace.len(), rows.len());
+    for (entry, want) in trace.as_slice().iter().zip(rows.as_slice()) {
+        assert_eq!(rt; row(entry), Some(*want));
+    }
+    assert_eq!(rt; (kernel.time(), kernel.own_time(0), kernel.counts().next_seq), (1019, 1014, 12));
+    Ok(())
+}
+
 #[test]
 fn a_message_draws_its_latency_at_its_own_number(rt: HostRuntime) -> Result<(), Fail> {
     let alloc = rt.alloc();
+    let o = market(alloc, 2000, 0, &[(Kind::Watcher, 1000)])?;
     for (base, jitter, due) in [
         (0, 0, 1000),
         (0, 9, 1005),
         (0, u32::MAX, 2_419_979_656),
         (5, 9, 1010),
     ] {
-        let o = market(alloc, 2000, 0, &[(Kind::Watcher, 1000)])?;
-        let mut kernel = begun(alloc, &o)?;
         let mut trace = Trace::new(alloc);
-        let tables = Edit::Latency {
-            from: 0,
-            to: 0,
-            base,
-            jitter,
-        };
-        edit(alloc, &o, &mut kernel, 0, &tables, &mut trace)?;
-        run(alloc, &o, &mut kernel, 1, 1, &mut trace)?;
+        let kernel = branch(alloc, &o, &[(0, latency(base, jitter))], 1, &mut trace)?;
         let waiting = kernel.messages(alloc)?;
         let ask = waiting.iter().find(|m| m.seq == 1);
         assert!(rt;
@@ -260,14 +252,11 @@ fn dated_market(alloc: Global) -> Result<Opening, Memory>
 fn a_dated_change_comes_before_the_order_of_its_time(rt: HostRuntime) -> Result<(), Fail> {
     let alloc = rt.alloc();
     let o = dated_market(alloc)?;
-    let mut kernel = begun(alloc, &o)?;
     let mut trace = Trace::new(alloc);
-    edit(alloc, &o, &mut kernel, 0, &order(b'A', 499), &mut trace)?;
-    edit(alloc, &o, &mut kernel, 1, &order(b'B', 500), &mut trace)?;
-    let end = run(alloc, &o, &mut kernel, 2, 100, &mut trace)?;
-    assert!(rt; end == Some(End::Closed));
+    let orders = [(0, order(b'A', 499)), (0, order(b'B', 500))];
+    let kernel = branch(alloc, &o, &orders, 100, &mut trace)?;
     let replies = answers(alloc, &trace)?;
-    assert!(rt; replies.len() == 2);
+    assert!(rt; kernel.end(&o) == Some(End::Closed) && replies.len() == 2);
     assert!(rt; matches!(replies[0], Reply::Accepted { time: 1499, .. }));
     assert!(rt;
         matches!(
@@ -283,18 +272,13 @@ fn a_dated_change_comes_before_the_order_of_its_time(rt: HostRuntime) -> Result<
 }
 
 #[test]
-fn a_silenced_trader_takes_time_for_a_quote_and_nothing_else(
-    rt: HostRuntime,
-) -> Result<(), Fail> {
+fn a_silenced_trader_takes_time_for_a_quote_and_nothing_else(rt: HostRuntime) -> Result<(), Fail> {
     let alloc = rt.alloc();
     let o = market(alloc, 2000, 0, &[(Kind::Watcher, 1000)])?;
-    let mut kernel = begun(alloc, &o)?;
     let mut trace = Trace::new(alloc);
-    run(alloc, &o, &mut kernel, 0, 1, &mut trace)?;
-    edit(alloc, &o, &mut kernel, 0, &Edit::Silence { agent: 1 }, &mut trace)?;
-    let end = run(alloc, &o, &mut kernel, 1, 100, &mut trace)?;
+    let kernel = branch(alloc, &o, &[(1, Edit::Silence { agent: 1 })], 100, &mut trace)?;
     let told = kernel.trader(1);
-    assert!(rt; end == Some(End::Closed) && kernel.silenced(1));
+    assert!(rt; kernel.end(&o) == Some(End::Closed) && kernel.silenced(1));
     assert_eq!(rt;
         (kernel.events(), kernel.own_time(1), told.quotes, told.draws),
         (3, 1010, 0, 1)
@@ -302,56 +286,36 @@ fn a_silenced_trader_takes_time_for_a_quote_and_nothing_else(
     Ok(())
 }
 
-// An edit after which a market of one watcher ends as it is wanted: quiet or closed.
-fn first_edit(quiet: bool) -> Edit
-    ensures { IsPlain result }
+// How the run of one watcher ends once these edits were made: why, and after how many events and dropped messages.
+fn ended(
+    alloc: Global,
+    close: Time,
+    edits: &[(u32, Edit)],
+) -> Result<(Option<End>, u32, u64), Memory>
+    requires low { 1000 ≤ close }
+    requires high { close ≤ 65535001000 }
+    requires few { length edits.now ≤ 16 }
+    requires plain { All (λ (e : ℕ × Edit). IsPlain e.1) edits.now }
 {
-    if quiet {
-        return Edit::Silence { agent: 1 };
-    }
-    Edit::Latency {
-        from: 0,
-        to: 0,
-        base: 5,
-        jitter: 0,
-    }
-}
-
-#[test]
-fn a_message_that_is_due_revives_an_ended_state(rt: HostRuntime) -> Result<(), Fail> {
-    let alloc = rt.alloc();
-    for (quiet, end, events, time) in [(true, End::Quiet, 1, 1105), (false, End::Closed, 3, 1115)] {
-        let o = market(alloc, 2000, 0, &[(Kind::Watcher, 1000)])?;
-        let mut kernel = begun(alloc, &o)?;
-        let mut trace = Trace::new(alloc);
-        edit(alloc, &o, &mut kernel, 0, &first_edit(quiet), &mut trace)?;
-        let first = run(alloc, &o, &mut kernel, 1, 100, &mut trace)?;
-        assert!(rt; first == Some(end) && kernel.events() == events);
-        edit(alloc, &o, &mut kernel, 1, &order(b'A', 100), &mut trace)?;
-        assert!(rt; kernel.end(&o) == None);
-        let second = run(alloc, &o, &mut kernel, 2, 100, &mut trace)?;
-        assert!(rt; second == Some(end) && kernel.events() == events + 2);
-        assert_eq!(rt; kernel.time(), time);
-    }
-    Ok(())
-}
-
-#[test]
-fn an_order_into_a_full_queue_is_dropped_and_counted(rt: HostRuntime) -> Result<(), Fail> {
-    let alloc = rt.alloc();
-    let o = market(alloc, 2000, 0, &[(Kind::Watcher, 1000)])?;
-    let mut kernel = begun(alloc, &o)?;
+    let o = market(alloc, close, 0, &[(Kind::Watcher, 1000)])?;
     let mut trace = Trace::new(alloc);
-    for i in 0..65_535 {
-        edit(alloc, &o, &mut kernel, i, &order(b'A', 1000), &mut trace)?;
-    }
-    let full = kernel.counts();
-    assert!(rt; kernel.end(&o) == None);
-    assert_eq!(rt; (full.next_seq, full.waiting, full.dropped), (65_536, 65_536, 0));
-    edit(alloc, &o, &mut kernel, 65_535, &order(b'A', 1000), &mut trace)?;
-    let dropped = kernel.counts();
-    assert!(rt; kernel.end(&o) == Some(End::QueueFull));
-    assert_eq!(rt; (dropped.next_seq, dropped.waiting, dropped.dropped), (65_536, 65_536, 1));
+    let kernel = branch(alloc, &o, edits, 100_000, &mut trace)?;
+    Ok((kernel.end(&o), kernel.events(), kernel.counts().dropped))
+}
+
+#[test]
+fn a_message_that_is_due_revives_a_quiet_and_a_closed_state_alone(
+    rt: HostRuntime,
+) -> Result<(), Fail> {
+    let alloc = rt.alloc();
+    let silence = (0, Edit::Silence { agent: 1 });
+    let quiet = ended(alloc, 2000, &[silence, (100, order(b'A', 100))])?;
+    assert_eq!(rt; quiet, (Some(End::Quiet), 3, 0));
+    let closed = ended(alloc, 2000, &[(100, order(b'A', 100))])?;
+    assert_eq!(rt; closed, (Some(End::Closed), 5, 0));
+    let slow = (0, latency(3_600_000_000_000, 0));
+    let full = ended(alloc, 65_535_001_000, &[slow, (100_000, order(b'A', 100))])?;
+    assert_eq!(rt; full, (Some(End::QueueFull), 65_536, 2));
     Ok(())
 }
 
@@ -390,33 +354,26 @@ fn edits(alloc: Global) -> Result<Vec<Edit>, Memory>
     Ok(edits)
 }
 
-// All edits of branch 3, one after another.
-fn edit_all(
-    alloc: Global,
-    o: &Opening,
-    kernel: &mut Kernel,
-    edits: &[Edit],
-    trace: &mut Trace,
-) -> Result<(), Memory>
-    requires steady { IsSteady o.now 0 kernel.old }
-    requires few { length edits.now ≤ 16 }
-    requires possible { All (λ e. IsEditOf kernel.old e) edits.now }
-    ensures { Fits o.now kernel.new }
+// All edits of branch 3, one after another, at the opening of one watcher's market.
+fn edit_all(alloc: Global, o: &Opening, trace: &mut Trace) -> Result<Kernel, Memory>
+    requires opening { IsOpening o.now }
+    requires made { o.now ≡ market_of 2000 100000 0 (trader Watcher 1000 ∷ []) }
+    ensures { IfOk result (λ k. Fits o.now k) }
 {
+    let edits = edits(alloc)?;
+    let mut kernel = Kernel::open(alloc, o)?;
     for i in 0..edits.len() {
         kernel.apply(alloc, o, &edits[i], 3, i as u16, trace)?;
     }
-    Ok(())
+    Ok(kernel)
 }
 
 #[test]
 fn each_kind_of_edit_leaves_its_mark(rt: HostRuntime) -> Result<(), Fail> {
     let alloc = rt.alloc();
     let o = market(alloc, 2000, 0, &[(Kind::Watcher, 1000)])?;
-    let mut kernel = Kernel::open(alloc, &o)?;
     let mut trace = Trace::new(alloc);
-    let edits = edits(alloc)?;
-    edit_all(alloc, &o, &mut kernel, edits.as_slice(), &mut trace)?;
+    let kernel = edit_all(alloc, &o, &mut trace)?;
     let rows = [
         (b't', 0),
         (b'f', 0),
@@ -493,13 +450,12 @@ fn a_copy_goes_on_as_its_kernel_does(rt: HostRuntime) -> Result<(), Fail> {
         ),
     ];
     let o = market(alloc, 60_000_000, 2, &kinds)?;
-    let mut kernel = begun(alloc, &o)?;
     let mut trace = Trace::new(alloc);
-    run(alloc, &o, &mut kernel, 0, 500, &mut trace)?;
+    let mut kernel = branch(alloc, &o, &[], 500, &mut trace)?;
     let mut copy = kernel.copy(alloc)?;
     let mut copied = Trace::new(alloc);
-    let end = run(alloc, &o, &mut kernel, 0, 100_000, &mut trace)?;
-    let again = run(alloc, &o, &mut copy, 0, 100_000, &mut copied)?;
+    let end = run(alloc, &o, &mut kernel, 100_000, &mut trace)?;
+    let again = run(alloc, &o, &mut copy, 100_000, &mut copied)?;
     assert!(rt; end == Some(End::Closed) && again == end);
     assert!(rt; kernel.events() > 1000 && kernel.exchange().counts().matches > 0);
     assert!(rt; told(&kernel) == told(&copy));
