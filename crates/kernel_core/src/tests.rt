@@ -304,7 +304,7 @@ fn ended(
 }
 
 #[test]
-fn a_message_that_is_due_revives_a_quiet_and_a_closed_state_alone(
+fn a_message_that_is_due_revives_a_quiet_and_a_closed_state(
     rt: HostRuntime,
 ) -> Result<(), Fail> {
     let alloc = rt.alloc();
@@ -313,6 +313,12 @@ fn a_message_that_is_due_revives_a_quiet_and_a_closed_state_alone(
     assert_eq!(rt; quiet, (Some(End::Quiet), 3, 0));
     let closed = ended(alloc, 2000, &[(100, order(b'A', 100))])?;
     assert_eq!(rt; closed, (Some(End::Closed), 5, 0));
+    Ok(())
+}
+
+#[test]
+fn an_order_into_a_full_queue_is_dropped_and_counted(rt: HostRuntime) -> Result<(), Fail> {
+    let alloc = rt.alloc();
     let slow = (0, latency(3_600_000_000_000, 0));
     let full = ended(alloc, 65_535_001_000, &[slow, (100_000, order(b'A', 100))])?;
     assert_eq!(rt; full, (Some(End::QueueFull), 65_536, 2));
