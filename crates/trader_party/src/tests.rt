@@ -83,7 +83,10 @@ fn a_silenced_watcher_is_still(rt: HostRuntime) -> Result<(), Fail> {
     react(&rt, &mut silent, &ticks, &Body::Wake, &mut out)?;
     react(&rt, &mut silent, &ticks, &QUOTE, &mut out)?;
     let copy = silent.copy()?;
-    assert_eq!(rt; (out.as_slice().len(), copy.told().draws, copy.told().quotes), (2, 1, 0));
+    assert_eq!(rt;
+        (out.as_slice().len(), copy.told().draws, copy.told().quotes),
+        (2, 1, 0)
+    );
     assert!(rt; copy.is_silent() && !party.is_silent() && copy.stock() == 0);
     react(&rt, &mut party, &ticks, &QUOTE, &mut out)?;
     assert_eq!(rt; (party.told().quotes, copy.delay()), (1, 12));
@@ -106,6 +109,9 @@ fn a_maker_quotes(rt: HostRuntime) -> Result<(), Fail> {
     let mut party = opened(alloc, kind)?;
     react(&rt, &mut party, &ticks, &QUOTE, &mut out)?;
     let copy = party.copy()?;
-    assert_eq!(rt; (out.as_slice().len(), copy.told().live, copy.told().tokens), (2, 2, 2));
+    assert_eq!(rt;
+        (out.as_slice().len(), copy.told().live, copy.told().tokens),
+        (2, 2, 2)
+    );
     Ok(())
 }
