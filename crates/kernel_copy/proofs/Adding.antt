@@ -12,7 +12,7 @@ use Rattle.kernel_core.specs.State.{State}
 use Rattle.kernel_core.specs.Until.{Run, behind}
 use Rattle.kernel_copy.specs.Segmentwise.{segment_end, parent_end, segment_run, own_count, own_before, distinct}
 use Rattle.kernel_copy.specs.Courses.{CourseTold, IsCourse, CheckpointTold, kept_of, kept_before}
-use Rattle.kernel_copy.specs.Closings.{closing_at}
+use Rattle.market_closing.specs.Closing.{closing_at}
 use Rattle.kernel_copy.specs.Outcomes.{OutcomeTold, outcome_of, outcomes_before}
 use Rattle.kernel_copy.proofs.Trees.{course-tree}
 use Rattle.kernel_copy.proofs.Walks.{segment-copy, segment-within}

@@ -100,26 +100,26 @@ edited_from-reached o e b i (x ∷ xs) r k h =
     run-more o (e + 1 + length xs) (e + length (x ∷ xs)) _ (omega arith) next
 
 -- a branch's edits are few and can be made, and no branch has none
-branch-edits : (o : Opening) (bs : List Branch) (b : ℕ) → All (λ (x : Branch). AreEdits o x) bs → AreEdits o (branch_at bs b)
+branch-edits : (o : Opening) (bs : List Branch) (b : ℕ) → All (λ (x : Branch). AreEdits o x.edits) bs → AreEdits o (branch_at bs b).edits
 branch-edits o bs b h = elim (cases_lt b (length bs)) [
-  | inl l ↦ All-get_or (λ (x : Branch). AreEdits o x) bs b no_branch l h
-  | inr past ↦ subst (λ (x : Branch). AreEdits o x) (sym (get_or_past bs b no_branch past)) (record { few = omega arith; fit = All-nil (λ (e : Edit). IsEditOf (opened o) e) })
+  | inl l ↦ All-get_or (λ (x : Branch). AreEdits o x.edits) bs b no_branch l h
+  | inr past ↦ subst (λ (x : Branch). AreEdits o x.edits) (sym (get_or_past bs b no_branch past)) (record { few = omega arith; fit = All-nil (λ (e : Edit). IsEditOf (opened o) e) })
 ]
 
-by-reached : (o : Opening) (e : ℕ) (bs : List Branch) (b : ℕ) (r : Run) → All (λ (x : Branch). AreEdits o x) bs → IsReachedRun o e r → IsReachedRun o (e + 16) (edited_by bs b r)
+by-reached : (o : Opening) (e : ℕ) (bs : List Branch) (b : ℕ) (r : Run) → All (λ (x : Branch). AreEdits o x.edits) bs → IsReachedRun o e r → IsReachedRun o (e + 16) (edited_by bs b r)
 by-reached o e bs b r k h =
     let a = branch-edits o bs b k in
     let xs = (branch_at bs b).edits in
     run-more o (e + length xs) (e + 16) (edited_by bs b r) (omega (arith, a.few)) (edited_from-reached o e b 0 xs r a.fit h)
 
-forked-reached : ShortLaws → (o : Opening) (e : ℕ) (bs : List Branch) (cs : List ℕ) (r : Run) → All (λ (x : Branch). AreEdits o x) bs → IsReachedRun o e r → IsReachedRun o (e + 16 * length cs) (forked o bs cs r)
+forked-reached : ShortLaws → (o : Opening) (e : ℕ) (bs : List Branch) (cs : List ℕ) (r : Run) → All (λ (x : Branch). AreEdits o x.edits) bs → IsReachedRun o e r → IsReachedRun o (e + 16 * length cs) (forked o bs cs r)
 forked-reached laws o e bs [] r k h = run-more o e (e + 16 * 0) r (omega arith) h
 forked-reached laws o e bs (c ∷ cs) r k h =
     let t = until o (stop_at bs c) r in
     let next = forked-reached laws o (e + 16) bs cs (edited_by bs c t) k (by-reached o e bs c t k (until-reached laws o (stop_at bs c) e r h)) in
     run-more o (e + 16 + 16 * length cs) (e + 16 * length (c ∷ cs)) _ (omega arith) next
 
-along-reached : ShortLaws → (o : Opening) (e n : ℕ) (bs : List Branch) (cs : List ℕ) (r : Run) → All (λ (x : Branch). AreEdits o x) bs → IsReachedRun o e r → IsReachedRun o (e + 16 * length cs) (full_along o bs n cs r)
+along-reached : ShortLaws → (o : Opening) (e n : ℕ) (bs : List Branch) (cs : List ℕ) (r : Run) → All (λ (x : Branch). AreEdits o x.edits) bs → IsReachedRun o e r → IsReachedRun o (e + 16 * length cs) (full_along o bs n cs r)
 along-reached laws o e n bs [] r k h = run-more o e (e + 16 * 0) (until o n r) (omega arith) (until-reached laws o n e r h)
 along-reached laws o e n bs (c ∷ cs) r k h =
     let t = until o (stop_at bs c) r in

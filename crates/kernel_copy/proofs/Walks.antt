@@ -14,7 +14,7 @@ use Rattle.market_opening.specs.declared.opening.Opening.{Opening}
 use Rattle.kernel_core.specs.State.{State}
 use Rattle.kernel_core.specs.Until.{Run, behind, until}
 use Rattle.kernel_core.specs.Edited.{edited}
-use Rattle.kernel_core.proofs.EditLemmas.{edited-events, edited-behind}
+use Rattle.kernel_core.proofs.EditRuns.{edited-events, edited-behind}
 use Rattle.kernel_core.proofs.Stops.{until-grows, until-within, until-again, until-until, until-behind}
 use Rattle.kernel_copy.specs.Full.{opening_run, edited_by, forked, forks_of, begun, reach, full_along, full}
 use Rattle.kernel_copy.specs.Segmentwise.{segment_end, parent_end, afresh, started_from, started_at, segment_run, from_count, own_count}

@@ -20,9 +20,9 @@ pub record CourseTold : Type 0 where
 
 -- A branch's edits are at most 16, and each can be made at the opening: its stock, trader and groups exist, its numbers are in
 -- their ranges, and a parameter belongs to the trader's kind.
-pub record AreEdits (o : Opening) (b : Branch) : Type 0 where
-  pub few : length b.edits ≤ 16
-  pub fit : All (λ (e : Edit). IsEditOf (opened o) e) b.edits
+pub record AreEdits (o : Opening) (es : List Edit) : Type 0 where
+  pub few : length es ≤ 16
+  pub fit : All (λ (e : Edit). IsEditOf (opened o) e) es
 
 -- The opening is in the ranges of a study's rules, the branches make a tree under its limit of events, and their edits keep to
 -- the rules.
@@ -31,7 +31,7 @@ pub record IsCourse (c : CourseTold) : Type 0 where
   pub limit : c.plan.limit ≡ c.opening.limit
   pub rooted : IsRooted c.plan.branches
   pub accepted : plan_refusal c.plan.branches c.plan.limit ≡ None
-  pub edits : All (λ (b : Branch). AreEdits c.opening b) c.plan.branches
+  pub edits : All (λ (b : Branch). AreEdits c.opening b.edits) c.plan.branches
 
 -- A segment has this parent: an earlier segment that isn't its branch's last.
 pub record GoesOnFrom (p : Plan) (s q : ℕ) : Type 0 where

@@ -2,5 +2,5 @@ pub mod Full
 pub mod Segmentwise
 pub mod Reached
 pub mod Courses
-pub mod Closings
 pub mod Outcomes
+pub mod Worked

@@ -4,7 +4,7 @@ use Rattle.market_types.specs.Told.{EntryTold}
 use Rattle.bundle_frames.specs.declared.closing.Closing.{Closing}
 use Rattle.branch_tree.specs.Segments.{segment_at}
 use Rattle.kernel_copy.specs.declared.run.Outcome.{Outcome}
-use Rattle.kernel_copy.specs.Closings.{closing_at}
+use Rattle.market_closing.specs.Closing.{closing_at}
 use Rattle.kernel_copy.specs.Segmentwise.{segment_end, segment_entries}
 use Rattle.kernel_copy.specs.Courses.{CourseTold}
 

@@ -36,7 +36,7 @@ impl Course {
     pub fn new(opening: Opening, plan: BranchPlan) -> Course
         requires opening { IsOpening opening }
         requires limit { plan.limit ≡ opening.limit }
-        requires edits { All (λ b. AreEdits opening b) plan.branches }
+        requires edits { All (λ b. AreEdits opening b.edits) plan.branches }
         ensures { result ≡ record { opening = opening; plan = plan } }
     {
         let _ = plan.branches();

@@ -5,13 +5,14 @@
 #![tactic(auto)]
 
 mod checkpoint;
-mod closing;
 mod course;
 pub mod laws;
 mod run;
 
 pub use checkpoint::Checkpoint;
-pub use closing::closing_of;
 pub use course::Course;
 pub use run::{Outcome, run_segments};
 pub use shelf_core::Key;
+
+#[cfg(test)]
+mod tests;

@@ -8,7 +8,7 @@ use Rattle.market_opening.specs.declared.opening.Opening.{Opening}
 use Rattle.kernel_core.specs.Until.{Run}
 use Rattle.kernel_copy.specs.Segmentwise.{own_count, own_before, distinct, segment_run}
 use Rattle.kernel_copy.specs.Courses.{CourseTold, CheckpointTold, IsCourse}
-use Rattle.kernel_copy.specs.Closings.{closing_at}
+use Rattle.market_closing.specs.Closing.{closing_at}
 use Rattle.kernel_copy.specs.Outcomes.{outcome_told, outcome_of}
 use Rattle.kernel_copy.specs.declared.checkpoint.Checkpoint.{Checkpoint}
 use Rattle.kernel_copy.specs.declared.run.Outcome.{Outcome}
@@ -36,6 +36,26 @@ kept_end-requires-clause-state g c =
     let r : Run = record { state = c.in_ok-ran.ran.kernel; entries = c.in_ok-ran.ran.entries.list } in
     run-ends k i r course (omega arith)
     (c.in_ok-ran.ensures.ran ∙ ap (λ (x : CourseTold). segment_run x.opening x.plan (segment_at x.plan i)) c.deref-in-segments.ensures)
+
+pub returns-in_err-ran-clause-most : goal.returns-in_err-ran-clause-most
+returns-in_err-ran-clause-most g c =
+    let k : CourseTold = c.args.course.now.value in
+    let i = c.segments.i in
+    let plan : c.plan.result.now ≡ k.plan = c.plan.ensures.value ∙ ap (λ (x : CourseTold). x.plan) c.deref.ensures in
+    let count = ap (λ (xs : List Segment). length xs) (c.segments-count.ensures.value ∙ ap (λ (p : Plan). segments_in p) plan) in
+    let own = ap (λ (x : CourseTold). own_count x.opening x.plan (segment_at x.plan i)) c.deref-in-segments.ensures in
+    let most = own-most k.opening k.plan i (omega arith) in
+    omega (arith, c.in_err-ran.ensures.most, c.segments.invariant.steps)
+
+pub returns-in_err-outcome-clause-most : goal.returns-in_err-outcome-clause-most
+returns-in_err-outcome-clause-most g c =
+    let k : CourseTold = c.args.course.now.value in
+    let i = c.segments.i in
+    let plan : c.plan.result.now ≡ k.plan = c.plan.ensures.value ∙ ap (λ (x : CourseTold). x.plan) c.deref.ensures in
+    let count = ap (λ (xs : List Segment). length xs) (c.segments-count.ensures.value ∙ ap (λ (p : Plan). segments_in p) plan) in
+    let own = ap (λ (x : CourseTold). own_count x.opening x.plan (segment_at x.plan i)) c.deref-in-segments.ensures in
+    let most = own-most k.opening k.plan i (omega arith) in
+    omega (arith, c.in_ok-ran.ensures.rose, c.segments.invariant.steps)
 
 pub returns-in_err-end-clause-most : goal.returns-in_err-end-clause-most
 returns-in_err-end-clause-most g c =

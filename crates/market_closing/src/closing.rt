@@ -1,14 +1,16 @@
 //! The closing of a kernel's state.
 
-ghost use Rattle.std.specs.Prelude.{◌≡◌, ◌≤◌, ◌<◌, ◌+◌, ◌++◌, IfOk, OnOk, OnErr, length, map, pos, replicate};
+ghost use Rattle.std.specs.Prelude.{◌≡◌, ◌≤◌, ◌<◌, ◌^◌, ◌++◌, All, IfOk, OnOk, length, map};
+ghost use Rattle.bundle_frames.specs.Frames.{HasFewPositions};
 ghost use Rattle.agent_shell.specs.Trader.{told_of};
 ghost use Rattle.exchange_agent.specs.State.{stock_at};
 ghost use Rattle.kernel_core.specs.Step.{Fits};
 ghost use Rattle.market_floor.specs.Floor.{offset_at, party_at};
-ghost use Rattle.kernel_copy.specs.Closings.{agents_closed, closing_at, counts_of, end_letter_of, exchange_closed, order_closed, orders_closed, positions_closed, stock_closed, stocks_closed, trader_closed};
+ghost use Rattle.market_closing.specs.Closing.{agents_closed, closing_at, counts_of, end_letter_of, exchange_closed, order_closed, orders_closed, positions_closed, stock_closed, stocks_closed, trader_closed};
 
 use bundle_frames::{Closing, ClosingAgent, ClosingCounts, ClosingOrder, ClosingStock};
 use exchange_agent::Exchange;
+use crate::laws::agents_have_all_positions;
 use kernel_core::Kernel;
 use market_opening::Opening;
 use market_types::{AgentNo, End, Memory, Sequence, StockNo};
@@ -28,7 +30,8 @@ fn end_letter(end: Option<End>) -> u8
 }
 
 fn counts(o: &Opening, kernel: &Kernel) -> ClosingCounts
-    ensures { result ≡ counts_of o.now kernel.now }
+    ensures value { result ≡ counts_of o.now kernel.now }
+    ensures time { result.time < 2 ^ 48 }
 {
     let told = kernel.counts();
     let exchange = kernel.exchange().counts();
@@ -192,15 +195,18 @@ fn agents(alloc: Global, kernel: &Kernel, count: StockNo) -> Result<Vec<ClosingA
     Ok(agents)
 }
 
-/// The closing of a state: the counters, each stock, each live order by stock and then by arrival, and each agent with as many
-/// positions as there are stocks.
+/// The closing of a state: the counters, each stock, each live order by stock and then by arrival, and each agent with its
+/// position in each stock.
 ///
 /// # Errors
 /// Want of memory alone.
 pub fn closing_of(alloc: Global, o: &Opening, kernel: &Kernel) -> Result<Closing, Memory>
     requires { Fits o.now kernel.now }
-    ensures { IfOk result (λ c. c ≡ closing_at o.now kernel.now) }
+    ensures value { IfOk result (λ c. c ≡ closing_at o.now kernel.now) }
+    ensures time { IfOk result (λ c. c.counts.time < 2 ^ 48) }
+    ensures positions { IfOk result (λ c. All HasFewPositions c.agents) }
 {
+    agents_have_all_positions();
     let count = o.stocks.as_slice().len() as StockNo;
     let stocks = stocks(alloc, kernel, count)?;
     let orders = orders(alloc, kernel.exchange(), count)?;
