@@ -1,0 +1,3 @@
+pub mod Feed
+pub mod Bundle
+pub mod Ran
