@@ -2,7 +2,7 @@
 use Rattle.std.proofs.Common.{◌≡◌, [], ap, ◌∙◌}
 use Rattle.market_types.specs.Room.{Room}
 use Rattle.market_types.specs.Told.{EntryTold}
-use Rattle.kernel_core.specs.declared.opening.Opening.{Opening}
+use Rattle.market_opening.specs.declared.opening.Opening.{Opening}
 use Rattle.kernel_core.specs.Open.{opened}
 use Rattle.kernel_core.specs.State.{State}
 use Rattle.kernel_core.specs.Until.{until}

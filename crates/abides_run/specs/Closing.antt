@@ -1,12 +1,13 @@
 -- The closing of a state: its counters, stocks, live orders and agents.
-use Rattle.std.specs.Prelude.{ℕ, zero, suc, ◌+◌, pos, false, List, [], ◌∷◌, ◌++◌, length, slice_index, slice_index_or, Option, Some, None}
+use Rattle.std.specs.Prelude.{ℕ, zero, suc, ◌+◌, pos, false, List, [], ◌∷◌, ◌++◌, length, slice_index, Option, Some, None}
 use Rattle.market_types.specs.declared.entry.End.{End}
 use Rattle.market_types.specs.declared.entry.End.TheVariants.{Quiet, Closed, EventLimit, QueueFull}
 use Rattle.market_types.specs.declared.account.TraderTold.{TraderTold}
-use Rattle.kernel_core.specs.declared.opening.Opening.{Opening}
+use Rattle.market_opening.specs.declared.opening.Opening.{Opening}
 use Rattle.kernel_core.specs.State.{State}
 use Rattle.kernel_core.specs.Step.{end_of}
-use Rattle.kernel_core.specs.Agents.{told_of, nobody}
+use Rattle.agent_shell.specs.Trader.{told_of}
+use Rattle.market_floor.specs.Floor.{party_at}
 use Rattle.bundle_frames.specs.declared.closing.Closing.{Closing}
 use Rattle.bundle_frames.specs.declared.closing.ClosingCounts.{ClosingCounts}
 use Rattle.bundle_frames.specs.declared.closing.ClosingStock.{ClosingStock}
@@ -74,12 +75,12 @@ trader_told s agent t = record {
 -- the exchange and the first n traders
 abbrev pub agents_told : State → ℕ → List ClosingAgent
 agents_told s zero = exchange_told s ∷ []
-agents_told s (suc n) = agents_told s n ++ trader_told s (n + 1) (told_of (slice_index_or s.traders n nobody)) ∷ []
+agents_told s (suc n) = agents_told s n ++ trader_told s (n + 1) (told_of (party_at s.floor (n + 1)).trader) ∷ []
 
 abbrev pub closing_of : Opening → State → Closing
 closing_of o s = record {
   counts = counts_of o s;
   stocks = stock_of ∷ [];
   orders = [];
-  agents = agents_told s (length s.traders);
+  agents = agents_told s (length s.floor.parties);
 }

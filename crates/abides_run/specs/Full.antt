@@ -3,7 +3,7 @@ use Rattle.std.specs.Prelude.{ℕ, List, [], ◌∷◌, codes}
 use Rattle.market_types.specs.declared.feed.Feed.{Feed}
 use Rattle.market_types.specs.declared.feed.What.TheVariants.{System, Directory, Trading}
 use Rattle.market_types.specs.declared.order.Symbol.{Symbol}
-use Rattle.kernel_core.specs.declared.opening.Opening.{Opening}
+use Rattle.market_opening.specs.declared.opening.Opening.{Opening}
 use Rattle.kernel_core.specs.Open.{opened}
 use Rattle.kernel_core.specs.Until.{Run, until}
 use Rattle.trace_bundle.specs.Bundle.{BranchTold}

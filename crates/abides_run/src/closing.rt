@@ -1,7 +1,8 @@
 //! The closing of a kernel's state.
 
 ghost use Rattle.std.specs.Prelude.{◌≡◌, ◌≤◌, ◌<◌, ◌+◌, ◌-◌, ◌∷◌, [], pos, IfOk, length, slice_index_or, All};
-ghost use Rattle.kernel_core.specs.Agents.{told_of, nobody};
+ghost use Rattle.agent_shell.specs.Trader.{told_of};
+ghost use Rattle.market_floor.specs.Floor.{party_at};
 ghost use Rattle.bundle_frames.specs.declared.closing.ClosingAgent.{ClosingAgent};
 ghost use Rattle.abides_run.specs.Closing.{end_letter_of, counts_of, stock_of, exchange_told, trader_told, agents_told, closing_of};
 
@@ -84,8 +85,8 @@ fn exchange(alloc: Global, kernel: &Kernel) -> Result<ClosingAgent, Memory>
 fn trader(alloc: Global, kernel: &Kernel, agent: AgentNo) -> Result<ClosingAgent, Memory>
     requires some { 1 ≤ agent }
     requires own { agent < length kernel.now.own }
-    requires trader { agent ≤ length kernel.now.traders }
-    ensures { IfOk result (λ a. a ≡ trader_told kernel.now agent (told_of (slice_index_or kernel.now.traders (agent - 1) nobody))) }
+    requires trader { agent ≤ length kernel.now.floor.parties }
+    ensures { IfOk result (λ a. a ≡ trader_told kernel.now agent (told_of (party_at kernel.now.floor agent).trader)) }
 {
     let told = kernel.trader(agent);
     Ok(ClosingAgent {
@@ -105,7 +106,7 @@ fn trader(alloc: Global, kernel: &Kernel, agent: AgentNo) -> Result<ClosingAgent
 
 // The exchange and each trader in order.
 fn agents(alloc: Global, kernel: &Kernel) -> Result<Vec<ClosingAgent>, Memory>
-    ensures agents { IfOk result (λ v. v.items ≡ agents_told kernel.now (length kernel.now.traders)) }
+    ensures agents { IfOk result (λ v. v.items ≡ agents_told kernel.now (length kernel.now.floor.parties)) }
     ensures positions { IfOk result (λ v. All (λ (a : ClosingAgent). length a.positions ≤ 16) v.items) }
 {
     let traders = kernel.agents() - 1;

@@ -2,7 +2,7 @@
 
 ghost use Rattle.std.specs.Prelude.{◌≡◌, ◌+◌, ◌<◌, ◌≤◌, ◌^◌, ℕ, List, Option, length, codes, None, IfOk, IfSome, OnOk, All};
 ghost use Rattle.market_types.specs.Timely.{AreTimely, IsTimely};
-ghost use Rattle.kernel_core.specs.Opening.{IsOpening};
+ghost use Rattle.market_opening.specs.Opening.{IsOpening};
 ghost use Rattle.trace_bundle.specs.Bundle.{branch_told};
 ghost use Rattle.bundle_frames.specs.declared.closing.ClosingAgent.{ClosingAgent};
 ghost use Rattle.study_rules.specs.Opening.{IsInRange, opening_of};

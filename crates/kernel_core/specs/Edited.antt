@@ -1,5 +1,6 @@
 -- The edits of a branch.
-use Rattle.std.specs.Prelude.{◌≡◌, ℕ, ◌+◌, true, List, [], ◌∷◌, ◌++◌, length}
+use Rattle.std.specs.Prelude.{◌≡◌, ◌<◌, ◌≤◌, ℕ, ◌+◌, ⊤, true, List, [], ◌∷◌, ◌++◌, length}
+use Rattle.market_types.specs.Limits.{last_time, longest_delay}
 use Rattle.market_types.specs.Told.{EditTold, edit as edited_entry}
 use Rattle.market_rules.specs.declared.edit.Edit.{Edit}
 use Rattle.market_rules.specs.declared.edit.Edit.TheVariants.{Latency, Inject}
@@ -47,6 +48,16 @@ pub record IsEditOf (s : State) (e : Edit) : Type 0 where
   pub among : is_among (length s.floor.exchange.stocks) (length s.floor.parties) (group_count s.groups) e ≡ true
   pub range : is_in_range e ≡ true
   pub parameter : IsParamOf s.floor e
+
+-- an edit of latencies is of groups that there are, and keeps to the longest delay
+abbrev pub IsTableEdit : ℕ → Edit → Type 0
+IsTableEdit groups (Latency from to base jitter) = (from < groups) × (to < groups) × (base ≤ longest_delay)
+IsTableEdit groups e = ⊤
+
+-- an order is injected for a trader that there is, and within a day
+abbrev pub IsMailEdit : ℕ → Edit → Type 0
+IsMailEdit traders (Inject agent after message) = (1 ≤ agent) × (agent ≤ traders) × (after ≤ last_time)
+IsMailEdit traders e = ⊤
 
 -- One edit of a branch, which has this index among the branch's edits. Why a state has no next event is asked anew afterwards,
 -- so that a message that is due revives a state that was quiet or closed.

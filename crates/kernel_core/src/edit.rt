@@ -1,14 +1,15 @@
 //! The kernel: the edits of a branch.
 
-ghost use Rattle.std.specs.Prelude.{◌≡◌, ◌<◌, ◌^◌, true, All, OnOk, OnErr, IfOk};
+ghost use Rattle.std.specs.Prelude.{◌≡◌, ◌<◌, ◌≤◌, ◌+◌, ◌^◌, ℕ, true, All, OnOk, OnErr, IfOk};
 ghost use Rattle.market_types.specs.Timely.{AreTimely, IsTimely};
-ghost use Rattle.market_rules.specs.EditRanges.{is_among, is_in_range, is_near_zero};
+ghost use Rattle.market_rules.specs.EditRanges.{is_near_zero};
 ghost use Rattle.latency_model.specs.Tables.{group_count};
 ghost use Rattle.market_floor.specs.Edited.{edited_floor};
-ghost use Rattle.kernel_core.specs.Edited.{IsEditOf, changed_by, edited_one, mail_after, tables_after};
+ghost use Rattle.kernel_core.specs.Edited.{IsEditOf, IsMailEdit, IsTableEdit, changed_by, edited_one, mail_after, tables_after};
 ghost use Rattle.kernel_core.specs.Step.{Fits};
 
 use crate::kernel::Kernel;
+use agent_shell::laws::parameters_stay_those_of_the_kind;
 use kernel_mail::Mail;
 use kernel_mail::laws::mail_stays_sound;
 use latency_model::Groups;
@@ -19,8 +20,7 @@ use std::alloc::Global;
 
 // An edit of the latencies of a pair replaces its numbers.
 fn edit_tables(groups: &mut Groups, edit: &Edit)
-    requires range { is_in_range edit.now ≡ true }
-    requires among { (stocks traders : ℕ) → is_among stocks traders (group_count groups.old) edit.now ≡ true }
+    requires { IsTableEdit (group_count groups.old) edit.now }
     ensures tables { groups.new ≡ tables_after edit.now groups.old }
     ensures groups { group_count groups.new ≡ group_count groups.old }
 {
@@ -37,7 +37,7 @@ fn edit_tables(groups: &mut Groups, edit: &Edit)
 
 // An edit that injects an order at a time.
 fn edit_mail(mail: &mut Mail, time: Time, edit: &Edit)
-    requires range { is_in_range edit.now ≡ true }
+    requires edit { IsMailEdit 511 edit.now }
     requires time { time < 2 ^ 62 }
     requires numbers { mail.old.next_seq < 2 ^ 63 }
     requires drops { mail.old.dropped < 2 ^ 63 }
@@ -62,6 +62,7 @@ impl Kernel {
         ensures state { OnOk result (self.new ≡ changed_by self.old edit.now) }
         ensures feed { IfOk result (λ l. l.list ≡ (edited_floor self.old.time edit.now self.old.floor).feed) }
         ensures timely { IfOk result (λ l. AreTimely l.list) }
+        ensures fitting { (o : Opening) → Fits o self.old → Fits o self.new }
         ensures refused { OnErr result (self.new ≡ self.old) }
     {
         mail_stays_sound();
@@ -92,10 +93,14 @@ impl Kernel {
         ensures events { self.new.events ≡ self.old.events }
         ensures time { self.new.time ≡ self.old.time }
         ensures fitting { Fits o.now self.new }
+        ensures offsets { (far : ℕ) → All (λ n. is_near_zero far n ≡ true) self.old.floor.offsets → All (λ n. is_near_zero (far + 2000000000) n ≡ true) self.new.floor.offsets }
+        ensures editable { (e : Edit) → IsEditOf self.old e → IsEditOf self.new e }
+        ensures dropped { self.new.post.dropped ≤ self.old.post.dropped + 1 }
         ensures timely { All IsTimely trace.old.list → All IsTimely trace.new.list }
         ensures kernel_refused { OnErr result (self.new ≡ self.old) }
         ensures trace_refused { OnErr result (trace.new.list ≡ trace.old.list) }
     {
+        parameters_stay_those_of_the_kind();
         let _o = o;
         trace.reserve(1)?;
         let feed = self.change(alloc, edit)?;

@@ -6,6 +6,7 @@
 
 mod edit;
 mod kernel;
+pub mod laws;
 mod opened;
 mod post;
 mod step;

@@ -28,12 +28,14 @@ pub(crate) fn send_all(
     requires leaves { leave < 2 ^ 60 }
     requires numbers { mail.old.next_seq + length postings.now < 2 ^ 64 }
     requires drops { mail.old.dropped + length postings.now < 2 ^ 64 }
-    ensures { mail.new ≡ all_sent o.now groups.now from leave mail.old postings.now }
+    ensures mail { mail.new ≡ all_sent o.now groups.now from leave mail.old postings.now }
+    ensures drops { mail.new.dropped ≤ mail.old.dropped + length postings.now }
 {
     openings_are_grouped();
     for i in 0..postings.len() {
-        if let Some(posting) = postings.get(i) {
-            mail.send(o, groups, from, leave, posting);
-        }
+        let Some(posting) = postings.get(i) else {
+            unreachable!()
+        };
+        mail.send(o, groups, from, leave, posting);
     }
 }

@@ -1,9 +1,10 @@
 //! The kernel: its events.
 
-ghost use Rattle.std.specs.Prelude.{◌≡◌, ◌<◌, ◌≤◌, ◌+◌, ◌-◌, ◌^◌, Some, None, OnOk, OnErr, IfOk, IsNone, All};
+ghost use Rattle.std.specs.Prelude.{◌≡◌, ◌<◌, ◌≤◌, ◌+◌, ◌-◌, ◌^◌, Some, None, OnOk, OnErr, IfOk, IsNone, All, max};
 ghost use Rattle.market_types.specs.Told.{event_told};
 ghost use Rattle.market_types.specs.Timely.{AreTimely, IsTimely};
 ghost use Rattle.event_queue.specs.Waiting.{least};
+ghost use Rattle.kernel_core.specs.Edited.{IsEditOf};
 ghost use Rattle.kernel_core.specs.Step.{Fits, answer_by, end_of, event_back, event_delivered, event_of, raised};
 ghost use Rattle.kernel_core.specs.Until.{advanced, advanced_by, until};
 
@@ -14,6 +15,7 @@ use kernel_mail::laws::mail_stays_sound;
 use market_floor::laws::floors_stay_sound;
 use market_floor::{Happening, applied_by};
 use market_opening::Opening;
+use market_rules::Edit;
 use market_types::{End, Entry, FeedList, Memory, Message, Record, Time, Trace};
 use outside::{Ledger, Steps};
 use std::alloc::Global;
@@ -35,9 +37,12 @@ impl Kernel {
         ensures entry { IfOk result (λ r. event_told r ≡ (event_back o.now self.old m until).entry) }
         ensures timely { IfOk result (λ r. AreTimely r.before.list) }
         ensures own_timely { IfOk result (λ r. AreTimely r.after.list) }
+        ensures fitting { Fits o.now self.new }
+        ensures drops { OnOk result (self.new.post.dropped ≤ 2000002) }
         ensures refused { OnErr result (self.new ≡ self.old) }
     {
         mail_stays_sound();
+        floors_stay_sound();
         let before = self.floor.rule(alloc, o, self.applied, m.time)?;
         let _ = self.mail.put_back(until);
         self.applied = applied_by(o, self.applied, m.time);
@@ -67,6 +72,8 @@ impl Kernel {
         ensures entry { IfOk result (λ r. event_told r ≡ (event_delivered o.now self.old m).entry) }
         ensures timely { IfOk result (λ r. AreTimely r.before.list) }
         ensures own_timely { IfOk result (λ r. AreTimely r.after.list) }
+        ensures fitting { Fits o.now self.new }
+        ensures drops { OnOk result (self.new.post.dropped ≤ 2000002) }
         ensures refused { OnErr result (self.new ≡ self.old) }
     {
         mail_stays_sound();
@@ -109,8 +116,11 @@ impl Kernel {
         ensures entry { IfOk result (λ r. event_told r ≡ (event_of o.now self.old m).entry) }
         ensures timely { IfOk result (λ r. AreTimely r.before.list) }
         ensures own_timely { IfOk result (λ r. AreTimely r.after.list) }
+        ensures fitting { Fits o.now self.new }
+        ensures drops { OnOk result (self.new.post.dropped ≤ 2000002) }
         ensures refused { OnErr result (self.new ≡ self.old) }
     {
+        mail_stays_sound();
         let own = self.own[usize::from(m.to)];
         if m.time < own {
             self.back(alloc, o, m, own)
@@ -139,6 +149,9 @@ impl Kernel {
         ensures ticks { IfOk result (λ a. steps.new ≡ steps.old + raised a) }
         ensures fitting { Fits o.now self.new }
         ensures timely { All IsTimely trace.old.list → All IsTimely trace.new.list }
+        ensures offsets { self.new.floor.offsets ≡ self.old.floor.offsets }
+        ensures editable { (e : Edit) → IsEditOf self.old e → IsEditOf self.new e }
+        ensures drops { self.new.post.dropped ≤ max self.old.post.dropped 2000002 }
         ensures kernel_refused { OnErr result (self.new ≡ self.old) }
         ensures trace_refused { OnErr result (trace.new.list ≡ trace.old.list) }
         ensures steps_refused { OnErr result (steps.new ≡ steps.old) }
@@ -178,6 +191,9 @@ impl Kernel {
         ensures within { self.new.events ≤ (until o.now stop (record { state = self.old; entries = trace.old.list })).state.events }
         ensures time { self.old.time ≤ o.now.close → self.new.time ≤ o.now.close }
         ensures timely { All IsTimely trace.old.list → All IsTimely trace.new.list }
+        ensures offsets { self.new.floor.offsets ≡ self.old.floor.offsets }
+        ensures editable { (e : Edit) → IsEditOf self.old e → IsEditOf self.new e }
+        ensures drops { self.new.post.dropped ≤ max self.old.post.dropped 2000002 }
         ensures fitting { Fits o.now self.new }
     {
         'events: while self.events() < stop {

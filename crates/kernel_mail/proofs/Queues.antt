@@ -1,7 +1,6 @@
 -- Lemmas on the queue under the mail.
 use Rattle.std.proofs.Common.{◌≡◌, ◌≢◌, ◌+◌, ◌<◌, ◌≤◌, ℕ, All, List, Option, Some, None, IfSome, IfNone, OnSome, length, ap, sym, subst, arith}
 use Rattle.std.proofs.lemmas.List.Elements.{All-weaker}
-use Rattle.market_types.specs.Limits.{most_waiting}
 use Rattle.market_types.specs.Room.{Room}
 use Rattle.market_types.specs.declared.message.Message.{Message}
 use Rattle.event_queue.specs.Waiting.{IsNew, least, without}

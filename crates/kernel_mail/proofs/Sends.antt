@@ -1,8 +1,6 @@
 -- Lemmas on what an agent posts.
-use Rattle.std.proofs.Common.{◌≡◌, ℕ, ◌+◌, ◌<◌, ◌≤◌, List, [], ◌∷◌, ◌++◌, length, refl, sym, subst, arith, All, inl, inr}
+use Rattle.std.proofs.Common.{◌≡◌, ℕ, ◌+◌, ◌<◌, ◌≤◌, List, [], ◌∷◌, ◌++◌, length, refl, sym, subst, arith, inl, inr}
 use Rattle.std.proofs.lemmas.Bool.{cases_eq}
-use Rattle.market_types.specs.declared.message.Body.TheVariants.{Wake}
-use Rattle.market_types.specs.declared.message.Message.{Message}
 use Rattle.latency_model.specs.Tables.{Tables, group_count}
 use Rattle.market_opening.specs.declared.opening.Opening.{Opening}
 use Rattle.market_opening.specs.declared.posting.Posting.{Posting}
@@ -10,6 +8,7 @@ use Rattle.market_opening.specs.declared.posting.Posting.TheVariants.{To, WakeAt
 use Rattle.market_opening.specs.Opening.{IsOpening}
 use Rattle.market_opening.specs.Groups.{group_of}
 use Rattle.market_opening.specs.Postings.{IsAddressed, IsAmong, earliest_of}
+use Rattle.market_opening.specs.Worked.{market, watcher}
 use Rattle.market_opening.proofs.Openings.{group-of_agent}
 use Rattle.latency_model.specs.Worked.{two_groups}
 use Rattle.kernel_mail.specs.Worked.{two_agents}
@@ -50,4 +49,11 @@ pub grouped-two : IsGrouped two_agents two_groups
 grouped-two = λ agent k. elim (cases_eq agent 0) [
   | inl e ↦ subst (λ (a : ℕ). group_of two_agents a < 2) (sym e) (omega arith)
   | inr e ↦ (let one : 1 ≡ agent = omega arith in subst (λ (a : ℕ). group_of two_agents a < 2) one (omega arith))
+]
+
+-- a market of one watcher under any tables of one group
+pub grouped-one : (groups : Tables) → group_count groups ≡ 1 → IsGrouped (market 2000 0 (watcher 1000 ∷ [])) groups
+grouped-one groups e = λ agent k. elim (cases_eq agent 0) [
+  | inl f ↦ subst (λ (a : ℕ). group_of (market 2000 0 (watcher 1000 ∷ [])) a < group_count groups) (sym f) (omega (arith, e))
+  | inr f ↦ (let one : 1 ≡ agent = omega arith in subst (λ (a : ℕ). group_of (market 2000 0 (watcher 1000 ∷ [])) a < group_count groups) one (omega (arith, e)))
 ]

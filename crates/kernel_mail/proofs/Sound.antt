@@ -1,11 +1,11 @@
 -- What a run keeps of the mail stays.
-use Rattle.std.proofs.Common.{◌≡◌, ◌≢◌, ℕ, ◌+◌, ◌<◌, ◌≤◌, not, eqb, List, [], ◌∷◌, Some, length, sym, arith, All, refl}
+use Rattle.std.proofs.Common.{◌≡◌, ◌≢◌, ℕ, ◌+◌, ◌<◌, ◌≤◌, not, eqb, List, [], ◌∷◌, Some, sym, arith, All, refl}
 use Rattle.std.specs.List.{AllByRecursion}
-use Rattle.std.proofs.lemmas.List.Elements.{All-nil, All-weaker, recursion_from_All}
+use Rattle.std.proofs.lemmas.List.Elements.{All-nil, recursion_from_All}
 use Rattle.market_types.specs.declared.message.Message.{Message}
 use Rattle.market_types.specs.declared.order.Inbound.{Inbound}
 use Rattle.latency_model.specs.Tables.{Tables}
-use Rattle.event_queue.specs.Waiting.{least, joined, without}
+use Rattle.event_queue.specs.Waiting.{least, without}
 use Rattle.event_queue.proofs.First.{least-soonest, least-fewer}
 use Rattle.event_queue.proofs.Kept.{all-joined, all-least, all-without}
 use Rattle.event_queue.proofs.Numbers.{length-joined}

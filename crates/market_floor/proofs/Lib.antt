@@ -1,0 +1,7 @@
+pub mod Changes
+pub mod Opened
+pub mod Posts
+pub mod Reactions
+pub mod Rulings
+pub mod Sizes
+pub mod Sounds

@@ -1,10 +1,13 @@
 //! Edits of the floor.
 
-ghost use Rattle.std.specs.Prelude.{◌≡◌, ℕ, All, IfOk, OnOk, OnErr, length};
+ghost use Rattle.std.specs.Prelude.{◌≡◌, ◌<◌, ℕ, All, IfOk, OnOk, OnErr, length};
+ghost use Rattle.exchange_agent.specs.Changes.{changed_by};
 ghost use Rattle.market_floor.specs.Edited.{IsEdit, edited_floor};
+ghost use Rattle.market_floor.specs.Floor.{with_exchange};
 ghost use Rattle.market_floor.specs.Sound.{IsSoundFloor};
 
 use crate::floor::Floor;
+use exchange_agent::laws::books_stay_short;
 use market_rules::{Change, Edit};
 use market_types::{FeedList, Memory, StockNo, Time};
 use std::alloc::Global;
@@ -18,7 +21,16 @@ impl Floor {
         stock: StockNo,
         change: &Change,
     ) -> Result<FeedList, Memory>
+        requires { stock < length self.old.exchange.stocks }
+        ensures floor { OnOk result (self.new ≡ with_exchange (changed_by self.old.exchange time stock change.now).state self.old) }
+        ensures feed { IfOk result (λ l. l.list ≡ (changed_by self.old.exchange time stock change.now).feed) }
+        ensures times { IfOk result (λ l. All (λ f. f.time ≡ time) l.list) }
+        ensures sound { (n : ℕ) → IsSoundFloor n self.old → IsSoundFloor n self.new }
+        ensures stocks { length self.new.exchange.stocks ≡ length self.old.exchange.stocks }
+        ensures traders { length self.new.parties ≡ length self.old.parties }
+        ensures refused { OnErr result (self.new ≡ self.old) }
     {
+        books_stay_short();
         let mut feed = FeedList::new(alloc);
         self.exchange.apply_change(time, stock, change, &mut feed)?;
         Ok(feed)

@@ -16,12 +16,14 @@ use crate::floor::Floor;
 use crate::postings::{Form, Happening, Postings};
 use crate::ruling::changed;
 use agent_shell::Sends;
+use agent_shell::laws::traders_stay_in_range;
 use exchange_agent::laws::{books_stay_short, replies_ask_nothing};
 use exchange_agent::{Exchange, Handled};
 use fundamental_series::with_offset;
 use market_opening::Opening;
 use market_opening::laws::stocks_have_values;
 use market_rules::View;
+use market_rules::laws::first_changes_are_due;
 use market_types::{FeedList, Memory, Message, StockNo, Time};
 use std::alloc::Global;
 use std::mem::replace;
@@ -166,6 +168,7 @@ fn react(
     ensures exchange_refused { OnErr result (exchange.new ≡ exchange.old) }
     ensures parties_refused { OnErr result (parties.new.items ≡ parties.old.items) }
 {
+    traders_stay_in_range();
     if m.to == 0 {
         return answer(alloc, o, exchange, m, before);
     }
@@ -204,6 +207,9 @@ impl Floor {
         ensures traders { length self.new.parties ≡ length self.old.parties }
         ensures refused { OnErr result (self.new ≡ self.old) }
     {
+        traders_stay_in_range();
+        books_stay_short();
+        first_changes_are_due();
         let mut before = FeedList::new(alloc);
         let offsets = self.offsets.as_slice();
         if o.dated.rules_at(m.time) <= applied {

@@ -7,8 +7,10 @@ ghost use Rattle.market_floor.specs.Sound.{FitsFloor, IsSoundFloor};
 
 use crate::floor::Floor;
 use exchange_agent::Exchange;
+use exchange_agent::laws::books_stay_short;
 use market_opening::Opening;
 use market_rules::Dated;
+use market_rules::laws::first_changes_are_due;
 use market_types::{FeedList, Memory, Time};
 use std::alloc::Global;
 
@@ -48,9 +50,10 @@ pub(crate) fn changed(
 {
     let mut copy = exchange.copy(alloc)?;
     let due = o.dated.rules_at(time);
-    if applied < due {
-        change_all(&mut copy, &o.dated.as_slice()[applied..due], feed)?;
+    if due <= applied {
+        return Ok(copy);
     }
+    change_all(&mut copy, &o.dated.as_slice()[applied..due], feed)?;
     Ok(copy)
 }
 
@@ -76,6 +79,8 @@ impl Floor {
         ensures traders { length self.new.parties ≡ length self.old.parties }
         ensures refused { OnErr result (self.new ≡ self.old) }
     {
+        books_stay_short();
+        first_changes_are_due();
         let mut feed = FeedList::new(alloc);
         if o.dated.rules_at(time) <= applied {
             return Ok(feed);

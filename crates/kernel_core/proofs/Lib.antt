@@ -1,0 +1,12 @@
+pub mod Runs
+pub mod Sound
+pub mod Begun
+pub mod Editing
+pub mod Posted
+pub mod Kept
+pub mod Possible
+pub mod Testing
+pub mod Stops
+pub mod EditRuns
+pub mod Ahead
+pub mod Fitting

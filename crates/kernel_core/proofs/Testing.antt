@@ -1,0 +1,121 @@
+-- Lemmas on the worked runs of the tests.
+use Rattle.std.proofs.Common.{◌≡◌, ℕ, ◌+◌, ◌*◌, ◌<◌, ◌≤◌, ℤ, pos, negsuc, true, List, [], ◌∷◌, length, map, replicate, refl, sym, ap, ◌∙◌, subst, arith, lit≤, lit<, All}
+use Rattle.std.specs.Prelude.{◌^◌}
+use Rattle.std.proofs.lemmas.Bool.Decides.{nat_tests}
+use Rattle.std.proofs.lemmas.List.{length-map}
+use Rattle.std.proofs.lemmas.List.Elements.{All-from_recursion, All-map, All-replicate, All-weaker}
+use Rattle.market_types.specs.Limits.{longest_delay}
+use Rattle.market_rules.specs.declared.changes.Dated.{Dated}
+use Rattle.market_rules.specs.declared.edit.Edit.{Edit}
+use Rattle.market_rules.specs.declared.edit.Edit.TheVariants.{Tick, Fee, Halt, Resume, Latency, Agent, Silence, Inject, Series}
+use Rattle.market_rules.specs.EditRanges.{is_among, is_in_range, is_near_zero}
+use Rattle.latency_model.specs.Tables.{group_count}
+use Rattle.fundamental_series.specs.Made.{Made, by_rows, by_rule}
+use Rattle.agent_shell.specs.declared.setting.Kind.{Kind}
+use Rattle.agent_shell.specs.declared.setting.TraderSetting.{TraderSetting}
+use Rattle.agent_shell.specs.declared.setting.Kind.TheVariants.{Watcher}
+use Rattle.market_rules.specs.declared.edit.Param.TheVariants as parameter
+use Rattle.agent_shell.specs.Parameters.{IsKind, IsOwnParam}
+use Rattle.market_opening.specs.declared.opening.Opening.{Opening}
+use Rattle.market_opening.specs.declared.posting.Posting.{Posting}
+use Rattle.market_opening.specs.declared.posting.Posting.TheVariants.{WakeAt}
+use Rattle.market_opening.specs.Opening.{AreDated, IsOpening, IsSeriesFor, IsTraderOf, no_series}
+use Rattle.market_opening.specs.Worked.{market_of, trader}
+use Rattle.kernel_core.specs.State.{State}
+use Rattle.kernel_mail.specs.Post.{Post, nothing_waits}
+use Rattle.kernel_mail.specs.Send.{message_of, sent}
+use Rattle.kernel_core.specs.Open.{opened, woken}
+use Rattle.kernel_core.proofs.Posted.{joins-counts}
+use Rattle.kernel_core.specs.Step.{Fits}
+use Rattle.kernel_core.specs.Edited.{IsEditOf}
+use Rattle.kernel_core.specs.Worked.{IsPlain, each_kind}
+
+-- traders of kinds in their ranges are in those of a market
+pub kinds-admitted : (close limit delay : ℕ) (ts : List TraderSetting) (ks : List (Kind × ℕ)) → All (λ (k : Kind × ℕ). IsKind k.0) ks → All (λ (k : Kind × ℕ). 1000 ≤ k.1) ks
+    → All (λ (k : Kind × ℕ). k.1 ≤ 2000) ks → All (λ (s : TraderSetting). IsTraderOf (market_of close limit delay ts) s) (map (λ (k : Kind × ℕ). trader k.0 k.1) ks)
+kinds-admitted close limit delay ts ks kinds early late =
+    All-map (λ (s : TraderSetting). IsTraderOf (market_of close limit delay ts) s) (λ (k : Kind × ℕ). trader k.0 k.1) ks
+    (λ i d within. record {
+      setting = record { kind = kinds i d within; every = record { not_below = lit≤ tt; not_above = lit≤ tt }; delay = lit≤ tt };
+      group = lit< tt;
+      stock = lit< tt;
+      start = early i d within;
+      first = omega (arith, late i d within);
+      wobble = lit≤ tt;
+    })
+
+near-weaker : (a b : ℕ) (z : ℤ) → a ≤ b → is_near_zero a z ≡ true → is_near_zero b z ≡ true
+near-weaker a b (pos n) le h = grind (arith, nat_tests)
+near-weaker a b (negsuc n) le h = grind (arith, nat_tests)
+
+pub all-near : (a b : ℕ) (zs : List ℤ) → a ≤ b → All (λ (z : ℤ). is_near_zero a z ≡ true) zs → All (λ (z : ℤ). is_near_zero b z ≡ true) zs
+all-near a b zs le all = All-weaker (λ (z : ℤ). is_near_zero a z ≡ true) (λ (z : ℤ). is_near_zero b z ≡ true) (λ z h. near-weaker a b z le h) zs all
+
+woken-drops : (o : Opening) (k : ℕ) (p : Post) (ss : List TraderSetting) → (woken o k p ss).dropped ≤ p.dropped + length ss
+woken-drops o k p [] = omega arith
+woken-drops o k p (s ∷ ss) =
+    let x : Posting = WakeAt s.first in
+    let counts = joins-counts p (message_of o o.groups k o.start x) in
+    omega (arith, counts.1, woken-drops o (k + 1) (sent o o.groups k o.start p x) ss)
+
+-- no value has an offset at the opening, and few messages were dropped
+pub opened-near : (o : Opening) (s : State) → s ≡ opened o → All (λ (z : ℤ). is_near_zero 0 z ≡ true) s.floor.offsets
+opened-near o s is =
+    subst (λ (q : State). All (λ (z : ℤ). is_near_zero 0 z ≡ true) q.floor.offsets) (sym is) (All-replicate (λ (z : ℤ). is_near_zero 0 z ≡ true) (length o.stocks) (pos 0) refl)
+
+pub opened-drops : (o : Opening) (s : State) → IsOpening o → s ≡ opened o → s.post.dropped ≤ 511
+opened-drops o s h is =
+    omega (arith, ap (λ (q : State). q.post.dropped) is, woken-drops o 1 nothing_waits o.traders, h.market.traders, length-map o.traders (λ (t : TraderSetting). t.cash))
+
+-- each state that an opening fits takes a plain edit
+pub plain-edit : (o : Opening) (s : State) (e : Edit) → Fits o s → IsPlain e → IsEditOf s e
+plain-edit o s (Tick stock table) f p = absurd p
+plain-edit o s (Fee stock fees) f p = absurd p
+plain-edit o s (Halt stock) f p = absurd p
+plain-edit o s (Resume stock) f p = absurd p
+plain-edit o s (Latency from to base jitter) f p =
+    let some : 0 < group_count s.groups = omega (arith, f.opening.exchange_group, f.groups) in
+    record { among = grind (arith, nat_tests); range = grind (arith, nat_tests); parameter = tt }
+plain-edit o s (Agent agent name value) f p = absurd p
+plain-edit o s (Silence agent) f p =
+    let some : 1 ≤ length s.floor.parties = omega (arith, f.opening.some_trader, f.traders) in
+    record { among = grind (arith, nat_tests); range = refl; parameter = tt }
+plain-edit o s (Inject agent after message) f p =
+    let some : 1 ≤ length s.floor.parties = omega (arith, f.opening.some_trader, f.traders) in
+    record { among = grind (arith, nat_tests); range = grind (arith, nat_tests); parameter = tt }
+plain-edit o s (Series stock offset) f p = absurd p
+
+watcher-delay : IsOwnParam Watcher parameter.Delay 7
+watcher-delay = lit≤ tt
+
+-- the first state of a market of one watcher takes each kind of edit
+pub each-possible : (close limit delay first : ℕ) → All (λ (e : Edit). IsEditOf (opened (market_of close limit delay (trader Watcher first ∷ []))) e) each_kind
+each-possible close limit delay first =
+    All-from_recursion (λ (e : Edit). IsEditOf (opened (market_of close limit delay (trader Watcher first ∷ []))) e) each_kind
+    (record { among = refl; range = refl; parameter = tt }, (record { among = refl; range = refl; parameter = tt }, (record { among = refl; range = refl; parameter = tt }, (record { among = refl; range = refl; parameter = tt }, (record { among = refl; range = refl; parameter = tt }, (record { among = refl; range = refl; parameter = watcher-delay }, (record { among = refl; range = refl; parameter = tt }, (record { among = refl; range = refl; parameter = tt }, (record { among = refl; range = refl; parameter = tt }, tt)))))))))
+
+-- An opening with other dated changes.
+abbrev pub with_dated : Opening → List Dated → Opening
+with_dated o ds = record o { dated = ds }
+
+moved-series : (o : Opening) (ds : List Dated) (k : ℕ) (m : Made) → IsSeriesFor o k m → IsSeriesFor (with_dated o ds) k m
+moved-series o ds k (by_rule m) h = record { key = h.key; stock = h.stock; start = h.start; close = h.close; rule = h.rule; steps = h.steps }
+moved-series o ds k (by_rows rows) h = record { rows = h.rows; first = h.first }
+
+pub dated-opening : (o : Opening) (ds : List Dated) → IsOpening o → AreDated (with_dated o ds) → IsOpening (with_dated o ds)
+dated-opening o ds h d = record {
+  close = h.close;
+  start = h.start;
+  some = h.some;
+  limit = h.limit;
+  groups = h.groups;
+  exchange_group = h.exchange_group;
+  exchange_delay = h.exchange_delay;
+  market = h.market;
+  stocks = h.stocks;
+  series = record { count = h.series.count; each = λ k within. moved-series o ds k _ (h.series.each k within) };
+  dated = d;
+  some_trader = h.some_trader;
+  traders = All-weaker (λ (s : TraderSetting). IsTraderOf o s) (λ (s : TraderSetting). IsTraderOf (with_dated o ds) s)
+    (λ s q. record { setting = q.setting; group = q.group; stock = q.stock; start = q.start; first = q.first; wobble = q.wobble }) o.traders h.traders;
+}

@@ -1,0 +1,14 @@
+use Rattle.std.proofs.Common.{◌≡◌, ◌+◌, length, replicate, ap, ◌∙◌, rules}
+use Rattle.agent_shell.specs.declared.setting.TraderSetting.{TraderSetting}
+use Rattle.kernel_mail.specs.Post.{Post, nothing_waits}
+use Rattle.kernel_core.specs.Open.{woken}
+use Rattle.kernel_core.proofs.Begun.{sound-opened}
+use Rattle.kernel_core.proofs.kernel.Kernel.open.Goals as goal
+
+pub invariant_of-result : goal.invariant_of-result
+invariant_of-result c =
+    let o = c.args.o.now in
+    let post : c.wake_all.new.mail ≡ woken o 1 nothing_waits o.traders = search rules in
+    let own : c.in_ok-own.own.items ≡ replicate (length o.traders + 1) o.start = search rules in
+    sound-opened c.mail_stays_sound.ensures.sent o c.wake_all.new.mail c.in_ok-own.own.items c.in_ok-floor.floor c.in_ok-groups.groups c.requires
+    c.in_ok-floor.ensures.fits c.in_ok-floor.ensures.sound (c.mail_stays_sound.ensures.begun (length o.traders) (length o.stocks) o.start) post own

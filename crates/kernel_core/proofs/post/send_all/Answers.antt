@@ -1,0 +1,23 @@
+use Rattle.std.proofs.Common.{◌≡◌, ◌+◌, Some, sym, ap, ◌∙◌, arith, drop, rules}
+use Rattle.std.specs.Prelude.{slice_get}
+use Rattle.kernel_mail.specs.Post.{Post}
+use Rattle.kernel_mail.specs.Send.{all_sent, message_of, sent}
+use Rattle.kernel_core.proofs.Posted.{all_sent-next, joins-counts}
+use Rattle.kernel_core.proofs.post.send_all.Goals as goal
+
+pub loop-i-preserved : goal.loop-i-preserved
+loop-i-preserved c =
+    let o = c.args.o.now in
+    let groups = c.args.groups.now in
+    let from = c.args.from in
+    let leave = c.args.leave in
+    let p = c.loop-i.mail in
+    let x = c.in-Some.posting in
+    let next : slice_get c.args.postings.now c.loop-i.i ≡ Some x = search rules in
+    let sends : c.send.new.self ≡ sent o groups from leave p x = c.send.ensures.sent in
+    let counts = joins-counts p (message_of o groups from leave x) in
+    record {
+      rest = ap (λ (q : Post). all_sent o groups from leave q (drop (c.loop-i.i + 1) c.args.postings.now)) sends ∙ sym (all_sent-next o groups from leave p c.args.postings.now c.loop-i.i x next) ∙ c.loop-i.invariant.rest;
+      numbers = omega (arith, ap (λ (q : Post). q.next_seq) sends, counts.0, c.loop-i.invariant.numbers);
+      drops = omega (arith, ap (λ (q : Post). q.dropped) sends, counts.1, c.loop-i.invariant.drops);
+    }

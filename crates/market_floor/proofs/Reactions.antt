@@ -1,0 +1,44 @@
+-- The two cases of a reaction.
+use Rattle.std.proofs.Common.{◌≡◌, ◌≢◌, ◌<◌, ◌-◌, ℕ, zero, suc, false, List, [], ◌∷◌, length, All, Result, Ok, Err, ap, arith, refl, subst, sym, ◌∙◌}
+use Rattle.std.specs.Prelude.{◌==◌, IfOk, OnOk, slice_index_or}
+use Rattle.std.proofs.lemmas.Bool.Decides.{nat_tests}
+use Rattle.std.proofs.lemmas.List.Elements.{All-nil}
+use Rattle.market_types.specs.declared.feed.Feed.{Feed}
+use Rattle.trader_party.specs.Party.{PartyState}
+use Rattle.market_floor.specs.declared.postings.Happening.{Happening}
+use Rattle.market_types.specs.declared.message.Message.{Message}
+use Rattle.exchange_agent.specs.Market.{market}
+use Rattle.market_opening.specs.declared.opening.Opening.{Opening}
+use Rattle.market_floor.specs.Floor.{FloorState, nobody, party_at}
+use Rattle.market_floor.specs.Reaction.{IsTold, Reaction, decided_by, market_reaction, reaction, trader_reaction}
+
+pub to-exchange : (o : Opening) (f : FloorState) (m : Message) → m.to ≡ 0 → reaction o f m ≡ market_reaction o f (market f.exchange m.time m.from m.body)
+unfolding reaction
+to-exchange o f m e = rw e refl
+
+pub to-trader : (o : Opening) (f : FloorState) (m : Message) → (m.to == 0) ≡ false → reaction o f m ≡ trader_reaction f m.to (party_at f m.to) (decided_by o f.exchange f.offsets (party_at f m.to) m)
+unfolding reaction
+to-trader o f m e = rw e refl
+
+pub not-zero : (n : ℕ) → n ≢ 0 → (n == 0) ≡ false
+not-zero n h = grind (arith, nat_tests)
+
+-- what follows of a call's answer
+pub ok-map : {A E : Type 0} (r : Result A E) (P Q : Type 0) → (P → Q) → OnOk r P → OnOk r Q
+ok-map (Ok x) P Q f p = f p
+ok-map (Err e) P Q f p = tt
+
+any-default : (xs : List PartyState) (k : ℕ) (d e : PartyState) → k < length xs → slice_index_or xs k d ≡ slice_index_or xs k e
+any-default [] k d e lt = absurd (omega (arith, lt))
+any-default (x ∷ xs) zero d e lt = refl
+any-default (x ∷ xs) (suc k) d e lt = any-default xs k d e (omega (arith, lt))
+
+-- the item of a list of traders is the trader of its number
+pub party-here : (f : FloorState) (agent number : ℕ) (p : PartyState) → number ≡ agent → number - 1 < length f.parties → p ≡ slice_index_or f.parties (number - 1) p → p ≡ party_at f agent
+party-here f agent number p is within at =
+    at ∙ any-default f.parties (number - 1) p nobody within ∙ ap (λ (k : ℕ). slice_index_or f.parties (k - 1) nobody) is
+
+-- a trader tells no feed
+pub tells-none : {E : Type 0} (r : Result Happening E) (w : Reaction) (time : ℕ) → w.feed ≡ [] → IfOk r (λ h. IsTold w h) → IfOk r (λ h. All (λ (x : Feed). x.time ≡ time) h.after.list)
+tells-none (Ok h) w time none told = subst (λ (l : List Feed). All (λ (x : Feed). x.time ≡ time) l) (sym (told.feed ∙ none)) (All-nil (λ (x : Feed). x.time ≡ time))
+tells-none (Err e) w time none told = tt
