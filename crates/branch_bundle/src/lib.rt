@@ -3,6 +3,8 @@
 
 mod bundle;
 mod feed;
+pub mod laws;
+mod outcomes;
 mod ran;
 
 pub use bundle::{write_branch, write_header};

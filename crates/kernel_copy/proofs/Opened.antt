@@ -57,7 +57,7 @@ woken-drops o k p [] = omega arith
 woken-drops o k p (s ∷ ss) =
     omega (arith, woken-drops o (k + 1) (sent o o.groups k o.start p (WakeAt s.first)) ss, drops-joins p (message_of o o.groups k o.start (WakeAt s.first)))
 
-few-traders : (o : Opening) → IsOpening o → length o.traders ≤ 511
+pub few-traders : (o : Opening) → IsOpening o → length o.traders ≤ 511
 few-traders o h = omega (arith, h.market.traders, length-map o.traders (λ (s : TraderSetting). s.cash))
 
 stocks-length : (o : Opening) → length (floor_at_opening o).exchange.stocks ≡ length o.stocks

@@ -2,6 +2,7 @@
 
 ghost use Rattle.std.specs.Prelude.{◌≡◌, ◌<◌, ◌≤◌, ◌+◌, Some, None, IfOk, IfErr, OnOk, length, slice_index};
 ghost use Rattle.std.specs.List.Sorted.{IsPermutation, IsSortedBy};
+ghost use Rattle.market_types.specs.Limits.{last_time};
 ghost use Rattle.agent_shell.specs.Trader.{told_of};
 ghost use Rattle.event_queue.specs.InOrder.{in_order};
 ghost use Rattle.event_queue.specs.Waiting.{before, least};
@@ -84,7 +85,8 @@ impl Kernel {
 
     /// The time of the last event, in nanoseconds past midnight; the opening's start before the first.
     pub fn time(&self) -> Time
-        ensures { result ≡ self.now.time }
+        ensures value { result ≡ self.now.time }
+        ensures early { result ≤ last_time }
     {
         self.time
     }
@@ -181,7 +183,8 @@ impl Kernel {
 
     /// The exchange.
     pub fn exchange(&self) -> &Exchange
-        ensures { result.now ≡ self.now.floor.exchange }
+        ensures value { result.now ≡ self.now.floor.exchange }
+        ensures traders { length result.now.cash ≡ length self.now.floor.parties }
     {
         self.floor.exchange()
     }
