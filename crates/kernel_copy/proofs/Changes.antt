@@ -161,7 +161,7 @@ series-floor o n e stock offset f small h =
       traders = h.traders;
       books = h.books;
       offsets = All-set (IsWithin (2000000000 * (e + 1))) f.offsets stock (offset_at f stock +ℤ offset)
-        (within-more (2000000000 * e + 2000000000) (2000000000 * (e + 1)) (offset_at f stock +ℤ offset) (omega arith) sum) l.offsets;
+          (within-more (2000000000 * e + 2000000000) (2000000000 * (e + 1)) (offset_at f stock +ℤ offset) (omega arith) sum) l.offsets;
     }
 
 agent-within : (low high n parties : ℕ) → 1 ≤ n → n ≤ high → high ≡ parties → n - 1 < parties

@@ -218,16 +218,16 @@ pub kinds-party : (o : Opening) (f : FloorState) (agent : ℕ) (p : PartyState) 
     → KeepsKinds o (with_party agent p f)
 kinds-party o f agent p h keeps =
     λ a name value q.
-      let P : PartyState → Type 0 = λ x. IsOwnParam x.trader.setting.kind name value in
-      elim (cases_lt (agent - 1) (length f.parties)) [
-        | inr past ↦ subst P (sym (ap (λ (g : FloorState). party_at g a) (party-missing f agent p past))) (h a name value q)
-        | inl within ↦ elim (cases_eq (a - 1) (agent - 1)) [
-          | inl same ↦
-              let was = subst P (ap (λ (i : ℕ). slice_index_or f.parties i nobody) same) (h a name value q) in
-              subst P (sym (ap (λ (i : ℕ). slice_index_or (slice_set f.parties (agent - 1) p) i nobody) same ∙ get_or-set_same f.parties (agent - 1) p nobody within)) (keeps name value was)
-          | inr other ↦ subst P (sym (get_or-set_other f.parties (agent - 1) (a - 1) p nobody other)) (h a name value q)
-        ]
+    let P : PartyState → Type 0 = λ x. IsOwnParam x.trader.setting.kind name value in
+    elim (cases_lt (agent - 1) (length f.parties)) [
+      | inr past ↦ subst P (sym (ap (λ (g : FloorState). party_at g a) (party-missing f agent p past))) (h a name value q)
+      | inl within ↦ elim (cases_eq (a - 1) (agent - 1)) [
+        | inl same ↦
+            let was = subst P (ap (λ (i : ℕ). slice_index_or f.parties i nobody) same) (h a name value q) in
+            subst P (sym (ap (λ (i : ℕ). slice_index_or (slice_set f.parties (agent - 1) p) i nobody) same ∙ get_or-set_same f.parties (agent - 1) p nobody within)) (keeps name value was)
+        | inr other ↦ subst P (sym (get_or-set_other f.parties (agent - 1) (a - 1) p nobody other)) (h a name value q)
       ]
+    ]
 
 -- a floor with another trader of a number
 pub reached-party : (o : Opening) (n e agent : ℕ) (f : FloorState) (p : PartyState) → IsTrader p.trader
@@ -264,7 +264,7 @@ reacted-trader o n e f m h = elim (cases_lt (m.to - 1) (length f.parties)) [
       let k = reply-party v p m.body sound in
       record {
         floor = reached-party o (n + 1) e m.to f (with_trader d.trader p) (k.trader sound)
-          (λ name value q. subst (λ (s : _). IsOwnParam s.kind name value) (sym k.setting) q) (reached-later o n e f h);
+            (λ name value q. subst (λ (s : _). IsOwnParam s.kind name value) (sym k.setting) q) (reached-later o n e f h);
         late = k.late;
         few = omega (arith, k.few, length-map d.sends to_exchange);
         feed = All-nil (λ (x : Feed). x.time ≡ m.time);

@@ -126,7 +126,7 @@ delivered-is laws o e s m h n =
         fits = fits-later o (s.events + 1) e s (event_delivered o s m).state h.fits k.floor refl (dated-within o s.applied m.time h.fits.dated) n.start n.limit;
         close = n.close;
         due = due-sent o s.groups m.to (m.time + r.delay) o.start m.time (taken s.post m) r.postings n.start (omega arith) k.late
-          (all-without (IsDue o.start) m.seq s.post.waiting h.due);
+            (all-without (IsDue o.start) m.seq s.post.waiting h.due);
         floor = k.floor;
         drops = omega (arith, drops, k.few, n.few, n.whole);
       };

@@ -137,9 +137,19 @@ fn three_branches(rt: HostRuntime) -> Result<(), Fail> {
     let ticks = steps.close();
     let outcomes = ran?;
     assert_eq!(rt; (ticks, outcomes.len()), (18, 5));
-    let ends = [(2, 2, 1000), (4, 6, 1010), (5, 6, 1055), (5, 6, 1012), (4, 6, 1010)];
+    let ends = [
+        (2, 2, 1000),
+        (4, 6, 1010),
+        (5, 6, 1055),
+        (5, 6, 1012),
+        (4, 6, 1010),
+    ];
     for (outcome, end) in outcomes.iter().zip(ends.as_slice()) {
-        let told = (outcome.entries.len(), outcome.events, outcome.closing.counts.time);
+        let told = (
+            outcome.entries.len(),
+            outcome.events,
+            outcome.closing.counts.time,
+        );
         assert_eq!(rt; told, *end);
     }
     Ok(())

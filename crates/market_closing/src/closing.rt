@@ -8,9 +8,9 @@ ghost use Rattle.kernel_core.specs.Step.{Fits};
 ghost use Rattle.market_floor.specs.Floor.{offset_at, party_at};
 ghost use Rattle.market_closing.specs.Closing.{agents_closed, closing_at, counts_of, end_letter_of, exchange_closed, order_closed, orders_closed, positions_closed, stock_closed, stocks_closed, trader_closed};
 
+use crate::laws::agents_have_all_positions;
 use bundle_frames::{Closing, ClosingAgent, ClosingCounts, ClosingOrder, ClosingStock};
 use exchange_agent::Exchange;
-use crate::laws::agents_have_all_positions;
 use kernel_core::Kernel;
 use market_opening::Opening;
 use market_types::{AgentNo, End, Memory, Sequence, StockNo};

@@ -6,6 +6,5 @@ pub mod laws;
 
 pub use closing::closing_of;
 
-
 #[cfg(test)]
 mod tests;

@@ -58,10 +58,23 @@ fn the_closing_of_the_opening(rt: HostRuntime) -> Result<(), Fail> {
     let counts = closing.counts;
     assert_eq!(rt; (counts.end, counts.events, counts.time), (b'-', 0, 1000));
     assert_eq!(rt; (counts.next_seq, counts.waiting, counts.orders), (2, 2, 0));
-    assert_eq!(rt; (closing.stocks.len(), closing.orders.len(), closing.agents.len()), (1, 0, 3));
+    assert_eq!(rt;
+        (
+            closing.stocks.len(),
+            closing.orders.len(),
+            closing.agents.len()
+        ),
+        (1, 0, 3)
+    );
     let first = closing.stocks.as_slice()[0];
-    assert_eq!(rt; (first.stock, first.state, first.offset, first.live), (0, b'T', 0, 0));
+    assert_eq!(rt;
+        (first.stock, first.state, first.offset, first.live),
+        (0, b'T', 0, 0)
+    );
     let last = &closing.agents.as_slice()[2];
-    assert_eq!(rt; (last.agent, last.silenced, last.time, last.positions.len()), (2, false, 1000, 1));
+    assert_eq!(rt;
+        (last.agent, last.silenced, last.time, last.positions.len()),
+        (2, false, 1000, 1)
+    );
     Ok(())
 }

@@ -10,5 +10,5 @@ returns-clause-positions c =
     let s = c.args.kernel.now in
     let few : length s.floor.exchange.stocks ≤ 16 = omega (arith, c.requires.opening.market.few, c.requires.stocks) in
     let all = All-weaker (λ (a : ClosingAgent). length a.positions ≡ length s.floor.exchange.stocks) HasFewPositions
-      (λ a q. omega (arith, q, few)) (closing_at c.args.o.now s).agents (c.agents_have_all_positions.ensures c.args.o.now s) in
+    (λ a q. omega (arith, q, few)) (closing_at c.args.o.now s).agents (c.agents_have_all_positions.ensures c.args.o.now s) in
     subst (λ (xs : List ClosingAgent). All HasFewPositions xs) (sym (c.new-3.ensures ∙ c.in_ok-agents.ensures)) all
