@@ -1,0 +1,6 @@
+pub mod Full
+pub mod Segmentwise
+pub mod Reached
+pub mod Courses
+pub mod Outcomes
+pub mod Worked
