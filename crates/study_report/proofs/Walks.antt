@@ -1,5 +1,5 @@
 -- Two traces that are walked side by side.
-use Rattle.std.proofs.Common.{◌≡◌, ◌∙◌, ℕ, ◌+◌, ◌<◌, Bool, true, false, List, [], ◌∷◌, Option, Some, None, Result, Ok, Err, length, get_or, drop, map, ap, sym, subst, inl, inr}
+use Rattle.std.proofs.Common.{◌≡◌, ◌∙◌, ℕ, ◌+◌, ◌<◌, Bool, List, [], ◌∷◌, Option, Some, None, Result, Ok, Err, length, get_or, drop, map, ap, sym, subst, inl, inr}
 use Rattle.std.specs.Prelude.{if◌then◌else◌}
 use Rattle.std.proofs.lemmas.Bool.{cases_Bool}
 use Rattle.std.proofs.lemmas.List.{drop_more}
@@ -8,7 +8,7 @@ use Rattle.market_types.specs.declared.entry.Entry.{Entry}
 use Rattle.market_types.specs.declared.entry.Entry.TheVariants.{Event}
 use Rattle.market_types.specs.Told.{EventTold, EntryTold, event, edit, entry_told, event_told}
 use Rattle.study_report.specs.Same.{same_event}
-use Rattle.study_report.specs.Difference.{events_in, AreNumbered, difference_from, parted, compared, first_number}
+use Rattle.study_report.specs.Difference.{events_in, AreNumbered, difference_from, parted, compared}
 
 -- the records from an entry on
 pub from_here : (es : List Entry) (i : ℕ) (x : Entry) → i < length es → x ≡ get_or es i x

@@ -1,6 +1,6 @@
 -- A table of three branches, and small runs beside each other.
 use Rattle.std.specs.Prelude.{ℕ, pos, false, List, [], ◌∷◌, ◌++◌, Option, None, Some, codes}
-use Rattle.market_types.specs.Told.{EventTold, EntryTold, event, edit}
+use Rattle.market_types.specs.Told.{EntryTold, event, edit}
 use Rattle.market_types.specs.declared.message.Body.TheVariants.{Wake}
 use Rattle.market_types.specs.declared.entry.End.TheVariants.{Closed}
 use Rattle.market_types.specs.declared.feed.Feed.{Feed}

@@ -1,4 +1,4 @@
-use Rattle.std.proofs.Common.{true, false, ◌∙◌, sym, map}
+use Rattle.std.proofs.Common.{true, false, map}
 use Rattle.market_types.specs.Told.{entry_told, event_told}
 use Rattle.study_report.specs.Difference.{events_in}
 use Rattle.study_report.proofs.Walks.{compared_next}
