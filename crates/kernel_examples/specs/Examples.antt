@@ -7,6 +7,10 @@ use Rattle.market_rules.specs.declared.edit.Edit.{Edit}
 use Rattle.market_rules.specs.declared.edit.Edit.TheVariants as kind
 use Rattle.market_rules.specs.declared.edit.Param.TheVariants as parameter
 use Rattle.exchange_agent.specs.Worked.{order}
+use Rattle.market_opening.specs.declared.opening.Opening.{Opening}
+use Rattle.kernel_core.specs.Edited.{edited}
+use Rattle.kernel_core.specs.Until.{Run, until}
+use Rattle.kernel_core.specs.Worked.{full_run}
 
 -- an order of the first trader that is due so long after a state's time: 100 to sell at 10.01 dollars
 abbrev pub sold : ℕ → ℕ → Edit
@@ -32,3 +36,7 @@ IsPlain (kind.Latency from to base jitter) = (from ≡ 0) × (to ≡ 0) × (base
 IsPlain (kind.Silence agent) = agent ≡ 1
 IsPlain (kind.Inject agent after message) = (agent ≡ 1) × (after ≤ 1000)
 IsPlain e = ⊥
+
+-- a full run that goes on once an order was injected as the edit of branch 1
+abbrev pub gone_on : Opening → Run
+gone_on o = until o o.limit (edited 1 (sold 65 100 ∷ []) (full_run o))

@@ -1,5 +1,7 @@
-//! Worked runs of the kernel: tests alone.
+//! Worked runs of the kernel.
 #![tactic(auto)]
+
+pub mod worked;
 
 #[cfg(test)]
 mod tests;
