@@ -1,0 +1,7 @@
+//! Worked runs of the kernel.
+#![tactic(auto)]
+
+pub mod worked;
+
+#[cfg(test)]
+mod tests;
