@@ -49,6 +49,7 @@ fn put_head(out: &mut Vec<u8>, course: &Course, branch: u16) -> Result<(), Memor
     ensures { OnOk result (out.new.items ≡ out.old.items ++ head_of course.now branch) }
 {
     let b = &course.plan().branches()[usize::from(branch)];
+    let _ = b.name.len();
     let parent = if branch == 0 { u16::MAX } else { b.parent };
     put_branch(out, branch, parent, b.stop, b.name.as_slice())
 }
@@ -66,10 +67,14 @@ fn put_entries<W: Ran>(
 {
     courses_stay_in_range();
     branches_by_segments(course.opening(), course.plan());
+    let entries = ran.entries(segment).as_slice();
     if let Some(parent) = course.segment(segment).parent {
         put_entries(out, course, ran, parent)?;
+        put_all(out, entries)?;
+        return Ok(());
     }
-    put_all(out, ran.entries(segment).as_slice())
+    put_all(out, entries)?;
+    Ok(())
 }
 
 // Appends the end of the feed and the closing of a segment's end.
@@ -88,7 +93,8 @@ fn put_ending<W: Ran>(
     let _ = course.opening();
     let closing = ran.closing(segment);
     system_event(closing.counts.time, b'C').put(out)?;
-    closing.put(out)
+    closing.put(out)?;
+    Ok(())
 }
 
 // The trace of a branch.

@@ -23,7 +23,7 @@ pub(crate) fn system_event(time: Time, code: u8) -> Feed
 
 // The directory of the stock of a number.
 fn directory(time: Time, k: StockNo, stock: Symbol) -> Feed
-    requires { k < 2 ^ 16 - 1 }
+    requires { k < 65535 }
     ensures { result ≡ directory_of time k stock }
 {
     Feed {
@@ -51,7 +51,7 @@ fn directory(time: Time, k: StockNo, stock: Symbol) -> Feed
 
 // The stock of a number trades.
 fn trading(time: Time, k: StockNo, stock: Symbol) -> Feed
-    requires { k < 2 ^ 16 - 1 }
+    requires { k < 65535 }
     ensures { result ≡ trading_of time k stock }
 {
     Feed {
