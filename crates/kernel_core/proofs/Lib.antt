@@ -8,5 +8,3 @@ pub mod Possible
 pub mod Testing
 pub mod Stops
 pub mod EditRuns
-pub mod Ahead
-pub mod Fitting

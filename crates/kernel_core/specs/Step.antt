@@ -1,5 +1,5 @@
 -- One event of the kernel.
-use Rattle.std.specs.Prelude.{◌≡◌, ◌≤◌, ℕ, ◌+◌, pos, ◌==◌, true, false, nat_le, nat_lt, if◌then◌else◌, All, List, [], length, Option, Some, None, option_map, slice_index, slice_set, is_some}
+use Rattle.std.specs.Prelude.{◌≡◌, ◌≤◌, ℕ, ◌+◌, pos, ◌==◌, true, false, nat_lt, if◌then◌else◌, List, [], length, Option, Some, None, option_map, slice_index, slice_set, is_some}
 use Rattle.market_types.specs.declared.message.Message.{Message}
 use Rattle.market_types.specs.declared.entry.End.{End}
 use Rattle.market_types.specs.declared.entry.End.TheVariants.{Quiet, Closed, EventLimit, QueueFull}
@@ -129,12 +129,3 @@ pub record Fits (o : Opening) (s : State) : Type 0 where
   pub dated : s.applied ≤ length o.dated
   pub start : o.start ≤ s.time
   pub limit : s.events ≤ o.limit
-
--- No message is due before the opening's start.
-abbrev pub IsDue : Opening → State → Type 0
-IsDue o s = All (λ (m : Message). nat_le o.start m.time ≡ true) s.post.waiting
-
--- What goes on along a run: the opening fits, and no message is due before its start.
-pub record GoesOn (o : Opening) (s : State) : Type 0 where
-  pub fits : Fits o s
-  pub due : IsDue o s

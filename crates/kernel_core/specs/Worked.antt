@@ -37,8 +37,8 @@ abbrev pub ended : Opening → Run → Option End × ℕ × ℕ
 ended o r = (end_of o r.state, length r.state.post.waiting, r.state.post.next_seq)
 
 -- an order of the first trader that is due so long after a state's time: 100 to sell at 10.01 dollars
-abbrev pub sold : ℕ → Edit
-sold after = kind.Inject 1 after (inbound.Enter (order 65 Sell 100 100100))
+abbrev pub sold : ℕ → ℕ → Edit
+sold letter after = kind.Inject 1 after (inbound.Enter (order letter Sell 100 100100))
 
 -- one edit of each kind
 abbrev pub each_kind : List Edit
@@ -50,7 +50,7 @@ each_kind =
     ∷ kind.Latency 0 0 7 9
     ∷ kind.Agent 1 parameter.Delay 7
     ∷ kind.Silence 1
-    ∷ sold 100
+    ∷ sold 65 100
     ∷ kind.Series 0 (negsuc 4)
     ∷ []
 

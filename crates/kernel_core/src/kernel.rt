@@ -181,7 +181,7 @@ impl Kernel {
         self.floor.offset(stock)
     }
 
-    /// The exchange.
+    /// The exchange, which has an account for each trader.
     pub fn exchange(&self) -> &Exchange
         ensures value { result.now ≡ self.now.floor.exchange }
         ensures traders { length result.now.cash ≡ length self.now.floor.parties }

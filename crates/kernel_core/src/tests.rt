@@ -7,7 +7,7 @@ ghost use Rattle.market_types.specs.Limits.{longest_delay};
 ghost use Rattle.market_opening.specs.Opening.{IsOpening};
 ghost use Rattle.market_opening.specs.Worked.{market_of, trader};
 ghost use Rattle.kernel_core.specs.Step.{Fits};
-ghost use Rattle.kernel_core.specs.Worked.{IsPlain, each_kind};
+ghost use Rattle.kernel_core.specs.Worked.{IsPlain, sold};
 
 use crate::{Kernel, KernelTold, Opening};
 use agent_shell::{Kind, TraderSetting};
@@ -118,7 +118,8 @@ fn branch(
 // An order of the first trader that is due so long after the state's time: 100 shares to sell at 10.01 dollars.
 fn order(letter: u8, after: Time) -> Edit
     requires { after ≤ 1000 }
-    ensures { IsPlain result }
+    ensures plain { IsPlain result }
+    ensures made { result ≡ sold letter after }
 {
     Edit::Inject {
         agent: 1,
@@ -325,48 +326,41 @@ fn an_order_into_a_full_queue_is_dropped_and_counted(rt: HostRuntime) -> Result<
     Ok(())
 }
 
-// One edit of each kind.
-fn edits(alloc: Global) -> Result<Vec<Edit>, Memory>
-    ensures { IfOk result (λ v. v.items ≡ each_kind) }
-{
-    let Ok(table) = TickTable::new(alloc, &[Band { from: 0, tick: 500 }]) else {
-        return Err(Memory);
-    };
-    let mut edits = Vec::new(alloc);
-    edits.push(Edit::Tick { stock: 0, table })?;
-    edits.push(Edit::Fee {
-        stock: 0,
-        fees: FeeTable { add: 0, take: 0 },
-    })?;
-    edits.push(Edit::Halt { stock: 0 })?;
-    edits.push(Edit::Resume { stock: 0 })?;
-    edits.push(Edit::Latency {
-        from: 0,
-        to: 0,
-        base: 7,
-        jitter: 9,
-    })?;
-    edits.push(Edit::Agent {
-        agent: 1,
-        name: Param::Delay,
-        value: 7,
-    })?;
-    edits.push(Edit::Silence { agent: 1 })?;
-    edits.push(order(b'A', 100))?;
-    edits.push(Edit::Series {
-        stock: 0,
-        offset: -5,
-    })?;
-    Ok(edits)
-}
-
-// All edits of branch 3, one after another, at the opening of one watcher's market.
+// One edit of each kind as branch 3, at the opening of one watcher's market.
 fn edit_all(alloc: Global, o: &Opening, trace: &mut Trace) -> Result<Kernel, Memory>
     requires opening { IsOpening o.now }
     requires made { o.now ≡ market_of 2000 100000 0 (trader Watcher 1000 ∷ []) }
     ensures { IfOk result (λ k. Fits o.now k) }
 {
-    let edits = edits(alloc)?;
+    let Ok(table) = TickTable::new(alloc, &[Band { from: 0, tick: 500 }]) else {
+        return Err(Memory);
+    };
+    let edits = [
+        Edit::Tick { stock: 0, table },
+        Edit::Fee {
+            stock: 0,
+            fees: FeeTable { add: 0, take: 0 },
+        },
+        Edit::Halt { stock: 0 },
+        Edit::Resume { stock: 0 },
+        Edit::Latency {
+            from: 0,
+            to: 0,
+            base: 7,
+            jitter: 9,
+        },
+        Edit::Agent {
+            agent: 1,
+            name: Param::Delay,
+            value: 7,
+        },
+        Edit::Silence { agent: 1 },
+        order(b'A', 100),
+        Edit::Series {
+            stock: 0,
+            offset: -5,
+        },
+    ];
     let mut kernel = Kernel::open(alloc, o)?;
     for i in 0..edits.len() {
         kernel.apply(alloc, o, &edits[i], 3, i as u16, trace)?;
