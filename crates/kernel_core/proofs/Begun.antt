@@ -1,5 +1,5 @@
 -- The state before the first event is sound.
-use Rattle.std.proofs.Common.{◌≡◌, ℕ, ◌+◌, ◌<◌, ◌≤◌, List, [], ◌∷◌, length, replicate, sym, ap, ◌∙◌, arith, subst, All, lit≤, lit<}
+use Rattle.std.proofs.Common.{◌≡◌, ℕ, ◌+◌, ◌≤◌, List, [], ◌∷◌, length, replicate, sym, ap, arith, subst, All, lit≤, lit<}
 use Rattle.std.specs.List.{AllByRecursion}
 use Rattle.std.proofs.lemmas.List.{length-replicate}
 use Rattle.std.proofs.lemmas.List.Elements.{All-cons, All-nil, All-weaker, recursion_from_All}
@@ -41,8 +41,8 @@ woken-sound law o k p (s ∷ ss) some within early h =
     let address = wake-addressed (length o.traders) (length o.stocks) k s.first some (omega arith) in
     woken-sound law o (k + 1) (sent o o.groups k o.start p x) ss (omega arith) (omega arith) early.1
     (law o o.groups (length o.traders) (length o.stocks) o.start 0 k o.start p (x ∷ []) (omega arith)
-      (one (λ (x : Posting). IsAddressed (length o.traders) (length o.stocks) k x) x address)
-      (one (λ (x : Posting). o.start ≤ earliest_of o.start x) x early.0) h)
+    (one (λ (x : Posting). IsAddressed (length o.traders) (length o.stocks) k x) x address)
+    (one (λ (x : Posting). o.start ≤ earliest_of o.start x) x early.0) h)
 
 pub sound-opened : StaysSent → (o : Opening) (p : Post) (own : List ℕ) (f : FloorState) (groups : Tables) → IsOpening o → FitsFloor o f → IsSoundFloor 0 f
     → IsSoundMail (length o.traders) (length o.stocks) o.start 0 nothing_waits
@@ -56,7 +56,7 @@ sound-opened law o p own f groups h fits floor begun post-is own-is =
     record {
       agents = omega (arith, ap (λ (l : List ℕ). length l) own-is, length-replicate (length o.traders + 1) o.start, fits.traders);
       mail = subst (λ (n : ℕ). IsSoundMail n (length f.exchange.stocks) o.start 0 p) fits.traders
-        (subst (λ (n : ℕ). IsSoundMail (length o.traders) n o.start 0 p) fits.stocks mail);
+          (subst (λ (n : ℕ). IsSoundMail (length o.traders) n o.start 0 p) fits.stocks mail);
       floor = floor;
       time = omega (arith, h.start, h.close);
       events = lit≤ tt;

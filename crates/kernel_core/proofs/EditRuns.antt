@@ -1,8 +1,7 @@
 -- Edits are no events, and leave the entries before them in front.
-use Rattle.std.proofs.Common.{◌≡◌, ℕ, ◌+◌, List, [], ◌∷◌, ◌++◌, refl, ap, ◌∙◌, append_assoc}
+use Rattle.std.proofs.Common.{◌≡◌, ℕ, ◌+◌, List, [], ◌∷◌, refl, ap, ◌∙◌, append_assoc}
 use Rattle.market_types.specs.Told.{EntryTold, edit}
 use Rattle.market_rules.specs.declared.edit.Edit.{Edit}
-use Rattle.kernel_core.specs.State.{State}
 use Rattle.kernel_core.specs.Until.{Run, behind}
 use Rattle.kernel_core.specs.Edited.{changed_by, edited_one, edited_from, edited, mark_of}
 

@@ -5,6 +5,5 @@ pub mod Editing
 pub mod Posted
 pub mod Kept
 pub mod Possible
-pub mod Testing
 pub mod Stops
 pub mod EditRuns

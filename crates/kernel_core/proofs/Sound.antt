@@ -1,5 +1,5 @@
 -- An event and an edit keep what holds of every state.
-use Rattle.std.proofs.Common.{◌≡◌, ℕ, ◌+◌, ◌<◌, ◌≤◌, List, Some, None, length, sym, ap, ◌∙◌, arith, subst, get_or, slice_index}
+use Rattle.std.proofs.Common.{◌≡◌, ℕ, ◌<◌, ◌≤◌, List, Some, None, length, sym, ap, ◌∙◌, arith, subst, get_or, slice_index}
 use Rattle.std.proofs.lemmas.List.{get_or_default}
 use Rattle.market_types.specs.Limits.{last_time, most_events}
 use Rattle.market_types.specs.declared.message.Message.{Message}
@@ -30,7 +30,7 @@ pub sound-after : (s : State) (time events applied : ℕ) (p : Post) (own : List
 sound-after s time events applied p own f groups size mail floor early few h = record {
   agents = omega (arith, size.own, size.traders, h.agents);
   mail = subst (λ (n : ℕ). IsSoundMail n (length f.exchange.stocks) time events p) (sym size.traders)
-    (subst (λ (n : ℕ). IsSoundMail (length s.floor.parties) n time events p) (sym size.stocks) mail);
+      (subst (λ (n : ℕ). IsSoundMail (length s.floor.parties) n time events p) (sym size.stocks) mail);
   floor = floor;
   time = early;
   events = few;

@@ -1,5 +1,5 @@
 -- Runs that stop and go on.
-use Rattle.std.proofs.Common.{◌≡◌, ℕ, ◌+◌, ◌-◌, ◌<◌, ◌≤◌, ◌⊎◌, inl, inr, true, false, cond, Bool, List, [], ◌∷◌, ◌++◌, Option, Some, None, refl, sym, ap, ◌∙◌, arith, suc, zero, subst, append_assoc}
+use Rattle.std.proofs.Common.{◌≡◌, ℕ, ◌+◌, ◌-◌, ◌≤◌, ◌⊎◌, inl, inr, true, false, cond, Bool, List, [], ◌∷◌, Option, Some, None, refl, sym, ap, ◌∙◌, arith, suc, zero, subst, append_assoc}
 use Rattle.std.proofs.lemmas.Bool.{cases_lt}
 use Rattle.market_types.specs.declared.message.Message.{Message}
 use Rattle.market_types.specs.Told.{EntryTold, event}
@@ -10,7 +10,7 @@ use Rattle.market_opening.specs.declared.opening.Opening.{Opening}
 use Rattle.kernel_core.specs.State.{State}
 use Rattle.kernel_core.specs.Step.{Happened, end_of, end_of_waiting, step_of}
 use Rattle.kernel_core.specs.Until.{Run, with_event, advanced, advanced_by, until, behind}
-use Rattle.kernel_core.proofs.Runs.{event-events, advanced_going, advanced_ended, advanced_by_ended, advanced_by-add, advanced_by-grows}
+use Rattle.kernel_core.proofs.Runs.{event-events, advanced_going, advanced_by_ended, advanced_by-add, advanced_by-grows}
 
 next_by : (a b : Bool) (o : Opening) (l : Option Message) → cond a (Some QueueFull) (cond b (Some EventLimit) (end_of_waiting o l)) ≡ None → (m : Message) × (l ≡ Some m)
 next_by true b o l h = cc
@@ -121,4 +121,3 @@ advanced_by-behind (suc n) o xs r =
 -- a run leaves the entries before it in front
 pub until-behind : (o : Opening) (n : ℕ) (xs : List EntryTold) (r : Run) → until o n (behind xs r) ≡ behind xs (until o n r)
 until-behind o n xs r = advanced_by-behind (n - r.state.events) o xs r
-

@@ -1,5 +1,5 @@
 -- What holds of every state that a kernel keeps.
-use Rattle.std.specs.Prelude.{◌≡◌, ◌≤◌, ℕ, ◌+◌, length}
+use Rattle.std.specs.Prelude.{◌≡◌, ◌≤◌, ◌+◌, length}
 use Rattle.market_types.specs.Limits.{last_time, most_events}
 use Rattle.kernel_mail.specs.Sound.{IsSoundMail}
 use Rattle.market_floor.specs.Sound.{IsSoundFloor}

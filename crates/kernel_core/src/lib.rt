@@ -16,6 +16,3 @@ pub mod worked;
 pub use kernel::{Kernel, KernelTold};
 pub use market_opening::Opening;
 pub use stepped::Stepped;
-
-#[cfg(test)]
-mod tests;

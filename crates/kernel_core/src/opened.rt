@@ -25,7 +25,13 @@ fn wake_all(mail: &mut Mail, o: &Opening, settings: &[TraderSetting])
 {
     openings_are_grouped();
     for (i, setting) in settings.iter().enumerate() {
-        mail.send(o, &o.groups, i as u16 + 1, o.start, Posting::WakeAt(setting.first));
+        mail.send(
+            o,
+            &o.groups,
+            i as u16 + 1,
+            o.start,
+            Posting::WakeAt(setting.first),
+        );
     }
 }
 

@@ -86,8 +86,8 @@ FirstAreDue = (list : List Dated) (time k : ℕ) (d : Dated) → dates_refusal l
 pub due-by : (law : FirstAreDue) (o : Opening) (applied time : ℕ) → dates_refusal o.dated ≡ None → All (IsDatedBy time) (due o applied time)
 due-by law o applied time rising =
     All-drop (IsDatedBy time) applied (take (dated_by o.dated time) o.dated) (λ k d lt.
-      let within : k < dated_by o.dated time = omega (arith, lt, length-take (dated_by o.dated time) o.dated) in
-      rw (get_or-take (dated_by o.dated time) o.dated k d within) (law o.dated time k d rising within))
+    let within : k < dated_by o.dated time = omega (arith, lt, length-take (dated_by o.dated time) o.dated) in
+    rw (get_or-take (dated_by o.dated time) o.dated k d within) (law o.dated time k d rising within))
 
 -- none is due where no more are dated so than were made
 pub none-due : (o : Opening) (applied time : ℕ) → dated_by o.dated time ≤ applied → due o applied time ≡ []

@@ -1,4 +1,5 @@
 pub mod Changes
+pub mod Halting
 pub mod Opened
 pub mod Posts
 pub mod Reactions

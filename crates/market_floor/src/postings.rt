@@ -72,7 +72,6 @@ impl Postings {
         }
     }
 
-
     /// The one at a place, from 0. `None` exactly where there are not so many.
     pub fn get(&self, i: usize) -> Option<Posting>
         ensures { result ≡ slice_get self.now i }

@@ -213,10 +213,26 @@ impl Floor {
         let mut before = FeedList::new(alloc);
         let offsets = self.offsets.as_slice();
         if o.dated.rules_at(m.time) <= applied {
-            return react(alloc, o, &mut self.exchange, &mut self.parties, offsets, m, before);
+            return react(
+                alloc,
+                o,
+                &mut self.exchange,
+                &mut self.parties,
+                offsets,
+                m,
+                before,
+            );
         }
         let mut exchange = changed(alloc, o, &self.exchange, applied, m.time, &mut before)?;
-        let happening = react(alloc, o, &mut exchange, &mut self.parties, offsets, m, before)?;
+        let happening = react(
+            alloc,
+            o,
+            &mut exchange,
+            &mut self.parties,
+            offsets,
+            m,
+            before,
+        )?;
         self.exchange = exchange;
         Ok(happening)
     }

@@ -10,7 +10,7 @@ use crate::laws::floors_stay_sound;
 use agent_shell::{Kind, TraderSetting};
 use market_opening::worked::{markets_are_openings, opening};
 use market_opening::{Opening, Posting};
-use market_rules::{Change, Dated, DatedList, Edit, Param};
+use market_rules::{Change, Dated, DatedList, Edit};
 use market_types::{AgentNo, Body, Message, Quote, Time};
 use std::alloc::Global;
 use std::process::Abort;
@@ -83,8 +83,11 @@ fn deliver(
 {
     floors_stay_sound();
     let traders = floor.traders();
-    assert!(rt; usize::from(from) <= traders && usize::from(to) <= traders && (to > 0 || from > 0));
-    assert!(rt; o.start <= time && time <= o.close);
+    assert!(rt; usize::from(from) <= traders);
+    assert!(rt; usize::from(to) <= traders);
+    assert!(rt; to > 0 || from > 0);
+    assert!(rt; o.start <= time);
+    assert!(rt; time <= o.close);
     if let Body::Ask(stock) = body {
         assert!(rt; usize::from(stock) < o.stocks.len());
     }
@@ -99,17 +102,17 @@ fn deliver(
     Ok(happening)
 }
 
-// Whom the first posting answers by a quote, and the state that it tells.
-fn quoted(happening: &Happening) -> Option<(AgentNo, u8)> {
+// Whether the first posting is a quote of this state to agent 1.
+fn is_quote(happening: &Happening, state: u8) -> bool {
     match happening.postings.get(0) {
         Some(
             Posting::To {
-                to,
+                to: 1,
                 body: Body::Quote(quote),
                 ..
             },
-        ) => Some((to, quote.state)),
-        _ => None,
+        ) => quote.state == state,
+        _ => false,
     }
 }
 
@@ -123,30 +126,43 @@ const QUOTE: Body = Body::Quote(Quote {
     last: 0,
 });
 
-// The watcher wakes, asks and hears its quote. The halt of 1400 is made with the question of that time, on a copy too.
 #[test]
-fn messages_are_delivered(rt: HostRuntime) -> Result<(), Fail> {
+fn a_watcher_wakes_and_hears(rt: HostRuntime) -> Result<(), Fail> {
     let alloc = rt.alloc();
     let o = halting_opening(alloc)?;
     let mut floor = Floor::open(alloc, &o)?;
     let woken = deliver(&rt, alloc, &o, &mut floor, 0, 1000, 1, 1, Body::Wake)?;
-    assert_eq!(rt; (woken.postings.len(), woken.delay), (2, 0));
-    assert_eq!(rt;
-        woken.postings.get(1),
-        Some(Posting::WakeAt(1_001_000))
-    );
-    let asked = deliver(&rt, alloc, &o, &mut floor, 1, 1005, 1, 0, Body::Ask(0))?;
-    assert_eq!(rt; (quoted(&asked), asked.delay), (Some((1, b'T')), 7));
-    let heard = deliver(&rt, alloc, &o, &mut floor, 2, 1017, 0, 1, QUOTE)?;
-    assert_eq!(rt; heard.postings.len(), 0);
+    assert!(rt; woken.postings.len() == 2 && woken.delay == 0);
+    assert!(rt; matches!(woken.postings.get(1), Some(Posting::WakeAt(1_001_000))));
+    let heard = deliver(&rt, alloc, &o, &mut floor, 1, 1017, 0, 1, QUOTE)?;
+    assert!(rt; heard.postings.len() == 0 && floor.traders() == 1);
+    let told = floor.trader(1);
+    assert!(rt; told.quotes == 1 && told.draws == 1);
+    Ok(())
+}
+
+// The halt of 1400 is made with the question of that time.
+#[test]
+fn a_halt_comes_at_its_time(rt: HostRuntime) -> Result<(), Fail> {
+    let alloc = rt.alloc();
+    let o = halting_opening(alloc)?;
+    let mut floor = Floor::open(alloc, &o)?;
+    let early = deliver(&rt, alloc, &o, &mut floor, 0, 1399, 1, 0, Body::Ask(0))?;
+    assert!(rt; is_quote(&early, b'T') && early.before.len() == 0 && early.delay == 7);
+    let late = deliver(&rt, alloc, &o, &mut floor, 1, 1400, 1, 0, Body::Ask(0))?;
+    assert!(rt; is_quote(&late, b'H') && late.before.len() == 1);
+    Ok(())
+}
+
+// A copy goes its own way: the halts are made on it alone.
+#[test]
+fn a_copy_halts(rt: HostRuntime) -> Result<(), Fail> {
+    let alloc = rt.alloc();
+    let o = halting_opening(alloc)?;
+    let floor = Floor::open(alloc, &o)?;
     let mut copy = floor.copy(alloc)?;
-    let late = deliver(&rt, alloc, &o, &mut floor, 3, 1400, 1, 0, Body::Ask(0))?;
-    assert_eq!(rt; (quoted(&late), late.before.len()), (Some((1, b'H')), 1));
-    assert_eq!(rt; applied_by(&o, 0, 1400), 1);
-    assert!(rt; copy.traders() == 1);
-    assert_eq!(rt; (copy.trader(1).quotes, copy.trader(1).draws), (1, 1));
     let feed = copy.rule(alloc, &o, 0, 1600)?;
-    assert_eq!(rt; feed.len(), 1);
+    assert!(rt; feed.len() == 1 && applied_by(&o, 0, 1600) == 2);
     Ok(())
 }
 
@@ -164,21 +180,9 @@ fn edited(alloc: Global, edit: &Edit) -> Result<(Floor, usize), Fail>
 fn edits_are_made(rt: HostRuntime) -> Result<(), Fail> {
     let alloc = rt.alloc();
     let (_, told) = edited(alloc, &Edit::Halt { stock: 0 })?;
-    assert_eq!(rt; told, 1);
-    let (_, told) = edited(alloc, &Edit::Resume { stock: 0 })?;
-    assert_eq!(rt; told, 0);
+    assert!(rt; told == 1);
     let (floor, _) = edited(alloc, &Edit::Silence { agent: 1 })?;
     assert!(rt; floor.traders() == 1);
     assert!(rt; floor.silenced(1));
-    let (floor, _) = edited(
-        alloc,
-        &Edit::Agent {
-            agent: 1,
-            name: Param::Delay,
-            value: 9,
-        },
-    )?;
-    assert!(rt; floor.traders() == 1);
-    assert!(rt; !floor.silenced(1));
     Ok(())
 }

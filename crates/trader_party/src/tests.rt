@@ -1,10 +1,11 @@
-ghost use Rattle.agent_shell.specs.Bounds.{IsAfter};
-ghost use Rattle.agent_shell.specs.Parameters.{IsSetting};
+ghost use Rattle.agent_shell.specs.Parameters.{IsKind};
 
 use super::Party;
 use agent_shell::{Kind, Sends, TraderSetting};
-use market_rules::{Band, Param, TickTable, View};
-use market_types::{Body, Quote, Symbol};
+use market_rules::{Band, TickTable, View};
+use market_types::{Body, Memory, Quote, Symbol};
+use std::alloc::Global;
+use std::process::Abort;
 use std::test::Fail;
 
 const QUOTE: Body = Body::Quote(Quote {
@@ -17,9 +18,18 @@ const QUOTE: Body = Body::Quote(Quote {
     last: 0,
 });
 
-// A trader of stock 0 that wakes each 500 nanoseconds and computes for 12.
-fn setting_of(kind: Kind) -> TraderSetting {
-    TraderSetting {
+fn cents(alloc: Global) -> Result<TickTable, Fail> {
+    match TickTable::new(alloc, &[Band { from: 0, tick: 100 }]) {
+        Ok(ticks) => Ok(ticks),
+        Err(_) => Err(Fail::from("no ticks")),
+    }
+}
+
+// Trader 1 of stock 0, which wakes each 500 nanoseconds and computes for 12.
+fn opened(alloc: Global, kind: Kind) -> Result<Party, Memory>
+    requires { IsKind kind }
+{
+    let setting = TraderSetting {
         kind,
         group: 0,
         stock: 0,
@@ -28,7 +38,34 @@ fn setting_of(kind: Kind) -> TraderSetting {
         wobble: 9,
         delay: 12,
         cash: 1000,
-    }
+    };
+    Party::open(alloc, 1, &setting)
+}
+
+// Takes a message at 1000 with a value of 100,050, where the counts and the account are small.
+fn react(
+    rt: &impl Abort,
+    party: &mut Party,
+    ticks: &TickTable,
+    body: &Body,
+    out: &mut Sends,
+) -> Result<(), Memory> {
+    let told = party.told();
+    assert!(rt; told.tokens < 1000 && told.draws < 1000 && told.quotes < 1000);
+    let position = told.account.position;
+    let cash = told.account.cash;
+    assert!(rt; -1_000_000 < position);
+    assert!(rt; position < 1_000_000);
+    assert!(rt; -1_000_000_000_000 < cash);
+    assert!(rt; cash < 1_000_000_000_000);
+    let view = View {
+        time: 1000,
+        key: &[0; 32],
+        symbol: Symbol(*b"ABM     "),
+        value: 100_050,
+        ticks,
+    };
+    party.react(&view, body, out)
 }
 
 // A watcher asks and wakes again, and hears its quote; a copy that is silenced does neither, and its copy is silenced
@@ -36,31 +73,23 @@ fn setting_of(kind: Kind) -> TraderSetting {
 #[test]
 fn a_silenced_watcher_is_still(rt: HostRuntime) -> Result<(), Fail> {
     let alloc = rt.alloc();
-    let Ok(ticks) = TickTable::new(alloc, &[Band { from: 0, tick: 100 }]) else {
-        return Err(Fail::from("no ticks"));
-    };
-    let view = View {
-        time: 1000,
-        key: &[0; 32],
-        symbol: Symbol(*b"ABM     "),
-        value: 100_050,
-        ticks: &ticks,
-    };
+    let ticks = cents(alloc)?;
     let mut out = Sends::new(alloc);
-    let mut party = Party::open(alloc, 1, &setting_of(Kind::Watcher))?;
-    party.react(&view, &Body::Wake, &mut out)?;
+    let mut party = opened(alloc, Kind::Watcher)?;
+    react(&rt, &mut party, &ticks, &Body::Wake, &mut out)?;
     let mut silent = party.copy()?;
     silent.silence();
     assert_eq!(rt; (out.as_slice().len(), party.told().draws), (2, 1));
-    silent.react(&view, &Body::Wake, &mut out)?;
-    silent.react(&view, &QUOTE, &mut out)?;
+    react(&rt, &mut silent, &ticks, &Body::Wake, &mut out)?;
+    react(&rt, &mut silent, &ticks, &QUOTE, &mut out)?;
     let copy = silent.copy()?;
-    assert_eq!(rt; (out.as_slice().len(), copy.told().draws, copy.told().quotes), (2, 1, 0));
+    assert_eq!(rt;
+        (out.as_slice().len(), copy.told().draws, copy.told().quotes),
+        (2, 1, 0)
+    );
     assert!(rt; copy.is_silent() && !party.is_silent() && copy.stock() == 0);
-    party.react(&view, &QUOTE, &mut out)?;
-    assert_eq!(rt; party.told().quotes, 1);
-    party.set(Param::Delay, 30);
-    assert_eq!(rt; (copy.delay(), party.delay()), (12, 30));
+    react(&rt, &mut party, &ticks, &QUOTE, &mut out)?;
+    assert_eq!(rt; (party.told().quotes, copy.delay()), (1, 12));
     Ok(())
 }
 
@@ -68,16 +97,7 @@ fn a_silenced_watcher_is_still(rt: HostRuntime) -> Result<(), Fail> {
 #[test]
 fn a_maker_quotes(rt: HostRuntime) -> Result<(), Fail> {
     let alloc = rt.alloc();
-    let Ok(ticks) = TickTable::new(alloc, &[Band { from: 0, tick: 100 }]) else {
-        return Err(Fail::from("no ticks"));
-    };
-    let view = View {
-        time: 1000,
-        key: &[0; 32],
-        symbol: Symbol(*b"ABM     "),
-        value: 100_050,
-        ticks: &ticks,
-    };
+    let ticks = cents(alloc)?;
     let kind = Kind::Maker {
         size: 10,
         half: 150,
@@ -86,9 +106,12 @@ fn a_maker_quotes(rt: HostRuntime) -> Result<(), Fail> {
         pause: 7,
     };
     let mut out = Sends::new(alloc);
-    let mut party = Party::open(alloc, 1, &setting_of(kind))?;
-    party.react(&view, &QUOTE, &mut out)?;
+    let mut party = opened(alloc, kind)?;
+    react(&rt, &mut party, &ticks, &QUOTE, &mut out)?;
     let copy = party.copy()?;
-    assert_eq!(rt; (out.as_slice().len(), copy.told().live, copy.told().tokens), (2, 2, 2));
+    assert_eq!(rt;
+        (out.as_slice().len(), copy.told().live, copy.told().tokens),
+        (2, 2, 2)
+    );
     Ok(())
 }

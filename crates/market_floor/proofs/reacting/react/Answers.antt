@@ -44,9 +44,9 @@ returns-clause-floor c =
     let is = to-trader o f m (not-zero m.to c.if-m-eq0.false) in
     ok-map c.decide.result (c.decide.new.party ≡ with_trader (decided_by o s os p m).trader p) (floor_of s (slice_set ps (k - 1) c.decide.new.party) os ≡ (reaction o f m).floor)
     (λ e. ap (λ (q : PartyState). floor_of s (slice_set ps (k - 1) q) os) e
-      ∙ ap (λ (q : PartyState). floor_of s (slice_set ps (k - 1) (with_trader (decided_by o s os q m).trader q)) os) here
-      ∙ ap (λ (n : ℕ). floor_of s (slice_set ps (n - 1) (with_trader (decided_by o s os (party_at f m.to) m).trader (party_at f m.to))) os) c.from.ensures
-      ∙ ap (λ (r : Reaction). r.floor) (sym is)) c.decide.ensures.party
+    ∙ ap (λ (q : PartyState). floor_of s (slice_set ps (k - 1) (with_trader (decided_by o s os q m).trader q)) os) here
+    ∙ ap (λ (n : ℕ). floor_of s (slice_set ps (n - 1) (with_trader (decided_by o s os (party_at f m.to) m).trader (party_at f m.to))) os) c.from.ensures
+    ∙ ap (λ (r : Reaction). r.floor) (sym is)) c.decide.ensures.party
 
 pub returns-clause-told : goal.returns-clause-told
 returns-clause-told c =

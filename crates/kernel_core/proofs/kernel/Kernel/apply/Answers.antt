@@ -1,11 +1,10 @@
-use Rattle.std.proofs.Common.{◌≡◌, ◌∷◌, ◌++◌, [], List, refl, sym, ap, subst, ◌∙◌, rules, All}
+use Rattle.std.proofs.Common.{◌≡◌, ◌∷◌, ◌++◌, [], List, refl, sym, ap, subst, ◌∙◌, All}
 use Rattle.std.proofs.lemmas.List.Elements.{All-push}
 use Rattle.market_types.specs.Room.{Room}
 use Rattle.market_types.specs.Timely.{IsTimely}
 use Rattle.market_types.specs.Told.{EntryTold, EditTold, edit}
 use Rattle.kernel_core.specs.State.{State}
-use Rattle.kernel_core.specs.Edited.{changed_by, edited_one, mark_of}
-use Rattle.kernel_core.specs.Until.{Run}
+use Rattle.kernel_core.specs.Edited.{edited_one, mark_of}
 use Rattle.kernel_core.proofs.Possible.{edit-edited}
 use Rattle.kernel_core.proofs.kernel.Kernel.apply.Goals as goal
 

@@ -1,4 +1,4 @@
-use Rattle.std.proofs.Common.{◌≡◌, ◌+◌, ◌≤◌, Some, None, length, refl, sym, subst, arith, rules}
+use Rattle.std.proofs.Common.{◌≡◌, ◌+◌, Some, None, length, refl, sym, subst, arith, rules}
 use Rattle.event_queue.specs.Waiting.{least}
 use Rattle.kernel_mail.specs.Post.{Post, put_back}
 use Rattle.kernel_mail.specs.Sound.{IsSoundMail}

@@ -1,4 +1,4 @@
-use Rattle.std.proofs.Common.{◌≡◌, ◌+◌, ◌≤◌, Some, None, length, refl, sym, subst, arith, rules, slice_set}
+use Rattle.std.proofs.Common.{◌≡◌, ◌+◌, Some, None, length, refl, sym, subst, arith, rules, slice_set}
 use Rattle.std.proofs.lemmas.List.{length-set}
 use Rattle.event_queue.specs.Waiting.{least}
 use Rattle.kernel_mail.specs.Post.{Post, taken}

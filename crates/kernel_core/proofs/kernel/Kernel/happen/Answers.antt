@@ -1,8 +1,7 @@
-use Rattle.std.proofs.Common.{◌≡◌, ◌<◌, Some, OnOk, IfOk, length, slice_index, sym, ap, subst, ◌∙◌, arith, rules}
+use Rattle.std.proofs.Common.{◌≡◌, Some, OnOk, IfOk, slice_index, sym, ap, subst, ◌∙◌, arith, rules}
 use Rattle.market_types.specs.Told.{event_told}
 use Rattle.market_types.specs.declared.entry.Record.{Record}
 use Rattle.event_queue.specs.Waiting.{least}
-use Rattle.kernel_core.specs.State.{State}
 use Rattle.kernel_core.specs.Step.{Happened, event_back}
 use Rattle.kernel_core.specs.View.{state_of}
 use Rattle.kernel_core.proofs.Runs.{event-busy, event-free}

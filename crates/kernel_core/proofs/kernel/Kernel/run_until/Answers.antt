@@ -1,4 +1,4 @@
-use Rattle.std.proofs.Common.{◌≤◌, List, All, subst, rules, ◌≡◌, ◌+◌, ◌-◌, ℕ, sym, ap, ◌∙◌, arith}
+use Rattle.std.proofs.Common.{◌≤◌, subst, rules, ◌≡◌, ◌+◌, ◌-◌, ℕ, sym, ap, ◌∙◌, arith}
 use Rattle.kernel_core.specs.State.{State}
 use Rattle.kernel_core.specs.Step.{end_of, raised}
 use Rattle.kernel_core.specs.Until.{Run, advanced, advanced_by, until}

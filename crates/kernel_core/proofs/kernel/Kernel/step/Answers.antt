@@ -1,4 +1,4 @@
-use Rattle.std.proofs.Common.{◌≡◌, ◌+◌, ◌∷◌, ◌++◌, [], List, Some, None, sym, ap, ◌∙◌, rules, refl}
+use Rattle.std.proofs.Common.{◌≡◌, ◌+◌, ◌∷◌, ◌++◌, [], List, Some, None, sym, ap, ◌∙◌, refl}
 use Rattle.market_types.specs.Told.{EntryTold, EventTold, event, event_told}
 use Rattle.market_types.specs.Room.{Room}
 use Rattle.event_queue.specs.Waiting.{least}
@@ -38,7 +38,6 @@ returns-clause-made g c =
 
 pub returns-clause-events : goal.returns-clause-events
 returns-clause-events g c = ap (λ (s : State). s.events) c.in_ok-entry.ensures.state ∙ event-events c.args.o.now c.args.self.now c.in-Ok.m
-
 
 pub returns-clause-offsets : goal.returns-clause-offsets
 returns-clause-offsets g c = ap (λ (s : State). s.floor.offsets) c.in_ok-entry.ensures.state ∙ event-offsets c.args.o.now c.args.self.now c.in-Ok.m

@@ -1,10 +1,11 @@
 -- Lemmas on the worked runs of the tests.
-use Rattle.std.proofs.Common.{◌≡◌, ℕ, ◌+◌, ◌*◌, ◌<◌, ◌≤◌, ℤ, pos, negsuc, true, List, [], ◌∷◌, length, map, replicate, refl, sym, ap, ◌∙◌, subst, arith, lit≤, lit<, All}
+use Rattle.std.proofs.Common.{◌≡◌, ℕ, ◌+◌, ◌*◌, ◌<◌, ◌≤◌, ℤ, pos, negsuc, true, false, cond, ltb, List, [], ◌∷◌, length, map, replicate, refl, sym, ap, ◌∙◌, subst, arith, lit≤, lit<, All}
 use Rattle.std.specs.Prelude.{◌^◌}
 use Rattle.std.proofs.lemmas.Bool.Decides.{nat_tests}
 use Rattle.std.proofs.lemmas.List.{length-map}
 use Rattle.std.proofs.lemmas.List.Elements.{All-from_recursion, All-map, All-replicate, All-weaker}
-use Rattle.market_types.specs.Limits.{longest_delay}
+use Rattle.market_types.specs.Limits.{longest_delay, most_waiting}
+use Rattle.event_queue.specs.Waiting.{joined}
 use Rattle.market_rules.specs.declared.changes.Dated.{Dated}
 use Rattle.market_rules.specs.declared.edit.Edit.{Edit}
 use Rattle.market_rules.specs.declared.edit.Edit.TheVariants.{Tick, Fee, Halt, Resume, Latency, Agent, Silence, Inject, Series}
@@ -25,10 +26,9 @@ use Rattle.kernel_core.specs.State.{State}
 use Rattle.kernel_mail.specs.Post.{Post, nothing_waits}
 use Rattle.kernel_mail.specs.Send.{message_of, sent}
 use Rattle.kernel_core.specs.Open.{opened, woken}
-use Rattle.kernel_core.proofs.Posted.{joins-counts}
 use Rattle.kernel_core.specs.Step.{Fits}
 use Rattle.kernel_core.specs.Edited.{IsEditOf}
-use Rattle.kernel_core.specs.Worked.{IsPlain, each_kind}
+use Rattle.kernel_examples.specs.Examples.{IsPlain, each_kind}
 
 -- traders of kinds in their ranges are in those of a market
 pub kinds-admitted : (close limit delay : ℕ) (ts : List TraderSetting) (ks : List (Kind × ℕ)) → All (λ (k : Kind × ℕ). IsKind k.0) ks → All (λ (k : Kind × ℕ). 1000 ≤ k.1) ks
@@ -51,12 +51,20 @@ near-weaker a b (negsuc n) le h = grind (arith, nat_tests)
 pub all-near : (a b : ℕ) (zs : List ℤ) → a ≤ b → All (λ (z : ℤ). is_near_zero a z ≡ true) zs → All (λ (z : ℤ). is_near_zero b z ≡ true) zs
 all-near a b zs le all = All-weaker (λ (z : ℤ). is_near_zero a z ≡ true) (λ (z : ℤ). is_near_zero b z ≡ true) (λ z h. near-weaker a b z le h) zs all
 
+-- a message that joins raises the count of dropped ones by one at most
+sent-drops : (o : Opening) (k : ℕ) (p : Post) (x : Posting) → (sent o o.groups k o.start p x).dropped ≤ p.dropped + 1
+sent-drops o k p x =
+    let m = message_of o o.groups k o.start x p.next_seq in
+    elim (ltb (length p.waiting) most_waiting) as (λ b. let q : Post = cond b (record { waiting = joined m p.waiting; next_seq = p.next_seq + 1; dropped = p.dropped }) (record { waiting = p.waiting; next_seq = p.next_seq; dropped = p.dropped + 1 }) in q.dropped ≤ p.dropped + 1) [
+      | true ↦ omega arith
+      | false ↦ omega arith
+    ]
+
 woken-drops : (o : Opening) (k : ℕ) (p : Post) (ss : List TraderSetting) → (woken o k p ss).dropped ≤ p.dropped + length ss
 woken-drops o k p [] = omega arith
 woken-drops o k p (s ∷ ss) =
     let x : Posting = WakeAt s.first in
-    let counts = joins-counts p (message_of o o.groups k o.start x) in
-    omega (arith, counts.1, woken-drops o (k + 1) (sent o o.groups k o.start p x) ss)
+    omega (arith, sent-drops o k p x, woken-drops o (k + 1) (sent o o.groups k o.start p x) ss)
 
 -- no value has an offset at the opening, and few messages were dropped
 pub opened-near : (o : Opening) (s : State) → s ≡ opened o → All (λ (z : ℤ). is_near_zero 0 z ≡ true) s.floor.offsets

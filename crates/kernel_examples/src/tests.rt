@@ -7,9 +7,9 @@ ghost use Rattle.market_types.specs.Limits.{longest_delay};
 ghost use Rattle.market_opening.specs.Opening.{IsOpening};
 ghost use Rattle.market_opening.specs.Worked.{market_of, trader};
 ghost use Rattle.kernel_core.specs.Step.{Fits};
-ghost use Rattle.kernel_core.specs.Worked.{IsPlain, sold};
+ghost use Rattle.kernel_examples.specs.Examples.{IsPlain, sold};
 
-use crate::{Kernel, KernelTold, Opening};
+use kernel_core::{Kernel, KernelTold, Opening};
 use agent_shell::{Kind, TraderSetting};
 use market_opening::worked::{markets_are_openings, opening};
 use market_rules::{Band, Change, Dated, DatedList, Edit, FeeTable, Param, TickTable};

@@ -6,8 +6,8 @@ use Rattle.agent_shell.specs.declared.setting.TraderSetting.{TraderSetting}
 use Rattle.market_opening.specs.declared.opening.Opening.{Opening}
 use Rattle.market_opening.specs.Opening.{IsOpening, IsTraderOf}
 use Rattle.market_opening.specs.Worked.{market_of, trader}
-use Rattle.kernel_core.proofs.Testing.{kinds-admitted}
-use Rattle.kernel_core.proofs.tests.market.Goals as goal
+use Rattle.kernel_examples.proofs.Testing.{kinds-admitted}
+use Rattle.kernel_examples.proofs.tests.market.Goals as goal
 
 pub returns-clause-opening : goal.returns-clause-opening
 returns-clause-opening c =

@@ -1,0 +1,5 @@
+//! Worked runs of the kernel: tests alone.
+#![tactic(auto)]
+
+#[cfg(test)]
+mod tests;
