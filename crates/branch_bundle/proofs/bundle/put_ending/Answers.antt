@@ -20,7 +20,7 @@ put-requires-2 g c =
     let reached = c.courses_stay_in_range.ensures.ends k s course c.requires.segment in
     let few : length state.floor.exchange.stocks ≤ 16 = omega (arith, course.opening.market.few, reached.fits.stocks) in
     let all = All-weaker (λ (a : ClosingAgent). length a.positions ≡ length state.floor.exchange.stocks) HasFewPositions
-      (λ a q. omega (arith, q, few)) (closing_at k.opening state).agents (c.agents_have_all_positions.ensures k.opening state) in
+    (λ a q. omega (arith, q, few)) (closing_at k.opening state).agents (c.agents_have_all_positions.ensures k.opening state) in
     subst (λ (x : Closing). All HasFewPositions x.agents) (sym is) all
 
 pub returns : goal.returns
