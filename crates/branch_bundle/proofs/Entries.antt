@@ -1,5 +1,5 @@
 -- The entries up to a segment's end, and the trace of a branch.
-use Rattle.std.proofs.Common.{◌≡◌, ℕ, ◌<◌, List, ◌++◌, All, map, sym, ap, ◌∙◌, subst, arith, append_assoc}
+use Rattle.std.proofs.Common.{◌≡◌, ℕ, List, ◌++◌, All, map, sym, ap, ◌∙◌, subst, arith, append_assoc}
 use Rattle.std.proofs.lemmas.List.{get_or-map, length-map}
 use Rattle.std.specs.List.{flat_map}
 use Rattle.std.proofs.lemmas.Grind.{flat_map-append}
@@ -7,7 +7,6 @@ use Rattle.std.proofs.lemmas.List.Folds.{flat_map-map}
 use Rattle.market_types.specs.declared.entry.Entry.{Entry}
 use Rattle.market_types.specs.Told.{EntryTold, entry_told}
 use Rattle.bundle_frames.specs.Frames.{entry_frames}
-use Rattle.branch_tree.specs.Plan.{Plan}
 use Rattle.branch_tree.specs.Segments.{segment_at}
 use Rattle.kernel_core.specs.Until.{Run, behind}
 use Rattle.kernel_copy.specs.Courses.{CourseTold}

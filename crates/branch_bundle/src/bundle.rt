@@ -1,11 +1,10 @@
 //! The bundle of a study, part by part.
 
-ghost use Rattle.std.specs.Prelude.{◌≡◌, ◌<◌, ◌≤◌, ◌++◌, OnOk, OnErr, IfOk, length};
+ghost use Rattle.std.specs.Prelude.{◌≡◌, ◌<◌, ◌++◌, OnOk, OnErr, IfOk, length};
 ghost use Rattle.std.specs.List.{flat_map};
 ghost use Rattle.bundle_frames.specs.Frames.{entry_frames};
 ghost use Rattle.branch_tree.specs.Segments.{last_of, segments_in, segment_at};
-ghost use Rattle.kernel_copy.specs.Full.{full_run};
-ghost use Rattle.kernel_copy.specs.Segmentwise.{chain_to, segment_end, segment_entries};
+ghost use Rattle.kernel_copy.specs.Segmentwise.{segment_end};
 ghost use Rattle.branch_bundle.specs.Bundle.{end_of_trace, head_of, header_of, trace_of};
 ghost use Rattle.branch_bundle.specs.Ran.{IsRunOf};
 

@@ -1,7 +1,7 @@
 //! The feed around the entries of a branch.
 
-ghost use Rattle.std.specs.Prelude.{◌≡◌, ◌<◌, ◌^◌, ◌++◌, OnOk, length};
-ghost use Rattle.bundle_frames.specs.Frames.{feed_frames, message_frame};
+ghost use Rattle.std.specs.Prelude.{◌≡◌, ◌<◌, ◌++◌, OnOk, length};
+ghost use Rattle.bundle_frames.specs.Frames.{feed_frames};
 ghost use Rattle.market_opening.specs.Opening.{IsOpening};
 ghost use Rattle.branch_bundle.specs.Feed.{directories, directory as directory_of, opening_feed, system_event as system_event_of, trading as trading_of, tradings};
 

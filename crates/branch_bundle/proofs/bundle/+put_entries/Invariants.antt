@@ -1,4 +1,3 @@
-use Rattle.std.proofs.Common.{ℕ}
 use Rattle.branch_bundle.proofs.bundle.+put_entries.Given as goal
 
 abbrev pub decreases-put_entries : goal.decreases-put_entries

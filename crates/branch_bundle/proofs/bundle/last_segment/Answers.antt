@@ -1,8 +1,7 @@
 use Rattle.std.proofs.Common.{◌≡◌, ◌<◌, ◌-◌, ℕ, List, length, get_or, ap, ◌∙◌, sym, subst}
 use Rattle.branch_tree.specs.Plan.{Plan}
-use Rattle.branch_tree.specs.Segments.{last_of, numbers_of, segments_in}
+use Rattle.branch_tree.specs.Segments.{numbers_of, segments_in}
 use Rattle.branch_tree.proofs.PartLemmas.{last-at}
-use Rattle.kernel_copy.specs.Courses.{CourseTold}
 use Rattle.kernel_copy.proofs.Keeping.{last-number}
 use Rattle.branch_bundle.proofs.bundle.last_segment.Goals as goal
 

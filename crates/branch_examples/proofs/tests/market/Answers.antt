@@ -1,7 +1,6 @@
-use Rattle.std.proofs.Common.{◌≡◌, List, ◌∷◌, [], All, lit≤, lit<, sym, subst}
+use Rattle.std.proofs.Common.{List, ◌∷◌, [], All, lit≤, lit<, sym, subst}
 use Rattle.std.proofs.lemmas.List.Elements.{All-cons, All-nil}
 use Rattle.agent_shell.specs.declared.setting.TraderSetting.{TraderSetting}
-use Rattle.market_opening.specs.declared.opening.Opening.{Opening}
 use Rattle.market_opening.specs.Opening.{IsOpening, IsTraderOf}
 use Rattle.market_opening.specs.Worked.{market_of, watcher}
 use Rattle.branch_examples.proofs.tests.market.Goals as goal
