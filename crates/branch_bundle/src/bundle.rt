@@ -12,7 +12,7 @@ use crate::feed::{put_opening, system_event};
 use crate::ran::Ran;
 use bundle_frames::{Written, put_all, put_branch, put_header};
 use kernel_copy::Course;
-use kernel_copy::laws::{branches_by_segments, courses_stay_in_range};
+use kernel_copy::laws::courses_stay_in_range;
 use market_closing::laws::agents_have_all_positions;
 use market_types::Memory;
 use std::alloc::Global;
@@ -65,15 +65,18 @@ fn put_entries<W: Ran>(
     ensures { OnOk result (out.new.items ≡ out.old.items ++ flat_map entry_frames (segment_end course.now.opening course.now.plan (segment_at course.now.plan segment)).entries) }
 {
     courses_stay_in_range();
-    branches_by_segments(course.opening(), course.plan());
     let entries = ran.entries(segment).as_slice();
-    if let Some(parent) = course.segment(segment).parent {
-        put_entries(out, course, ran, parent)?;
-        put_all(out, entries)?;
-        return Ok(());
+    match course.segment(segment).parent {
+        None => {
+            put_all(out, entries)?;
+            Ok(())
+        }
+        Some(parent) => {
+            put_entries(out, course, ran, parent)?;
+            put_all(out, entries)?;
+            Ok(())
+        }
     }
-    put_all(out, entries)?;
-    Ok(())
 }
 
 // Appends the end of the feed and the closing of a segment's end.
@@ -107,7 +110,6 @@ fn branch_bytes<W: Ran>(
     requires ran { IsRunOf course.now (W.count ran.now) (W.entries_of ran.now) (W.closing_of ran.now) }
     ensures { IfOk result (λ v. v.items ≡ trace_of course.now branch) }
 {
-    branches_by_segments(course.opening(), course.plan());
     let last = last_segment(course, branch);
     let mut out = Vec::new(alloc);
     put_head(&mut out, course, branch)?;
