@@ -1,12 +1,12 @@
 -- The entries up to a segment's end, and the trace of a branch.
-use Rattle.std.proofs.Common.{◌≡◌, ℕ, ◌<◌, List, [], ◌++◌, Option, None, Some, map, refl, sym, ap, ◌∙◌, append_assoc, append-nil}
+use Rattle.std.proofs.Common.{◌≡◌, ℕ, List, ◌++◌, All, map, sym, ap, ◌∙◌, subst, arith, append_assoc}
+use Rattle.std.proofs.lemmas.List.{get_or-map, length-map}
 use Rattle.std.specs.List.{flat_map}
 use Rattle.std.proofs.lemmas.Grind.{flat_map-append}
 use Rattle.std.proofs.lemmas.List.Folds.{flat_map-map}
 use Rattle.market_types.specs.declared.entry.Entry.{Entry}
 use Rattle.market_types.specs.Told.{EntryTold, entry_told}
 use Rattle.bundle_frames.specs.Frames.{entry_frames}
-use Rattle.branch_tree.specs.Plan.{Plan}
 use Rattle.branch_tree.specs.Segments.{segment_at}
 use Rattle.kernel_core.specs.Until.{Run, behind}
 use Rattle.kernel_copy.specs.Courses.{CourseTold}
@@ -30,3 +30,7 @@ entries-more c s before own bytes copy p q =
     ∙ ap (λ (zs : List ℕ). bytes ++ (flat_map entry_frames xs ++ zs)) q
     ∙ ap (λ (zs : List ℕ). bytes ++ zs) (sym (flat_map-append entry_frames xs ys))
     ∙ ap (λ (r : Run). bytes ++ flat_map entry_frames r.entries) (sym copy)
+
+-- what holds of each entry as it is told
+pub all-told : (P : EntryTold → Type 0) (xs : List Entry) → All P (map entry_told xs) → All (λ (x : Entry). P (entry_told x)) xs
+all-told P xs all = λ i d within. subst P (get_or-map entry_told xs i d (entry_told d) within) (all i (entry_told d) (omega (arith, length-map xs entry_told)))

@@ -1,7 +1,6 @@
 -- The feed of the opening, one stock more at a time.
-use Rattle.std.proofs.Common.{◌≡◌, ℕ, suc, ◌+◌, ◌<◌, List, [], ◌∷◌, ◌++◌, length, get_or, sym, ap, ◌∙◌, add-one}
+use Rattle.std.proofs.Common.{◌≡◌, ℕ, ◌+◌, ◌<◌, List, ◌++◌, length, get_or, sym, ap, ◌∙◌, add-one}
 use Rattle.std.proofs.lemmas.List.{flat_map_more, get_or_read}
-use Rattle.market_types.specs.declared.feed.Feed.{Feed}
 use Rattle.market_types.specs.declared.order.Symbol.{Symbol}
 use Rattle.bundle_frames.specs.Frames.{feed_frames, message_frame}
 use Rattle.exchange_agent.specs.declared.told.StockRules.{StockRules}

@@ -1,3 +1,3 @@
 pub mod Feeds
 pub mod Entries
-pub mod Outcomes
+pub mod Held

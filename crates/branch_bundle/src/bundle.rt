@@ -1,11 +1,10 @@
 //! The bundle of a study, part by part.
 
-ghost use Rattle.std.specs.Prelude.{◌≡◌, ◌<◌, ◌≤◌, ◌++◌, OnOk, OnErr, IfOk, length};
+ghost use Rattle.std.specs.Prelude.{◌≡◌, ◌<◌, ◌++◌, OnOk, OnErr, IfOk, length};
 ghost use Rattle.std.specs.List.{flat_map};
 ghost use Rattle.bundle_frames.specs.Frames.{entry_frames};
 ghost use Rattle.branch_tree.specs.Segments.{last_of, segments_in, segment_at};
-ghost use Rattle.kernel_copy.specs.Full.{full_run};
-ghost use Rattle.kernel_copy.specs.Segmentwise.{chain_to, segment_end, segment_entries};
+ghost use Rattle.kernel_copy.specs.Segmentwise.{segment_end};
 ghost use Rattle.branch_bundle.specs.Bundle.{end_of_trace, head_of, header_of, trace_of};
 ghost use Rattle.branch_bundle.specs.Ran.{IsRunOf};
 
@@ -13,7 +12,7 @@ use crate::feed::{put_opening, system_event};
 use crate::ran::Ran;
 use bundle_frames::{Written, put_all, put_branch, put_header};
 use kernel_copy::Course;
-use kernel_copy::laws::{branches_by_segments, courses_stay_in_range};
+use kernel_copy::laws::courses_stay_in_range;
 use market_closing::laws::agents_have_all_positions;
 use market_types::Memory;
 use std::alloc::Global;
@@ -49,6 +48,7 @@ fn put_head(out: &mut Vec<u8>, course: &Course, branch: u16) -> Result<(), Memor
     ensures { OnOk result (out.new.items ≡ out.old.items ++ head_of course.now branch) }
 {
     let b = &course.plan().branches()[usize::from(branch)];
+    let _ = b.name.len();
     let parent = if branch == 0 { u16::MAX } else { b.parent };
     put_branch(out, branch, parent, b.stop, b.name.as_slice())
 }
@@ -65,11 +65,18 @@ fn put_entries<W: Ran>(
     ensures { OnOk result (out.new.items ≡ out.old.items ++ flat_map entry_frames (segment_end course.now.opening course.now.plan (segment_at course.now.plan segment)).entries) }
 {
     courses_stay_in_range();
-    branches_by_segments(course.opening(), course.plan());
-    if let Some(parent) = course.segment(segment).parent {
-        put_entries(out, course, ran, parent)?;
+    let entries = ran.entries(segment).as_slice();
+    match course.segment(segment).parent {
+        None => {
+            put_all(out, entries)?;
+            Ok(())
+        }
+        Some(parent) => {
+            put_entries(out, course, ran, parent)?;
+            put_all(out, entries)?;
+            Ok(())
+        }
     }
-    put_all(out, ran.entries(segment).as_slice())
 }
 
 // Appends the end of the feed and the closing of a segment's end.
@@ -88,7 +95,8 @@ fn put_ending<W: Ran>(
     let _ = course.opening();
     let closing = ran.closing(segment);
     system_event(closing.counts.time, b'C').put(out)?;
-    closing.put(out)
+    closing.put(out)?;
+    Ok(())
 }
 
 // The trace of a branch.
@@ -102,7 +110,6 @@ fn branch_bytes<W: Ran>(
     requires ran { IsRunOf course.now (W.count ran.now) (W.entries_of ran.now) (W.closing_of ran.now) }
     ensures { IfOk result (λ v. v.items ≡ trace_of course.now branch) }
 {
-    branches_by_segments(course.opening(), course.plan());
     let last = last_segment(course, branch);
     let mut out = Vec::new(alloc);
     put_head(&mut out, course, branch)?;

@@ -1,7 +1,7 @@
 //! The feed around the entries of a branch.
 
-ghost use Rattle.std.specs.Prelude.{◌≡◌, ◌<◌, ◌^◌, ◌++◌, OnOk, length};
-ghost use Rattle.bundle_frames.specs.Frames.{feed_frames, message_frame};
+ghost use Rattle.std.specs.Prelude.{◌≡◌, ◌<◌, ◌++◌, OnOk, length};
+ghost use Rattle.bundle_frames.specs.Frames.{feed_frames};
 ghost use Rattle.market_opening.specs.Opening.{IsOpening};
 ghost use Rattle.branch_bundle.specs.Feed.{directories, directory as directory_of, opening_feed, system_event as system_event_of, trading as trading_of, tradings};
 
@@ -23,7 +23,7 @@ pub(crate) fn system_event(time: Time, code: u8) -> Feed
 
 // The directory of the stock of a number.
 fn directory(time: Time, k: StockNo, stock: Symbol) -> Feed
-    requires { k < 2 ^ 16 - 1 }
+    requires { k < 65535 }
     ensures { result ≡ directory_of time k stock }
 {
     Feed {
@@ -51,7 +51,7 @@ fn directory(time: Time, k: StockNo, stock: Symbol) -> Feed
 
 // The stock of a number trades.
 fn trading(time: Time, k: StockNo, stock: Symbol) -> Feed
-    requires { k < 2 ^ 16 - 1 }
+    requires { k < 65535 }
     ensures { result ≡ trading_of time k stock }
 {
     Feed {

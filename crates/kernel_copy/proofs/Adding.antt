@@ -1,5 +1,5 @@
 -- The segments of a course, one more at a time.
-use Rattle.std.proofs.Common.{◌≡◌, ℕ, ◌+◌, ◌*◌, ◌^◌, ◌<◌, ◌≤◌, List, [], ◌∷◌, ◌++◌, sum_by, length, take, drop, map, Option, refl, sym, ap, ◌∙◌, arith, suc, zero, subst, add-one}
+use Rattle.std.proofs.Common.{◌≡◌, ℕ, ◌+◌, ◌*◌, ◌^◌, ◌<◌, ◌≤◌, List, [], ◌∷◌, ◌++◌, sum_by, length, take, drop, map, Option, sym, ap, ◌∙◌, arith, suc, zero, add-one}
 use Rattle.std.proofs.lemmas.List.{take_more, take_all, take-append-drop, map-append}
 use Rattle.std.proofs.lemmas.List.Sums.{sum_by-append}
 use Rattle.market_types.specs.Told.{EntryTold}
@@ -9,8 +9,8 @@ use Rattle.branch_tree.specs.Plan.{Plan}
 use Rattle.branch_tree.specs.Segments.{segments_in, segment_at, no_segment}
 use Rattle.market_opening.specs.declared.opening.Opening.{Opening}
 use Rattle.kernel_core.specs.State.{State}
-use Rattle.kernel_core.specs.Until.{Run, behind}
-use Rattle.kernel_copy.specs.Segmentwise.{segment_end, parent_end, segment_run, own_count, own_before, distinct}
+use Rattle.kernel_core.specs.Until.{Run}
+use Rattle.kernel_copy.specs.Segmentwise.{segment_end, segment_run, own_count, own_before, distinct}
 use Rattle.kernel_copy.specs.Courses.{CourseTold, IsCourse, CheckpointTold, kept_of, kept_before}
 use Rattle.market_closing.specs.Closing.{closing_at}
 use Rattle.kernel_copy.specs.Outcomes.{OutcomeTold, outcome_of, outcomes_before}

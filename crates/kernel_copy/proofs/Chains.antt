@@ -3,17 +3,15 @@ use Rattle.std.proofs.Common.{◌≡◌, ℕ, ◌+◌, ◌-◌, ◌<◌, ◌≤�
 use Rattle.std.specs.List.{flat_map}
 use Rattle.std.proofs.lemmas.List.{flat_map_more}
 use Rattle.std.proofs.lemmas.List.Sums.{sum_by-append}
-use Rattle.branch_tree.specs.declared.branch.Branch.{Branch}
-use Rattle.branch_tree.specs.declared.segment.Segment.{Segment}
 use Rattle.branch_tree.specs.Plan.{Plan}
 use Rattle.branch_tree.specs.Segments.{segments_in, segment_at, last_of}
-use Rattle.branch_tree.specs.Planned.{IsTree, HasParent, ParentIs}
+use Rattle.branch_tree.specs.Planned.{IsTree}
 use Rattle.branch_tree.proofs.PartLemmas.{last-at}
 use Rattle.market_types.specs.Told.{EntryTold}
 use Rattle.market_opening.specs.declared.opening.Opening.{Opening}
-use Rattle.kernel_core.specs.Until.{Run, behind}
+use Rattle.kernel_core.specs.Until.{Run}
 use Rattle.kernel_copy.specs.Full.{opening_run, full}
-use Rattle.kernel_copy.specs.Segmentwise.{segment_end, parent_end, segment_run, segment_entries, from_count, own_count, chain_within, chain_to, chain_of}
+use Rattle.kernel_copy.specs.Segmentwise.{segment_end, parent_end, segment_entries, from_count, own_count, chain_within, chain_to, chain_of}
 use Rattle.kernel_copy.proofs.Walks.{has_parent, segment-copy, segment-grows, full-last}
 
 -- These segments' entries and events are those up to a segment's end.

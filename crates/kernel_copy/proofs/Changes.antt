@@ -1,15 +1,13 @@
 -- What a state keeps as an edit is made, and which edits can be made.
-use Rattle.std.proofs.Common.{◌≡◌, ℕ, ◌+◌, ◌-◌, ◌*◌, ◌<◌, ◌≤◌, ◌^◌, true, inl, inr, List, [], ◌∷◌, length, All, ℤ, pos, negsuc, ◌+ℤ◌, refl, sym, ap, ◌∙◌, subst, arith}
-use Rattle.std.specs.Prelude.{slice_index_or}
+use Rattle.std.proofs.Common.{◌≡◌, ℕ, ◌+◌, ◌-◌, ◌*◌, ◌<◌, ◌≤◌, ◌^◌, true, inl, inr, length, All, ℤ, pos, negsuc, ◌+ℤ◌, refl, ◌∙◌, subst, arith}
 use Rattle.std.proofs.lemmas.Bool.{cases_lt, le-leb, lt-ltb}
 use Rattle.std.proofs.lemmas.Bool.Decides.{nat_tests}
 use Rattle.std.proofs.lemmas.Int.{ints}
-use Rattle.std.proofs.lemmas.List.{length-map, length-set, get_or_past}
+use Rattle.std.proofs.lemmas.List.{length-set, get_or_past}
 use Rattle.std.proofs.lemmas.List.Elements.{All-get_or, All-nil, All-set, All-weaker}
 use Rattle.market_types.specs.Limits.{longest_delay}
 use Rattle.market_types.specs.declared.feed.Feed.{Feed}
-use Rattle.market_types.specs.declared.message.Message.{Message}
-use Rattle.market_types.specs.Timely.{AreTimely, IsTimely}
+use Rattle.market_types.specs.Timely.{IsTimely}
 use Rattle.market_types.specs.Told.{edit as edited_entry}
 use Rattle.market_rules.specs.declared.changes.Change.{Change}
 use Rattle.market_rules.specs.declared.changes.Change.TheVariants as change
@@ -18,31 +16,30 @@ use Rattle.market_rules.specs.declared.edit.Edit.TheVariants.{Tick, Fee, Halt, R
 use Rattle.market_rules.specs.declared.edit.Param.{Param}
 use Rattle.market_rules.specs.declared.edit.Param.TheVariants.{Size, Every, Wobble, Delay, Noise as NoiseParam, Margin, Half, Step, Levels, Pause}
 use Rattle.market_rules.specs.EditRanges.{is_among, is_in_range, is_near_zero}
-use Rattle.latency_model.specs.Tables.{Tables, group_count, with_pair}
+use Rattle.latency_model.specs.Tables.{Tables, group_count}
 use Rattle.agent_shell.specs.declared.setting.Kind.{Kind}
 use Rattle.agent_shell.specs.declared.setting.Kind.TheVariants.{Watcher, Noise, Value, Momentum, Maker}
 use Rattle.agent_shell.specs.declared.setting.TraderSetting.{TraderSetting}
 use Rattle.agent_shell.specs.Parameters.{IsBetween, IsHour, IsKind, IsOwnParam, IsSetting, kind_with, setting_with}
 use Rattle.exchange_agent.specs.Sound.{IsWithin}
 use Rattle.agent_shell.specs.Sound.{IsTrader}
-use Rattle.agent_shell.specs.Trader.{Trader, trader_with}
+use Rattle.agent_shell.specs.Trader.{trader_with}
 use Rattle.agent_shell.proofs.Named.{still-own}
-use Rattle.exchange_agent.specs.Changes.{Changed, changed_by as market_changed}
+use Rattle.exchange_agent.specs.Changes.{changed_by as market_changed}
 use Rattle.exchange_agent.proofs.Shorts.{short-change}
 use Rattle.exchange_agent.proofs.Tellings.{at-change, keeps-change}
 use Rattle.exchange_agent.proofs.Withins.{within-more, within-sum}
 use Rattle.trader_party.specs.Party.{PartyState, with_trader}
 use Rattle.market_opening.specs.declared.opening.Opening.{Opening}
 use Rattle.kernel_mail.specs.Post.{Post}
-use Rattle.kernel_mail.specs.Send.{injected, order_at}
+use Rattle.kernel_mail.specs.Send.{order_at}
 use Rattle.kernel_mail.proofs.Posts.{all-joins}
 use Rattle.market_floor.specs.Edited.{IsParamOf, edited_floor}
 use Rattle.market_floor.specs.Floor.{FloorState, floor_at_opening, nobody, offset_at, party_at, with_exchange, with_offset, with_party}
 use Rattle.kernel_core.specs.State.{State}
-use Rattle.kernel_core.specs.Step.{Fits}
 use Rattle.kernel_core.specs.Edited.{IsEditOf, changed_by, mail_after, mark_of, tables_after}
 use Rattle.kernel_copy.specs.Reached.{IsReached, IsReachedFloor, KeepsKinds}
-use Rattle.kernel_copy.proofs.Floors.{IsShort, reached-exchange, reached-party}
+use Rattle.kernel_copy.proofs.Floors.{reached-exchange, reached-party}
 use Rattle.kernel_copy.proofs.States.{IsDue, drops-joins, fits-later}
 
 -- the offset of an edit is small, and so is a small offset for the kernel

@@ -1,22 +1,19 @@
 -- What a floor keeps as dated changes are made and messages are delivered.
-use Rattle.std.proofs.Common.{◌≡◌, ◌≢◌, ℕ, ◌+◌, ◌-◌, ◌*◌, ◌<◌, ◌≤◌, ◌^◌, ◌⊎◌, inl, inr, true, false, List, [], ◌∷◌, ◌++◌, length, map, All, ℤ, refl, sym, ap, ◌∙◌, arith, subst, get_or, set}
+use Rattle.std.proofs.Common.{◌≡◌, ℕ, ◌+◌, ◌-◌, ◌*◌, ◌≤◌, inl, inr, List, [], ◌∷◌, length, map, All, refl, sym, ap, ◌∙◌, arith, subst}
 use Rattle.std.specs.Prelude.{◌==◌, slice_index_or, slice_set}
-use Rattle.std.proofs.lemmas.Bool.{cases_lt, cases_eq, cases_Bool, eq-eqb, ne_eqb}
+use Rattle.std.proofs.lemmas.Bool.{cases_lt, cases_eq, cases_Bool}
 use Rattle.std.proofs.lemmas.List.{length-map, length-set, set_past, get_or-set_same, get_or-set_other, get_or_past}
 use Rattle.std.proofs.lemmas.List.Elements.{All-append, All-cons, All-drop, All-get_or, All-head, All-map, All-nil, All-set, All-tail, All-take, All-weaker}
-use Rattle.market_types.specs.Limits.{last_time, most_events}
 use Rattle.market_types.specs.declared.feed.Feed.{Feed}
 use Rattle.market_types.specs.declared.message.Body.{Body}
 use Rattle.market_types.specs.declared.message.Body.TheVariants.{Wake, Order, Answer, Ask, Quote}
 use Rattle.market_types.specs.declared.message.Message.{Message}
 use Rattle.market_types.specs.declared.message.Quote.{Quote as QuoteData}
-use Rattle.market_types.specs.Timely.{AreTimely}
-use Rattle.market_rules.specs.declared.changes.Change.{Change}
 use Rattle.market_rules.specs.declared.changes.Dated.{Dated}
 use Rattle.market_rules.specs.declared.edit.Param.{Param}
 use Rattle.agent_shell.specs.declared.sending.Sending.{Sending}
 use Rattle.agent_shell.specs.declared.sending.Sending.TheVariants as sending
-use Rattle.agent_shell.specs.Bounds.{AreSendings, IsSending}
+use Rattle.agent_shell.specs.Bounds.{IsSending}
 use Rattle.agent_shell.specs.Decide.{Decided, choice_of, decided, quoted}
 use Rattle.agent_shell.specs.Parameters.{IsOwnParam}
 use Rattle.agent_shell.specs.Sight.{Sight}
@@ -29,7 +26,6 @@ use Rattle.trader_party.specs.Party.{PartyState, reacted, silenced, with_trader}
 use Rattle.exchange_agent.specs.declared.handled.Outgoing.{Outgoing}
 use Rattle.exchange_agent.specs.Changes.{changed_by}
 use Rattle.exchange_agent.specs.Market.{market}
-use Rattle.exchange_agent.specs.Outcome.{Outcome}
 use Rattle.exchange_agent.specs.State.{State, Stock}
 use Rattle.exchange_agent.proofs.Shorts.{short-change}
 use Rattle.exchange_agent.proofs.Tellings.{at-change, at-time, keeps-change, keeps-size}
@@ -38,7 +34,7 @@ use Rattle.market_opening.specs.declared.posting.Posting.{Posting}
 use Rattle.market_opening.specs.declared.posting.Posting.TheVariants as posting
 use Rattle.market_opening.specs.Opening.{IsDated, IsOpening}
 use Rattle.market_opening.specs.Postings.{earliest_of}
-use Rattle.market_floor.specs.Floor.{FloorState, floor_at_opening, nobody, party_at, with_exchange, with_party}
+use Rattle.market_floor.specs.Floor.{FloorState, nobody, party_at, with_exchange, with_party}
 use Rattle.market_floor.specs.Posted.{to_exchange, to_receiver}
 use Rattle.market_floor.specs.Reaction.{Reaction, decided_by, market_reaction, reaction, sight_at, trader_reaction}
 use Rattle.market_floor.specs.Ruled.{all_changed, due, ruled}

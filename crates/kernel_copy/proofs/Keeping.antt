@@ -1,14 +1,13 @@
 -- What is kept of a course's segments.
-use Rattle.std.proofs.Common.{◌≡◌, ℕ, ◌+◌, ◌-◌, ◌<◌, ◌≤◌, inl, inr, cond, ltb, List, [], ◌∷◌, ◌++◌, Option, Some, None, length, get_or, map, refl, sym, ap, ◌∙◌, arith, suc, zero, subst}
+use Rattle.std.proofs.Common.{◌≡◌, ℕ, ◌+◌, ◌-◌, ◌<◌, ◌≤◌, inl, inr, List, [], ◌∷◌, ◌++◌, Option, Some, None, length, get_or, map, refl, sym, ap, ◌∙◌, arith, suc, zero, subst}
 use Rattle.std.proofs.lemmas.Bool.{cases_lt, lt-ltb}
 use Rattle.std.proofs.lemmas.List.{get_or_append_left, get_or_push, length_push, get_or-map}
 use Rattle.branch_tree.specs.declared.segment.Segment.{Segment}
 use Rattle.branch_tree.specs.Plan.{Plan}
-use Rattle.branch_tree.specs.Planned.{IsTree}
 use Rattle.branch_tree.specs.Segments.{counted, numbers_of, cuts_of, count_before, last_of, segments_in, segment_at}
 use Rattle.kernel_core.specs.Until.{Run}
 use Rattle.kernel_copy.specs.Segmentwise.{segment_end, after}
-use Rattle.kernel_copy.specs.Courses.{CourseTold, CheckpointTold, IsCourse, IsKeyOf, GoesOnFrom, end_of_segment, kept_of, kept_before, state_at}
+use Rattle.kernel_copy.specs.Courses.{CourseTold, CheckpointTold, IsCourse, IsKeyOf, GoesOnFrom, end_of_segment, kept_of, kept_before}
 use Rattle.kernel_copy.proofs.Trees.{course-tree}
 use Rattle.kernel_copy.proofs.Walks.{planned-at, has_parent, segment-ends}
 

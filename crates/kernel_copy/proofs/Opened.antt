@@ -1,16 +1,13 @@
 -- What holds of the state before the first event.
-use Rattle.std.proofs.Common.{◌≡◌, ℕ, ◌+◌, ◌*◌, ◌<◌, ◌≤◌, List, [], ◌∷◌, length, map, replicate, All, ℤ, pos, refl, sym, ◌∙◌, arith}
+use Rattle.std.proofs.Common.{◌≡◌, ℕ, ◌+◌, ◌*◌, ◌≤◌, List, [], ◌∷◌, length, All, pos, refl, sym, arith}
 use Rattle.std.proofs.lemmas.Int.{ints}
 use Rattle.std.proofs.lemmas.List.{length-map}
-use Rattle.std.proofs.lemmas.List.Elements.{All-cons, All-head, All-map, All-nil, All-replicate, All-tail, All-weaker}
-use Rattle.market_types.specs.declared.message.Message.{Message}
+use Rattle.std.proofs.lemmas.List.Elements.{All-cons, All-head, All-map, All-nil, All-replicate, All-tail}
 use Rattle.agent_shell.specs.declared.setting.TraderSetting.{TraderSetting}
 use Rattle.exchange_agent.specs.Sound.{IsWithin}
 use Rattle.agent_shell.specs.Sound.{IsTrader}
 use Rattle.agent_shell.specs.Tokens.{IsGiven}
-use Rattle.agent_shell.specs.Trader.{trader_at_opening}
 use Rattle.exchange_agent.specs.Open.{listed}
-use Rattle.exchange_agent.specs.State.{Stock}
 use Rattle.trader_party.specs.Party.{PartyState, party_at_opening}
 use Rattle.market_opening.specs.declared.opening.Opening.{Opening}
 use Rattle.market_opening.specs.declared.posting.Posting.TheVariants.{WakeAt}
@@ -20,7 +17,6 @@ use Rattle.kernel_mail.specs.Send.{message_of, sent}
 use Rattle.kernel_mail.proofs.Posts.{all-joins}
 use Rattle.market_floor.specs.Floor.{floor_at_opening, parties_from}
 use Rattle.kernel_core.specs.Open.{opened, woken}
-use Rattle.kernel_core.specs.Step.{Fits}
 use Rattle.kernel_copy.specs.Reached.{IsReached, IsReachedFloor}
 use Rattle.kernel_copy.proofs.Floors.{IsShort}
 use Rattle.kernel_copy.proofs.States.{IsDue, drops-joins}

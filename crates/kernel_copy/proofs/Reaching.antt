@@ -1,30 +1,29 @@
 -- Each state of a course is one where edits can be made, and each feed is timely.
-use Rattle.std.proofs.Common.{◌≡◌, ℕ, ◌+◌, ◌*◌, ◌<◌, ◌≤◌, ◌^◌, ◌-◌, zero, suc, true, false, inl, inr, cond, leb, List, [], ◌∷◌, ◌++◌, length, drop, get_or, All, refl, sym, ap, ◌∙◌, subst, arith}
+use Rattle.std.proofs.Common.{◌≡◌, ℕ, ◌+◌, ◌*◌, ◌<◌, ◌≤◌, ◌^◌, ◌-◌, zero, suc, true, false, inl, inr, List, [], ◌∷◌, ◌++◌, length, All, refl, sym, subst, arith}
 use Rattle.std.specs.Prelude.{nat_le, ◌==◌, if◌then◌else◌}
-use Rattle.std.proofs.lemmas.Bool.{cases_lt, cases_Bool}
+use Rattle.std.proofs.lemmas.Bool.{cases_lt}
 use Rattle.std.proofs.lemmas.List.{get_or_past, length-append, length-drop}
 use Rattle.std.proofs.lemmas.List.Elements.{All-append, All-cons, All-get_or, All-head, All-nil, All-tail, All-weaker}
 use Rattle.market_types.specs.Timely.{IsTimely}
 use Rattle.market_types.specs.Told.{EntryTold, event, edit as edited_entry}
 use Rattle.market_rules.specs.declared.edit.Edit.{Edit}
 use Rattle.market_rules.specs.EditRanges.{is_near_zero}
-use Rattle.latency_model.specs.Tables.{group_count}
 use Rattle.exchange_agent.specs.Sound.{IsWithin}
 use Rattle.exchange_agent.proofs.Withins.{within-more}
 use Rattle.branch_tree.specs.declared.branch.Branch.{Branch}
 use Rattle.branch_tree.specs.Paths.{path_of, path_within}
-use Rattle.branch_tree.specs.Plan.{Plan, no_branch, branch_at, parent_at, stop_at}
+use Rattle.branch_tree.specs.Plan.{no_branch, branch_at, parent_at, stop_at}
 use Rattle.branch_tree.specs.Segments.{segments_in, segment_at}
 use Rattle.market_opening.specs.declared.opening.Opening.{Opening}
 use Rattle.kernel_core.specs.Open.{opened}
 use Rattle.kernel_core.specs.State.{State}
 use Rattle.kernel_core.specs.Step.{end_of, event_of}
-use Rattle.kernel_core.specs.Until.{Run, advanced, advanced_by, behind, until}
-use Rattle.kernel_core.specs.Edited.{IsEditOf, changed_by, edited, edited_from, edited_one, mark_of}
+use Rattle.kernel_core.specs.Until.{Run, advanced, advanced_by, until}
+use Rattle.kernel_core.specs.Edited.{IsEditOf, edited_from, edited_one, mark_of}
 use Rattle.kernel_core.proofs.Runs.{advanced_ended, advanced_going}
 use Rattle.kernel_core.proofs.Stops.{end_cases, next-message}
 use Rattle.kernel_copy.specs.Full.{opening_run, edited_by, forked, forks_of, begun, full_along, full}
-use Rattle.kernel_copy.specs.Segmentwise.{parent_end, segment_end, segment_entries, segment_run}
+use Rattle.kernel_copy.specs.Segmentwise.{parent_end, segment_end, segment_entries}
 use Rattle.kernel_copy.specs.Reached.{IsReached, IsReachedFloor}
 use Rattle.kernel_copy.specs.Courses.{CourseTold, AreEdits, IsCourse}
 use Rattle.kernel_copy.proofs.Floors.{ShortLaws}

@@ -1,5 +1,5 @@
 -- What a state keeps as events are made.
-use Rattle.std.proofs.Common.{◌≡◌, ℕ, ◌+◌, ◌*◌, ◌<◌, ◌≤◌, ◌^◌, inl, inr, List, [], ◌∷◌, length, All, Some, None, refl, sym, subst, ◌∙◌, arith, slice_index}
+use Rattle.std.proofs.Common.{◌≡◌, ℕ, ◌+◌, ◌<◌, ◌≤◌, ◌^◌, inl, inr, List, [], ◌∷◌, length, All, Some, None, refl, sym, subst, ◌∙◌, arith, slice_index}
 use Rattle.std.specs.Prelude.{max}
 use Rattle.std.proofs.lemmas.Bool.{cases_lt}
 use Rattle.std.proofs.lemmas.List.Elements.{All-head, All-nil, All-tail, All-weaker}
@@ -19,11 +19,10 @@ use Rattle.kernel_mail.specs.Post.{Post, joins, taken}
 use Rattle.kernel_mail.specs.Send.{all_sent, message_of, sent}
 use Rattle.kernel_mail.proofs.Posts.{all-joins, joins-cases}
 use Rattle.kernel_mail.proofs.Sends.{due-message}
-use Rattle.market_floor.specs.Floor.{FloorState}
 use Rattle.market_floor.specs.Reaction.{reaction}
 use Rattle.market_floor.specs.Ruled.{applied_by, ruled}
 use Rattle.kernel_core.specs.State.{State}
-use Rattle.kernel_core.specs.Step.{Fits, Happened, end_of, event_back, event_delivered, event_of, in_force}
+use Rattle.kernel_core.specs.Step.{Fits, Happened, end_of, event_back, event_delivered, event_of}
 use Rattle.kernel_core.proofs.Runs.{event-busy, event-free, going-whole, going_below, next-time}
 use Rattle.kernel_copy.specs.Reached.{IsReached, IsReachedFloor}
 use Rattle.kernel_copy.proofs.Floors.{ShortLaws, reached-later, reached-ruled, reacted-is, ruled-before}

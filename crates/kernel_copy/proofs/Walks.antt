@@ -1,19 +1,16 @@
 -- Runs along a branch's path.
-use Rattle.std.proofs.Common.{◌≡◌, ℕ, ◌+◌, ◌-◌, ◌<◌, ◌≤◌, ◌⊎◌, inl, inr, true, false, cond, leb, eqb, List, [], ◌∷◌, ◌++◌, Option, Some, None, length, drop, get_or, append-nil, refl, sym, ap, ◌∙◌, arith, suc, zero, subst}
+use Rattle.std.proofs.Common.{◌≡◌, ℕ, ◌+◌, ◌-◌, ◌<◌, ◌≤◌, inl, inr, List, [], ◌∷◌, ◌++◌, Option, Some, None, length, append-nil, refl, sym, ap, ◌∙◌, arith, suc, zero, subst}
 use Rattle.std.proofs.lemmas.Bool.{cases_eq, cases_lt, eq-eqb, ne_eqb, le-leb, lt-leb}
 use Rattle.branch_tree.specs.declared.branch.Branch.{Branch}
 use Rattle.branch_tree.specs.declared.segment.Segment.{Segment}
 use Rattle.branch_tree.specs.Plan.{Plan, branch_at, parent_at, stop_at}
-use Rattle.branch_tree.specs.Paths.{path_of}
-use Rattle.branch_tree.specs.Segments.{segments_in, segment_at, no_segment, last_of}
-use Rattle.branch_tree.specs.Planned.{IsTree, IsNext, IsFork, HasParent, ParentIs, IsPlanned, ArePlanned}
-use Rattle.branch_tree.proofs.PathLemmas.{path-root, rest-more}
-use Rattle.branch_tree.proofs.PartLemmas.{IsPart, last-at, planned}
+use Rattle.branch_tree.specs.Segments.{segments_in, segment_at, last_of}
+use Rattle.branch_tree.specs.Planned.{IsTree, IsNext, IsFork, HasParent, ParentIs, IsPlanned}
+use Rattle.branch_tree.proofs.PathLemmas.{rest-more}
+use Rattle.branch_tree.proofs.PartLemmas.{last-at, planned}
 use Rattle.market_types.specs.Told.{EntryTold}
 use Rattle.market_opening.specs.declared.opening.Opening.{Opening}
-use Rattle.kernel_core.specs.State.{State}
 use Rattle.kernel_core.specs.Until.{Run, behind, until}
-use Rattle.kernel_core.specs.Edited.{edited}
 use Rattle.kernel_core.proofs.EditRuns.{edited-events, edited-behind}
 use Rattle.kernel_core.proofs.Stops.{until-grows, until-within, until-again, until-until, until-behind}
 use Rattle.kernel_copy.specs.Full.{opening_run, edited_by, forked, forks_of, begun, reach, full_along, full}

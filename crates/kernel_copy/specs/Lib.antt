@@ -3,4 +3,3 @@ pub mod Segmentwise
 pub mod Reached
 pub mod Courses
 pub mod Outcomes
-pub mod Worked

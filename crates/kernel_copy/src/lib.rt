@@ -13,6 +13,3 @@ pub use checkpoint::Checkpoint;
 pub use course::Course;
 pub use run::{Outcome, run_segments};
 pub use shelf_core::Key;
-
-#[cfg(test)]
-mod tests;

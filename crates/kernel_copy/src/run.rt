@@ -1,6 +1,6 @@
 //! Running the segments of a course one after another.
 
-ghost use Rattle.std.specs.Prelude.{◌≡◌, ◌<◌, ◌≤◌, ◌+◌, ◌^◌, ℕ, [], ◌∷◌, ◌++◌, Some, None, OnOk, IfOk, length, map, option_map, nat_lt, All};
+ghost use Rattle.std.specs.Prelude.{◌≡◌, ◌<◌, ◌≤◌, ◌+◌, ◌^◌, [], ◌∷◌, ◌++◌, Some, None, OnOk, IfOk, length, map, option_map, nat_lt, All};
 ghost use Rattle.branch_tree.specs.Planned.{IsTree};
 ghost use Rattle.branch_tree.specs.Segments.{segments_in, segment_at, last_of};
 ghost use Rattle.kernel_core.specs.Edited.{IsEditOf, edited_from};
@@ -8,7 +8,7 @@ ghost use Rattle.kernel_core.specs.Open.{opened};
 ghost use Rattle.kernel_core.specs.Step.{Fits};
 ghost use Rattle.market_closing.specs.Closing.{closing_at};
 ghost use Rattle.kernel_copy.specs.Courses.{kept_of, kept_before};
-ghost use Rattle.kernel_copy.specs.Outcomes.{outcome_told, outcome_of, outcomes_before};
+ghost use Rattle.kernel_copy.specs.Outcomes.{outcome_told, outcomes_before};
 ghost use Rattle.kernel_copy.specs.Reached.{IsReached};
 ghost use Rattle.kernel_copy.specs.Segmentwise.{segment_end, segment_run, started_from, started_at, own_count, distinct};
 

@@ -5,6 +5,3 @@ mod closing;
 pub mod laws;
 
 pub use closing::closing_of;
-
-#[cfg(test)]
-mod tests;

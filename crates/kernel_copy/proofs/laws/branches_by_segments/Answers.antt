@@ -1,6 +1,5 @@
-use Rattle.std.proofs.Common.{◌≡◌, ◌<◌, ◌≤◌, ℕ, ◌+◌, arith}
+use Rattle.std.proofs.Common.{arith}
 use Rattle.branch_tree.proofs.TreeLemmas.{tree_from}
-use Rattle.branch_tree.specs.Segments.{segment_at}
 use Rattle.kernel_copy.proofs.Walks.{segment-first, segment-next, segment-fork, segment-copy, segment-after, segment-before, segment-starts, segment-ends, segment-grows, full-last}
 use Rattle.kernel_copy.proofs.Chains.{full-entries, full-events}
 use Rattle.kernel_copy.proofs.laws.branches_by_segments.Goals as goal

@@ -1,13 +1,12 @@
-use Rattle.std.proofs.Common.{◌≡◌, ◌<◌, ◌+◌, ℕ, List, ◌∷◌, drop, length, All, sym, ap, ◌∙◌, subst, arith}
+use Rattle.std.proofs.Common.{◌≡◌, ◌+◌, ℕ, List, ◌∷◌, drop, sym, ap, ◌∙◌, subst, arith}
 use Rattle.std.proofs.lemmas.List.{drop_more}
 use Rattle.std.proofs.lemmas.List.Elements.{All-get_or}
 use Rattle.market_rules.specs.declared.edit.Edit.{Edit}
 use Rattle.kernel_core.specs.Edited.{IsEditOf, edited_from}
 use Rattle.kernel_core.specs.Open.{opened}
-use Rattle.kernel_core.specs.State.{State}
 use Rattle.kernel_core.specs.Until.{Run}
 use Rattle.kernel_copy.specs.Reached.{IsReached}
-use Rattle.kernel_copy.proofs.Reaching.{IsRoomy, edit-of, one-reached, roomy}
+use Rattle.kernel_copy.proofs.Reaching.{edit-of, one-reached, roomy}
 use Rattle.kernel_copy.proofs.run.apply_all.Goals as goal
 
 pub apply-requires-clause-edit : goal.apply-requires-clause-edit

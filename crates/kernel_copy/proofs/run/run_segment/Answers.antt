@@ -1,9 +1,9 @@
-use Rattle.std.proofs.Common.{◌≡◌, ◌<◌, ◌≤◌, ◌+◌, ℕ, sym, ap, ◌∙◌, arith, length, rules}
+use Rattle.std.proofs.Common.{◌≡◌, ap, ◌∙◌, arith}
 use Rattle.branch_tree.specs.declared.segment.Segment.{Segment}
 use Rattle.branch_tree.specs.Segments.{segment_at}
 use Rattle.market_opening.specs.declared.opening.Opening.{Opening}
 use Rattle.kernel_core.specs.Until.{Run, until}
-use Rattle.kernel_copy.specs.Segmentwise.{started_at, segment_run}
+use Rattle.kernel_copy.specs.Segmentwise.{segment_run}
 use Rattle.kernel_copy.specs.Courses.{CourseTold}
 use Rattle.kernel_copy.proofs.Walks.{own-is}
 use Rattle.kernel_copy.proofs.Trees.{course-tree}

@@ -1,4 +1,4 @@
-use Rattle.std.proofs.Common.{◌≡◌, ◌<◌, ◌≤◌, ◌+◌, ◌^◌, ℕ, List, Option, subst, option_map, Global, map, length, sym, ap, ◌∙◌, arith}
+use Rattle.std.proofs.Common.{◌≡◌, ◌<◌, ◌^◌, List, Option, subst, option_map, Global, map, length, ap, ◌∙◌, arith}
 use Rattle.std.proofs.lemmas.List.{length_push}
 use Rattle.std.specs.declared.sync.Arc.{Arc}
 use Rattle.branch_tree.specs.declared.segment.Segment.{Segment}
@@ -6,7 +6,7 @@ use Rattle.branch_tree.specs.Plan.{Plan}
 use Rattle.branch_tree.specs.Segments.{segments_in, segment_at}
 use Rattle.market_opening.specs.declared.opening.Opening.{Opening}
 use Rattle.kernel_core.specs.Until.{Run}
-use Rattle.kernel_copy.specs.Segmentwise.{own_count, own_before, distinct, segment_run}
+use Rattle.kernel_copy.specs.Segmentwise.{own_count, segment_run}
 use Rattle.kernel_copy.specs.Courses.{CourseTold, CheckpointTold, IsCourse}
 use Rattle.market_closing.specs.Closing.{closing_at}
 use Rattle.kernel_copy.specs.Outcomes.{outcome_told, outcome_of}

@@ -1,7 +1,7 @@
-use Rattle.std.proofs.Common.{◌≡◌, List, get_or, ap, ◌∙◌}
+use Rattle.std.proofs.Common.{List, get_or, ap, ◌∙◌}
 use Rattle.branch_tree.specs.declared.segment.Segment.{Segment}
 use Rattle.branch_tree.specs.Plan.{Plan}
-use Rattle.branch_tree.specs.Segments.{segments_in, segment_at, no_segment}
+use Rattle.branch_tree.specs.Segments.{segments_in, no_segment}
 use Rattle.kernel_copy.specs.Courses.{CourseTold}
 use Rattle.kernel_copy.proofs.Keeping.{segment-facts}
 use Rattle.kernel_copy.proofs.course.Course.segment.Goals as goal

@@ -5,11 +5,13 @@ ghost use Rattle.branch_tree.specs.declared.branch.Branch.{Branch};
 ghost use Rattle.market_opening.specs.Opening.{IsOpening};
 ghost use Rattle.market_opening.specs.Worked.{watcher};
 ghost use Rattle.kernel_copy.specs.Courses.{AreEdits};
-ghost use Rattle.kernel_copy.specs.Worked.{AreBranches, small, two_watchers};
+ghost use Rattle.branch_examples.specs.Worked.{AreBranches, small, two_watchers};
 
-use crate::{Course, run_segments};
 use agent_shell::{Kind, TraderSetting};
 use branch_tree::{Branch, Name, plan};
+use kernel_copy::{Course, run_segments};
+use kernel_core::Kernel;
+use market_closing::closing_of;
 use market_opening::Opening;
 use market_opening::worked::{markets_are_openings, opening};
 use market_rules::Edit;
@@ -171,6 +173,31 @@ fn a_branch_of_a_branch(rt: HostRuntime) -> Result<(), Fail> {
     let counts = [6, 0, 0, 0, 1];
     for (outcome, count) in outcomes.iter().zip(counts.as_slice()) {
         assert_eq!(rt; outcome.entries.len(), *count);
+    }
+    Ok(())
+}
+
+// The closing of the opening's state.
+#[test]
+fn the_closing_of_the_opening(rt: HostRuntime) -> Result<(), Fail> {
+    let alloc = rt.alloc();
+    let o = market(alloc)?;
+    let kernel = Kernel::open(alloc, &o)?;
+    let closing = closing_of(alloc, &o, &kernel)?;
+    let counts = closing.counts;
+    assert_eq!(rt; (counts.end, counts.events, counts.time), (b'-', 0, 1000));
+    assert_eq!(rt; (counts.next_seq, counts.waiting, counts.orders), (2, 2, 0));
+    let sizes = (
+        closing.stocks.len(),
+        closing.orders.len(),
+        closing.agents.len(),
+    );
+    assert_eq!(rt; sizes, (1, 0, 3));
+    for agent in closing.agents.as_slice() {
+        assert_eq!(rt;
+            (agent.silenced, agent.time, agent.positions.len()),
+            (false, 1000, 1)
+        );
     }
     Ok(())
 }
