@@ -1,15 +1,14 @@
 -- What is asked for lies in its ranges.
-use Rattle.std.proofs.Common.{ℕ, suc, ◌<◌, ◌≤◌, ◌^◌, Bool, true, false, ◌==◌, List, [], ◌∷◌, ◌≡◌, ◌≢◌, ◌∙◌, Option, Some, None, Result, option_map, option_and_then, if◌then◌else◌, length, codes, bytes_eq, refl, sym, ap, subst, arith}
-use Rattle.std.specs.Prelude.{All, IfOk, IfSome}
+use Rattle.std.proofs.Common.{ℕ, suc, ◌<◌, ◌≤◌, ◌^◌, Bool, true, false, ◌==◌, List, [], ◌∷◌, ◌≡◌, ◌≢◌, Option, Some, None, option_map, option_and_then, if◌then◌else◌, length, codes, bytes_eq, refl, sym, ap, subst, arith}
+use Rattle.std.specs.Prelude.{All, IfSome}
 use Rattle.std.specs.Int.{is_in_range}
 use Rattle.std.specs.Str.Parse.{digits_value}
 use Rattle.std.proofs.lemmas.Bool.Decides.{nat_tests}
-use Rattle.std.proofs.lemmas.Result.{IfOk-weaker}
 use Rattle.std.proofs.lemmas.List.Elements.{All-cons, All-nil}
 use Rattle.command_words.specs.Line.{Parts}
-use Rattle.command_words.specs.Numbers.{is_digits, number_of, count_of}
+use Rattle.command_words.specs.Numbers.{number_of, count_of}
 use Rattle.command_words.specs.Marks.{IsSpelled, mark_before, mark_of, marks_of}
-use Rattle.command_words.specs.Asked.{alone, rewind_of, big_of, command_of, asked_from, asked_in}
+use Rattle.command_words.specs.Asked.{alone, command_of, asked_from, asked_in}
 use Rattle.command_words.specs.Ranges.{IsMark, AreMarks, IsCommand, IsInRange}
 use Rattle.command_words.specs.declared.mark.Mark.{Mark}
 use Rattle.command_words.specs.declared.asked.Command.{Command}

@@ -2,7 +2,7 @@
 use Rattle.std.proofs.Common.{ℕ, true, false, List, ◌≡◌, Option, None, if◌then◌else◌, codes, bytes_eq, sym}
 use Rattle.command_words.specs.Asked.{alone, rewind_of, big_of, command_of}
 use Rattle.command_words.specs.declared.asked.Command.{Command}
-use Rattle.command_words.specs.declared.asked.Command.TheVariants.{Run, Table, Check, Big}
+use Rattle.command_words.specs.declared.asked.Command.TheVariants.{Run, Table, Check}
 
 -- a rewind is no command before it
 pub rewind_is : (name study : List ℕ) (more : List (List ℕ)) → bytes_eq name (codes "run") ≡ false → bytes_eq name (codes "table") ≡ false

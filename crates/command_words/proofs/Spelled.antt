@@ -1,5 +1,5 @@
 -- Words that are marks: a name, a colon, digits.
-use Rattle.std.proofs.Common.{ℕ, ◌+◌, ◌<◌, ◌≤◌, ◌==◌, Bool, true, false, not, cond, List, [], ◌∷◌, ◌++◌, ◌≡◌, ◌∙◌, Option, Some, None, if◌then◌else◌, length, take, drop, get_or, refl, sym, ap, ap₂, arith}
+use Rattle.std.proofs.Common.{ℕ, ◌+◌, ◌<◌, ◌≤◌, ◌==◌, true, false, not, cond, List, [], ◌∷◌, ◌++◌, ◌≡◌, ◌∙◌, Option, Some, None, if◌then◌else◌, length, take, drop, get_or, refl, sym, ap, ap₂, arith}
 use Rattle.std.specs.Int.{is_in_range}
 use Rattle.std.specs.List.{list_all, position_or_len, before_first, after_first}
 use Rattle.std.specs.Str.Parse.{digits_value}
@@ -29,8 +29,7 @@ colon_after (b ∷ bs) rest h =
 -- what stands before and after it
 sides : (name rest : List ℕ) → list_all is_name_byte name ≡ true → (before_first is_colon (name ++ 58 ∷ rest) ≡ name) × (after_first is_colon (name ++ 58 ∷ rest) ≡ rest)
 sides name rest h =
-    let at = colon_after name rest h in
-    (
+    let at = colon_after name rest h in (
       ap (λ n. take n (name ++ 58 ∷ rest)) at ∙ take-append_seam name (58 ∷ rest),
       ap (λ n. drop (n + 1) (name ++ 58 ∷ rest)) at ∙ drop-append-add name (58 ∷ rest) 1,
     )

@@ -1,5 +1,5 @@
 -- The ranges of what words ask for.
-use Rattle.std.specs.Prelude.{ℕ, ◌≡◌, ◌≢◌, ◌≤◌, ◌<◌, List, [], length, true, All}
+use Rattle.std.specs.Prelude.{◌≡◌, ◌≢◌, ◌≤◌, List, [], length, true, All}
 use Rattle.command_words.specs.Marks.{is_branch_name}
 use Rattle.command_words.specs.declared.mark.Mark.{Mark}
 use Rattle.command_words.specs.declared.asked.Command.{Command}

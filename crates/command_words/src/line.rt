@@ -64,11 +64,7 @@ fn first<'a>(matches: &ArgMatches<'a>, id: &str) -> Option<&'a str>
 }
 
 // The values of an argument.
-fn values<'a>(
-    alloc: Global,
-    matches: &ArgMatches<'a>,
-    id: &str,
-) -> Result<Vec<&'a str>, AllocError>
+fn values<'a>(alloc: Global, matches: &ArgMatches<'a>, id: &str) -> Result<Vec<&'a str>, AllocError>
     ensures { IfOk result (λ v. map (λ s. s.now) v.items ≡ unwrap_or (all_of id.now (rows_of (found_of matches.now))) []) }
 {
     match matches.get_strs(id) {

@@ -15,9 +15,10 @@ pub fn taken_lines()
         ≡ Some (record { command = Command.Check (codes "--workers"); workers = 1; places = 16 }) }
     ensures rewind { asked_of (codes "rewind" ∷ codes "s" ∷ codes "root:0" ∷ codes "--workers" ∷ codes "3" ∷ codes "x-1:0027" ∷ [])
         ≡ Some (record {
-            command = Command.Rewind (codes "s") (record { word = codes "root:0"; branch = codes "root"; event = 0 } ∷ record { word = codes "x-1:0027"; branch = codes "x-1"; event = 27 } ∷ []);
-            workers = 3;
-            places = 16 }) }
+          command = Command.Rewind (codes "s") (record { word = codes "root:0"; branch = codes "root"; event = 0 } ∷ record { word = codes "x-1:0027"; branch = codes "x-1"; event = 27 } ∷ []);
+          workers = 3;
+          places = 16;
+        }) }
     ensures big { asked_of (codes "big" ∷ codes "0107" ∷ [])
         ≡ Some (record { command = Command.Big 107; workers = 1; places = 16 }) }
 {}

@@ -1,4 +1,4 @@
-use Rattle.std.proofs.Common.{true, false, ◌≡◌, ◌∙◌, IfOk, map, codes, bytes_eq, rules, tests}
+use Rattle.std.proofs.Common.{true, false, ◌≡◌, ◌∙◌, map, codes, bytes_eq, rules, tests}
 use Rattle.std.proofs.lemmas.Result.{IfOk-weaker}
 use Rattle.command_words.proofs.Names.{none_is, rewind_is}
 use Rattle.command_words.proofs.asked.command_named.Goals as goal

@@ -1,8 +1,8 @@
-use Rattle.std.proofs.Common.{ℕ, ◌<◌, ◌^◌, true, ◌≡◌, ◌∙◌, Some, None, Ok, if◌then◌else◌, ap, sym, arith, rules}
+use Rattle.std.proofs.Common.{◌<◌, ◌^◌, true, ◌≡◌, ◌∙◌, Some, None, Ok, if◌then◌else◌, ap, sym, arith, rules}
 use Rattle.std.specs.Result.{result_ok}
 use Rattle.std.specs.Str.Parse.{digits_value}
 use Rattle.std.proofs.lemmas.Str.Parse.{digits_value_short, parse_gives}
-use Rattle.command_words.specs.Numbers.{is_digits, number_of}
+use Rattle.command_words.specs.Numbers.{is_digits}
 use Rattle.command_words.proofs.Numbers.{numerals, digits_parts}
 use Rattle.command_words.proofs.number.read_number.Goals as goal
 
