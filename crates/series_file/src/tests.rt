@@ -16,6 +16,7 @@ fn rows_are_read(rt: HostRuntime) -> Result<(), Fail> {
     let alloc = rt.alloc();
     let raw = read_tables(alloc, STOCKS)?;
     let stocks = list_at(&raw.table, "stock");
+    assert!(rt; stocks.len() == 3);
     let text = b"symbol,time,value\nQ,5,7\nXYZ,00900,99000\n\n\"Q\",6,1999999900\r\n";
     let tables = read_series(alloc, stocks, text)?;
     assert!(rt; tables.rows(0).is_empty() && tables.rows(3).is_empty());
