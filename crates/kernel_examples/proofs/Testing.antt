@@ -92,38 +92,3 @@ plain-edit o s (Inject agent after message) f p =
     let some : 1 ≤ length s.floor.parties = omega (arith, f.opening.some_trader, f.traders) in
     record { among = grind (arith, nat_tests); range = grind (arith, nat_tests); parameter = tt }
 plain-edit o s (Series stock offset) f p = absurd p
-
-watcher-delay : IsOwnParam Watcher parameter.Delay 7
-watcher-delay = lit≤ tt
-
--- the first state of a market of one watcher takes each kind of edit
-pub each-possible : (close limit delay first : ℕ) → All (λ (e : Edit). IsEditOf (opened (market_of close limit delay (trader Watcher first ∷ []))) e) each_kind
-each-possible close limit delay first =
-    All-from_recursion (λ (e : Edit). IsEditOf (opened (market_of close limit delay (trader Watcher first ∷ []))) e) each_kind
-    (record { among = refl; range = refl; parameter = tt }, (record { among = refl; range = refl; parameter = tt }, (record { among = refl; range = refl; parameter = tt }, (record { among = refl; range = refl; parameter = tt }, (record { among = refl; range = refl; parameter = tt }, (record { among = refl; range = refl; parameter = watcher-delay }, (record { among = refl; range = refl; parameter = tt }, (record { among = refl; range = refl; parameter = tt }, (record { among = refl; range = refl; parameter = tt }, tt)))))))))
-
--- An opening with other dated changes.
-abbrev pub with_dated : Opening → List Dated → Opening
-with_dated o ds = record o { dated = ds }
-
-moved-series : (o : Opening) (ds : List Dated) (k : ℕ) (m : Made) → IsSeriesFor o k m → IsSeriesFor (with_dated o ds) k m
-moved-series o ds k (by_rule m) h = record { key = h.key; stock = h.stock; start = h.start; close = h.close; rule = h.rule; steps = h.steps }
-moved-series o ds k (by_rows rows) h = record { rows = h.rows; first = h.first }
-
-pub dated-opening : (o : Opening) (ds : List Dated) → IsOpening o → AreDated (with_dated o ds) → IsOpening (with_dated o ds)
-dated-opening o ds h d = record {
-  close = h.close;
-  start = h.start;
-  some = h.some;
-  limit = h.limit;
-  groups = h.groups;
-  exchange_group = h.exchange_group;
-  exchange_delay = h.exchange_delay;
-  market = h.market;
-  stocks = h.stocks;
-  series = record { count = h.series.count; each = λ k within. moved-series o ds k _ (h.series.each k within) };
-  dated = d;
-  some_trader = h.some_trader;
-  traders = All-weaker (λ (s : TraderSetting). IsTraderOf o s) (λ (s : TraderSetting). IsTraderOf (with_dated o ds) s)
-    (λ s q. record { setting = q.setting; group = q.group; stock = q.stock; start = q.start; first = q.first; wobble = q.wobble }) o.traders h.traders;
-}
