@@ -2,6 +2,3 @@
 #![tactic(auto)]
 
 pub mod worked;
-
-#[cfg(test)]
-mod tests;

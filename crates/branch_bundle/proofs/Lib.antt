@@ -1,3 +1,0 @@
-pub mod Feeds
-pub mod Entries
-pub mod Held

@@ -1,5 +1,0 @@
-//! Worked branches over the code.
-#![tactic(auto)]
-
-#[cfg(test)]
-mod tests;
