@@ -9,9 +9,9 @@ ghost use Rattle.kernel_core.specs.Step.{Fits};
 ghost use Rattle.kernel_examples.specs.Examples.{IsPlain};
 
 use agent_shell::{Kind, TraderSetting};
-use kernel_core::{Kernel, Opening};
+use kernel_core::{Kernel, Opening, Stepped};
 use market_opening::worked::{markets_are_openings, opening};
-use market_rules::Edit;
+use market_rules::{Band, Edit, FeeTable, Param, TickTable};
 use market_types::{End, Enter, Entry, Inbound, Memory, Side, Symbol, Time, Token, Trace};
 use outside::{Counted, Steps};
 use std::alloc::{AllocError, Global};
@@ -183,6 +183,81 @@ fn latency(base: Time, jitter: u32) -> Edit
         base,
         jitter,
     }
+}
+
+// One step, and by how much the counter rose.
+fn stepped(
+    alloc: Global,
+    o: &Opening,
+    kernel: &mut Kernel,
+    trace: &mut Trace,
+) -> Result<(Stepped, u64), Memory>
+    requires { Fits o.now kernel.old }
+    ensures { Fits o.now kernel.new }
+{
+    let mut steps: Steps<Counted> = Steps::new();
+    let answer = kernel.step(alloc, o, trace, &mut steps);
+    let ticks = steps.close();
+    Ok((answer?, ticks))
+}
+
+#[test]
+fn a_step_is_one_event_and_one_tick(rt: HostRuntime) -> Result<(), Fail> {
+    let alloc = rt.alloc();
+    let o = market(alloc, 1005, 0, &[(Kind::Watcher, 1000)])?;
+    let mut trace = Trace::new(alloc);
+    let mut kernel = Kernel::open(alloc, &o)?;
+    let first = stepped(alloc, &o, &mut kernel, &mut trace)?;
+    let second = stepped(alloc, &o, &mut kernel, &mut trace)?;
+    let third = stepped(alloc, &o, &mut kernel, &mut trace)?;
+    assert!(rt; first == (Stepped::Event(1), 1) && second == (Stepped::Event(2), 1));
+    assert!(rt; third == (Stepped::Ended(End::Closed), 0) && trace.len() == 2);
+    Ok(())
+}
+
+// Ticks of five cents for the first stock.
+fn ticks(alloc: Global) -> Result<Edit, Memory>
+    ensures { IfOk result IsPlain }
+{
+    let Ok(table) = TickTable::new(alloc, &[Band { from: 0, tick: 500 }]) else {
+        return Err(Memory);
+    };
+    Ok(Edit::Tick { stock: 0, table })
+}
+
+// The letter of an edit's mark, 0 of an event.
+fn letter_of(entry: &Entry) -> u8 {
+    match entry {
+        Entry::Event(_) => 0,
+        Entry::Edit(mark) => mark.letter,
+    }
+}
+
+#[test]
+fn each_kind_of_edit_is_made(rt: HostRuntime) -> Result<(), Fail> {
+    let alloc = rt.alloc();
+    let o = market(alloc, 2000, 0, &[(Kind::Watcher, 1000)])?;
+    let fees = FeeTable { add: 0, take: 0 };
+    let name = Param::Delay;
+    let (agent, stock, value, offset) = (1, 0, 7, -5);
+    let edits = [
+        (0, ticks(alloc)?),
+        (0, Edit::Fee { stock, fees }),
+        (0, Edit::Halt { stock }),
+        (0, Edit::Resume { stock }),
+        (0, latency(7, 9)),
+        (0, Edit::Agent { agent, name, value }),
+        (0, Edit::Silence { agent }),
+        (0, order(b'A', 100)),
+        (0, Edit::Series { stock, offset }),
+    ];
+    let mut trace = Trace::new(alloc);
+    let kernel = branch(alloc, &o, &edits, 0, &mut trace)?;
+    let letters = trace.as_slice().iter().map(letter_of);
+    assert!(rt; letters.eq(b"tfhrlpsiv".iter().copied()));
+    assert!(rt; kernel.silenced(1) && kernel.offset(0) == -5 && kernel.counts().waiting == 2);
+    assert!(rt; kernel.exchange().ticks(0).tick_at(100_100) == 500);
+    Ok(())
 }
 
 #[test]
