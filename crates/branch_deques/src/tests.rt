@@ -1,5 +1,7 @@
 //! Two lanes, of which the second takes from the first.
 
+mod thief;
+
 ghost use Rattle.std.specs.Prelude.{◌≡◌, []};
 
 use crate::{Lane, Memory, Room, open_lanes};
@@ -29,7 +31,7 @@ fn share_three<B: Room, R: Wait>(
     push_three(&mut first);
     take_some(rt, &mut second, &mut got)?;
     let stolen = got.len();
-    pop_some(&mut first, &mut got)?;
+    pop_some(&mut first, 4, &mut got)?;
     let all_stolen = got.len() == stolen;
     Ok((got, all_stolen))
 }
@@ -56,8 +58,9 @@ fn take_some<B: Room, R: Wait>(
     Ok(())
 }
 
-fn pop_some<B: Room>(lane: &mut Lane<B>, got: &mut Vec<u32>) -> Result<(), Memory> {
-    for _ in 0..4 {
+// Pops so many times.
+fn pop_some<B: Room>(lane: &mut Lane<B>, tries: u32, got: &mut Vec<u32>) -> Result<(), Memory> {
+    for _ in 0..tries {
         if let Some(segment) = lane.pop() {
             got.push(segment)?;
         }

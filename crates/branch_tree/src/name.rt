@@ -49,6 +49,14 @@ impl Name {
         &self.bytes[..self.len]
     }
 
+    /// How many bytes it has: 1 to 32.
+    pub fn len(&self) -> usize
+        ensures value { result ≡ length self.now }
+        ensures few { result ≤ 32 }
+    {
+        self.len
+    }
+
     /// An equal name.
     pub fn copy(&self) -> Name
         ensures { result ≡ self.now }

@@ -2,11 +2,13 @@
 
 mod abandoned;
 mod closing;
+mod hammer;
 mod seats;
 
 ghost use Rattle.std.specs.Prelude.{◌≡◌, ◌<◌, IsSome, Some};
 ghost use Rattle.shelf_core.specs.Plan.{place_of};
 
+use self::seats::refusal;
 use crate::{Begun, Found, Kept, Key, PlaceWord, Shelf, ShelfPlan, ShelfSeat};
 use plain_lists::{Memory, Sequence};
 use std::alloc::Global;
@@ -58,28 +60,33 @@ fn two_seats(
         return Ok(seen);
     }
     seen.push(!shelf.claim(one, k.segment))?;
-    seen.push(is_free(&shelf.find(one, k)?))?;
+    seen.push(is_not_yet(&shelf.find(one, k)?, PlaceWord::Free))?;
     let value = Arc::new(alloc, Item { key: k, course: 7 })?;
     match shelf.begin(zero, k) {
         Begun::Taken(_) => {}
         Begun::Turn(turn) => {
+            let during = shelf.find(one, k);
+            let again = refusal(shelf, zero, k);
             shelf.publish(zero, turn, value);
             shelf.count(zero);
+            seen.push(is_not_yet(&during?, PlaceWord::Writing(0)))?;
+            seen.push(again == Some(PlaceWord::Writing(0)))?;
         }
     }
     if let Ok(Found::Here(found)) = shelf.find(one, k) {
         seen.push(found.key() == k)?;
     }
+    seen.push(refusal(shelf, zero, k) == Some(PlaceWord::Ready(k)))?;
     shelf.stop(one);
     let progress = shelf.progress(zero);
     seen.push(progress.stopped && progress.done == 1)?;
     Ok(seen)
 }
 
-fn is_free(found: &Found<Item>) -> bool {
+fn is_not_yet(found: &Found<Item>, expected: PlaceWord) -> bool {
     match found {
         Found::Here(_) => false,
-        Found::NotYet(word) => *word == PlaceWord::Free,
+        Found::NotYet(word) => *word == expected,
     }
 }
 
@@ -112,6 +119,6 @@ fn two_seats_at_one_fork(rt: HostRuntime) -> Result<(), Fail> {
         return Err(Fail::from("no seats, or no place"));
     }
     let seen = two_seats(rt.alloc(), &shelf, &mut zero, &mut one, k, other)?;
-    assert_eq!(rt; seen.as_slice(), [true; 5].as_slice());
+    assert_eq!(rt; seen.as_slice(), [true; 8].as_slice());
     Ok(())
 }

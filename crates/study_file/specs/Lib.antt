@@ -1,2 +1,6 @@
 pub mod Tables
 pub mod Items
+pub mod Keys
+pub mod KeyRules
+pub mod Values
+pub mod Worked

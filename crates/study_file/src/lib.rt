@@ -1,12 +1,22 @@
-//! A study file as TOML tables: what its bytes say, before any rule is tested.
+//! A study file as TOML tables: what its bytes say, and whether a table has its keys with their types and no other.
 #![tactic(auto)]
 
+mod entries;
+mod keys;
 mod look;
 mod raw;
+mod values;
+pub mod worked;
 
+pub use entries::{EntryRule, first_failing};
+pub use keys::{Key, Kind, broken_key, has_form, has_keys, is_hex, needed, own, spare};
 pub use look::{array_at, has_only, integer_at, member, only_item, pair_of, table_at, text_at};
-pub use raw::{RawStudy, StudyError, read_tables};
+pub use raw::{RawStudy, StudyError, read_tables, series_name};
 pub use toml::{Table, Value};
+pub use values::{
+    broken_unless, has_between, is_at_most, is_between, list_at, list_in, number_at, number_in,
+    number_or, string_at,
+};
 
 #[cfg(test)]
 mod tests;

@@ -1,9 +1,10 @@
 //! The table that a study's bytes say.
 
-ghost use Rattle.std.specs.Prelude.{◌≡◌, IfOk, IfErr, None, Some};
+ghost use Rattle.std.specs.Prelude.{◌≡◌, IfOk, IfErr, None, Some, codes, option_map};
 ghost use Rattle.toml.specs.View.{table_view};
-ghost use Rattle.study_file.specs.Tables.{table_of};
+ghost use Rattle.study_file.specs.Tables.{table_of, text_at as string_at};
 
+use crate::look::text_at;
 use std::alloc::Global;
 use thiserror::Error;
 use toml::Table;
@@ -38,4 +39,11 @@ pub fn read_tables(alloc: Global, bytes: &[u8]) -> Result<RawStudy, StudyError>
             }
         }
     }
+}
+
+/// The name of the series file, where the study's `series` is a text.
+pub fn series_name(raw: &RawStudy) -> Option<&str>
+    ensures { option_map (λ name. name.now) result ≡ string_at (codes "series") (table_view raw.now.table) }
+{
+    text_at(&raw.table, "series")
 }

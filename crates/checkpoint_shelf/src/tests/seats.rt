@@ -1,6 +1,6 @@
 //! Plans and seats for the tests.
 
-ghost use Rattle.std.specs.Prelude.{◌≡◌, ◌<◌, IfOk, IfSome, IsSome, IsTrue, Some, length, []};
+ghost use Rattle.std.specs.Prelude.{◌≡◌, ◌<◌, ◌+◌, IfOk, IfSome, IsFalse, IsSome, IsTrue, Some, length, []};
 ghost use Rattle.std.specs.Arc.{arc_value};
 ghost use Rattle.shelf_core.specs.Plan.{place_of};
 ghost use Rattle.shelf_core.specs.Views.{new_view, times};
@@ -9,7 +9,7 @@ ghost use Rattle.checkpoint_shelf.specs.Plans.{PlanFits};
 ghost use Rattle.checkpoint_shelf.specs.Seats.{NewFrom};
 
 use super::Item;
-use crate::{Begun, Key, Shelf, ShelfPlan, ShelfSeat};
+use crate::{Begun, Key, PlaceWord, Shelf, ShelfPlan, ShelfSeat};
 use plain_lists::{Memory, Sequence};
 use std::alloc::Global;
 use std::sync::Arc;
@@ -68,6 +68,9 @@ pub(super) fn claimed(shelf: &Shelf<Item>, seat: &mut ShelfSeat<Item>, segment: 
     ensures turns { seat.new.view.turns ≡ seat.old.view.turns }
     ensures mine { IsTrue result → 0 < times segment seat.new.view.claims }
     ensures more { IsTrue result → seat.new.view.counts < length seat.new.view.claims }
+    ensures counts { seat.new.view.counts ≡ seat.old.view.counts }
+    ensures one { IsTrue result → length seat.new.view.claims ≡ length seat.old.view.claims + 1 }
+    ensures none { IsFalse result → seat.new.view.claims ≡ seat.old.view.claims }
 {
     shelf.claim(seat, segment)
 }
@@ -95,6 +98,24 @@ pub(super) fn fill(
                 None => shelf.abandon(seat, turn),
             }
             true
+        }
+    }
+}
+
+// The word at which `begin` of a key gives no turn; a turn is spent with no value.
+pub(super) fn refusal(shelf: &Shelf<Item>, seat: &mut ShelfSeat<Item>, k: Key) -> Option<PlaceWord>
+    requires seat { seat.old.shelf ≡ Some shelf.now }
+    requires claim { 0 < times k.segment seat.old.view.claims }
+    requires place { IsSome (place_of shelf.now.plan k) }
+    ensures same { seat.new.shelf ≡ seat.old.shelf }
+    ensures stays { Stays seat.old.view seat.new.view }
+    ensures turns { seat.new.view.turns ≡ seat.old.view.turns }
+{
+    match shelf.begin(seat, k) {
+        Begun::Taken(word) => Some(word),
+        Begun::Turn(turn) => {
+            shelf.abandon(seat, turn);
+            None
         }
     }
 }

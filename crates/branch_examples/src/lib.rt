@@ -1,0 +1,5 @@
+//! Worked branches over the code.
+#![tactic(auto)]
+
+#[cfg(test)]
+mod tests;

@@ -1,0 +1,5 @@
+mod InRange
+mod Marks
+mod Names
+mod Numbers
+mod Spelled

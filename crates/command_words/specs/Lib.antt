@@ -1,0 +1,5 @@
+pub mod Line
+pub mod Numbers
+pub mod Marks
+pub mod Asked
+pub mod Ranges

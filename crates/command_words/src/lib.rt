@@ -1,0 +1,19 @@
+//! The words of a command line, and what they ask for.
+#![tactic(auto)]
+
+mod asked;
+mod laws;
+mod line;
+mod mark;
+mod number;
+mod text;
+pub mod worked;
+
+pub use asked::{Asked, Command, ask};
+pub use laws::marks_are_spelled;
+pub use mark::Mark;
+pub use plain_lists::{Memory, Sequence};
+pub use text::Text;
+
+#[cfg(test)]
+mod tests;

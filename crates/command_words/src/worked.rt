@@ -1,0 +1,44 @@
+//! What known command lines ask for.
+
+ghost use Rattle.std.specs.Prelude.{◌≡◌, ◌∷◌, [], codes, Some, None};
+ghost use Rattle.command_words.specs.Asked.{asked_of};
+
+use crate::asked::Command;
+
+/// Lines that are command lines.
+pub fn taken_lines()
+    ensures run { asked_of (codes "run" ∷ codes "s" ∷ [])
+        ≡ Some (record { command = Command.Run (codes "s"); workers = 1; places = 16 }) }
+    ensures options { asked_of (codes "--workers" ∷ codes "64" ∷ codes "table" ∷ codes "s" ∷ codes "--places=0" ∷ [])
+        ≡ Some (record { command = Command.Table (codes "s"); workers = 64; places = 0 }) }
+    ensures escaped { asked_of (codes "check" ∷ codes "--" ∷ codes "--workers" ∷ [])
+        ≡ Some (record { command = Command.Check (codes "--workers"); workers = 1; places = 16 }) }
+    ensures rewind { asked_of (codes "rewind" ∷ codes "s" ∷ codes "root:0" ∷ codes "--workers" ∷ codes "3" ∷ codes "x-1:0027" ∷ [])
+        ≡ Some (record {
+          command = Command.Rewind (codes "s") (record { word = codes "root:0"; branch = codes "root"; event = 0 } ∷ record { word = codes "x-1:0027"; branch = codes "x-1"; event = 27 } ∷ []);
+          workers = 3;
+          places = 16;
+        }) }
+    ensures big { asked_of (codes "big" ∷ codes "0107" ∷ [])
+        ≡ Some (record { command = Command.Big 107; workers = 1; places = 16 }) }
+{}
+
+/// Lines that are none.
+pub fn refused_lines()
+    ensures no_words { asked_of [] ≡ None }
+    ensures no_study { asked_of (codes "run" ∷ []) ≡ None }
+    ensures empty_study { asked_of (codes "run" ∷ [] ∷ []) ≡ None }
+    ensures further_word { asked_of (codes "run" ∷ codes "s" ∷ codes "t" ∷ []) ≡ None }
+    ensures unknown_command { asked_of (codes "walk" ∷ codes "s" ∷ []) ≡ None }
+    ensures help { asked_of (codes "run" ∷ codes "s" ∷ codes "--help" ∷ []) ≡ None }
+    ensures unknown_option { asked_of (codes "run" ∷ codes "s" ∷ codes "-x" ∷ []) ≡ None }
+    ensures no_workers { asked_of (codes "run" ∷ codes "s" ∷ codes "--workers=0" ∷ []) ≡ None }
+    ensures many_workers { asked_of (codes "run" ∷ codes "s" ∷ codes "--workers=65" ∷ []) ≡ None }
+    ensures five_digits { asked_of (codes "run" ∷ codes "s" ∷ codes "--workers=00003" ∷ []) ≡ None }
+    ensures many_places { asked_of (codes "run" ∷ codes "s" ∷ codes "--places=129" ∷ []) ≡ None }
+    ensures twice { asked_of (codes "run" ∷ codes "s" ∷ codes "--places=1" ∷ codes "--places=1" ∷ []) ≡ None }
+    ensures no_marks { asked_of (codes "rewind" ∷ codes "s" ∷ []) ≡ None }
+    ensures no_event { asked_of (codes "rewind" ∷ codes "s" ∷ codes "root:" ∷ []) ≡ None }
+    ensures eight_digits { asked_of (codes "rewind" ∷ codes "s" ∷ codes "root:00000001" ∷ []) ≡ None }
+    ensures large_number { asked_of (codes "big" ∷ codes "10000" ∷ []) ≡ None }
+{}

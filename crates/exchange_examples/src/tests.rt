@@ -1,0 +1,110 @@
+//! One exchange for the tests.
+
+mod bytes;
+mod limits;
+
+ghost use Rattle.std.specs.Prelude.{◌≡◌, ◌≤◌, ◌<◌, ◌+◌, ◌^◌, length, All};
+
+use exchange_agent::{Exchange, Handled, StockRules};
+use market_rules::{Band, FeeTable, TickTable};
+use market_types::{AgentNo, Body, Enter, Inbound, Side, Symbol, Time, Token};
+use std::alloc::Global;
+use std::process::Abort;
+
+const ABM: Symbol = Symbol(*b"ABM     ");
+
+// The exchange of one stock with a tick of a cent, fees of -20 and 30 millionths a share, and three traders.
+fn opened(rt: &impl Abort, alloc: Global) -> Exchange
+    ensures traders { length result.cash ≡ 3 }
+    ensures stocks { length result.stocks ≡ 1 }
+    ensures enters { result.counts.enters ≡ 0 }
+    ensures cancels { result.counts.cancels ≡ 0 }
+{
+    let Ok(ticks) = TickTable::new(alloc, &[Band { from: 0, tick: 100 }]) else {
+        panic!(rt; "no table");
+    };
+    let rules = [StockRules {
+        symbol: ABM,
+        ticks,
+        fees: FeeTable { add: -20, take: 30 },
+    }];
+    let Ok(exchange) = Exchange::open(alloc, &rules, &[0, 0, 0]) else {
+        panic!(rt; "no exchange");
+    };
+    exchange
+}
+
+// A digit of a number: that of a power of ten.
+fn digit(n: u32, power: u32) -> u8
+    requires { 0 < power }
+{
+    b'0' + (n / power % 10) as u8
+}
+
+// The n-th token of trader 1.
+fn token(n: u32) -> Token {
+    Token([
+        b'T',
+        b'0',
+        b'0',
+        b'0',
+        b'1',
+        digit(n, 100_000_000),
+        digit(n, 10_000_000),
+        digit(n, 1_000_000),
+        digit(n, 100_000),
+        digit(n, 10_000),
+        digit(n, 1000),
+        digit(n, 100),
+        digit(n, 10),
+        digit(n, 1),
+    ])
+}
+
+// An order for the day with that token.
+fn order(n: u32, side: Side, shares: u32, price: u32) -> Enter {
+    Enter {
+        token: token(n),
+        side,
+        shares,
+        stock: ABM,
+        price,
+        tif: 99_999,
+        firm: *b"ABID",
+        display: b'Y',
+        capacity: b'P',
+        sweep: b'N',
+        minimum: 0,
+        cross: b'N',
+        customer: b'N',
+    }
+}
+
+// What comes of a message that is handled at a time.
+fn sent(
+    rt: &impl Abort,
+    alloc: Global,
+    exchange: &mut Exchange,
+    time: Time,
+    from: AgentNo,
+    inbound: Inbound,
+) -> Handled
+    requires trader { 1 ≤ from }
+    requires exists { from ≤ length exchange.old.cash }
+    requires enters { exchange.old.counts.enters < 2 ^ 62 }
+    requires cancels { exchange.old.counts.cancels < 2 ^ 62 }
+    ensures traders { length exchange.new.cash ≡ length exchange.old.cash }
+    ensures stocks { length exchange.new.stocks ≡ length exchange.old.stocks }
+    ensures enters { exchange.new.counts.enters ≤ exchange.old.counts.enters + 1 }
+    ensures cancels { exchange.new.counts.cancels ≤ exchange.old.counts.cancels + 1 }
+    ensures times { All (λ f. f.time ≡ time) result.feed.list }
+{
+    let mut out = Handled::new(alloc);
+    if exchange
+        .handle(time, from, &Body::Order(inbound), &mut out)
+        .is_err()
+    {
+        panic!(rt; "out of memory");
+    }
+    out
+}

@@ -1,0 +1,91 @@
+//! Orders, replies and feed byte by byte.
+
+use super::{opened, order, sent};
+use exchange_agent::Handled;
+use itch_codec::encode_feed;
+use market_types::{AgentNo, Body, Enter, Inbound, Side};
+use ouch_codec::{decode_in, encode_enter, encode_reply};
+
+// An Enter of trader 1: to buy 999,999 shares at 10 dollars.
+const ENTER: [u8; 49] =
+    *b"OT0001000000001B\0\x0f\x42\x3fABM     \0\x01\x86\xa0\0\x01\x86\x9fABIDYPN\0\0\0\0NN";
+
+// What the exchange answers it at 2000 nanoseconds, and what it feeds.
+const ACCEPTED: [u8; 66] =
+    *b"A\0\0\0\0\0\0\x07\xd0T0001000000001B\0\x0f\x42\x3fABM     \0\x01\x86\xa0\0\x01\x86\x9fABIDY\0\0\0\0\0\0\0\x01PN\0\0\0\0NL ";
+
+const ADDED: [u8; 36] =
+    *b"A\0\x01\0\0\0\0\0\0\x07\xd0\0\0\0\0\0\0\0\x01B\0\x0f\x42\x3fABM     \0\x01\x86\xa0";
+
+// What it answers to one share more, with the next token.
+const REJECTED: [u8; 24] = *b"J\0\0\0\0\0\0\x07\xd0T0001000000002O";
+
+// Whether the first reply goes to an agent and has these bytes.
+fn is_answered(out: &Handled, agent: AgentNo, bytes: &[u8]) -> bool {
+    match out.get(0) {
+        Some((to, Body::Answer(reply))) => {
+            to == agent && encode_reply(reply).as_slice() == bytes
+        }
+        _ => false,
+    }
+}
+
+// Whether a feed message, from 0, has these bytes.
+fn is_fed(out: &Handled, i: usize, bytes: &[u8]) -> bool {
+    let Some(feed) = out.feed.get(i) else {
+        return false;
+    };
+    if feed.time >= 281_474_976_710_656 {
+        return false;
+    }
+    encode_feed(feed).as_slice() == bytes
+}
+
+#[test]
+fn an_order_is_answered_byte_by_byte(rt: HostRuntime) {
+    let alloc = rt.alloc();
+    let mut exchange = opened(&rt, alloc);
+    let Ok(inbound) = decode_in(&ENTER) else {
+        panic!(rt; "not an order");
+    };
+    let out = sent(&rt, alloc, &mut exchange, 2000, 1, inbound);
+    assert!(rt; is_answered(&out, 1, &ACCEPTED));
+    assert!(rt; is_fed(&out, 0, &ADDED));
+    assert_eq!(rt; (out.len(), out.feed.len(), out.fee), (1, 1, 0));
+    let more = order(2, Side::Buy, 1_000_000, 100_000);
+    let out = sent(&rt, alloc, &mut exchange, 2000, 1, Inbound::Enter(more));
+    assert!(rt; is_answered(&out, 1, &REJECTED));
+    assert_eq!(rt; (out.len(), out.feed.len(), out.fee), (1, 0, 0));
+}
+
+#[test]
+fn an_order_is_spelled_byte_by_byte(rt: HostRuntime) {
+    let first: Enter = order(1, Side::Buy, 999_999, 100_000);
+    assert_eq!(rt; encode_enter(&first).as_slice(), ENTER.as_slice());
+}
+
+// What a sweep of three resting orders feeds at 3000 nanoseconds: three executions, and the rest of the sweep.
+const SWEPT: [&[u8]; 4] = [
+    b"E\0\x01\0\0\0\0\0\0\x0b\xb8\0\0\0\0\0\0\0\x02\0\0\0\xc8\0\0\0\0\0\0\0\x01",
+    b"E\0\x01\0\0\0\0\0\0\x0b\xb8\0\0\0\0\0\0\0\x03\0\0\x01\x2c\0\0\0\0\0\0\0\x02",
+    b"E\0\x01\0\0\0\0\0\0\x0b\xb8\0\0\0\0\0\0\0\x01\0\0\0\x64\0\0\0\0\0\0\0\x03",
+    b"A\0\x01\0\0\0\0\0\0\x0b\xb8\0\0\0\0\0\0\0\x04B\0\0\0\x64ABM     \0\x01\x87\x04",
+];
+
+#[test]
+fn a_sweep_is_fed_byte_by_byte(rt: HostRuntime) {
+    let alloc = rt.alloc();
+    let mut exchange = opened(&rt, alloc);
+    let first = Inbound::Enter(order(1, Side::Sell, 100, 100_100));
+    let second = Inbound::Enter(order(2, Side::Sell, 200, 100_000));
+    let third = Inbound::Enter(order(1, Side::Sell, 300, 100_000));
+    let sweep = Inbound::Enter(order(1, Side::Buy, 700, 100_100));
+    sent(&rt, alloc, &mut exchange, 3000, 2, first);
+    sent(&rt, alloc, &mut exchange, 3000, 2, second);
+    sent(&rt, alloc, &mut exchange, 3000, 3, third);
+    let out = sent(&rt, alloc, &mut exchange, 3000, 1, sweep);
+    for (i, bytes) in SWEPT.into_iter().enumerate() {
+        assert!(rt; is_fed(&out, i, bytes), "feed {i}");
+    }
+    assert_eq!(rt; (out.len(), out.feed.len(), out.fee), (7, 4, 6000));
+}

@@ -1,0 +1,102 @@
+//! The exchange when it is full.
+
+ghost use Rattle.std.specs.Prelude.{◌≡◌, ◌≤◌, length};
+
+use super::{ABM, opened, order, sent};
+use exchange_agent::{Exchange, Handled};
+use market_types::{Body, Cancel, Enter, Inbound, Reply, Side, Symbol};
+use std::alloc::Global;
+use std::process::Abort;
+
+// The reason for which the one reply rejects an order; `A` where it accepts it, and `-` where it is no such reply.
+fn answer(out: &Handled) -> u8 {
+    match out.get(0) {
+        Some((_, Body::Answer(Reply::Rejected { reason, .. }))) => *reason,
+        Some((_, Body::Answer(Reply::Accepted { .. }))) => b'A',
+        _ => b'-',
+    }
+}
+
+// Trader 1 enters so many orders like one, with the tokens of the numbers from 0 on, and each is answered so.
+fn fill(
+    rt: &impl Abort,
+    alloc: Global,
+    exchange: &mut Exchange,
+    orders: u32,
+    like: Enter,
+    expected: u8,
+)
+    requires traders { length exchange.old.cash ≡ 3 }
+    requires enters { exchange.old.counts.enters ≡ 0 }
+    requires cancels { exchange.old.counts.cancels ≡ 0 }
+    ensures traders { length exchange.new.cash ≡ length exchange.old.cash }
+    ensures stocks { length exchange.new.stocks ≡ length exchange.old.stocks }
+    ensures enters { exchange.new.counts.enters ≤ orders }
+    ensures cancels { exchange.new.counts.cancels ≤ orders }
+{
+    for n in 0..orders {
+        let e = Enter {
+            token: super::token(n),
+            ..like
+        };
+        let out = sent(rt, alloc, exchange, 3000, 1, Inbound::Enter(e));
+        assert_eq!(rt; answer(&out), expected, "order {n}");
+    }
+}
+
+#[test]
+fn no_more_orders_rest_than_16384(rt: HostRuntime) {
+    let alloc = rt.alloc();
+    let mut exchange = opened(&rt, alloc);
+    let like = order(0, Side::Buy, 1, 100_000);
+    fill(&rt, alloc, &mut exchange, 16_384, like, b'A');
+    assert_eq!(rt; exchange.stock(0).live, 16_384);
+    // one more is rejected, also where it would trade with another, and its token is remembered
+    let more = order(16_384, Side::Sell, 1, 100_000);
+    let out = sent(&rt, alloc, &mut exchange, 3000, 2, Inbound::Enter(more));
+    assert_eq!(rt;
+        (answer(&out), out.feed.len(), exchange.stock(0).live),
+        (b'O', 0, 16_384)
+    );
+    let out = sent(&rt, alloc, &mut exchange, 3000, 2, Inbound::Enter(more));
+    assert_eq!(rt; (out.len(), exchange.counts().enters), (0, 1));
+    // once one is canceled there is room for one
+    let cancel = Cancel {
+        token: like.token,
+        shares: 0,
+    };
+    sent(&rt, alloc, &mut exchange, 3000, 1, Inbound::Cancel(cancel));
+    assert_eq!(rt; exchange.stock(0).live, 16_383);
+    let next = order(16_385, Side::Buy, 1, 100_000);
+    let out = sent(&rt, alloc, &mut exchange, 3000, 2, Inbound::Enter(next));
+    assert_eq!(rt; (answer(&out), exchange.stock(0).live), (b'A', 16_384));
+    assert_eq!(rt; exchange.counts().orders, 16_385);
+}
+
+#[test]
+fn no_more_tokens_are_remembered_than_131072(rt: HostRuntime) {
+    let alloc = rt.alloc();
+    let mut exchange = opened(&rt, alloc);
+    let like = Enter {
+        stock: Symbol(*b"XYZ     "),
+        ..order(0, Side::Buy, 1, 100_000)
+    };
+    fill(&rt, alloc, &mut exchange, 131_072, like, b'S');
+    // a new token is rejected and not remembered, so it is rejected again
+    let next = order(131_072, Side::Buy, 1, 100_000);
+    let out = sent(&rt, alloc, &mut exchange, 3000, 1, Inbound::Enter(next));
+    assert_eq!(rt; (answer(&out), out.feed.len()), (b'O', 0));
+    let out = sent(&rt, alloc, &mut exchange, 3000, 1, Inbound::Enter(next));
+    assert_eq!(rt; (answer(&out), out.feed.len()), (b'O', 0));
+    // one that is remembered is ignored
+    let out = sent(
+        &rt,
+        alloc,
+        &mut exchange,
+        3000,
+        1,
+        Inbound::Enter(Enter { stock: ABM, ..like }),
+    );
+    assert_eq!(rt; (out.len(), exchange.counts().enters), (0, 1));
+    assert_eq!(rt; (exchange.counts().orders, exchange.stock(0).live), (0, 0));
+}

@@ -1,0 +1,92 @@
+-- The segments of a course, one more at a time.
+use Rattle.std.proofs.Common.{◌≡◌, ℕ, ◌+◌, ◌*◌, ◌^◌, ◌<◌, ◌≤◌, List, [], ◌∷◌, ◌++◌, sum_by, length, take, drop, map, Option, sym, ap, ◌∙◌, arith, suc, zero, add-one}
+use Rattle.std.proofs.lemmas.List.{take_more, take_all, take-append-drop, map-append}
+use Rattle.std.proofs.lemmas.List.Sums.{sum_by-append}
+use Rattle.market_types.specs.Told.{EntryTold}
+use Rattle.bundle_frames.specs.declared.closing.Closing.{Closing}
+use Rattle.branch_tree.specs.declared.segment.Segment.{Segment}
+use Rattle.branch_tree.specs.Plan.{Plan}
+use Rattle.branch_tree.specs.Segments.{segments_in, segment_at, no_segment}
+use Rattle.market_opening.specs.declared.opening.Opening.{Opening}
+use Rattle.kernel_core.specs.State.{State}
+use Rattle.kernel_core.specs.Until.{Run}
+use Rattle.kernel_copy.specs.Segmentwise.{segment_end, segment_run, own_count, own_before, distinct}
+use Rattle.kernel_copy.specs.Courses.{CourseTold, IsCourse, CheckpointTold, kept_of, kept_before}
+use Rattle.market_closing.specs.Closing.{closing_at}
+use Rattle.kernel_copy.specs.Outcomes.{OutcomeTold, outcome_of, outcomes_before}
+use Rattle.kernel_copy.proofs.Trees.{course-tree}
+use Rattle.kernel_copy.proofs.Walks.{segment-copy, segment-within}
+
+-- one segment's events more
+pub own-more : (o : Opening) (p : Plan) (n : ℕ) → n < length (segments_in p) → own_before o p (n + 1) ≡ own_before o p n + own_count o p (segment_at p n)
+own-more o p n l =
+    let own : Segment → ℕ = λ g. own_count o p g in
+    let xs = segments_in p in
+    ap (λ (ys : List Segment). sum_by own ys) (take_more xs n no_segment l)
+    ∙ omega (arith, sum_by-append own (take n xs) (segment_at p n ∷ []))
+
+pub own-part : (o : Opening) (p : Plan) (n : ℕ) → own_before o p n ≤ distinct o p
+own-part o p n =
+    let own : Segment → ℕ = λ g. own_count o p g in
+    let xs = segments_in p in
+    let whole : distinct o p ≡ sum_by own (take n xs ++ drop n xs) = ap (λ (ys : List Segment). sum_by own ys) (sym (take-append-drop n xs)) in
+    omega (arith, sum_by-append own (take n xs) (drop n xs))
+
+-- the events of the segments up to this one are among all
+pub own-most : (o : Opening) (p : Plan) (n : ℕ) → n < length (segments_in p) → own_before o p n + own_count o p (segment_at p n) ≤ distinct o p
+own-most o p n l = omega (arith, own-more o p n l, own-part o p (n + 1))
+
+-- those of all segments
+pub own-all : (o : Opening) (p : Plan) (n : ℕ) → length (segments_in p) ≤ n → own_before o p n ≡ distinct o p
+own-all o p n l = ap (λ (ys : List Segment). sum_by (λ (g : Segment). own_count o p g) ys) (take_all n (segments_in p) l)
+
+-- one outcome more, where a list tells the outcomes of the segments before
+pub outcomes-more : {X : Type 0} (f : X → OutcomeTold) (c : CourseTold) (n : ℕ) (xs : List X) (x : X) → map f xs ≡ outcomes_before c n → f x ≡ outcome_of c n → map f (xs ++ x ∷ []) ≡ outcomes_before c (n + 1)
+outcomes-more f c n xs x h e =
+    map-append f xs (x ∷ []) ∙ ap (λ (ys : List OutcomeTold). ys ++ f x ∷ []) h ∙ ap (λ (y : OutcomeTold). outcomes_before c n ++ y ∷ []) e
+    ∙ sym (ap (λ (m : ℕ). outcomes_before c m) (add-one n))
+
+-- one kept state more
+pub kept-more : {X : Type 0} (f : X → Option CheckpointTold) (c : CourseTold) (n : ℕ) (xs : List X) (x : X) → map f xs ≡ kept_before c n → f x ≡ kept_of c n → map f (xs ++ x ∷ []) ≡ kept_before c (n + 1)
+kept-more f c n xs x h e =
+    map-append f xs (x ∷ []) ∙ ap (λ (ys : List (Option CheckpointTold)). ys ++ f x ∷ []) h ∙ ap (λ (y : Option CheckpointTold). kept_before c n ++ y ∷ []) e
+    ∙ sym (ap (λ (m : ℕ). kept_before c m) (add-one n))
+
+-- a segment's own run ends with its end's state
+pub run-ends : (c : CourseTold) (s : ℕ) (r : Run) → IsCourse c → s < length (segments_in c.plan) → r ≡ segment_run c.opening c.plan (segment_at c.plan s)
+    → r.state ≡ (segment_end c.opening c.plan (segment_at c.plan s)).state
+run-ends c s r h l e =
+    ap (λ (q : Run). q.state) e ∙ sym (ap (λ (q : Run). q.state) (segment-copy c.opening c.plan s (course-tree c h) l))
+
+told-by : (a b m n : ℕ) (xs ys : List EntryTold) (u v : Closing) → a ≡ b → xs ≡ ys → m ≡ n → u ≡ v
+    → ◌≡◌ {A = OutcomeTold} (record { segment = a; entries = xs; events = m; closing = u }) (record { segment = b; entries = ys; events = n; closing = v })
+told-by a b m n xs ys u v p q r t =
+    ap (λ (x : ℕ). let z : OutcomeTold = record { segment = x; entries = xs; events = m; closing = u } in z) p
+    ∙ ap (λ (x : List EntryTold). let z : OutcomeTold = record { segment = b; entries = x; events = m; closing = u } in z) q
+    ∙ ap (λ (x : ℕ). let z : OutcomeTold = record { segment = b; entries = ys; events = x; closing = u } in z) r
+    ∙ ap (λ (x : Closing). let z : OutcomeTold = record { segment = b; entries = ys; events = n; closing = x } in z) t
+
+-- what a segment's own run leaves is its outcome
+pub outcome-is : (c : CourseTold) (s : ℕ) (r : Run) (a m : ℕ) (xs : List EntryTold) (u : Closing) → IsCourse c → s < length (segments_in c.plan)
+    → r ≡ segment_run c.opening c.plan (segment_at c.plan s) → a ≡ s → xs ≡ r.entries → m ≡ r.state.events → u ≡ closing_at c.opening r.state
+    → ◌≡◌ {A = OutcomeTold} (record { segment = a; entries = xs; events = m; closing = u }) (outcome_of c s)
+outcome-is c s r a m xs u h l e number entries events closing =
+    let ends = run-ends c s r h l e in
+    told-by _ _ _ _ _ _ _ _ number (entries ∙ ap (λ (q : Run). q.entries) e) (events ∙ ap (λ (x : State). x.events) ends) (closing ∙ ap (λ (x : State). closing_at c.opening x) ends)
+
+-- a segment has no more events of its own than a study may have
+own-bound : (c : CourseTold) (s : ℕ) → IsCourse c → s < length (segments_in c.plan) → own_count c.opening c.plan (segment_at c.plan s) ≤ 1000000
+own-bound c s h l = omega (arith, segment-within c.opening c.plan s (course-tree c h) l, h.limit, h.opening.limit)
+
+own-bound_before : (c : CourseTold) (n : ℕ) → IsCourse c → n ≤ length (segments_in c.plan) → own_before c.opening c.plan n ≤ n * 1000000
+own-bound_before c zero h l = omega arith
+own-bound_before c (suc n) h l =
+    let more = own-more c.opening c.plan n (omega arith) in
+    let same = ap (λ (m : ℕ). own_before c.opening c.plan m) (add-one n) in
+    omega (arith, own-bound_before c n h (omega arith), own-bound c n h (omega arith))
+
+-- so all segments together have few
+pub distinct-bound : (c : CourseTold) → IsCourse c → length (segments_in c.plan) < 2 ^ 32 → distinct c.opening c.plan < 2 ^ 52
+distinct-bound c h l =
+    let n = length (segments_in c.plan) in
+    omega (arith, own-bound_before c n h (omega arith), own-all c.opening c.plan n (omega arith))

@@ -1,0 +1,70 @@
+-- What is kept of a course's segments.
+use Rattle.std.proofs.Common.{◌≡◌, ℕ, ◌+◌, ◌-◌, ◌<◌, ◌≤◌, inl, inr, List, [], ◌∷◌, ◌++◌, Option, Some, None, length, get_or, map, refl, sym, ap, ◌∙◌, arith, suc, zero, subst}
+use Rattle.std.proofs.lemmas.Bool.{cases_lt, lt-ltb}
+use Rattle.std.proofs.lemmas.List.{get_or_append_left, get_or_push, length_push, get_or-map}
+use Rattle.branch_tree.specs.declared.segment.Segment.{Segment}
+use Rattle.branch_tree.specs.Plan.{Plan}
+use Rattle.branch_tree.specs.Segments.{counted, numbers_of, cuts_of, count_before, last_of, segments_in, segment_at}
+use Rattle.kernel_core.specs.Until.{Run}
+use Rattle.kernel_copy.specs.Segmentwise.{segment_end, after}
+use Rattle.kernel_copy.specs.Courses.{CourseTold, CheckpointTold, IsCourse, IsKeyOf, GoesOnFrom, end_of_segment, kept_of, kept_before}
+use Rattle.kernel_copy.proofs.Trees.{course-tree}
+use Rattle.kernel_copy.proofs.Walks.{planned-at, has_parent, segment-ends}
+
+length-counted : (k n : ℕ) → length (counted k n) ≡ n
+length-counted k zero = refl
+length-counted k (suc n) = omega (arith, length-counted (k + 1) n)
+
+counted-at : (k n i d : ℕ) → i < n → get_or (counted k n) i d ≡ k + i
+counted-at k zero i d h = absurd (omega arith)
+counted-at k (suc n) zero d h = omega arith
+counted-at k (suc n) (suc i) d h = omega (arith, counted-at (k + 1) n i d (omega arith))
+
+-- the last number of a branch's segments
+pub last-number : (p : Plan) (b d : ℕ) → get_or (numbers_of p b) (length (numbers_of p b) - 1) d ≡ last_of p.branches b
+last-number p b d =
+    let n = length (cuts_of p.branches b) in
+    let k = count_before p.branches b in
+    ap (λ (i : ℕ). get_or (counted k (n + 1)) (i - 1) d) (length-counted k (n + 1)) ∙ counted-at k (n + 1) (n + 1 - 1) d (omega arith) ∙ omega arith
+
+pub some-number : (p : Plan) (b : ℕ) → 0 < length (numbers_of p b)
+some-number p b = omega (arith, length-counted (count_before p.branches b) (length (cuts_of p.branches b) + 1))
+
+length-kept : (c : CourseTold) (n : ℕ) → length (kept_before c n) ≡ n
+length-kept c zero = refl
+length-kept c (suc n) = omega (arith, length_push (kept_before c n) (kept_of c n), length-kept c n)
+
+kept-at : (c : CourseTold) (n q : ℕ) → q < n → get_or (kept_before c n) q None ≡ kept_of c q
+kept-at c zero q h = absurd (omega arith)
+kept-at c (suc n) q h = elim (cases_lt q n) [
+  | inl l ↦ get_or_append_left (kept_before c n) (kept_of c n ∷ []) None q (omega (arith, length-kept c n)) ∙ kept-at c n q l
+  | inr m ↦ let same : n ≡ q = omega arith in
+      subst (λ (k : ℕ). get_or (kept_before c n ++ kept_of c n ∷ []) k None ≡ kept_of c k) same (get_or_push (kept_before c n) (kept_of c n) None n (length-kept c n))
+]
+
+-- the end of a segment that isn't its branch's last is kept
+pub kept-end : (c : CourseTold) (n q : ℕ) → q < n → q < last_of c.plan.branches (segment_at c.plan q).branch → get_or (kept_before c n) q None ≡ Some (end_of_segment c q)
+kept-end c n q l u = kept-at c n q l ∙ rw (lt-ltb q (last_of c.plan.branches (segment_at c.plan q).branch) u) refl
+
+-- a segment's end is the course's state at its stop
+pub end-key : (c : CourseTold) (s : ℕ) → IsCourse c → s < length (segments_in c.plan) → IsKeyOf c (record { segment = s; event = (segment_at c.plan s).stop })
+end-key c s h l = record { segment = l; from = (planned-at c.plan s (course-tree c h) l).rises; to = omega arith }
+
+pub end-state : (c : CourseTold) (s : ℕ) → IsCourse c → s < length (segments_in c.plan) → (segment_end c.opening c.plan (segment_at c.plan s)).state ≡ after c.opening c.plan (segment_at c.plan s) (segment_at c.plan s).stop
+end-state c s h l = ap (λ (r : Run). r.state) (segment-ends c.opening c.plan s (course-tree c h) l)
+
+-- what was kept of a segment that isn't its branch's last, read from the list of what was kept
+pub kept-read : {X : Type 0} (f : X → Option CheckpointTold) (xs : List X) (c : CourseTold) (n s : ℕ) (x : X) → map f xs ≡ kept_before c n → s < length xs → s < n
+    → s < last_of c.plan.branches (segment_at c.plan s).branch → x ≡ get_or xs s x → f x ≡ Some (end_of_segment c s)
+kept-read f xs c n s x h within below u at =
+    ap f at ∙ sym (get_or-map f xs s x None within) ∙ ap (λ (ks : List (Option CheckpointTold)). get_or ks s None) h ∙ kept-end c n s below u
+
+-- what a course knows of its segments
+pub segment-facts : (k : CourseTold) (s : ℕ) (g : Segment) → IsCourse k → s < length (segments_in k.plan) → g ≡ segment_at k.plan s
+    → (g.branch < length k.plan.branches) × (g.stop ≤ k.opening.limit) × ((q : ℕ) → g.parent ≡ Some q → GoesOnFrom k.plan s q)
+segment-facts k s g h l e =
+    let p = planned-at k.plan s (course-tree k h) l in (
+      subst (λ (x : Segment). x.branch < length k.plan.branches) (sym e) p.branch,
+      subst (λ (x : Segment). x.stop ≤ k.opening.limit) (sym e) (omega (arith, p.within, h.limit)),
+      λ q is. let n = has_parent k.plan s q (course-tree k h) l (sym (ap (λ (x : Segment). x.parent) e) ∙ is) in record { earlier = n.earlier; unfinished = n.unfinished },
+    )

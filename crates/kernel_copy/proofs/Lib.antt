@@ -1,0 +1,10 @@
+pub mod Trees
+pub mod Floors
+pub mod States
+pub mod Changes
+pub mod Opened
+pub mod Walks
+pub mod Chains
+pub mod Keeping
+pub mod Adding
+pub mod Reaching

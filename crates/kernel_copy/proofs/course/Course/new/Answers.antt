@@ -1,0 +1,10 @@
+use Rattle.kernel_copy.proofs.course.Course.new.Goals as goal
+
+pub invariant_of-result : goal.invariant_of-result
+invariant_of-result c = record {
+  opening = c.requires.opening;
+  limit = c.requires.limit;
+  rooted = c.branches.ensures.rooted;
+  accepted = c.branches.ensures.accepted;
+  edits = c.requires.edits;
+}

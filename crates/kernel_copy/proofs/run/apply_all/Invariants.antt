@@ -1,0 +1,11 @@
+use Rattle.std.proofs.Common.{◌≡◌, ◌+◌, drop}
+use Rattle.kernel_core.specs.Edited.{edited_from}
+use Rattle.kernel_core.specs.Until.{Run}
+use Rattle.kernel_copy.specs.Reached.{IsReached}
+use Rattle.kernel_copy.proofs.run.apply_all.Given as goal
+
+abbrev pub invariant-loop-i : goal.invariant-loop-i
+invariant-loop-i l = record {
+  rest : ◌≡◌ {A = Run} (edited_from l.branch l.i (drop l.i l.edits) (record { state = l.kernel; entries = l.trace.list })) (edited_from l.branch 0 l.edits (record { state = l.initial.kernel; entries = l.initial.trace.list }));
+  reached : IsReached l.o (2032 + l.i) l.kernel;
+}

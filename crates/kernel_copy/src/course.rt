@@ -1,0 +1,83 @@
+//! What all branches of a study share.
+
+ghost use Rattle.std.specs.Prelude.{◌≡◌, ◌<◌, ◌≤◌, ℕ, Some, length, All};
+ghost use Rattle.branch_tree.specs.Plan.{branch_at};
+ghost use Rattle.branch_tree.specs.Segments.{segments_in, segment_at};
+ghost use Rattle.market_opening.specs.Opening.{IsOpening};
+ghost use Rattle.kernel_core.specs.Edited.{IsEditOf};
+ghost use Rattle.kernel_core.specs.Open.{opened};
+ghost use Rattle.kernel_copy.specs.Courses.{AreEdits, IsCourse, GoesOnFrom};
+
+use branch_tree::{BranchPlan, Segment};
+use market_opening::Opening;
+use market_rules::Edit;
+use std::marker::Model;
+
+/// A study's opening and its tree of branches, which keep to the study's rules.
+#[derive(Drop)]
+pub struct Course {
+    opening: Opening,
+    plan: BranchPlan,
+}
+
+impl Model for Course {
+    ghost use Rattle.kernel_copy.specs.Courses.{CourseTold, IsCourse};
+
+    ghost Value = { CourseTold };
+
+    ghost view = { λ c. record { opening = c.opening; plan = c.plan } };
+
+    ghost invariant = { λ c. IsCourse (record { opening = c.opening; plan = c.plan }) };
+}
+
+impl Course {
+    /// The course of an opening and a plan under its limit of events, each of whose branches has at most 16 edits that can be made
+    /// at the opening.
+    pub fn new(opening: Opening, plan: BranchPlan) -> Course
+        requires opening { IsOpening opening }
+        requires limit { plan.limit ≡ opening.limit }
+        requires edits { All (λ b. AreEdits opening b.edits) plan.branches }
+        ensures { result ≡ record { opening = opening; plan = plan } }
+    {
+        let _ = plan.branches();
+        Course { opening, plan }
+    }
+
+    /// What a run starts from.
+    pub fn opening(&self) -> &Opening
+        ensures value { result.now ≡ self.now.opening }
+        ensures course { IsCourse self.now }
+    {
+        &self.opening
+    }
+
+    /// The branches and their segments.
+    pub fn plan(&self) -> &BranchPlan
+        ensures value { result.now ≡ self.now.plan }
+        ensures course { IsCourse self.now }
+    {
+        &self.plan
+    }
+
+    /// A segment by its number.
+    pub fn segment(&self, segment: u32) -> Segment
+        requires { segment < length (segments_in self.now.plan) }
+        ensures value { result ≡ segment_at self.now.plan segment }
+        ensures course { IsCourse self.now }
+        ensures branch { result.branch < length self.now.plan.branches }
+        ensures within { result.stop ≤ self.now.opening.limit }
+        ensures parent { (q : ℕ) → result.parent ≡ Some q → GoesOnFrom self.now.plan segment q }
+    {
+        self.plan().segments()[segment as usize]
+    }
+
+    /// A branch's edits.
+    pub fn edits(&self, branch: u16) -> &[Edit]
+        requires { branch < length self.now.plan.branches }
+        ensures value { result.now ≡ (branch_at self.now.plan.branches branch).edits }
+        ensures few { length result.now ≤ 16 }
+        ensures fit { All (λ e. IsEditOf (opened self.now.opening) e) result.now }
+    {
+        self.plan().branches()[usize::from(branch)].edits.as_slice()
+    }
+}

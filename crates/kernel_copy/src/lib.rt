@@ -1,0 +1,15 @@
+//! Branches run segment by segment, each from a copy of the state that its parent ends with.
+//!
+//! Contracts see a course as its opening and plan. A branch's full run goes from the opening and knows no segment; the laws say
+//! that the segments' own runs one after another are the full run, for every tree of branches.
+#![tactic(auto)]
+
+mod checkpoint;
+mod course;
+pub mod laws;
+mod run;
+
+pub use checkpoint::Checkpoint;
+pub use course::Course;
+pub use run::{Outcome, run_segments};
+pub use shelf_core::Key;

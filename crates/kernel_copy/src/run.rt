@@ -1,0 +1,251 @@
+//! Running the segments of a course one after another.
+
+ghost use Rattle.std.specs.Prelude.{◌≡◌, ◌<◌, ◌≤◌, ◌+◌, ◌^◌, [], ◌∷◌, ◌++◌, Some, None, OnOk, IfOk, length, map, option_map, nat_lt, All};
+ghost use Rattle.branch_tree.specs.Planned.{IsTree};
+ghost use Rattle.branch_tree.specs.Segments.{segments_in, segment_at, last_of};
+ghost use Rattle.kernel_core.specs.Edited.{IsEditOf, edited_from};
+ghost use Rattle.kernel_core.specs.Open.{opened};
+ghost use Rattle.kernel_core.specs.Step.{Fits};
+ghost use Rattle.market_closing.specs.Closing.{closing_at};
+ghost use Rattle.kernel_copy.specs.Courses.{kept_of, kept_before};
+ghost use Rattle.kernel_copy.specs.Outcomes.{outcome_told, outcomes_before};
+ghost use Rattle.kernel_copy.specs.Reached.{IsReached};
+ghost use Rattle.kernel_copy.specs.Segmentwise.{segment_end, segment_run, started_from, started_at, own_count, distinct};
+
+use crate::checkpoint::Checkpoint;
+use crate::course::Course;
+use crate::laws::courses_stay_in_range;
+use branch_tree::BranchPlan;
+use bundle_frames::Closing;
+use kernel_core::Kernel;
+use market_closing::closing_of;
+use market_opening::Opening;
+use market_rules::Edit;
+use market_types::{Memory, Trace};
+use outside::{Ledger, Steps};
+use shelf_core::Key;
+use std::alloc::Global;
+use std::sync::Arc;
+
+/// What a segment's run gave.
+#[derive(Drop)]
+pub struct Outcome {
+    /// The segment's number.
+    pub segment: u32,
+    /// Its own entries.
+    pub entries: Trace,
+    /// How many events stand at its end.
+    pub events: u32,
+    /// The closing of its end.
+    pub closing: Closing,
+}
+
+// A segment's run: its own entries, and the kernel at its end.
+#[derive(Drop)]
+struct Ran {
+    entries: Trace,
+    kernel: Kernel,
+}
+
+// A branch's edits in order.
+fn apply_all(
+    alloc: Global,
+    o: &Opening,
+    branch: u16,
+    edits: &[Edit],
+    kernel: &mut Kernel,
+    trace: &mut Trace,
+) -> Result<(), Memory>
+    requires reached { IsReached o.now 2032 kernel.old }
+    requires few { length edits.now ≤ 16 }
+    requires edits { All (λ e. IsEditOf (opened o.now) e) edits.now }
+    ensures made { OnOk result (record { state = kernel.new; entries = trace.new.list } ≡ edited_from branch 0 edits.now (record { state = kernel.old; entries = trace.old.list })) }
+    ensures fitting { Fits o.now kernel.new }
+{
+    for (i, edit) in edits.iter().enumerate() {
+        kernel.apply(alloc, o, edit, branch, i as u16, trace)?;
+    }
+    Ok(())
+}
+
+// Whether a segment isn't its branch's last, so that others go on from its end.
+fn goes_on(plan: &BranchPlan, segment: u32) -> bool
+    requires tree { IsTree plan.now.branches plan.now.limit }
+    requires segment { segment < length (segments_in plan.now) }
+    ensures { result ≡ nat_lt segment (last_of plan.now.branches (segment_at plan.now segment).branch) }
+{
+    let branch = plan.segments()[segment as usize].branch;
+    let numbers = plan.segments_of(branch);
+    segment < numbers[numbers.len() - 1]
+}
+
+// A checkpoint of a segment's end, unless the segment is its branch's last.
+fn kept_end(
+    alloc: Global,
+    course: &Arc<Course>,
+    segment: u32,
+    kernel: &Kernel,
+) -> Result<Option<Arc<Checkpoint>>, Memory>
+    requires segment { segment < length (segments_in course.now.value.plan) }
+    requires state { kernel.now ≡ (segment_end course.now.value.opening course.now.value.plan (segment_at course.now.value.plan segment)).state }
+    ensures { IfOk result (λ k. option_map (λ c. c.value) k ≡ kept_of course.now.value segment) }
+{
+    let plan = course.plan();
+    if !goes_on(plan, segment) {
+        return Ok(None);
+    }
+    let event = plan.segments()[segment as usize].stop;
+    let kept = Checkpoint::keep(alloc, course, Key { segment, event }, kernel)?;
+    Ok(Some(kept))
+}
+
+// The kernel of a segment's end.
+fn resumed(
+    alloc: Global,
+    course: &Course,
+    kept: &[Option<Arc<Checkpoint>>],
+    segment: u32,
+) -> Result<Kernel, Memory>
+    requires kept { map (λ k. option_map (λ c. c.value) k) kept.now ≡ kept_before course.now (length kept.now) }
+    requires within { segment < length kept.now }
+    requires unfinished { segment < last_of course.now.plan.branches (segment_at course.now.plan segment).branch }
+    ensures { IfOk result (λ k. k ≡ (segment_end course.now.opening course.now.plan (segment_at course.now.plan segment)).state) }
+{
+    match &kept[segment as usize] {
+        Some(checkpoint) => checkpoint.resume(alloc),
+        None => unreachable!(),
+    }
+}
+
+// The run of a segment of this branch at its beginning, where it goes on from this parent's end: the kernel, and the
+// entries of the branch's edits where the parent is of another branch.
+fn gone_on(
+    alloc: Global,
+    course: &Course,
+    kept: &[Option<Arc<Checkpoint>>],
+    branch: u16,
+    parent: u32,
+    trace: &mut Trace,
+) -> Result<Kernel, Memory>
+    requires kept { map (λ k. option_map (λ c. c.value) k) kept.now ≡ kept_before course.now (length kept.now) }
+    requires within { parent < length kept.now }
+    requires segment { parent < length (segments_in course.now.plan) }
+    requires unfinished { parent < last_of course.now.plan.branches (segment_at course.now.plan parent).branch }
+    requires branch { branch < length course.now.plan.branches }
+    requires empty { trace.old.list ≡ [] }
+    ensures state { IfOk result (λ k. record { state = k; entries = trace.new.list } ≡ started_from course.now.opening course.now.plan branch (Some parent)) }
+    ensures fits { IfOk result (λ k. Fits course.now.opening k) }
+{
+    courses_stay_in_range();
+    let mut kernel = resumed(alloc, course, kept, parent)?;
+    if course.segment(parent).branch == branch {
+        return Ok(kernel);
+    }
+    let edits = course.edits(branch);
+    apply_all(alloc, course.opening(), branch, edits, &mut kernel, trace)?;
+    Ok(kernel)
+}
+
+// A segment's run at its beginning.
+fn begun(
+    alloc: Global,
+    course: &Course,
+    kept: &[Option<Arc<Checkpoint>>],
+    segment: u32,
+    trace: &mut Trace,
+) -> Result<Kernel, Memory>
+    requires kept { map (λ k. option_map (λ c. c.value) k) kept.now ≡ kept_before course.now (length kept.now) }
+    requires next { segment ≡ length kept.now }
+    requires segment { segment < length (segments_in course.now.plan) }
+    requires empty { trace.old.list ≡ [] }
+    ensures state { IfOk result (λ k. record { state = k; entries = trace.new.list } ≡ started_at course.now.opening course.now.plan (segment_at course.now.plan segment)) }
+    ensures fits { IfOk result (λ k. Fits course.now.opening k) }
+{
+    let g = course.segment(segment);
+    match g.parent {
+        None => {
+            let kernel = Kernel::open(alloc, course.opening())?;
+            Ok(kernel)
+        }
+        Some(parent) => {
+            let kernel = gone_on(alloc, course, kept, g.branch, parent, trace)?;
+            Ok(kernel)
+        }
+    }
+}
+
+// Runs a segment, from a copy of its parent's end.
+fn run_segment<L: Ledger>(
+    alloc: Global,
+    course: &Course,
+    kept: &[Option<Arc<Checkpoint>>],
+    segment: u32,
+    steps: &mut Steps<L>,
+) -> Result<Ran, Memory>
+    requires kept { map (λ k. option_map (λ c. c.value) k) kept.now ≡ kept_before course.now (length kept.now) }
+    requires next { segment ≡ length kept.now }
+    requires segment { segment < length (segments_in course.now.plan) }
+    requires count { steps.old + course.now.opening.limit < 2 ^ 64 }
+    ensures ran { IfOk result (λ x. record { state = x.kernel; entries = x.entries.list } ≡ segment_run course.now.opening course.now.plan (segment_at course.now.plan segment)) }
+    ensures fits { IfOk result (λ x. Fits course.now.opening x.kernel) }
+    ensures rose { OnOk result (steps.new ≡ steps.old + own_count course.now.opening course.now.plan (segment_at course.now.plan segment)) }
+    ensures most { steps.new ≤ steps.old + own_count course.now.opening course.now.plan (segment_at course.now.plan segment) }
+{
+    let mut entries = Trace::new(alloc);
+    let mut kernel = begun(alloc, course, kept, segment, &mut entries)?;
+    let stop = course.segment(segment).stop;
+    kernel.run_until(alloc, course.opening(), stop, &mut entries, steps)?;
+    Ok(Ran { entries, kernel })
+}
+
+// What a segment's run tells.
+fn told(alloc: Global, o: &Opening, segment: u32, ran: Ran) -> Result<Outcome, Memory>
+    requires { Fits o.now ran.kernel }
+    ensures segment { IfOk result (λ x. x.segment ≡ segment) }
+    ensures entries { IfOk result (λ x. x.entries.list ≡ ran.entries.list) }
+    ensures events { IfOk result (λ x. x.events ≡ ran.kernel.events) }
+    ensures closing { IfOk result (λ x. x.closing ≡ closing_at o.now ran.kernel) }
+{
+    let closing = closing_of(alloc, o, &ran.kernel)?;
+    Ok(Outcome {
+        segment,
+        events: ran.kernel.events(),
+        entries: ran.entries,
+        closing,
+    })
+}
+
+// Appends a value to a list.
+fn add<T: Drop>(list: &mut Vec<T>, value: T) -> Result<(), Memory>
+    ensures { OnOk result (list.new.items ≡ list.old.items ++ value ∷ []) }
+{
+    Ok(list.push(value)?)
+}
+
+/// Runs each segment of a course once, in order of number, each from a copy of its parent's end: each outcome has the
+/// segment's own entries and the closing of its end, and the counter rises by the events of all segments.
+///
+/// # Errors
+/// Want of memory alone. The counter then rose by no more.
+pub fn run_segments<L: Ledger>(
+    alloc: Global,
+    course: &Arc<Course>,
+    steps: &mut Steps<L>,
+) -> Result<Vec<Outcome>, Memory>
+    requires { steps.old < 2 ^ 63 }
+    ensures outcomes { IfOk result (λ v. map outcome_told v.items ≡ outcomes_before course.now.value (length (segments_in course.now.value.plan))) }
+    ensures rose { OnOk result (steps.new ≡ steps.old + distinct course.now.value.opening course.now.value.plan) }
+    ensures most { steps.new ≤ steps.old + distinct course.now.value.opening course.now.value.plan }
+{
+    let mut outcomes = Vec::new(alloc);
+    let mut kept = Vec::new(alloc);
+    let count = course.plan().segments().len();
+    'segments: for i in 0..count {
+        let ran = run_segment(alloc, course, kept.as_slice(), i as u32, steps)?;
+        let end = kept_end(alloc, course, i as u32, &ran.kernel)?;
+        let outcome = told(alloc, course.opening(), i as u32, ran)?;
+        add(&mut kept, end)?;
+        add(&mut outcomes, outcome)?;
+    }
+    Ok(outcomes)
+}

@@ -1,0 +1,14 @@
+//! Which rule a study breaks first, and at which place.
+#![tactic(auto)]
+
+mod agents;
+mod changes;
+mod counts;
+mod dates;
+mod refusal;
+#[cfg(test)]
+mod tests;
+pub mod worked;
+
+pub use refusal::{Judged, judge};
+pub use study_tables::Refusal;

@@ -1,0 +1,4 @@
+pub mod Same
+pub mod Difference
+pub mod Table
+pub mod Worked

@@ -1,0 +1,16 @@
+//! Tables that compare the branches of a study.
+#![tactic(auto)]
+
+mod difference;
+mod lines;
+mod row;
+mod same;
+pub mod worked;
+mod writing;
+
+pub use difference::first_difference;
+pub use row::TableRow;
+pub use writing::table;
+
+#[cfg(test)]
+mod tests;
