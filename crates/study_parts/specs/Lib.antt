@@ -1,0 +1,4 @@
+pub mod Market
+pub mod Stocks
+pub mod Changes
+pub mod Traders
