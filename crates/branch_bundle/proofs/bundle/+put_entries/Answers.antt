@@ -14,15 +14,7 @@ use Rattle.branch_bundle.proofs.Entries.{all-told, entries-more, frames-told}
 use Rattle.branch_bundle.proofs.bundle.+put_entries.Goals as goal
 
 pub put_all-requires : goal.put_all-requires
-put_all-requires g c =
-    let k : CourseTold = c.args.course.now in
-    let s = c.args.segment in
-    let told = c.as_slice-entries.ensures ∙ c.entries.ensures ∙ c.requires.ran.entries s (omega (arith, c.requires.segment, c.requires.ran.count)) in
-    all-told IsTimely c.as_slice-entries.result.now
-    (subst (λ (es : List EntryTold). All IsTimely es) (sym told) (c.courses_stay_in_range.ensures.segments k s c.segment.ensures.course c.requires.segment))
-
-pub put_all-requires-2 : goal.put_all-requires-2
-put_all-requires-2 g c =
+put_all-requires g n c =
     let k : CourseTold = c.args.course.now in
     let s = c.args.segment in
     let told = c.as_slice-entries.ensures ∙ c.entries.ensures ∙ c.requires.ran.entries s (omega (arith, c.requires.segment, c.requires.ran.count)) in
@@ -30,7 +22,7 @@ put_all-requires-2 g c =
     (subst (λ (es : List EntryTold). All IsTimely es) (sym told) (c.courses_stay_in_range.ensures.segments k s c.segment.ensures.course c.requires.segment))
 
 pub returns-in_ok-put_all-in-None : goal.returns-in_ok-put_all-in-None
-returns-in_ok-put_all-in-None g c =
+returns-in_ok-put_all-in-None g n c =
     let k : CourseTold = c.args.course.now in
     let s = c.args.segment in
     let x = segment_at k.plan s in
@@ -46,7 +38,7 @@ returns-in_ok-put_all-in-None g c =
     ∙ entries-more k s [] own bytes copy before (frames-told xs (segment_entries k.opening k.plan x) told)
 
 pub returns-in_ok-put_all-in-Some : goal.returns-in_ok-put_all-in-Some
-returns-in_ok-put_all-in-Some g c =
+returns-in_ok-put_all-in-Some g n c =
     let k : CourseTold = c.args.course.now in
     let s = c.args.segment in
     let x = segment_at k.plan s in
@@ -60,5 +52,18 @@ returns-in_ok-put_all-in-Some g c =
     let prefix = flat_map entry_frames (segment_end k.opening k.plan (segment_at k.plan q)).entries in
     let before : prefix ≡ flat_map entry_frames (parent_end k.opening k.plan x.parent).entries =
     sym (ap (λ (y : Option ℕ). flat_map entry_frames (parent_end k.opening k.plan y).entries) some) in
-    c.in_ok-put_all-in-Some.ensures ∙ ap (λ (l : List ℕ). l ++ own) c.in_ok-put_entries.ensures
+    c.in_ok-put_all-in-Some.ensures ∙ ap (λ (l : List ℕ). l ++ own) c.in_ok-put_entries-in-Some.ensures
     ∙ entries-more k s prefix own bytes copy before (frames-told xs (segment_entries k.opening k.plan x) told)
+
+pub put_all-requires-in-Some : goal.put_all-requires-in-Some
+put_all-requires-in-Some g n c =
+    let k : CourseTold = c.args.course.now in
+    let s = c.args.segment in
+    let told = c.as_slice-entries.ensures ∙ c.entries.ensures ∙ c.requires.ran.entries s (omega (arith, c.requires.segment, c.requires.ran.count)) in
+    all-told IsTimely c.as_slice-entries.result.now
+    (subst (λ (es : List EntryTold). All IsTimely es) (sym told) (c.courses_stay_in_range.ensures.segments k s c.segment.ensures.course c.requires.segment))
+
+pub put_entries-requires : goal.put_entries-requires
+put_entries-requires g n c κs sub =
+    let earlier = (c.segment.ensures.parent c.in-Some.parent c.in-Some.is).earlier in
+    (omega (arith, earlier, c.decreases), (sub, (omega (arith, earlier, c.requires.segment), c.requires.ran)))

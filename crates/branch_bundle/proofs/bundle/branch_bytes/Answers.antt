@@ -1,4 +1,4 @@
-use Rattle.std.proofs.Common.{◌≡◌, ◌<◌, ℕ, List, [], ◌++◌, length, sym, ap, ◌∙◌, append_assoc}
+use Rattle.std.proofs.Common.{◌≡◌, ◌<◌, ℕ, List, [], ◌++◌, length, sym, ap, ◌∙◌}
 use Rattle.std.specs.List.{flat_map}
 use Rattle.bundle_frames.specs.Frames.{entry_frames, feed_frames}
 use Rattle.branch_tree.specs.Segments.{last_of, segment_at}
@@ -32,6 +32,4 @@ returns g c =
     ∙ ap (λ (o : Opening). ((c.put_head.new.out.items ++ feed_frames (opening_feed o)) ++ entries) ++ last) c.opening.ensures.value
     ∙ ap (λ (l : List ℕ). ((l ++ feed) ++ entries) ++ last) c.in_ok-put_head.ensures
     ∙ ap (λ (l : List ℕ). (((l ++ head) ++ feed) ++ entries) ++ last) c.new-out.ensures.items
-    ∙ append_assoc (head ++ feed) entries last
-    ∙ append_assoc head feed (entries ++ last)
     ∙ ap (λ (r : Run). head ++ feed ++ flat_map entry_frames r.entries ++ end_of_trace k r) whole

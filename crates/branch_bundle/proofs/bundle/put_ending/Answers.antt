@@ -35,4 +35,4 @@ returns g c =
     ∙ ap (λ (l : List ℕ). l ++ closing_frames x) c.in_ok-put.ensures
     ∙ ap (λ (f : _). (bytes ++ message_frame f) ++ closing_frames x) c.system_event.ensures
     ∙ append_assoc bytes (message_frame (system_event x.counts.time 67)) (closing_frames x)
-    ∙ ap (λ (y : Closing). bytes ++ message_frame (system_event y.counts.time 67) ++ closing_frames y) is
+    ∙ ap (λ (y : Closing). bytes ++ (message_frame (system_event y.counts.time 67) ++ closing_frames y)) is
