@@ -1,7 +1,6 @@
 -- Edits for worked runs.
-use Rattle.std.specs.Prelude.{◌≡◌, ◌≤◌, ℕ, negsuc, pos, List, [], ◌∷◌, length, map, slice_index}
+use Rattle.std.specs.Prelude.{ℕ, negsuc, pos, List, [], ◌∷◌, length, map, slice_index}
 use Rattle.std.specs.List.{flat_map}
-use Rattle.market_types.specs.Limits.{longest_delay}
 use Rattle.market_types.specs.declared.order.Inbound.TheVariants as inbound
 use Rattle.market_types.specs.declared.order.Side.TheVariants.{Sell}
 use Rattle.market_types.specs.declared.message.Body.{Body}
@@ -39,13 +38,6 @@ each_kind =
     ∷ sold 65 100
     ∷ kind.Series 0 (negsuc 4)
     ∷ []
-
--- a few edits that each state of a market of one group can take
-abbrev pub IsPlain : Edit → Type 0
-IsPlain (kind.Latency from to base jitter) = (from ≡ 0) × (to ≡ 0) × (base ≤ longest_delay)
-IsPlain (kind.Silence agent) = agent ≡ 1
-IsPlain (kind.Inject agent after message) = (agent ≡ 1) × (after ≤ 1000)
-IsPlain e = ⊥
 
 -- a run to its end once edits of branch 1 were made
 abbrev pub gone_on : Opening → List Edit → Run → Run
