@@ -1,3 +1,5 @@
+//! Deliveries, halts at their times, copies and edits of a floor.
+
 ghost use Rattle.std.specs.Prelude.{◌≡◌, ◌<◌, ◌+◌, IfOk};
 ghost use Rattle.market_opening.specs.Opening.{IsOpening};
 ghost use Rattle.market_floor.specs.Edited.{IsEdit};

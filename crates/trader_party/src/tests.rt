@@ -1,3 +1,5 @@
+//! A party that is silenced and copied.
+
 ghost use Rattle.agent_shell.specs.Parameters.{IsKind};
 
 use super::Party;
