@@ -199,33 +199,39 @@ fn course(alloc: Global, branches: Vec<Branch>) -> Result<Arc<Course>, Fail>
     Ok(Arc::new(alloc, Course::new(opening, plan))?)
 }
 
-// The bundle of a course part by part: the header, each branch, and the end.
-fn parts(alloc: Global, course: &Course, ran: &Vec<Outcome>) -> Result<Vec<Vec<u8>>, Memory>
+// The bundle of a course.
+fn bundle(alloc: Global, course: &Course, ran: &Vec<Outcome>) -> Result<Vec<u8>, Memory>
     requires { map outcome_told ran.now.items ≡ outcomes_before course.now (length (segments_in course.now.plan)) }
 {
     outcomes_are_a_run();
     let count = course.plan().branches().len();
-    let mut parts = Vec::new(alloc);
-    let mut header = Vec::new(alloc);
-    write_header(course, &mut header)?;
-    parts.push(header)?;
+    let mut out = Vec::new(alloc);
+    write_header(course, &mut out)?;
     for b in 0..count {
-        let mut part = Vec::new(alloc);
-        write_branch(course, ran, b as u16, &mut part)?;
-        parts.push(part)?;
+        write_branch(course, ran, b as u16, &mut out)?;
     }
-    let mut end = Vec::new(alloc);
-    put_end(&mut end, count as u16)?;
-    parts.push(end)?;
-    Ok(parts)
+    put_end(&mut out, count as u16)?;
+    Ok(out)
 }
 
-// What a course gave: how many events were counted, the outcomes of its segments, and its bundle's parts.
+// The trace of a course's last branch.
+fn last(alloc: Global, course: &Course, ran: &Vec<Outcome>) -> Result<Vec<u8>, Memory>
+    requires { map outcome_told ran.now.items ≡ outcomes_before course.now (length (segments_in course.now.plan)) }
+{
+    outcomes_are_a_run();
+    let count = course.plan().branches().len();
+    let mut out = Vec::new(alloc);
+    write_branch(course, ran, (count - 1) as u16, &mut out)?;
+    Ok(out)
+}
+
+// What a course gave: how many events were counted, the outcomes of its segments, its bundle, and its last branch's trace.
 #[derive(Drop)]
 struct Simulated {
     ticks: u64,
     outcomes: Vec<Outcome>,
-    parts: Vec<Vec<u8>>,
+    bundle: Vec<u8>,
+    last: Vec<u8>,
 }
 
 // Runs the course of these branches.
@@ -237,11 +243,13 @@ fn run(alloc: Global, branches: Vec<Branch>) -> Result<Simulated, Fail>
     let ran = run_segments(alloc, &course, &mut steps);
     let ticks = steps.close();
     let outcomes = ran?;
-    let parts = parts(alloc, &course, &outcomes)?;
+    let bundle = bundle(alloc, &course, &outcomes)?;
+    let last = last(alloc, &course, &outcomes)?;
     Ok(Simulated {
         ticks,
         outcomes,
-        parts,
+        bundle,
+        last,
     })
 }
 
@@ -254,15 +262,6 @@ fn digest(bytes: &[u8]) -> (usize, u64) {
     (bytes.len(), digest)
 }
 
-// The digests of parts.
-fn digests(alloc: Global, parts: &[Vec<u8>]) -> Result<Vec<(usize, u64)>, Memory> {
-    let mut digests = Vec::new(alloc);
-    for part in parts {
-        digests.push(digest(part.as_slice()))?;
-    }
-    Ok(digests)
-}
-
 // Of each outcome how many entries it has, and the count of events and the time of its end.
 fn ends(alloc: Global, outcomes: &[Outcome]) -> Result<Vec<(usize, u32, Time)>, Memory> {
     let mut ends = Vec::new(alloc);
@@ -271,6 +270,17 @@ fn ends(alloc: Global, outcomes: &[Outcome]) -> Result<Vec<(usize, u32, Time)>, 
         ends.push((outcome.entries.len(), outcome.events, time))?;
     }
     Ok(ends)
+}
+
+// Whether an agent is silenced at the end of a segment, its own time, and how many quotes it heard.
+fn heard(outcomes: &[Outcome], segment: usize, agent: usize) -> Option<(bool, Time, u32)> {
+    let Some(outcome) = outcomes.get(segment) else {
+        return None;
+    };
+    let Some(a) = outcome.closing.agents.as_slice().get(agent) else {
+        return None;
+    };
+    Some((a.silenced, a.time, a.quotes))
 }
 
 // A branch that makes the latency 50, one that makes it 7, and one that changes nothing, all at event 2.
@@ -292,16 +302,8 @@ fn three_branches(rt: HostRuntime) -> Result<(), Fail> {
         (4, 6, 1010),
     ];
     assert_eq!(rt; ends.as_slice(), wanted.as_slice());
-    let digests = digests(alloc, run.parts.as_slice())?;
-    let wanted = [
-        (11, 47_245_093_636),
-        (802, 994_340_330_496),
-        (819, 904_969_513_728),
-        (819, 91_092_876_544),
-        (799, 1_096_420_110_848),
-        (5, 58_327_044),
-    ];
-    assert_eq!(rt; digests.as_slice(), wanted.as_slice());
+    assert_eq!(rt; digest(run.bundle.as_slice()), (3255, 550_129_052_676));
+    assert_eq!(rt; digest(run.last.as_slice()), (799, 1_096_420_110_848));
     Ok(())
 }
 
@@ -323,15 +325,7 @@ fn empty_segments(rt: HostRuntime) -> Result<(), Fail> {
         (0, 6, 1010),
     ];
     assert_eq!(rt; ends.as_slice(), wanted.as_slice());
-    let digests = digests(alloc, run.parts.as_slice())?;
-    let wanted = [
-        (11, 47_245_093_635),
-        (802, 994_340_330_496),
-        (799, 16_378_979_840),
-        (799, 901_624_531_456),
-        (5, 58_327_043),
-    ];
-    assert_eq!(rt; digests.as_slice(), wanted.as_slice());
+    assert_eq!(rt; digest(run.bundle.as_slice()), (2416, 405_230_435_075));
     Ok(())
 }
 
@@ -355,16 +349,7 @@ fn edits_in_both_orders(rt: HostRuntime) -> Result<(), Fail> {
         (4, 8, 1115),
     ];
     assert_eq!(rt; ends.as_slice(), wanted.as_slice());
-    let digests = digests(alloc, run.parts.as_slice())?;
-    let wanted = [
-        (11, 47_245_093_636),
-        (802, 994_340_330_496),
-        (1108, 675_328_577_024),
-        (1029, 56_383_697_920),
-        (1029, 416_956_747_008),
-        (5, 58_327_044),
-    ];
-    assert_eq!(rt; digests.as_slice(), wanted.as_slice());
+    assert_eq!(rt; digest(run.bundle.as_slice()), (3984, 841_970_850_564));
     Ok(())
 }
 
@@ -376,18 +361,13 @@ fn a_silenced_watcher(rt: HostRuntime) -> Result<(), Fail> {
     fork(&mut branches, b"x", 0, 2, silence(alloc)?)?;
     let run = run(alloc, branches)?;
     assert_eq!(rt; (run.ticks, run.outcomes.len()), (10, 3));
-    let agents = run.outcomes[2].closing.agents.as_slice();
-    let first = (agents[1].silenced, agents[1].time, agents[1].quotes);
-    let second = (agents[2].silenced, agents[2].time, agents[2].quotes);
-    assert_eq!(rt; (first, second), ((true, 1010, 0), (false, 1010, 1)));
-    let digests = digests(alloc, run.parts.as_slice())?;
-    let wanted = [
-        (11, 47_245_093_634),
-        (802, 994_340_330_496),
-        (819, 1_032_070_447_104),
-        (5, 58_327_042),
-    ];
-    assert_eq!(rt; digests.as_slice(), wanted.as_slice());
+    let first = heard(run.outcomes.as_slice(), 2, 1);
+    let second = heard(run.outcomes.as_slice(), 2, 2);
+    assert_eq!(rt;
+        (first, second),
+        (Some((true, 1010, 0)), Some((false, 1010, 1)))
+    );
+    assert_eq!(rt; digest(run.bundle.as_slice()), (1637, 407_337_604_610));
     Ok(())
 }
 
@@ -421,39 +401,16 @@ fn deep(alloc: Global) -> Result<Vec<Branch>, Memory>
     Ok(branches)
 }
 
-// As many branches of one parent as there may be: but for its own frame, each is written as the root is.
+// As many branches of one parent as there may be, and a chain whose branches have the edits of all before them.
 #[test]
-fn a_wide_tree(rt: HostRuntime) -> Result<(), Fail> {
+fn wide_and_deep_trees(rt: HostRuntime) -> Result<(), Fail> {
     let alloc = rt.alloc();
-    let run = run(alloc, wide(alloc)?)?;
-    assert_eq!(rt;
-        (run.ticks, run.outcomes.len(), run.parts.len()),
-        (576, 132, 130)
-    );
-    assert_eq!(rt; digest(run.parts[1].as_slice()), (802, 994_340_330_496));
-    for k in 2..129 {
-        let part = run.parts[k].as_slice();
-        assert_eq!(rt; part.len(), 800);
-        assert_eq!(rt; &part[14..], &run.parts[1].as_slice()[16..]);
-    }
-    Ok(())
-}
-
-// Each branch of a chain is written with the edits of all before it.
-#[test]
-fn a_deep_tree(rt: HostRuntime) -> Result<(), Fail> {
-    let alloc = rt.alloc();
-    let run = run(alloc, deep(alloc)?)?;
-    assert_eq!(rt;
-        (run.ticks, run.outcomes.len(), run.parts.len()),
-        (210, 121, 63)
-    );
-    let digests = digests(alloc, run.parts.as_slice())?;
-    let (size, sum) = digests
-        .iter()
-        .fold((0, 0u64), |(size, sum), d| (size + d.0, sum + d.1));
-    assert_eq!(rt; (size, sum), (85_418, 36_491_923_660_154));
-    assert_eq!(rt; digests[61], (2000, 1_019_368_809_472));
+    let wide = run(alloc, wide(alloc)?)?;
+    assert_eq!(rt; (wide.ticks, wide.outcomes.len()), (576, 132));
+    assert_eq!(rt; digest(wide.bundle.as_slice()), (102_418, 718_875_032_192));
+    let deep = run(alloc, deep(alloc)?)?;
+    assert_eq!(rt; (deep.ticks, deep.outcomes.len()), (210, 121));
+    assert_eq!(rt; digest(deep.bundle.as_slice()), (85_418, 1_091_373_565_245));
     Ok(())
 }
 
