@@ -232,7 +232,7 @@ pub fn run_segments<L: Ledger>(
     course: &Arc<Course>,
     steps: &mut Steps<L>,
 ) -> Result<Vec<Outcome>, Memory>
-    requires { steps.old < 2 ^ 63 }
+    requires { steps.old ≤ 2 ^ 63 }
     ensures outcomes { IfOk result (λ v. map outcome_told v.items ≡ outcomes_before course.now.value (length (segments_in course.now.value.plan))) }
     ensures rose { OnOk result (steps.new ≡ steps.old + distinct course.now.value.opening course.now.value.plan) }
     ensures most { steps.new ≤ steps.old + distinct course.now.value.opening course.now.value.plan }
