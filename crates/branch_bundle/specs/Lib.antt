@@ -1,0 +1,5 @@
+pub mod Feed
+pub mod Bundle
+pub mod Ran
+pub mod Outcomes
+pub mod Worked
