@@ -1,6 +1,6 @@
 //! Entries as tables, and what they say as plain numbers.
 
-ghost use Rattle.std.specs.Prelude.{◌≡◌, ◌≤◌, map, length, position, true, is_some};
+ghost use Rattle.std.specs.Prelude.{◌≡◌, ◌≤◌, ◌<◌, map, length, position, true, is_some, IfSome};
 ghost use Rattle.std.specs.Str.{bytes_eq};
 ghost use Rattle.toml.specs.Data.{as_table};
 ghost use Rattle.toml.specs.View.{table_view, view};
@@ -38,12 +38,20 @@ fn position_of(stocks: &[Value], symbol: &str) -> Option<usize>
         .position(|stock| stock_symbol(stock) == symbol)
 }
 
+// The same, which is a place of the list.
+fn place_in(stocks: &[Value], symbol: &str) -> Option<usize>
+    ensures place { result ≡ position (λ name. bytes_eq name symbol.now) (map symbol_in (map view stocks.now)) }
+    ensures within { IfSome result (λ at. at < length stocks.now) }
+{
+    position_of(stocks, symbol)
+}
+
 /// The number of the stock of a symbol, of at most 16 stocks; 0 where none has it.
 pub fn stock_number(stocks: &[Value], symbol: &str) -> StockNo
     requires { length stocks.now ≤ 16 }
     ensures { result ≡ place_of (map symbol_in (map view stocks.now)) symbol.now }
 {
-    match position_of(stocks, symbol) {
+    match place_in(stocks, symbol) {
         Some(at) => at as StockNo,
         None => 0,
     }

@@ -1,7 +1,6 @@
 //! The latencies between groups.
 
-ghost use Rattle.std.specs.Prelude.{◌≡◌, map, None, true, IfOk, pos};
-ghost use Rattle.std.specs.List.{list_all};
+ghost use Rattle.std.specs.Prelude.{◌≡◌, map, None, true, All, IfOk, pos, unsigned_abs};
 ghost use Rattle.toml.specs.View.{table_view, view};
 ghost use Rattle.study_file.specs.Values.{number_in as number_of, list_in as items_in, is_between};
 ghost use Rattle.study_tables.specs.MarketRules.{squares_broken as rule_7, cells_broken as rule_8, cell_outside};
@@ -13,27 +12,50 @@ use std::alloc::{AllocError, Global};
 use study_file::{Table, Value, list_in, number_in};
 use study_tables::{bases, jitters};
 
+// The numbers of these items, which aren't negative.
+fn base_numbers(alloc: Global, items: &[Value]) -> Result<Vec<Time>, AllocError>
+    ensures { IfOk result (λ v. v.items ≡ map (λ x. unsigned_abs (number_of x)) (map view items.now)) }
+{
+    let mut numbers = Vec::new(alloc);
+    for item in items {
+        numbers.push(number_in(item).unsigned_abs())?;
+    }
+    Ok(numbers)
+}
+
 // The base latencies of a row.
 fn base_row(alloc: Global, row: &Value) -> Result<Vec<Time>, AllocError>
     ensures { IfOk result (λ v. v.items ≡ numbers_in (view row.now)) }
 {
+    base_numbers(alloc, list_in(row))
+}
+
+// The number of an item, which is one of 32 bits.
+fn jitter_number(item: &Value) -> u32
+    requires { is_between (pos 0) (pos 4294967295) (number_of (view item.now)) ≡ true }
+    ensures { result ≡ unsigned_abs (number_of (view item.now)) }
+{
+    number_in(item).unsigned_abs() as u32
+}
+
+// The numbers of these items, which are numbers of 32 bits.
+fn jitter_numbers(alloc: Global, items: &[Value]) -> Result<Vec<u32>, AllocError>
+    requires { All (λ x. is_between (pos 0) (pos 4294967295) (number_of x) ≡ true) (map view items.now) }
+    ensures { IfOk result (λ v. v.items ≡ map (λ x. unsigned_abs (number_of x)) (map view items.now)) }
+{
     let mut numbers = Vec::new(alloc);
-    for item in list_in(row) {
-        numbers.push(number_in(item).unsigned_abs())?;
+    for item in items {
+        numbers.push(jitter_number(item))?;
     }
     Ok(numbers)
 }
 
 // The jitters of a row.
 fn jitter_row(alloc: Global, row: &Value) -> Result<Vec<u32>, AllocError>
-    requires { list_all (λ x. is_between (pos 0) (pos 4294967295) (number_of x)) (items_in (view row.now)) ≡ true }
+    requires { All (λ x. is_between (pos 0) (pos 4294967295) (number_of x) ≡ true) (items_in (view row.now)) }
     ensures { IfOk result (λ v. v.items ≡ numbers_in (view row.now)) }
 {
-    let mut numbers = Vec::new(alloc);
-    for item in list_in(row) {
-        numbers.push(number_in(item).unsigned_abs() as u32)?;
-    }
-    Ok(numbers)
+    jitter_numbers(alloc, list_in(row))
 }
 
 // The base latencies of these rows.

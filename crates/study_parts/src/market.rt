@@ -1,6 +1,6 @@
 //! What the top table says of the market.
 
-ghost use Rattle.std.specs.Prelude.{◌≡◌, ◌≤◌, None, true, length, pos};
+ghost use Rattle.std.specs.Prelude.{◌≡◌, ◌<◌, None, true, length};
 ghost use Rattle.std.specs.List.{list_all};
 ghost use Rattle.toml.specs.View.{table_view};
 ghost use Rattle.study_file.specs.Keys.{is_hex_digit};
@@ -45,12 +45,14 @@ pub fn stride(table: &Table) -> u32
 
 // The value of a digit of lower-case hexadecimal.
 fn hex_value(digit: u8) -> u8
-    ensures { result ≡ hex_value_of digit }
+    requires { is_hex_digit digit ≡ true }
+    ensures value { result ≡ hex_value_of digit }
+    ensures small { result < 16 }
 {
     if matches!(digit, b'0'..=b'9') {
         digit - b'0'
     } else {
-        digit.saturating_sub(b'a' - 10)
+        digit - b'a' + 10
     }
 }
 
