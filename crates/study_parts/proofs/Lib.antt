@@ -4,6 +4,7 @@ pub mod Lists
 pub mod Numbers
 pub mod Stocks
 pub mod Symbols
+pub mod Ordered
 pub mod Series
 pub mod Latencies
 pub mod Dates
