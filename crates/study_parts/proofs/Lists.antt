@@ -2,10 +2,10 @@
 use Rattle.std.proofs.Common.{◌≡◌, ◌∙◌, ◌<◌, ◌≤◌, ◌+◌, ◌&&◌, nat_lt, Bool, true, false, cond, not, ℕ, List, [], ◌∷◌, ◌++◌, length, get_or, map, take, Option, Some, None, All, unwrap_or, refl, sym, ap, subst, inl, inr, arith}
 use Rattle.std.specs.Prelude.{position, ◌||◌, is_some}
 use Rattle.std.specs.List.{list_all, list_any, flat_map, position_or_len, prefix_len, enumerate_from, range_with_len}
-use Rattle.std.proofs.lemmas.Bool.{and_parts, or_parts, cases_Bool, cases_lt, cond-true, lt-ltb, not-false, not-true, ltb-true}
+use Rattle.std.proofs.lemmas.Bool.{and_parts, or_parts, cases_Bool, cases_lt, cond-true, cond-false, lt-ltb, le-ltb, not-false, not_from_true, false≢true}
 use Rattle.std.proofs.lemmas.Bool.Decides.{nat_tests}
 use Rattle.std.proofs.lemmas.List.{get_or-map, length-map}
-use Rattle.std.proofs.lemmas.List.Sums.{fails_before_first}
+use Rattle.std.proofs.lemmas.List.Sums.{fails_before_first, passes_at_first}
 use Rattle.std.proofs.lemmas.List.Elements.{All-nil, All-cons, All-append, All-weaker, All-map}
 use Rattle.std.proofs.lemmas.List.FromFn.{length-range_with_len, get_or-range_with_len}
 use Rattle.toml.specs.Data.{Data, Members, no_members, as_table}
@@ -55,6 +55,28 @@ pub value-passes : (test : Members → Bool) (vs : List Value) (i : ℕ) (d : Va
 value-passes test vs i d within h =
     subst (λ (e : Data). passes test (as_table e) ≡ true) (get_or-map view vs i d (view d) within)
     (each-passes test (map view vs) h i (view d) (omega (arith, within, length-map vs view)))
+
+no-place : {X : Type 0} (p : X → Bool) (xs : List X) → All (λ (x : X). p x ≡ false) xs → position_or_len p xs < length xs → ⊥
+no-place p [] h less = omega (arith, less)
+no-place p (x ∷ xs) h less =
+    false≢true (sym (h (position_or_len p (x ∷ xs)) x less) ∙ passes_at_first p (x ∷ xs) x less)
+
+all-position : {X : Type 0} (p : X → Bool) (xs : List X) → All (λ (x : X). p x ≡ false) xs → position p xs ≡ None
+all-position p xs h =
+    elim (cases_lt (position_or_len p xs) (length xs)) [
+      | inl less ↦ absurd (no-place p xs h less)
+      | inr more ↦ cond-false (nat_lt (position_or_len p xs) (length xs)) (Some (position_or_len p xs)) None (le-ltb (position_or_len p xs) (length xs) more)
+    ]
+
+weaker-pass : (strong weak : Members → Bool) → ((t : Members) → strong t ≡ true → weak t ≡ true) → (o : Option Members) → passes strong o ≡ true → passes weak o ≡ true
+weaker-pass strong weak imply None h = absurd (cc h)
+weaker-pass strong weak imply (Some t) h = imply t h
+
+-- no entry breaks a weaker rule
+pub still-none : (strong weak : Members → Bool) → ((t : Members) → strong t ≡ true → weak t ≡ true) → (ds : List Data) → first_failing strong ds ≡ None → first_failing weak ds ≡ None
+still-none strong weak imply ds h =
+    all-position (λ (d : Data). not (passes weak (as_table d))) ds
+    (λ k d within. not_from_true (passes weak (as_table (get_or ds k d))) (weaker-pass strong weak imply (as_table (get_or ds k d)) (each-passes strong ds h k d within)))
 
 -- an entry that keeps a rule is a table
 pub is-entry : (test : Members → Bool) (o : Option Members) → passes test o ≡ true → is_some o ≡ true
