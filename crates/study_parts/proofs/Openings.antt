@@ -18,12 +18,12 @@ use Rattle.study_parts.specs.Traders.{traders_of}
 use Rattle.study_parts.specs.Opening.{opening_of, limit_of, stride_of, IsAccepted}
 use Rattle.study_parts.proofs.Held.{AreHeld, are-held, both-none, held-unless}
 use Rattle.study_parts.proofs.Numbers.{Within, natural-between, natural-in-range, group-below, hours}
-use Rattle.study_parts.proofs.Stocks.{are-stocks}
+use Rattle.study_parts.proofs.StockRanges.{are-stocks}
 use Rattle.study_parts.proofs.Symbols.{are-distinct}
-use Rattle.study_parts.proofs.Series.{are-series}
-use Rattle.study_parts.proofs.Latencies.{are-latencies}
+use Rattle.study_parts.proofs.SeriesRanges.{are-series}
+use Rattle.study_parts.proofs.LatencyRanges.{are-latencies}
 use Rattle.study_parts.proofs.Dates.{are-dated}
-use Rattle.study_parts.proofs.Traders.{how-many, are-traders}
+use Rattle.study_parts.proofs.TraderRanges.{how-many, are-traders}
 
 -- the hours of the market
 day : (t : Members) → day_broken t ≡ None → (start_of t ≤ close_of t) × (close_of t ≤ 86399999999999)

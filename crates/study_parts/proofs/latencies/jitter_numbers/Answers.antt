@@ -2,7 +2,7 @@ use Rattle.std.proofs.Common.{◌≡◌, true, get_or, subst, pos, rules, arith}
 use Rattle.std.proofs.lemmas.List.{get_or-map, length-map}
 use Rattle.toml.specs.View.{view}
 use Rattle.study_file.specs.Values.{number_in, is_between}
-use Rattle.study_parts.proofs.Latencies.{value-cell}
+use Rattle.study_parts.proofs.LatencyRanges.{value-cell}
 use Rattle.study_parts.proofs.latencies.jitter_numbers.Goals as goal
 
 pub jitter_number-requires : goal.jitter_number-requires

@@ -3,7 +3,7 @@ use Rattle.std.proofs.lemmas.List.{get_or-map, length-map}
 use Rattle.toml.specs.Data.{Data}
 use Rattle.toml.specs.View.{view}
 use Rattle.study_file.specs.Values.{number_in, list_in, is_between}
-use Rattle.study_parts.proofs.Latencies.{value-cells}
+use Rattle.study_parts.proofs.LatencyRanges.{value-cells}
 use Rattle.study_parts.proofs.latencies.jitter_rows.Goals as goal
 
 pub jitter_row-requires : goal.jitter_row-requires

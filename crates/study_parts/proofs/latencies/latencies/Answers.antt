@@ -7,7 +7,7 @@ use Rattle.std.proofs.Common.{pos}
 use Rattle.study_parts.specs.Market.{numbers_in, latencies_of}
 use Rattle.study_parts.proofs.Held.{both-none}
 use Rattle.study_tables.specs.MarketRules.{bases, jitters}
-use Rattle.study_parts.proofs.Latencies.{are-latencies}
+use Rattle.study_parts.proofs.LatencyRanges.{are-latencies}
 use Rattle.study_parts.proofs.latencies.latencies.Goals as goal
 
 pub jitter_rows-requires : goal.jitter_rows-requires

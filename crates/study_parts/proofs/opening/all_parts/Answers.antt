@@ -1,6 +1,6 @@
 use Rattle.toml.specs.View.{table_view}
 use Rattle.study_parts.proofs.Held.{AreHeld, are-held}
-use Rattle.study_parts.proofs.Series.{rows-there}
+use Rattle.study_parts.proofs.SeriesRanges.{rows-there}
 use Rattle.study_parts.proofs.opening.all_parts.Goals as goal
 
 pub limit-requires : goal.limit-requires

@@ -5,7 +5,7 @@ use Rattle.study_file.specs.Keys.{passes}
 use Rattle.study_refusals.specs.AgentRules.{count_of, has_timing, has_own}
 use Rattle.study_parts.specs.Entries.{entry_of}
 use Rattle.study_parts.proofs.Lists.{value-passes}
-use Rattle.study_parts.proofs.Traders.{value-counts}
+use Rattle.study_parts.proofs.TraderRanges.{value-counts}
 use Rattle.study_parts.proofs.traders.entry_traders.Goals as goal
 
 pub push_entry-requires : goal.push_entry-requires

@@ -1,12 +1,14 @@
 -- The values of an accepted study's stocks.
-use Rattle.std.proofs.Common.{◌≡◌, ◌∙◌, ◌<◌, ◌≤◌, ◌+◌, ◌-◌, ◌/◌, ◌&&◌, nat_le, Bool, true, false, not, ℕ, ℤ, pos, unsigned_abs, List, [], ◌∷◌, length, get_or, map, replicate, Option, None, Some, Ok, All, unwrap_or, refl, sym, ap, subst, inl, inr, arith, codes, bytes_eq, if◌then◌else◌}
+use Rattle.std.proofs.Common.{◌≡◌, ◌∙◌, ◌<◌, ◌≤◌, ◌+◌, ◌-◌, ◌/◌, ◌&&◌, nat_le, Bool, true, false, not, ℕ, ℤ, pos, unsigned_abs, List, [], ◌∷◌, ◌++◌, take, length, get_or, map, replicate, Option, None, Some, Ok, All, unwrap_or, refl, sym, ap, subst, inl, inr, arith, codes, bytes_eq, if◌then◌else◌}
 use Rattle.std.specs.Prelude.{◌||◌, is_some, position, int_le}
 use Rattle.std.specs.Cmp.Lexicographic.{bytes_decides}
 use Rattle.std.specs.List.{list_any, enumerate_from, AllByRecursion}
 use Rattle.std.proofs.lemmas.Bool.{and_parts, or_cases, cases_Bool, cases_lt, false≢true, leb-true, not-false}
-use Rattle.std.proofs.lemmas.List.{get_or-map, length-map, length-replicate, get_or-replicate, get_or_past}
+use Rattle.std.proofs.lemmas.List.{get_or-map, length-map, take_more, take_all}
 use Rattle.std.proofs.lemmas.List.Elements.{All-nil}
-use Rattle.std.proofs.lemmas.List.FromFn.{length-enumerate_from, get_or-enumerate_from}
+use Rattle.std.proofs.lemmas.List.FromFn.{length-enumerate_from}
+use Rattle.toml.specs.View.{view}
+use Rattle.toml.specs.declared.value.Value.{Value}
 use Rattle.toml.specs.Data.{Data, Members, no_members, as_table, table}
 use Rattle.fundamental_series.specs.Made.{Made, by_rule, by_rows, first_time}
 use Rattle.fundamental_series.specs.Ranges.{AreRows, IsPrice, IsRising, IsInRange}
@@ -26,7 +28,7 @@ use Rattle.study_parts.specs.Entries.{entry_of, natural_at}
 use Rattle.study_parts.specs.Stocks.{series_rule_of, rule_made_of, series_in, series_of, stock_of, stock_rules_of, HaveRows}
 use Rattle.study_parts.specs.Opening.{opening_of}
 use Rattle.study_parts.proofs.Ordered.{AreOrdered, are-ordered}
-use Rattle.study_parts.proofs.Lists.{position-none, each-passes, each-kept, is-entry}
+use Rattle.study_parts.proofs.Lists.{position-none, each-passes, each-kept, is-entry, numbered}
 use Rattle.study_parts.proofs.Numbers.{Within, natural-between, at-least}
 
 early-after : (a start : ℕ) (rows : List SeriesRow) → AllByRecursion (λ (s : SeriesRow). a < s.time) rows
@@ -88,12 +90,12 @@ have-rows start ds tables order forms late k d within other =
     let form : has_form stock_form (entry_of entry) ≡ true = passed-form (as_table entry) (forms k d within) in
     let rows : is_by_rows entry ≡ true
     = passing-entry (goes_by (codes "rows")) (as_table entry) (is-entry (has_form stock_form) (as_table entry) (forms k d within)) (by-rows (entry_of entry) form other) in
-    let found : get_or (enumerate_from 0 ds) k (0, d) ≡ (0 + k, entry) = get_or-enumerate_from 0 ds k (0, d) within in
+    let found : get_or (enumerate_from 0 ds) k (0, d) ≡ (k, entry) = numbered ds k (0, d) within in
     let long : k < length (enumerate_from 0 ds) = omega (arith, within, length-enumerate_from 0 ds) in
     let none = position-none (λ (p : ℕ × Data). is_by_rows p.1 && is_late start (rows_of tables p.0)) (enumerate_from 0 ds) late k (0, d) long in
-    let early : (is_by_rows entry && is_late start (rows_of tables (0 + k))) ≡ false
+    let early : (is_by_rows entry && is_late start (rows_of tables k)) ≡ false
     = ap (λ (p : ℕ × Data). is_by_rows p.1 && is_late start (rows_of tables p.0)) (sym found) ∙ none in
-    let in-time : is_late start (rows_of tables (0 + k)) ≡ false = sym (ap (λ (b : Bool). b && is_late start (rows_of tables (0 + k))) rows) ∙ early in
+    let in-time : is_late start (rows_of tables k) ≡ false = sym (ap (λ (b : Bool). b && is_late start (rows_of tables k)) rows) ∙ early in
     let any : list_any (λ (s : SeriesRow). nat_le s.time start) (rows_of tables k) ≡ true
     = not-false (list_any (λ (s : SeriesRow). nat_le s.time start) (rows_of tables k)) in-time in
     let first = early-row start (rows_of tables k) (order k).rising any in record {
@@ -160,9 +162,9 @@ are-series t series tables read forms prices pace late =
           let few : k < length (stocks t) = omega (arith, within, count) in
           let long : k < length (enumerate_from 0 (stocks t)) = omega (arith, few, length-enumerate_from 0 (stocks t)) in
           let entry : Data = get_or (stocks t) k no-entry in
-          let found : get_or (series_of t tables) k no_series ≡ series_in t tables (0 + k) (entry_of entry)
+          let found : get_or (series_of t tables) k no_series ≡ series_in t tables k (entry_of entry)
           = get_or-map (λ (p : ℕ × Data). series_in t tables p.0 (entry_of p.1)) (enumerate_from 0 (stocks t)) k (0, no-entry) no_series long
-              ∙ ap (λ (p : ℕ × Data). series_in t tables p.0 (entry_of p.1)) (get_or-enumerate_from 0 (stocks t) k (0, no-entry) few) in
+              ∙ ap (λ (p : ℕ × Data). series_in t tables p.0 (entry_of p.1)) (numbered (stocks t) k (0, no-entry) few) in
           subst (IsSeriesFor (opening_of t tables) k) (sym found)
           (series-if (goes_by (codes "rule") (entry_of entry)) t tables k (entry_of entry) refl (each-kept has_prices (stocks t) prices k no-entry few)
             (each-kept (has_pace (span_of t)) (stocks t) pace k no-entry few)
@@ -174,3 +176,34 @@ pub rows-there : (t : Members) (series : Option (List ℕ)) (tables : List (List
     → stock_keys_broken t ≡ None → first_late (start_of t) (stocks t) tables ≡ None → HaveRows (stocks t) tables
 rows-there t series tables read forms late = λ k d within other.
     (have-rows (start_of t) (stocks t) tables (are-ordered t series tables read) (each-passes (has_form stock_form) (stocks t) forms) late k d within other).rows_in_order
+
+-- the values of a stock are those at its place
+pub series-more : (t : Members) (tables : List (List SeriesRow)) (vs : List Value) (i : ℕ) (d : Value) → i < length vs
+    → take (i + 1) (map (λ (p : ℕ × Data). series_in t tables p.0 (entry_of p.1)) (enumerate_from 0 (map view vs)))
+    ≡ take i (map (λ (p : ℕ × Data). series_in t tables p.0 (entry_of p.1)) (enumerate_from 0 (map view vs)))
+    ++ series_in t tables i (entry_of (view (get_or vs i d))) ∷ []
+series-more t tables vs i d within =
+    let f : ℕ × Data → Made = λ p. series_in t tables p.0 (entry_of p.1) in
+    let few : i < length (map view vs) = omega (arith, within, length-map vs view) in
+    let long : i < length (enumerate_from 0 (map view vs)) = omega (arith, few, length-enumerate_from 0 (map view vs)) in
+    let found : get_or (map f (enumerate_from 0 (map view vs))) i no_series ≡ series_in t tables i (entry_of (view (get_or vs i d)))
+    = get_or-map f (enumerate_from 0 (map view vs)) i (0, view d) no_series long
+        ∙ ap f (numbered (map view vs) i (0, view d) few)
+        ∙ ap (λ (e : Data). series_in t tables i (entry_of e)) (get_or-map view vs i d (view d) within) in
+    take_more (map f (enumerate_from 0 (map view vs))) i no_series (omega (arith, long, length-map (enumerate_from 0 (map view vs)) f))
+    ∙ ap (λ (m : Made). take i (map f (enumerate_from 0 (map view vs))) ++ m ∷ []) found
+
+pub all-series : (t : Members) (tables : List (List SeriesRow)) (vs : List Value) (n : ℕ) → length vs ≤ n
+    → take n (map (λ (p : ℕ × Data). series_in t tables p.0 (entry_of p.1)) (enumerate_from 0 (map view vs)))
+    ≡ map (λ (p : ℕ × Data). series_in t tables p.0 (entry_of p.1)) (enumerate_from 0 (map view vs))
+all-series t tables vs n enough =
+    let f : ℕ × Data → Made = λ p. series_in t tables p.0 (entry_of p.1) in
+    take_all n (map f (enumerate_from 0 (map view vs)))
+    (omega (arith, enough, length-map vs view, length-enumerate_from 0 (map view vs), length-map (enumerate_from 0 (map view vs)) f))
+
+-- the rows of the stock at a place
+pub value-rows : (vs : List Value) (tables : List (List SeriesRow)) (i : ℕ) (d : Value) → i < length vs → HaveRows (map view vs) tables
+    → goes_by (codes "rule") (entry_of (view (get_or vs i d))) ≡ false → AreRows (rows_of tables i)
+value-rows vs tables i d within h other =
+    h i (view d) (omega (arith, within, length-map vs view))
+    (ap (λ (e : Data). goes_by (codes "rule") (entry_of e)) (get_or-map view vs i d (view d) within) ∙ other)

@@ -4,9 +4,9 @@ use Rattle.std.specs.Prelude.{◌||◌, int_le, int_lt, option_and_then}
 use Rattle.std.specs.List.{flat_map, range_with_len}
 use Rattle.std.proofs.lemmas.Bool.{and_parts, and_from, leb-true, le-leb, ltb-true, lt-ltb}
 use Rattle.std.proofs.lemmas.Bool.Decides.{nat_tests}
-use Rattle.std.proofs.lemmas.List.{length-map, length-append, get_or-map}
+use Rattle.std.proofs.lemmas.List.{length-map, length-append, get_or-map, append_assoc}
 use Rattle.std.proofs.lemmas.List.Elements.{All-nil, All-cons, All-weaker}
-use Rattle.std.proofs.lemmas.List.FromFn.{length-map-range_with_len}
+use Rattle.std.proofs.lemmas.List.FromFn.{length-map-range_with_len, map-range_with_len_more}
 use Rattle.std.proofs.lemmas.Nat.{mul-le}
 use Rattle.std.proofs.lemmas.Option.{same_Some}
 use Rattle.toml.specs.View.{view}
@@ -30,9 +30,9 @@ use Rattle.study_parts.specs.Traders.{value_kind_of, momentum_kind_of, maker_kin
 use Rattle.study_parts.specs.Opening.{opening_of}
 use Rattle.study_parts.proofs.Lists.{each-kept, all-flat, all-counted, still-none}
 use Rattle.study_parts.proofs.Numbers.{Within, natural-between, group-below, at-least, below-other}
-use Rattle.study_parts.proofs.Latencies.{groups}
+use Rattle.study_parts.proofs.LatencyRanges.{groups}
 use Rattle.study_parts.proofs.Dates.{known-stock}
-use Rattle.study_parts.proofs.Series.{implied}
+use Rattle.study_parts.proofs.SeriesRanges.{implied}
 
 -- how many traders there are
 
@@ -278,3 +278,9 @@ pub loosely-timed : (t : Members) (ds : List Data) → ds ≡ agents t → squar
 loosely-timed t ds e square timing =
     ap (first_failing (has_timing 32 0)) e
     ∙ still-none (has_timing (size_of t) (start_of t)) (has_timing 32 0) (λ x h. loosely (size_of t) (start_of t) x (groups t square).0.not_above h) (agents t) timing
+
+pub one-trader-more : (old : List TraderSetting) (known : List (List ℕ)) (t : Members) (n : ℕ)
+    → old ++ map (trader_of known t) (range_with_len 0 (n + 1)) ≡ (old ++ map (trader_of known t) (range_with_len 0 n)) ++ trader_of known t n ∷ []
+one-trader-more old known t n =
+    ap (λ ys. old ++ ys) (map-range_with_len_more (trader_of known t) 0 n n (omega arith))
+    ∙ sym (append_assoc old (map (trader_of known t) (range_with_len 0 n)) (trader_of known t n ∷ []))
