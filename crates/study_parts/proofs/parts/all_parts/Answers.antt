@@ -1,7 +1,7 @@
 use Rattle.toml.specs.View.{table_view}
 use Rattle.study_parts.proofs.Held.{AreHeld, are-held}
 use Rattle.study_parts.proofs.SeriesRanges.{rows-there}
-use Rattle.study_parts.proofs.opening.all_parts.Goals as goal
+use Rattle.study_parts.proofs.parts.all_parts.Goals as goal
 
 pub limit-requires : goal.limit-requires
 limit-requires c = (are-held (table_view c.args.table.now) c.args.rows.now c.requires).limits
