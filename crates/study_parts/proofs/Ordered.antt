@@ -140,7 +140,7 @@ unfolding AllOrdered
 none-ordered n = λ k.
     elim (cases_lt k n) [
       | inl within ↦ subst AreOrdered (sym (get_or-replicate n k [] [] within)) no-rows
-      | inr past ↦ subst AreOrdered (sym (get_or_past (replicate n []) k [] (omega (arith, past, length-replicate n [])))) no-rows
+      | inr past ↦ subst AreOrdered (sym (get_or_past (replicate n []) k [] (omega (arith, past, length-replicate {A = List SeriesRow} n [])))) no-rows
     ]
 
 read-ordered : (entries : List Data) (text : List ℕ) (tables : List (List SeriesRow)) → read_rows entries text ≡ Ok tables → AllOrdered tables
