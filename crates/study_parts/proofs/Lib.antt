@@ -1,0 +1,12 @@
+pub mod Held
+pub mod Hex
+pub mod Lists
+pub mod Numbers
+pub mod StockRanges
+pub mod Symbols
+pub mod Ordered
+pub mod SeriesRanges
+pub mod LatencyRanges
+pub mod Dates
+pub mod TraderRanges
+pub mod Openings
