@@ -1,0 +1,4 @@
+pub mod Feed
+pub mod Bundle
+pub mod Ran
+pub mod Outcomes

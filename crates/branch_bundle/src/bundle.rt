@@ -1,0 +1,141 @@
+//! The bundle of a study, part by part.
+
+ghost use Rattle.std.specs.Prelude.{◌≡◌, ◌<◌, ◌++◌, OnOk, OnErr, IfOk, length};
+ghost use Rattle.std.specs.List.{flat_map};
+ghost use Rattle.bundle_frames.specs.Frames.{entry_frames};
+ghost use Rattle.branch_tree.specs.Segments.{last_of, segments_in, segment_at};
+ghost use Rattle.kernel_copy.specs.Segmentwise.{segment_end};
+ghost use Rattle.branch_bundle.specs.Bundle.{end_of_trace, head_of, header_of, trace_of};
+ghost use Rattle.branch_bundle.specs.Ran.{IsRunOf};
+
+use crate::feed::{put_opening, system_event};
+use crate::ran::Ran;
+use bundle_frames::{Written, put_all, put_branch, put_header};
+use kernel_copy::Course;
+use kernel_copy::laws::courses_stay_in_range;
+use market_closing::laws::agents_have_all_positions;
+use market_types::Memory;
+use std::alloc::Global;
+
+/// Appends the header of a study's bundle.
+///
+/// # Errors
+/// Want of memory alone. The bytes are then as they were.
+pub fn write_header(course: &Course, out: &mut Vec<u8>) -> Result<(), Memory>
+    ensures appended { OnOk result (out.new.items ≡ out.old.items ++ header_of course.now) }
+    ensures refused { OnErr result (out.new.items ≡ out.old.items) }
+{
+    let o = course.opening();
+    let agents = o.traders.as_slice().len() as u16 + 1;
+    let stocks = o.stocks.as_slice().len() as u16;
+    let branches = course.plan().branches().len() as u16;
+    put_header(out, agents, stocks, branches)
+}
+
+// The number of a branch's last segment.
+fn last_segment(course: &Course, branch: u16) -> u32
+    requires { branch < length course.now.plan.branches }
+    ensures last { result ≡ last_of course.now.plan.branches branch }
+    ensures exists { result < length (segments_in course.now.plan) }
+{
+    let numbers = course.plan().segments_of(branch);
+    numbers[numbers.len() - 1]
+}
+
+// Appends the frame of a branch.
+fn put_head(out: &mut Vec<u8>, course: &Course, branch: u16) -> Result<(), Memory>
+    requires { branch < length course.now.plan.branches }
+    ensures { OnOk result (out.new.items ≡ out.old.items ++ head_of course.now branch) }
+{
+    let b = &course.plan().branches()[usize::from(branch)];
+    let _ = b.name.len();
+    let parent = if branch == 0 { u16::MAX } else { b.parent };
+    put_branch(out, branch, parent, b.stop, b.name.as_slice())
+}
+
+// Appends the entries of the segments from the root's first to this one, each going on from the one before.
+fn put_entries<W: Ran>(
+    out: &mut Vec<u8>,
+    course: &Course,
+    ran: &W,
+    segment: u32,
+) -> Result<(), Memory>
+    requires segment { segment < length (segments_in course.now.plan) }
+    requires ran { IsRunOf course.now (W.count ran.now) (W.entries_of ran.now) (W.closing_of ran.now) }
+    ensures { OnOk result (out.new.items ≡ out.old.items ++ flat_map entry_frames (segment_end course.now.opening course.now.plan (segment_at course.now.plan segment)).entries) }
+{
+    courses_stay_in_range();
+    let entries = ran.entries(segment).as_slice();
+    match course.segment(segment).parent {
+        None => {
+            put_all(out, entries)?;
+            Ok(())
+        }
+        Some(parent) => {
+            put_entries(out, course, ran, parent)?;
+            put_all(out, entries)?;
+            Ok(())
+        }
+    }
+}
+
+// Appends the end of the feed and the closing of a segment's end.
+fn put_ending<W: Ran>(
+    out: &mut Vec<u8>,
+    course: &Course,
+    ran: &W,
+    segment: u32,
+) -> Result<(), Memory>
+    requires segment { segment < length (segments_in course.now.plan) }
+    requires ran { IsRunOf course.now (W.count ran.now) (W.entries_of ran.now) (W.closing_of ran.now) }
+    ensures { OnOk result (out.new.items ≡ out.old.items ++ end_of_trace course.now (segment_end course.now.opening course.now.plan (segment_at course.now.plan segment))) }
+{
+    courses_stay_in_range();
+    agents_have_all_positions();
+    let _ = course.opening();
+    let closing = ran.closing(segment);
+    system_event(closing.counts.time, b'C').put(out)?;
+    closing.put(out)?;
+    Ok(())
+}
+
+// The trace of a branch.
+fn branch_bytes<W: Ran>(
+    alloc: Global,
+    course: &Course,
+    ran: &W,
+    branch: u16,
+) -> Result<Vec<u8>, Memory>
+    requires branch { branch < length course.now.plan.branches }
+    requires ran { IsRunOf course.now (W.count ran.now) (W.entries_of ran.now) (W.closing_of ran.now) }
+    ensures { IfOk result (λ v. v.items ≡ trace_of course.now branch) }
+{
+    let last = last_segment(course, branch);
+    let mut out = Vec::new(alloc);
+    put_head(&mut out, course, branch)?;
+    put_opening(&mut out, course.opening())?;
+    put_entries(&mut out, course, ran, last)?;
+    put_ending(&mut out, course, ran, last)?;
+    Ok(out)
+}
+
+/// Appends the trace of a branch, which is that of its full run.
+///
+/// # Errors
+/// Want of memory alone. The bytes are then as they were.
+pub fn write_branch<W: Ran>(
+    alloc: Global,
+    course: &Course,
+    ran: &W,
+    branch: u16,
+    out: &mut Vec<u8>,
+) -> Result<(), Memory>
+    requires branch { branch < length course.now.plan.branches }
+    requires ran { IsRunOf course.now (W.count ran.now) (W.entries_of ran.now) (W.closing_of ran.now) }
+    ensures appended { OnOk result (out.new.items ≡ out.old.items ++ trace_of course.now branch) }
+    ensures refused { OnErr result (out.new.items ≡ out.old.items) }
+{
+    let bytes = branch_bytes(alloc, course, ran, branch)?;
+    out.extend_from_slice(&bytes)?;
+    Ok(())
+}

@@ -1,0 +1,14 @@
+//! Laws of runs of segments.
+
+ghost use Rattle.std.specs.Prelude.{◌≡◌, List, length};
+ghost use Rattle.branch_tree.specs.Segments.{segments_in};
+ghost use Rattle.kernel_copy.specs.Courses.{CourseTold};
+ghost use Rattle.kernel_copy.specs.Outcomes.{OutcomeTold, outcomes_before};
+ghost use Rattle.branch_bundle.specs.Outcomes.{outcome_at};
+ghost use Rattle.branch_bundle.specs.Ran.{IsRunOf};
+
+/// The outcomes of all segments in order of number are a run of the course.
+pub fn outcomes_are_a_run()
+    ensures { (c : CourseTold) (xs : List OutcomeTold) → xs ≡ outcomes_before c (length (segments_in c.plan)) →
+        IsRunOf c (length xs) (λ s. (outcome_at xs s).entries) (λ s. (outcome_at xs s).closing) }
+{}
