@@ -1,0 +1,5 @@
+pub mod Market
+pub mod Stocks
+pub mod Traders
+pub mod Changes
+pub mod Opening
