@@ -1,4 +1,0 @@
-pub mod Agents
-pub mod Answered
-pub mod Come
-pub mod Whole
