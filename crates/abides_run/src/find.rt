@@ -118,7 +118,7 @@ fn accept_study(alloc: Global, raw: &RawStudy, series: Option<&[u8]>) -> Result<
 // The table that a study's bytes say, which break rule 0 where they say none.
 fn tables(alloc: Global, bytes: &[u8]) -> Result<RawStudy, Ending>
     ensures table { IfOk result (λ raw. table_of bytes.now ≡ Some (table_view raw.table)) }
-    ensures refused { IfErr result (λ e. ¬ (e.status ≡ Status.Memory) → (e.status ≡ Status.Refused 0 0) × (table_of bytes.now ≡ None)) }
+    ensures refused { IfErr result (λ e. (e.status ≡ Status.Memory) ⊎ ((e.status ≡ Status.Refused 0 0) × (table_of bytes.now ≡ None))) }
 {
     match read_tables(alloc, bytes) {
         Ok(raw) => Ok(raw),

@@ -1,0 +1,4 @@
+pub mod Answered
+pub mod Bundles
+pub mod Come
+pub mod Performing
