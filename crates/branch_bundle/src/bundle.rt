@@ -119,12 +119,12 @@ fn branch_bytes<W: Ran>(
     Ok(out)
 }
 
-/// Appends the trace of a branch, which is that of its full run.
+/// Appends the trace of a branch, which is that of its full run. No other branch's bytes are held, and an empty `out` takes
+/// them over without a copy.
 ///
 /// # Errors
 /// Want of memory alone. The bytes are then as they were.
 pub fn write_branch<W: Ran>(
-    alloc: Global,
     course: &Course,
     ran: &W,
     branch: u16,
@@ -135,7 +135,11 @@ pub fn write_branch<W: Ran>(
     ensures appended { OnOk result (out.new.items ≡ out.old.items ++ trace_of course.now branch) }
     ensures refused { OnErr result (out.new.items ≡ out.old.items) }
 {
-    let bytes = branch_bytes(alloc, course, ran, branch)?;
+    let bytes = branch_bytes(*out.allocator(), course, ran, branch)?;
+    if out.is_empty() {
+        *out = bytes;
+        return Ok(());
+    }
     out.extend_from_slice(&bytes)?;
     Ok(())
 }

@@ -17,7 +17,7 @@ pub put_all-requires : goal.put_all-requires
 put_all-requires g n c =
     let k : CourseTold = c.args.course.now in
     let s = c.args.segment in
-    let told = c.as_slice-entries.ensures ∙ c.entries.ensures ∙ c.requires.ran.entries s (omega (arith, c.requires.segment, c.requires.ran.count)) in
+    let told = c.as_slice-entries.ensures ∙ c.entries.ensures ∙ c.requires.ran.entries s c.requires.segment in
     all-told IsTimely c.as_slice-entries.result.now
     (subst (λ (es : List EntryTold). All IsTimely es) (sym told) (c.courses_stay_in_range.ensures.segments k s c.segment.ensures.course c.requires.segment))
 
@@ -29,7 +29,7 @@ returns-in_ok-put_all-in-None g n c =
     let bytes = c.args.out.now.items in
     let xs = c.as_slice-entries.result.now in
     let own = flat_map (λ (e : Entry). entry_frames (entry_told e)) xs in
-    let told = c.as_slice-entries.ensures ∙ c.entries.ensures ∙ c.requires.ran.entries s (omega (arith, c.requires.segment, c.requires.ran.count)) in
+    let told = c.as_slice-entries.ensures ∙ c.entries.ensures ∙ c.requires.ran.entries s c.requires.segment in
     let none : x.parent ≡ None = sym (ap (λ (y : Segment). y.parent) c.segment.ensures.value) ∙ c.in-None.is in
     let copy = segment-copy k.opening k.plan s (course-tree k c.segment.ensures.course) c.requires.segment in
     let before : [] ≡ flat_map entry_frames (parent_end k.opening k.plan x.parent).entries =
@@ -46,7 +46,7 @@ returns-in_ok-put_all-in-Some g n c =
     let bytes = c.args.out.now.items in
     let xs = c.as_slice-entries.result.now in
     let own = flat_map (λ (e : Entry). entry_frames (entry_told e)) xs in
-    let told = c.as_slice-entries.ensures ∙ c.entries.ensures ∙ c.requires.ran.entries s (omega (arith, c.requires.segment, c.requires.ran.count)) in
+    let told = c.as_slice-entries.ensures ∙ c.entries.ensures ∙ c.requires.ran.entries s c.requires.segment in
     let some : x.parent ≡ Some q = sym (ap (λ (y : Segment). y.parent) c.segment.ensures.value) ∙ c.in-Some.is in
     let copy = segment-copy k.opening k.plan s (course-tree k c.segment.ensures.course) c.requires.segment in
     let prefix = flat_map entry_frames (segment_end k.opening k.plan (segment_at k.plan q)).entries in
@@ -59,7 +59,7 @@ pub put_all-requires-in-Some : goal.put_all-requires-in-Some
 put_all-requires-in-Some g n c =
     let k : CourseTold = c.args.course.now in
     let s = c.args.segment in
-    let told = c.as_slice-entries.ensures ∙ c.entries.ensures ∙ c.requires.ran.entries s (omega (arith, c.requires.segment, c.requires.ran.count)) in
+    let told = c.as_slice-entries.ensures ∙ c.entries.ensures ∙ c.requires.ran.entries s c.requires.segment in
     all-told IsTimely c.as_slice-entries.result.now
     (subst (λ (es : List EntryTold). All IsTimely es) (sym told) (c.courses_stay_in_range.ensures.segments k s c.segment.ensures.course c.requires.segment))
 

@@ -16,7 +16,7 @@ put-requires-2 g c =
     let s = c.args.segment in
     let state = (segment_end k.opening k.plan (segment_at k.plan s)).state in
     let course = c.opening.ensures.course in
-    let is : c.closing-closing.result.now ≡ closing_at k.opening state = c.closing-closing.ensures ∙ c.requires.ran.closing s (omega (arith, c.requires.segment, c.requires.ran.count)) in
+    let is : c.closing-closing.result.now ≡ closing_at k.opening state = c.closing-closing.ensures ∙ c.requires.ran.closing s c.requires.segment in
     let reached = c.courses_stay_in_range.ensures.ends k s course c.requires.segment in
     let few : length state.floor.exchange.stocks ≤ 16 = omega (arith, course.opening.market.few, reached.fits.stocks) in
     let all = All-weaker (λ (a : ClosingAgent). length a.positions ≡ length state.floor.exchange.stocks) HasFewPositions
@@ -30,7 +30,7 @@ returns g c =
     let state = (segment_end k.opening k.plan (segment_at k.plan s)).state in
     let x = c.closing-closing.result.now in
     let bytes = c.args.out.now.items in
-    let is : x ≡ closing_at k.opening state = c.closing-closing.ensures ∙ c.requires.ran.closing s (omega (arith, c.requires.segment, c.requires.ran.count)) in
+    let is : x ≡ closing_at k.opening state = c.closing-closing.ensures ∙ c.requires.ran.closing s c.requires.segment in
     c.in_ok-put-2.ensures
     ∙ ap (λ (l : List ℕ). l ++ closing_frames x) c.in_ok-put.ensures
     ∙ ap (λ (f : _). (bytes ++ message_frame f) ++ closing_frames x) c.system_event.ensures
