@@ -49,7 +49,7 @@ fn send_branch<O: Sink, W: Ran>(
     ensures { Sent (trace_of course.now branch) (O.faults out.old) (O.faults out.new) (O.taken out.old) (O.taken out.new) result }
 {
     let mut bytes = Vec::new(alloc);
-    match write_branch(alloc, course, ran, branch, &mut bytes) {
+    match write_branch(course, ran, branch, &mut bytes) {
         Ok(()) => send(out, &bytes),
         Err(Memory) => Err(Status::Memory),
     }

@@ -20,9 +20,9 @@ fn request<'a>(command: Command<'a>) -> Option<Request<'a>>
             task: Task::Check,
             study,
         }),
-        Command::Table(_) => None,
-        Command::Rewind(_, _) => None,
-        Command::Big(_) => None,
+        Command::Table(_study) => None,
+        Command::Rewind(_study, _marks) => None,
+        Command::Big(_number) => None,
     }
 }
 
