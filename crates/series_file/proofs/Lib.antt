@@ -1,3 +1,4 @@
 pub mod Whole
 pub mod OneByOne
 pub mod Digits
+pub mod Ordered

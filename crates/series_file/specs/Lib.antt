@@ -2,3 +2,4 @@ pub mod Records
 pub mod Rows
 pub mod Late
 pub mod Worked
+pub mod Order

@@ -5,6 +5,7 @@
 
 mod file;
 mod late;
+pub mod laws;
 mod row;
 mod tables;
 #[cfg(test)]

@@ -1,5 +1,5 @@
--- The dated changes that a study's entries say.
-use Rattle.std.specs.Prelude.{List, map, codes, if◌then◌else◌}
+-- The dated changes that a study's entries say, in order.
+use Rattle.std.specs.Prelude.{ℕ, List, map, codes, if◌then◌else◌}
 use Rattle.toml.specs.Data.{Data, Members}
 use Rattle.market_rules.specs.declared.changes.Change.{Change}
 use Rattle.market_rules.specs.declared.changes.Change.TheVariants.{Tick, Fee, Halt, Resume}
@@ -7,9 +7,8 @@ use Rattle.market_rules.specs.declared.changes.Dated.{Dated}
 use Rattle.study_file.specs.Values.{string_at, list_at}
 use Rattle.study_tables.specs.StockRules.{symbols, band_in}
 use Rattle.study_refusals.specs.ChangeRules.{changes, is_kind}
-use Rattle.study_parts.specs.Market.{natural_at}
-use Rattle.study_parts.specs.Stocks.{entry_of, fees_of}
-use Rattle.study_parts.specs.Traders.{place_of}
+use Rattle.study_parts.specs.Entries.{entry_of, natural_at, place_of}
+use Rattle.study_parts.specs.Stocks.{fees_of}
 
 abbrev pub change_of : Members → Change
 change_of t =
@@ -18,12 +17,13 @@ change_of t =
     else if is_kind (codes "halt") t then Halt
     else Resume
 
-abbrev pub dated_of : Members → Members → Dated
-dated_of t change = record {
-  time = natural_at (codes "time") change;
-  stock = place_of (symbols t) (string_at (codes "stock") change);
-  change = change_of change;
+-- a change of one of the stocks of these symbols
+abbrev pub dated_of : List (List ℕ) → Members → Dated
+dated_of known t = record {
+  time = natural_at (codes "time") t;
+  stock = place_of known (string_at (codes "stock") t);
+  change = change_of t;
 }
 
 abbrev pub changes_of : Members → List Dated
-changes_of t = map (λ d. dated_of t (entry_of d)) (changes t)
+changes_of t = map (λ (d : Data). dated_of (symbols t) (entry_of d)) (changes t)

@@ -1,5 +1,6 @@
+pub mod Entries
 pub mod Market
 pub mod Stocks
-pub mod Traders
 pub mod Changes
+pub mod Traders
 pub mod Opening

@@ -1,10 +1,12 @@
 -- What a run of a study starts from, by its tables and by the rows of its series file.
-use Rattle.std.specs.Prelude.{ℕ, pos, List, codes}
+use Rattle.std.specs.Prelude.{◌≡◌, ℕ, pos, List, Option, None, Ok, codes}
 use Rattle.toml.specs.Data.{Members}
 use Rattle.market_opening.specs.declared.opening.Opening.{Opening}
 use Rattle.fundamental_series.specs.declared.rule.SeriesRow.{SeriesRow}
 use Rattle.study_tables.specs.MarketRules.{start_of, close_of, exchange_of}
-use Rattle.study_parts.specs.Market.{key_of, latencies_of, natural_at, natural_or}
+use Rattle.study_refusals.specs.FirstBroken.{first_broken, tables_of}
+use Rattle.study_parts.specs.Entries.{natural_at, natural_or}
+use Rattle.study_parts.specs.Market.{key_of, latencies_of}
 use Rattle.study_parts.specs.Stocks.{stock_rules_of, series_of}
 use Rattle.study_parts.specs.Changes.{changes_of}
 use Rattle.study_parts.specs.Traders.{traders_of}
@@ -13,6 +15,7 @@ use Rattle.study_parts.specs.Traders.{traders_of}
 abbrev pub limit_of : Members → ℕ
 limit_of t = natural_at (codes "events") t
 
+-- what a run starts from
 abbrev pub opening_of : Members → List (List SeriesRow) → Opening
 opening_of t tables = record {
   start = start_of t;
@@ -31,3 +34,9 @@ opening_of t tables = record {
 -- each how many events a run keeps a copy of itself; 10,000 where it is left out
 abbrev pub stride_of : Members → ℕ
 stride_of t = natural_or (pos 10000) (codes "stride") t
+
+-- No rule is broken, and these are the rows of each stock that the study's series file says, where it names one.
+pub record IsAccepted (t : Members) (tables : List (List SeriesRow)) : Type 0 where
+  pub series : Option (List ℕ)
+  pub accepted : first_broken t series ≡ None
+  pub rows : tables_of t series ≡ Ok tables

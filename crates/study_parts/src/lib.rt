@@ -1,2 +1,19 @@
-//! What an accepted study's tables and series file say as parts of what a run starts from.
+//! From the tables of an accepted study and the rows of its series file to what a run starts from.
 #![tactic(auto)]
+
+mod changes;
+mod entries;
+mod kind;
+mod latencies;
+mod market;
+mod opening;
+mod series;
+mod stocks;
+mod traders;
+pub mod worked;
+
+#[cfg(test)]
+mod tests;
+
+pub use market::stride;
+pub use opening::opening;

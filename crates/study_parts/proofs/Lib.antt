@@ -1,0 +1,11 @@
+pub mod Held
+pub mod Hex
+pub mod Lists
+pub mod Numbers
+pub mod Stocks
+pub mod Symbols
+pub mod Series
+pub mod Latencies
+pub mod Dates
+pub mod Traders
+pub mod Openings
