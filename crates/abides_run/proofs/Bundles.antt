@@ -1,5 +1,5 @@
 -- Bytes that are sent one piece after another.
-use Rattle.std.proofs.Common.{◌≡◌, ◌≤◌, ◌<◌, ◌+◌, ℕ, zero, suc, List, [], ◌++◌, Option, Some, None, Result, Ok, Err, refl, sym, ap, ◌∙◌, subst, arith, append_assoc, append-nil}
+use Rattle.std.proofs.Common.{◌≡◌, ◌≤◌, ◌<◌, ◌+◌, ℕ, ◌-◌, zero, suc, List, [], ◌++◌, Option, Some, None, Result, Ok, Err, refl, sym, ap, ◌∙◌, subst, arith, append_assoc, append-nil}
 use Rattle.outside.specs.Rose.{Rose}
 use Rattle.outside.specs.Taken.{appended, TookPrefix}
 use Rattle.kernel_copy.specs.Courses.{CourseTold}
@@ -67,14 +67,42 @@ sent_before a b f n old new st s = record {
   never_falls = s.never_falls;
 }
 
--- nothing was sent
-pub sent_nothing : (a : List ℕ) (f : ℕ) (old : Option (List ℕ)) → TookPrefix old old a
-sent_nothing a f old = record { part = []; rest = a; split = refl; took = appended_nothing old }
-
 -- the traces of more branches begin with those of fewer
-pub traces_begin : (c : CourseTold) (n k : ℕ) → (more : List ℕ) × (traces_of c (n + k) ≡ traces_of c n ++ more)
-traces_begin c n zero = ([], sym (append-nil (traces_of c n)))
-traces_begin c n (suc k) =
-    let rest = traces_begin c n k in
+traces_begin : (c : CourseTold) (n k m : ℕ) → m ≡ n + k → (more : List ℕ) × (traces_of c m ≡ traces_of c n ++ more)
+traces_begin c n zero m is =
+    let same : m ≡ n = omega (arith, is) in
+    ([], ap (λ (x : ℕ). traces_of c x) same ∙ sym (append-nil (traces_of c n)))
+traces_begin c n (suc k) m is =
+    let up : m ≡ suc (n + k) = omega (arith, is) in
+    let rest : (more : List ℕ) × (traces_of c (n + k) ≡ traces_of c n ++ more) = traces_begin c n k (n + k) refl in
     (rest.0 ++ trace_of c (n + k),
-    ap (λ (l : List ℕ). l ++ trace_of c (n + k)) rest.1 ∙ append_assoc (traces_of c n) rest.0 (trace_of c (n + k)))
+    ap (λ (x : ℕ). traces_of c x) up ∙ ap (λ (l : List ℕ). l ++ trace_of c (n + k)) rest.1 ∙ append_assoc (traces_of c n) rest.0 (trace_of c (n + k)))
+
+-- one branch more was sent
+pub branch_sent : (c : CourseTold) (i : ℕ) (old mid new : Option (List ℕ)) → mid ≡ appended old (traces_of c i) → new ≡ appended mid (trace_of c i)
+    → new ≡ appended old (traces_of c (i + 1))
+branch_sent c i old mid new before took =
+    let up : suc i ≡ i + 1 = omega arith in
+    took ∙ ap (λ (t : Option (List ℕ)). appended t (trace_of c i)) before ∙ appended_twice old (traces_of c i) (trace_of c i)
+    ∙ ap (λ (x : ℕ). appended old (traces_of c x)) up
+
+-- a branch was not sent whole
+pub branch_cut : (c : CourseTold) (n i f m k : ℕ) (old mid new : Option (List ℕ)) (st : Status) → i < n → mid ≡ appended old (traces_of c i) → m ≡ f
+    → Sent (trace_of c i) m k mid new (Err st) → Sent (traces_of c n) f k old new (Err st)
+branch_cut c n i f m k old mid new st within before still s =
+    let rest : (more : List ℕ) × (traces_of c n ≡ traces_of c (suc i) ++ more) = traces_begin c (suc i) (n - suc i) n (omega (arith, within)) in
+    subst (λ (bytes : List ℕ). Sent bytes f k old new (Err st)) (sym rest.1)
+    (sent_before (traces_of c (suc i)) rest.0 f k old new st
+    (sent_behind (traces_of c i) (trace_of c i) f m k old mid new (Err st) before still s))
+
+-- all branches were sent
+pub branches_sent : (c : CourseTold) (n f m : ℕ) (old new : Option (List ℕ)) → new ≡ appended old (traces_of c n) → m ≡ f
+    → Sent (traces_of c n) f m old new (Ok tt)
+branches_sent c n f m old new took still = record {
+  whole = took;
+  cut = tt;
+  unsent = tt;
+  fault = tt;
+  steady = still;
+  never_falls = omega (arith, still);
+}

@@ -37,8 +37,7 @@ fn nameless(alloc: Global, status: Status) -> Ending
 
 // An end whose line names this file, where there is memory for the name.
 fn named(alloc: Global, status: Status, name: &str) -> Ending
-    ensures status { ¬ (result.status ≡ Status.Memory) → result.status ≡ status }
-    ensures name { ¬ (result.status ≡ Status.Memory) → string_bytes result.name ≡ name.now }
+    ensures { (result.status ≡ Status.Memory) ⊎ ((result.status ≡ status) × (string_bytes result.name ≡ name.now)) }
 {
     match String::from_str(alloc, name) {
         Ok(name) => Ending { status, name },
