@@ -1,10 +1,12 @@
 -- What words and files come to, by what the library answered.
-use Rattle.std.proofs.Common.{◌≡◌, ◌⊎◌, ℕ, List, [], ◌∷◌, Option, Some, None, IfSome, Result, Ok, Err, refl, sym, ap, ◌∙◌, subst, inl, inr}
+use Rattle.std.proofs.Common.{◌≡◌, ◌⊎◌, ℕ, List, [], ◌∷◌, Option, Some, None, IfSome, Result, Ok, Err, IfErr, IsErr, IsErrAnd, string_bytes, refl, sym, ap, ◌∙◌, subst, inl, inr}
 use Rattle.toml.specs.Data.{Members}
 use Rattle.outside.specs.Files.{Content, absent, too_long, whole, held, content}
 use Rattle.study_file.specs.Tables.{table_of}
 use Rattle.study_tables.specs.declared.refusal.Refusal.{Refusal}
 use Rattle.study_accept.specs.Accepted.{StudyTold, study_of}
+use Rattle.study_accept.specs.declared.study.Study.{Study}
+use Rattle.abides_run.specs.declared.ending.Ending.{Ending}
 use Rattle.abides_run.specs.declared.request.Request.{Request}
 use Rattle.abides_run.specs.declared.request.Task.{Task}
 use Rattle.abides_run.specs.Words.{asked_of}
@@ -96,6 +98,22 @@ study_refused (Some library) bytes table series st name has with_series ends =
     λ task. subst (λ (v : Verdict). Ends v (series_after (table_of bytes)) st name)
     (sym (ap (λ (t : Option Members). verdict_on_bytes library task t) has ∙ with_series task))
     (ends task (series_after (table_of bytes)) name)
+
+-- what the rules refuse, over the same bytes of a series file
+pub rules_refused : (r : Result Study Ending) (files : Option Files) (bytes : List ℕ) (table : Members) (series shown : Option (List ℕ)) → table_of bytes ≡ Some table
+    → IfSome files (λ library. (task : Task) → verdict_on_table library task table (series_of table) ≡ judged task (study_of table series))
+    → shown ≡ series
+    → IfErr r (λ e. (task : Task) (names : List (List ℕ)) (name : List ℕ) → Ends (judged task (study_of table shown)) names e.status name)
+    → IfErr r (λ e. IfSome files (λ library. (task : Task) → Ends (verdict_on_bytes library task (table_of bytes)) (series_after (table_of bytes)) e.status (string_bytes e.name)))
+rules_refused (Ok s) files bytes table series shown has with_series same ends = tt
+rules_refused (Err e) files bytes table series shown has with_series same ends =
+    study_refused files bytes table series e.status (string_bytes e.name) has with_series
+    (subst (λ (o : Option (List ℕ)). (task : Task) (names : List (List ℕ)) (name : List ℕ) → Ends (judged task (study_of table o)) names e.status name) same ends)
+
+-- an end that is handed on
+pub handed_on : {X : Type 0} (r : Result X Ending) (e : Ending) (P : Ending → Type 0) → IsErr r × IsErrAnd r (λ f. f ≡ e) → P e → IfErr r P
+handed_on (Ok x) e P is p = tt
+handed_on (Err f) e P is p = subst P (sym is.1) p
 
 -- the series file gave no bytes
 pub series_missed : (files : Option Files) (bytes : List ℕ) (table : Members) (st : Status) (name : List ℕ) → table_of bytes ≡ Some table

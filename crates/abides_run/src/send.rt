@@ -65,9 +65,9 @@ fn send_branches<O: Sink, W: Ran>(
     requires { IsRunOf course.now (W.count ran.now) (W.entries_of ran.now) (W.closing_of ran.now) }
     ensures { Sent (traces_of course.now (length course.now.plan.branches)) (O.faults out.old) (O.faults out.new) (O.taken out.old) (O.taken out.new) result }
 {
-    let count = course.plan().branches().len();
+    let count = course.plan().branches().len() as u16;
     for branch in 0..count {
-        send_branch(alloc, course, ran, branch as u16, out)?;
+        send_branch(alloc, course, ran, branch, out)?;
     }
     Ok(())
 }
