@@ -1,5 +1,5 @@
 -- Bytes that are sent one piece after another.
-use Rattle.std.proofs.Common.{◌≡◌, ◌≤◌, ◌<◌, ◌+◌, ℕ, ◌-◌, zero, suc, List, [], ◌++◌, Option, Some, None, Result, Ok, Err, refl, sym, ap, ◌∙◌, subst, arith, append_assoc, append-nil}
+use Rattle.std.proofs.Common.{◌≡◌, ◌≤◌, ◌<◌, ◌+◌, ℕ, ◌-◌, zero, suc, List, [], ◌++◌, Option, Some, None, Result, Ok, Err, IsErr, IsErrAnd, refl, sym, ap, ◌∙◌, subst, arith, append_assoc, append-nil}
 use Rattle.outside.specs.Rose.{Rose}
 use Rattle.outside.specs.Taken.{appended, TookPrefix}
 use Rattle.kernel_copy.specs.Courses.{CourseTold}
@@ -106,3 +106,9 @@ branches_sent c n f m old new took still = record {
   steady = still;
   never_falls = omega (arith, still);
 }
+
+-- an end that is handed on
+pub handed_sent : (bytes : List ℕ) (f n : ℕ) (old new : Option (List ℕ)) (r : Result (Unit {0}) Status) (st : Status) → IsErr r × IsErrAnd r (λ x. x ≡ st)
+    → Sent bytes f n old new (Err st) → Sent bytes f n old new r
+handed_sent bytes f n old new (Ok done) st is s = absurd is.1
+handed_sent bytes f n old new (Err other) st is s = subst (λ (x : Status). Sent bytes f n old new (Err x)) (sym is.1) s
