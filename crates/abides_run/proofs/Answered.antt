@@ -1,50 +1,68 @@
--- How the clauses of the one call follow where the library was asked and there is no study.
-use Rattle.std.proofs.Common.{◌≡◌, ◌⊎◌, ◌≤◌, ◌+◌, ℕ, List, [], Option, Some, None, IfSome, Result, Ok, Err, IfErr, refl, sym, ap, subst, inl, inr, arith, append-nil}
+-- How the clauses of the one call follow from those of the search, of what is done with a study, and of the note.
+use Rattle.std.proofs.Common.{◌≡◌, ◌⊎◌, ◌≤◌, ◌+◌, ℕ, List, [], Option, Some, None, IfSome, refl, sym, ap, ◌∙◌, subst, inl, inr, arith, append-nil}
 use Rattle.outside.specs.Rose.{Rose}
-use Rattle.outside.specs.Files.{whole, held, content}
 use Rattle.outside.specs.Taken.{TookPrefix}
-use Rattle.study_rules.specs.declared.accept.WatcherStudy.{WatcherStudy}
-use Rattle.study_rules.specs.Watchers.{study_of}
+use Rattle.study_accept.specs.Accepted.{StudyTold}
+use Rattle.abides_run.specs.declared.request.Task.{Task}
 use Rattle.abides_run.specs.Words.{asked_of}
-use Rattle.abides_run.specs.Verdict.{Verdict, verdict, accepted, IsStudy, output, distinct}
-use Rattle.abides_run.specs.Statuses.{Cause, Counts, IsRefusal, status_of}
+use Rattle.abides_run.specs.Verdict.{Verdict, Files, usage, no_file, file_too_long, refused, accepted, verdict, IsStudy, output, distinct}
+use Rattle.abides_run.specs.Output.{written, simulated}
+use Rattle.abides_run.specs.Fetched.{fetched}
+use Rattle.abides_run.specs.Statuses.{Cause, Counts, IsRefusal, Names, status_of}
+use Rattle.abides_run.specs.Ends.{Ends, IsSought}
 use Rattle.abides_run.specs.Headline.{Seen, Fulfilled, Answered}
+use Rattle.abides_run.specs.Performed.{Performed, IsUnsent}
 use Rattle.abides_run.specs.declared.status.Status.{Status}
 use Rattle.abides_run.specs.declared.status.Status.TheVariants as status
-use Rattle.abides_run.proofs.Come.{come_to, come_broken, come_asked, come_free}
 
 -- a sink that stands still has taken a first part of anything
-nothing_taken : (taken : Option (List ℕ)) (bytes : List ℕ) → TookPrefix taken taken bytes
+pub nothing_taken : (taken : Option (List ℕ)) (bytes : List ℕ) → TookPrefix taken taken bytes
 nothing_taken None bytes = record { part = []; rest = bytes; split = refl; took = refl }
 nothing_taken (Some old) bytes = record { part = []; rest = bytes; split = refl; took = ap Some (sym (append-nil old)) }
 
--- a status that can come once the library was asked and before there is a study, and that a file of bytes does not give
-abbrev pub IsLeft : Status → Type 0
-IsLeft status.Ok = ⊥
-IsLeft status.Usage = ⊥
-IsLeft status.NoStudy = ⊥
-IsLeft status.TooLong = ⊥
-IsLeft (status.Refused rule place) = Unit {0}
-IsLeft status.ReadFault = Unit {0}
-IsLeft status.WriteFault = ⊥
-IsLeft status.Memory = Unit {0}
+-- a study has status 0 where nothing fails
+study_is_ok : (come : Verdict) → IsStudy come → status_of come ≡ status.Ok
+study_is_ok usage s = absurd s
+study_is_ok (no_file name) s = absurd s
+study_is_ok (file_too_long name) s = absurd s
+study_is_ok (refused rule place) s = absurd s
+study_is_ok (accepted task study) s = refl
+
+-- another status says that there is no study
+no_study : (come : Verdict) (st : Status) → status_of come ≡ st → ¬ (st ≡ status.Ok) → ¬ IsStudy come
+no_study come st is other s = other (sym is ∙ study_is_ok come s)
+
+-- a refusal that words and files give
+refusal : (come : Verdict) (bytes : List ℕ) (events old new writes steps : ℕ) (taken : Option (List ℕ)) (st : Status)
+    → status_of come ≡ st → ¬ (st ≡ status.Ok) → Cause come st → Counts events steps steps taken taken st
+    → Fulfilled come bytes events (record { reads = old; writes = writes; taken = taken; steps = steps }) (record { reads = new; writes = writes; taken = taken; steps = steps }) st
+refusal come bytes events old new writes steps taken st is other cause counts = record {
+  output = λ e. absurd (other e);
+  counter = counts;
+  cause = cause;
+  exact = λ n r. inl (sym is);
+  prefix = nothing_taken taken bytes;
+  complete = λ s r w. absurd (no_study come st is other s);
+}
+
+-- a status with which the search ends, once the words are read or not
+abbrev pub IsEarly : Status → Type 0
+IsEarly st = (st ≡ status.Usage) ⊎ IsSought st
 
 fulfilled : (come : Verdict) (bytes : List ℕ) (events old new writes steps : ℕ) (taken : Option (List ℕ)) (st : Status)
-    → IsLeft st → Cause come st → (st ≡ status.ReadFault → Rose old new)
+    → IsEarly st → Cause come st → (st ≡ status.ReadFault → Rose old new)
     → Fulfilled come bytes events (record { reads = old; writes = writes; taken = taken; steps = steps }) (record { reads = new; writes = writes; taken = taken; steps = steps }) st
-fulfilled come bytes events old new writes steps taken status.Ok left cause fault = absurd left
-fulfilled come bytes events old new writes steps taken status.Usage left cause fault = absurd left
-fulfilled come bytes events old new writes steps taken status.NoStudy left cause fault = absurd left
-fulfilled come bytes events old new writes steps taken status.TooLong left cause fault = absurd left
-fulfilled come bytes events old new writes steps taken (status.Refused rule place) left cause fault = record {
-  output = λ e. cc;
-  counter = refl;
-  cause = cause;
-  exact = λ n r. inl (sym (ap status_of cause));
-  prefix = nothing_taken taken bytes;
-  complete = λ s r w. absurd (subst IsStudy cause s);
-}
-fulfilled come bytes events old new writes steps taken status.ReadFault left cause fault = record {
+fulfilled come bytes events old new writes steps taken status.Ok (inl early) cause fault = cc
+fulfilled come bytes events old new writes steps taken status.Ok (inr early) cause fault = absurd early
+fulfilled come bytes events old new writes steps taken status.Usage early cause fault =
+    refusal come bytes events old new writes steps taken status.Usage cause (λ e. cc) cause refl
+fulfilled come bytes events old new writes steps taken status.NoStudy early cause fault =
+    refusal come bytes events old new writes steps taken status.NoStudy cause (λ e. cc) cause refl
+fulfilled come bytes events old new writes steps taken status.TooLong early cause fault =
+    refusal come bytes events old new writes steps taken status.TooLong cause (λ e. cc) cause refl
+fulfilled come bytes events old new writes steps taken (status.Refused rule place) early cause fault =
+    refusal come bytes events old new writes steps taken (status.Refused rule place) cause (λ e. cc) cause refl
+fulfilled come bytes events old new writes steps taken status.ReadFault early cause fault = record {
   output = λ e. cc;
   counter = refl;
   cause = cause;
@@ -52,8 +70,9 @@ fulfilled come bytes events old new writes steps taken status.ReadFault left cau
   prefix = nothing_taken taken bytes;
   complete = λ s r w. absurd (r (fault refl));
 }
-fulfilled come bytes events old new writes steps taken status.WriteFault left cause fault = absurd left
-fulfilled come bytes events old new writes steps taken status.Memory left cause fault = record {
+fulfilled come bytes events old new writes steps taken status.WriteFault (inl early) cause fault = cc
+fulfilled come bytes events old new writes steps taken status.WriteFault (inr early) cause fault = absurd early
+fulfilled come bytes events old new writes steps taken status.Memory early cause fault = record {
   output = λ e. cc;
   counter = (omega arith, omega arith, λ n. absurd (n refl));
   cause = tt;
@@ -62,25 +81,35 @@ fulfilled come bytes events old new writes steps taken status.Memory left cause 
   complete = λ s r w. inr refl;
 }
 
-told : (files : Option (List (List ℕ × List ℕ))) (words : List (List ℕ)) (old new writes steps : ℕ) (taken : Option (List ℕ)) (st : Status)
-    → IsLeft st → IfSome files (λ library. Cause (verdict library words) st) → (st ≡ status.ReadFault → Rose old new)
+early_told : (files : Option Files) (words : List (List ℕ)) (name : List ℕ) (old new writes steps : ℕ) (taken : Option (List ℕ)) (st : Status)
+    → IsEarly st → IfSome files (λ library. Ends (verdict library words) (fetched library words) st name) → (st ≡ status.ReadFault → Rose old new)
     → IfSome files (λ library. Fulfilled (verdict library words) (output (verdict library words)) (distinct (verdict library words)) (record { reads = old; writes = writes; taken = taken; steps = steps }) (record { reads = new; writes = writes; taken = taken; steps = steps }) st)
-told None words old new writes steps taken st left cause fault = tt
-told (Some library) words old new writes steps taken st left cause fault =
-    fulfilled (verdict library words) (output (verdict library words)) (distinct (verdict library words)) old new writes steps taken st left cause fault
+early_told None words name old new writes steps taken st early ends fault = tt
+early_told (Some library) words name old new writes steps taken st early ends fault =
+    fulfilled (verdict library words) (output (verdict library words)) (distinct (verdict library words)) old new writes steps taken st early ends.cause fault
 
-refusal : (files : Option (List (List ℕ × List ℕ))) (words : List (List ℕ)) (name : List ℕ) (old new writes steps : ℕ) (taken : Option (List ℕ)) (st : Status)
-    → Some name ≡ asked_of words → IsLeft st → IfSome files (λ library. Cause (verdict library words) st)
-    → (st ≡ status.ReadFault → Rose old new) → old ≤ new
+early_write : (st : Status) → IsEarly st → ¬ (st ≡ status.WriteFault)
+early_write st (inl e) w = let other : status.Usage ≡ status.WriteFault = sym e ∙ w in cc
+early_write st (inr e) w = subst IsSought w e
+
+early_ok : (st : Status) → IsEarly st → ¬ (st ≡ status.Ok)
+early_ok st (inl e) w = let other : status.Usage ≡ status.Ok = sym e ∙ w in cc
+early_ok st (inr e) w = subst IsSought w e
+
+-- the search ended without a study
+pub ended_early : (files : Option Files) (words : List (List ℕ)) (name : List ℕ) (old new writes steps : ℕ) (taken : Option (List ℕ)) (st : Status)
+    → IsEarly st → IfSome files (λ library. Ends (verdict library words) (fetched library words) st name)
+    → (st ≡ status.Usage → asked_of words ≡ None) → (asked_of words ≡ None → (st ≡ status.Usage) ⊎ (st ≡ status.Memory))
+    → (st ≡ status.Usage → new ≡ old) → (st ≡ status.ReadFault → Rose old new) → old ≤ new
     → Answered files words (record { reads = old; writes = writes; taken = taken; steps = steps }) (record { reads = new; writes = writes; taken = taken; steps = steps }) st
-refusal files words name old new writes steps taken st asks left cause fault rises = record {
-  told = told files words old new writes steps taken st left cause fault;
-  usage = λ e. absurd (subst IsLeft e left);
-  not_asked = λ n. cc;
-  unasked = λ e. absurd (subst IsLeft e left);
+ended_early files words name old new writes steps taken st early ends faulty not_asked still fault rises = record {
+  told = early_told files words name old new writes steps taken st early ends fault;
+  usage = faulty;
+  not_asked = not_asked;
+  unasked = still;
   read_fault = fault;
-  write_fault = λ e. absurd (subst IsLeft e left);
-  steady = λ e. absurd (subst IsLeft e left);
+  write_fault = λ e. absurd (early_write st early e);
+  steady = λ e. absurd (early_ok st early e);
   refused = λ r. refl;
   unmoved = λ r. refl;
   out_still = λ r. refl;
@@ -88,76 +117,126 @@ refusal files words name old new writes steps taken st asks left cause fault ris
   writes_never_fall = omega arith;
 }
 
--- a read failed
-pub read_failed : (files : Option (List (List ℕ × List ℕ))) (words : List (List ℕ)) (name : List ℕ) (old new writes steps : ℕ) (taken : Option (List ℕ))
-    → Some name ≡ asked_of words → Rose old new → old ≤ new
-    → Answered files words (record { reads = old; writes = writes; taken = taken; steps = steps }) (record { reads = new; writes = writes; taken = taken; steps = steps }) status.ReadFault
-read_failed files words name old new writes steps taken asks rose rises =
-    refusal files words name old new writes steps taken status.ReadFault asks tt (come_asked files words name asks) (λ e. rose) rises
+-- what is done with a study ends with 0, 7 or 10
+unsent_cause : (come : Verdict) (st : Status) → IsStudy come → IsUnsent st → Cause come st
+unsent_cause come status.Ok s u = absurd u
+unsent_cause come status.Usage s u = absurd u
+unsent_cause come status.NoStudy s u = absurd u
+unsent_cause come status.TooLong s u = absurd u
+unsent_cause come (status.Refused rule place) s u = absurd u
+unsent_cause come status.ReadFault s u = absurd u
+unsent_cause come status.WriteFault s u = s
+unsent_cause come status.Memory s u = tt
 
--- memory was wanting before there was a study
-pub memory_wanting : (files : Option (List (List ℕ × List ℕ))) (words : List (List ℕ)) (name : List ℕ) (old new writes steps : ℕ) (taken : Option (List ℕ))
-    → Some name ≡ asked_of words → old ≤ new
-    → Answered files words (record { reads = old; writes = writes; taken = taken; steps = steps }) (record { reads = new; writes = writes; taken = taken; steps = steps }) status.Memory
-memory_wanting files words name old new writes steps taken asks rises =
-    refusal files words name old new writes steps taken status.Memory asks tt (come_free files) (λ e. cc) rises
+performed_cause : (come : Verdict) (st : Status) → IsStudy come → (st ≡ status.Ok) ⊎ IsUnsent st → Cause come st
+performed_cause come st s (inl ok) = subst (λ (x : Status). Cause come x) (sym ok) s
+performed_cause come st s (inr u) = unsent_cause come st s u
 
-told_wanting : (files : Option (List (List ℕ × List ℕ))) (words : List (List ℕ)) (s : WatcherStudy) (reads writes old new : ℕ) (taken : Option (List ℕ))
-    → old ≤ new → new ≤ old + distinct (accepted s) → IfSome files (λ library. verdict library words ≡ accepted s)
-    → IfSome files (λ library. Fulfilled (verdict library words) (output (verdict library words)) (distinct (verdict library words)) (record { reads = reads; writes = writes; taken = taken; steps = old }) (record { reads = reads; writes = writes; taken = taken; steps = new }) status.Memory)
-told_wanting None words s reads writes old new taken least greatest is = tt
-told_wanting (Some library) words s reads writes old new taken least greatest is = record {
-  output = λ e. cc;
-  counter = (least, subst (λ (v : Verdict). new ≤ old + distinct v) (sym is) greatest, λ n. absurd (n refl));
-  cause = tt;
-  exact = λ n r. inr refl;
-  prefix = nothing_taken taken (output (verdict library words));
-  complete = λ e r w. inr refl;
+unsent_wanting : (st : Status) (old new : ℕ) → IsUnsent st → (st ≡ status.WriteFault → Rose old new) → ¬ (Rose old new) → st ≡ status.Memory
+unsent_wanting status.Ok old new u fault r = absurd u
+unsent_wanting status.Usage old new u fault r = absurd u
+unsent_wanting status.NoStudy old new u fault r = absurd u
+unsent_wanting status.TooLong old new u fault r = absurd u
+unsent_wanting (status.Refused rule place) old new u fault r = absurd u
+unsent_wanting status.ReadFault old new u fault r = absurd u
+unsent_wanting status.WriteFault old new u fault r = absurd (r (fault refl))
+unsent_wanting status.Memory old new u fault r = refl
+
+performed_complete : (st : Status) (old new : ℕ) → (st ≡ status.Ok) ⊎ IsUnsent st → (st ≡ status.WriteFault → Rose old new) → ¬ (Rose old new)
+    → (st ≡ status.Ok) ⊎ (st ≡ status.Memory)
+performed_complete st old new (inl ok) fault r = inl ok
+performed_complete st old new (inr u) fault r = inr (unsent_wanting st old new u fault r)
+
+performed_fulfils : (task : Task) (s : StudyTold) (before after : Seen) (st : Status) → Performed (written task s) (simulated task s) before after st
+    → Fulfilled (accepted task s) (written task s) (simulated task s) before after st
+performed_fulfils task s before after st p = record {
+  output = p.whole;
+  counter = p.counter;
+  cause = performed_cause (accepted task s) st tt p.ended;
+  exact = λ n r. absurd (n tt);
+  prefix = p.cut;
+  complete = λ n r w. performed_complete st before.writes after.writes p.ended p.fault w;
 }
 
--- memory was wanting while a study was simulated
-pub simulation_wanting : (files : Option (List (List ℕ × List ℕ))) (words : List (List ℕ)) (s : WatcherStudy) (reads writes old new : ℕ) (taken : Option (List ℕ))
-    → old ≤ new → new ≤ old + distinct (accepted s) → IfSome files (λ library. verdict library words ≡ accepted s)
-    → Answered files words (record { reads = reads; writes = writes; taken = taken; steps = old }) (record { reads = reads; writes = writes; taken = taken; steps = new }) status.Memory
-simulation_wanting files words s reads writes old new taken least greatest is = record {
-  told = told_wanting files words s reads writes old new taken least greatest is;
-  usage = λ e. cc;
-  not_asked = λ n. inr refl;
-  unasked = λ e. cc;
-  read_fault = λ e. cc;
-  write_fault = λ e. cc;
-  steady = λ e. cc;
-  refused = λ r. absurd r;
-  unmoved = λ r. absurd r;
-  out_still = λ r. absurd r;
-  reads_never_fall = omega arith;
-  writes_never_fall = omega arith;
+performed_told : (files : Option Files) (words : List (List ℕ)) (task : Task) (s : StudyTold) (before after : Seen) (st : Status)
+    → IfSome files (λ library. verdict library words ≡ accepted task s) → Performed (written task s) (simulated task s) before after st
+    → IfSome files (λ library. Fulfilled (verdict library words) (output (verdict library words)) (distinct (verdict library words)) before after st)
+performed_told None words task s before after st is p = tt
+performed_told (Some library) words task s before after st is p =
+    subst (λ (v : Verdict). Fulfilled v (output v) (distinct v) before after st) (sym is) (performed_fulfils task s before after st p)
+
+unsent_read : (st : Status) → IsUnsent st → ¬ (st ≡ status.ReadFault)
+unsent_read st u e = subst IsUnsent e u
+
+unsent_usage : (st : Status) → IsUnsent st → ¬ (st ≡ status.Usage)
+unsent_usage st u e = subst IsUnsent e u
+
+performed_read : (st : Status) → (st ≡ status.Ok) ⊎ IsUnsent st → ¬ (st ≡ status.ReadFault)
+performed_read st (inl ok) e = let other : status.Ok ≡ status.ReadFault = sym ok ∙ e in cc
+performed_read st (inr u) e = unsent_read st u e
+
+performed_usage : (st : Status) → (st ≡ status.Ok) ⊎ IsUnsent st → ¬ (st ≡ status.Usage)
+performed_usage st (inl ok) e = let other : status.Ok ≡ status.Usage = sym ok ∙ e in cc
+performed_usage st (inr u) e = unsent_usage st u e
+
+unsent_refusal : (st : Status) → IsUnsent st → ¬ IsRefusal st
+unsent_refusal status.Ok u r = u
+unsent_refusal status.Usage u r = u
+unsent_refusal status.NoStudy u r = u
+unsent_refusal status.TooLong u r = u
+unsent_refusal (status.Refused rule place) u r = u
+unsent_refusal status.ReadFault u r = u
+unsent_refusal status.WriteFault u r = r
+unsent_refusal status.Memory u r = r
+
+performed_refusal : (st : Status) → (st ≡ status.Ok) ⊎ IsUnsent st → ¬ IsRefusal st
+performed_refusal st (inl ok) r = subst IsRefusal ok r
+performed_refusal st (inr u) r = unsent_refusal st u r
+
+-- something was done with the study
+pub performed_answers : (files : Option Files) (words : List (List ℕ)) (task : Task) (s : StudyTold) (before after : Seen) (st : Status)
+    → IfSome files (λ library. verdict library words ≡ accepted task s) → ¬ (asked_of words ≡ None) → after.reads ≡ before.reads
+    → Performed (written task s) (simulated task s) before after st → Answered files words before after st
+performed_answers files words task s before after st is asked reads p = record {
+  told = performed_told files words task s before after st is p;
+  usage = λ e. absurd (performed_usage st p.ended e);
+  not_asked = λ n. absurd (asked n);
+  unasked = λ e. reads;
+  read_fault = λ e. absurd (performed_read st p.ended e);
+  write_fault = p.fault;
+  steady = λ e. (reads, p.steady e);
+  refused = λ r. absurd (performed_refusal st p.ended r);
+  unmoved = λ r. absurd (performed_refusal st p.ended r);
+  out_still = λ r. absurd (performed_refusal st p.ended r);
+  reads_never_fall = omega (arith, reads);
+  writes_never_fall = p.never_falls;
 }
 
--- the bytes say no study, or memory was wanting
-pub no_study_read : (read : Result WatcherStudy Status) (files : Option (List (List ℕ × List ℕ))) (words : List (List ℕ)) (name bytes : List ℕ) (old new : ℕ)
-    → IfErr read (λ st. ¬ (st ≡ status.Memory) → (st ≡ status.Refused 99 0) × (study_of bytes ≡ None))
-    → Some name ≡ asked_of words → IfSome files (λ library. whole bytes ≡ content (held library name) 16777216) → old ≤ new
-    → IfErr read (λ st. (writes steps : ℕ) (taken : Option (List ℕ)) → Answered files words (record { reads = old; writes = writes; taken = taken; steps = steps }) (record { reads = new; writes = writes; taken = taken; steps = steps }) st)
-no_study_read (Ok s) files words name bytes old new why asks is rises = tt
-no_study_read (Err status.Memory) files words name bytes old new why asks is rises =
-    λ writes steps taken. refusal files words name old new writes steps taken status.Memory asks tt (come_free files) (λ e. cc) rises
-no_study_read (Err (status.Refused rule place)) files words name bytes old new why asks is rises =
-    let broken : (status.Refused rule place ≡ status.Refused 99 0) × (study_of bytes ≡ None) = why (λ e. cc) in
-    λ writes steps taken. subst (λ (st : Status). Answered files words (record { reads = old; writes = writes; taken = taken; steps = steps }) (record { reads = new; writes = writes; taken = taken; steps = steps }) st) (sym broken.0)
-    (refusal files words name old new writes steps taken (status.Refused 99 0) asks tt (come_broken files words bytes broken.1 (come_to files words name (whole bytes) asks is)) (λ e. cc) rises)
-no_study_read (Err status.Ok) files words name bytes old new why asks is rises =
-    let other : status.Ok ≡ status.Refused 99 0 = (why (λ e. cc)).0 in absurd cc
-no_study_read (Err status.Usage) files words name bytes old new why asks is rises =
-    let other : status.Usage ≡ status.Refused 99 0 = (why (λ e. cc)).0 in absurd cc
-no_study_read (Err status.NoStudy) files words name bytes old new why asks is rises =
-    let other : status.NoStudy ≡ status.Refused 99 0 = (why (λ e. cc)).0 in absurd cc
-no_study_read (Err status.TooLong) files words name bytes old new why asks is rises =
-    let other : status.TooLong ≡ status.Refused 99 0 = (why (λ e. cc)).0 in absurd cc
-no_study_read (Err status.ReadFault) files words name bytes old new why asks is rises =
-    let other : status.ReadFault ≡ status.Refused 99 0 = (why (λ e. cc)).0 in absurd cc
-no_study_read (Err status.WriteFault) files words name bytes old new why asks is rises =
-    let other : status.WriteFault ≡ status.Refused 99 0 = (why (λ e. cc)).0 in absurd cc
+-- what is done with a study ends with a status that speaks of no file
+unsent_names : (come : Verdict) (names : List (List ℕ)) (st : Status) (name : List ℕ) → IsUnsent st → Names come names st name
+unsent_names come names status.Ok name u = tt
+unsent_names come names status.Usage name u = tt
+unsent_names come names status.NoStudy name u = absurd u
+unsent_names come names status.TooLong name u = absurd u
+unsent_names come names (status.Refused rule place) name u = tt
+unsent_names come names status.ReadFault name u = absurd u
+unsent_names come names status.WriteFault name u = tt
+unsent_names come names status.Memory name u = tt
+
+performed_names : (come : Verdict) (names : List (List ℕ)) (st : Status) (name : List ℕ) → (st ≡ status.Ok) ⊎ IsUnsent st → Names come names st name
+performed_names come names st name (inl ok) = subst (λ (x : Status). Names come names x name) (sym ok) tt
+performed_names come names st name (inr u) = unsent_names come names st name u
+
+pub performed_named : (files : Option Files) (words : List (List ℕ)) (st : Status) (name : List ℕ) → (st ≡ status.Ok) ⊎ IsUnsent st
+    → IfSome files (λ library. Names (verdict library words) (fetched library words) st name)
+performed_named None words st name ended = tt
+performed_named (Some library) words st name ended = performed_names (verdict library words) (fetched library words) st name ended
+
+pub ended_named : (files : Option Files) (words : List (List ℕ)) (st : Status) (name : List ℕ)
+    → IfSome files (λ library. Ends (verdict library words) (fetched library words) st name)
+    → IfSome files (λ library. Names (verdict library words) (fetched library words) st name)
+ended_named None words st name ends = tt
+ended_named (Some library) words st name ends = ends.named
 
 turned_counter : (events old new : ℕ) (before after : Option (List ℕ)) (st : Status) → ¬ (st ≡ status.Ok) → (IsRefusal st → after ≡ before)
     → Counts events old new before after st → Counts events old new before after status.Memory
@@ -170,7 +249,7 @@ turned_counter events old new before after status.ReadFault other still h = (ome
 turned_counter events old new before after status.WriteFault other still h = (omega (arith, h), omega (arith, h), λ n. h)
 turned_counter events old new before after status.Memory other still h = h
 
-turned_told : (files : Option (List (List ℕ × List ℕ))) (words : List (List ℕ)) (before after : Seen) (st : Status) → ¬ (st ≡ status.Ok) → (IsRefusal st → after.taken ≡ before.taken)
+turned_told : (files : Option Files) (words : List (List ℕ)) (before after : Seen) (st : Status) → ¬ (st ≡ status.Ok) → (IsRefusal st → after.taken ≡ before.taken)
     → IfSome files (λ library. Fulfilled (verdict library words) (output (verdict library words)) (distinct (verdict library words)) before after st)
     → IfSome files (λ library. Fulfilled (verdict library words) (output (verdict library words)) (distinct (verdict library words)) before after status.Memory)
 turned_told None words before after st other still f = tt
@@ -184,7 +263,7 @@ turned_told (Some library) words before after st other still f = record {
 }
 
 -- where memory was wanting for the line, that is the status
-turned : (files : Option (List (List ℕ × List ℕ))) (words : List (List ℕ)) (before after : Seen) (st : Status) → ¬ (st ≡ status.Ok)
+turned : (files : Option Files) (words : List (List ℕ)) (before after : Seen) (st : Status) → ¬ (st ≡ status.Ok)
     → Answered files words before after st → Answered files words before after status.Memory
 turned files words before after st other a = record {
   told = turned_told files words before after st other a.refused a.told;
@@ -202,8 +281,16 @@ turned files words before after st other a = record {
 }
 
 -- the status stays, or memory was wanting for its line
-pub noted_answered : (files : Option (List (List ℕ × List ℕ))) (words : List (List ℕ)) (before after : Seen) (now st : Status)
+pub noted_answered : (files : Option Files) (words : List (List ℕ)) (before after : Seen) (now st : Status)
     → (now ≡ st) ⊎ ((now ≡ status.Memory) × ¬ (st ≡ status.Ok))
     → Answered files words before after st → Answered files words before after now
 noted_answered files words before after now st (inl same) a = subst (λ (x : Status). Answered files words before after x) (sym same) a
 noted_answered files words before after now st (inr (wanting, other)) a = subst (λ (x : Status). Answered files words before after x) (sym wanting) (turned files words before after st other a)
+
+pub noted_named : (files : Option Files) (words : List (List ℕ)) (name : List ℕ) (now st : Status)
+    → (now ≡ st) ⊎ ((now ≡ status.Memory) × ¬ (st ≡ status.Ok))
+    → IfSome files (λ library. Names (verdict library words) (fetched library words) st name)
+    → IfSome files (λ library. Names (verdict library words) (fetched library words) now name)
+noted_named None words name now st kept n = tt
+noted_named (Some library) words name now st (inl same) n = subst (λ (x : Status). Names (verdict library words) (fetched library words) x name) (sym same) n
+noted_named (Some library) words name now st (inr (wanting, other)) n = subst (λ (x : Status). Names (verdict library words) (fetched library words) x name) (sym wanting) tt

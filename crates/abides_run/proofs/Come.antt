@@ -1,39 +1,212 @@
 -- What words and files come to, by what the library answered.
-use Rattle.std.proofs.Common.{◌≡◌, ℕ, List, Option, Some, None, IfSome, sym, ap, ◌∙◌, subst}
+use Rattle.std.proofs.Common.{◌≡◌, ◌⊎◌, ℕ, List, [], ◌∷◌, Option, Some, None, IfSome, Result, Ok, Err, IfErr, IsErr, IsErrAnd, string_bytes, refl, sym, ap, ◌∙◌, subst, inl, inr}
+use Rattle.toml.specs.Data.{Members}
 use Rattle.outside.specs.Files.{Content, absent, too_long, whole, held, content}
-use Rattle.study_rules.specs.declared.accept.WatcherStudy.{WatcherStudy}
-use Rattle.study_rules.specs.Watchers.{study_of}
+use Rattle.study_file.specs.Tables.{table_of}
+use Rattle.study_tables.specs.declared.refusal.Refusal.{Refusal}
+use Rattle.study_accept.specs.Accepted.{StudyTold, study_of}
+use Rattle.study_accept.specs.declared.study.Study.{Study}
+use Rattle.abides_run.specs.declared.ending.Ending.{Ending}
+use Rattle.abides_run.specs.declared.request.Request.{Request}
+use Rattle.abides_run.specs.declared.request.Task.{Task}
 use Rattle.abides_run.specs.Words.{asked_of}
-use Rattle.abides_run.specs.Verdict.{Verdict, verdict, verdict_on, verdict_at, judged, refused, most_bytes, IsAsked}
+use Rattle.abides_run.specs.Verdict.{Verdict, Files, no_file, file_too_long, accepted, most_bytes, series_of, judged, verdict_on_series, verdict_on_table, verdict_on_bytes, verdict_on_study, verdict_for, verdict, IsAsked}
+use Rattle.abides_run.specs.Fetched.{named, series_after, series_behind, fetched_for, fetched}
+use Rattle.abides_run.specs.Statuses.{status_of, Names}
+use Rattle.abides_run.specs.Ends.{Ends, Fetches}
+use Rattle.abides_run.specs.declared.status.Status.{Status}
+use Rattle.abides_run.specs.declared.status.Status.TheVariants as status
 
-pub come_to : (files : Option (List (List ℕ × List ℕ))) (words : List (List ℕ)) (name : List ℕ) (answer : Content) → Some name ≡ asked_of words
-    → IfSome files (λ library. answer ≡ content (held library name) 16777216)
-    → IfSome files (λ library. verdict library words ≡ verdict_on answer)
-come_to None words name answer asks is = tt
-come_to (Some library) words name answer asks is = ap (verdict_at library) (sym asks) ∙ ap verdict_on (sym is)
+-- whatever the files hold, the words asked for them
+judged_asked : (task : Task) (r : Result StudyTold Refusal) → IsAsked (judged task r)
+judged_asked task (Err r) = tt
+judged_asked task (Ok s) = tt
 
-pub come_broken : (files : Option (List (List ℕ × List ℕ))) (words : List (List ℕ)) (bytes : List ℕ) → study_of bytes ≡ None
-    → IfSome files (λ library. verdict library words ≡ judged (study_of bytes))
-    → IfSome files (λ library. verdict library words ≡ refused 99 0)
-come_broken None words bytes broken is = tt
-come_broken (Some library) words bytes broken is = is ∙ ap judged broken
+series_asked : (task : Task) (table : Members) (name : List ℕ) (answer : Content) → IsAsked (verdict_on_series task table name answer)
+series_asked task table name absent = tt
+series_asked task table name too_long = tt
+series_asked task table name (whole bytes) = judged_asked task (study_of table (Some bytes))
 
-judged_asked : (s : Option WatcherStudy) → IsAsked (judged s)
-judged_asked None = tt
-judged_asked (Some s) = tt
+table_asked : (library : Files) (task : Task) (table : Members) (series : Option (List ℕ)) → IsAsked (verdict_on_table library task table series)
+table_asked library task table None = judged_asked task (study_of table None)
+table_asked library task table (Some name) = series_asked task table name (content (held library name) most_bytes)
 
-answered_asked : (answer : Content) → IsAsked (verdict_on answer)
-answered_asked absent = tt
-answered_asked too_long = tt
-answered_asked (whole bytes) = judged_asked (study_of bytes)
+bytes_asked : (library : Files) (task : Task) (table : Option Members) → IsAsked (verdict_on_bytes library task table)
+bytes_asked library task None = tt
+bytes_asked library task (Some table) = table_asked library task table (series_of table)
 
-pub come_asked : (files : Option (List (List ℕ × List ℕ))) (words : List (List ℕ)) (name : List ℕ) → Some name ≡ asked_of words
-    → IfSome files (λ library. IsAsked (verdict library words))
-come_asked None words name asks = tt
-come_asked (Some library) words name asks =
-    subst IsAsked (ap (verdict_at library) asks) (answered_asked (content (held library name) most_bytes))
+study_asked : (library : Files) (request : Request) (answer : Content) → IsAsked (verdict_on_study library request answer)
+study_asked library request absent = tt
+study_asked library request too_long = tt
+study_asked library request (whole bytes) = bytes_asked library request.task (table_of bytes)
 
--- want of memory may come anywhere
-pub come_free : (files : Option (List (List ℕ × List ℕ))) → IfSome files (λ library. Unit {0})
-come_free None = tt
-come_free (Some library) = tt
+-- the fetch of a series file that gave no bytes
+series_ends : (task : Task) (table : Members) (name : List ℕ) (answer : Content) (st : Status) (told : List ℕ)
+    → Fetches answer name st told → Ends (verdict_on_series task table name answer) (name ∷ []) st told
+series_ends task table name answer status.Ok told f = absurd f
+series_ends task table name answer status.Usage told f = absurd f
+series_ends task table name answer status.NoStudy told f = record {
+  cause = ap (λ (a : Content). status_of (verdict_on_series task table name a)) f.0;
+  named = ap (λ (a : Content). verdict_on_series task table name a) f.0 ∙ ap no_file (sym f.1);
+}
+series_ends task table name answer status.TooLong told f = record {
+  cause = ap (λ (a : Content). status_of (verdict_on_series task table name a)) f.0;
+  named = ap (λ (a : Content). verdict_on_series task table name a) f.0 ∙ ap file_too_long (sym f.1);
+}
+series_ends task table name answer (status.Refused rule place) told f = absurd f
+series_ends task table name answer status.ReadFault told f = record { cause = series_asked task table name answer; named = inl f }
+series_ends task table name answer status.WriteFault told f = absurd f
+series_ends task table name answer status.Memory told f = record { cause = tt; named = tt }
+
+pub series_unfetched : (files : Option Files) (table : Members) (name : List ℕ) (st : Status) (told : List ℕ) → Some name ≡ series_of table
+    → IfSome files (λ library. Fetches (content (held library name) most_bytes) name st told)
+    → IfSome files (λ library. (task : Task) → Ends (verdict_on_table library task table (series_of table)) (named (series_of table)) st told)
+series_unfetched None table name st told is f = tt
+series_unfetched (Some library) table name st told is f =
+    λ task. subst (λ (series : Option (List ℕ)). Ends (verdict_on_table library task table series) (named series) st told) is
+    (series_ends task table name (content (held library name) most_bytes) st told f)
+
+pub series_fetched : (files : Option Files) (table : Members) (name bytes : List ℕ) → Some name ≡ series_of table
+    → IfSome files (λ library. content (held library name) most_bytes ≡ whole bytes)
+    → IfSome files (λ library. (task : Task) → verdict_on_table library task table (series_of table) ≡ judged task (study_of table (Some bytes)))
+series_fetched None table name bytes is has = tt
+series_fetched (Some library) table name bytes is has =
+    λ task. subst (λ (series : Option (List ℕ)). verdict_on_table library task table series ≡ judged task (study_of table (Some bytes))) is
+    (ap (λ (a : Content). verdict_on_series task table name a) has)
+
+pub series_unnamed : (files : Option Files) (table : Members) → None ≡ series_of table
+    → IfSome files (λ library. (task : Task) → verdict_on_table library task table (series_of table) ≡ judged task (study_of table None))
+series_unnamed None table is = tt
+series_unnamed (Some library) table is =
+    λ task. subst (λ (series : Option (List ℕ)). verdict_on_table library task table series ≡ judged task (study_of table None)) is refl
+
+-- the study that the tables say, with the bytes of its series file
+pub study_read : (files : Option Files) (bytes : List ℕ) (table : Members) (series : Option (List ℕ)) (s : StudyTold) → table_of bytes ≡ Some table
+    → IfSome files (λ library. (task : Task) → verdict_on_table library task table (series_of table) ≡ judged task (study_of table series))
+    → ((task : Task) → judged task (study_of table series) ≡ accepted task s)
+    → IfSome files (λ library. (task : Task) → verdict_on_bytes library task (table_of bytes) ≡ accepted task s)
+study_read None bytes table series s has with_series says = tt
+study_read (Some library) bytes table series s has with_series says =
+    λ task. ap (λ (t : Option Members). verdict_on_bytes library task t) has ∙ with_series task ∙ says task
+
+pub study_refused : (files : Option Files) (bytes : List ℕ) (table : Members) (series : Option (List ℕ)) (st : Status) (name : List ℕ) → table_of bytes ≡ Some table
+    → IfSome files (λ library. (task : Task) → verdict_on_table library task table (series_of table) ≡ judged task (study_of table series))
+    → ((task : Task) (names : List (List ℕ)) (name : List ℕ) → Ends (judged task (study_of table series)) names st name)
+    → IfSome files (λ library. (task : Task) → Ends (verdict_on_bytes library task (table_of bytes)) (series_after (table_of bytes)) st name)
+study_refused None bytes table series st name has with_series ends = tt
+study_refused (Some library) bytes table series st name has with_series ends =
+    λ task. subst (λ (v : Verdict). Ends v (series_after (table_of bytes)) st name)
+    (sym (ap (λ (t : Option Members). verdict_on_bytes library task t) has ∙ with_series task))
+    (ends task (series_after (table_of bytes)) name)
+
+-- what the rules refuse, over the same bytes of a series file
+pub rules_refused : (r : Result Study Ending) (files : Option Files) (bytes : List ℕ) (table : Members) (series shown : Option (List ℕ)) → table_of bytes ≡ Some table
+    → IfSome files (λ library. (task : Task) → verdict_on_table library task table (series_of table) ≡ judged task (study_of table series))
+    → shown ≡ series
+    → IfErr r (λ e. (task : Task) (names : List (List ℕ)) (name : List ℕ) → Ends (judged task (study_of table shown)) names e.status name)
+    → IfErr r (λ e. IfSome files (λ library. (task : Task) → Ends (verdict_on_bytes library task (table_of bytes)) (series_after (table_of bytes)) e.status (string_bytes e.name)))
+rules_refused (Ok s) files bytes table series shown has with_series same ends = tt
+rules_refused (Err e) files bytes table series shown has with_series same ends =
+    study_refused files bytes table series e.status (string_bytes e.name) has with_series
+    (subst (λ (o : Option (List ℕ)). (task : Task) (names : List (List ℕ)) (name : List ℕ) → Ends (judged task (study_of table o)) names e.status name) same ends)
+
+-- an end that is handed on
+pub handed_on : {X : Type 0} (r : Result X Ending) (e : Ending) (P : Ending → Type 0) → IsErr r × IsErrAnd r (λ f. f ≡ e) → P e → IfErr r P
+handed_on (Ok x) e P is p = tt
+handed_on (Err f) e P is p = subst P (sym is.1) p
+
+-- the series file gave no bytes
+pub series_missed : (files : Option Files) (bytes : List ℕ) (table : Members) (st : Status) (name : List ℕ) → table_of bytes ≡ Some table
+    → IfSome files (λ library. (task : Task) → Ends (verdict_on_table library task table (series_of table)) (named (series_of table)) st name)
+    → IfSome files (λ library. (task : Task) → Ends (verdict_on_bytes library task (table_of bytes)) (series_after (table_of bytes)) st name)
+series_missed None bytes table st name has ends = tt
+series_missed (Some library) bytes table st name has ends =
+    λ task. subst (λ (t : Option Members). Ends (verdict_on_bytes library task t) (series_after t) st name) (sym has) (ends task)
+
+-- the bytes are the text of no table, or memory was wanting to read it
+pub table_missed : (files : Option Files) (bytes : List ℕ) (st : Status) (name : List ℕ)
+    → (st ≡ status.Memory) ⊎ ((st ≡ status.Refused 0 0) × (table_of bytes ≡ None))
+    → IfSome files (λ library. (task : Task) → Ends (verdict_on_bytes library task (table_of bytes)) (series_after (table_of bytes)) st name)
+table_missed None bytes st name why = tt
+table_missed (Some library) bytes st name (inl wanting) =
+    λ task. subst (λ (x : Status). Ends (verdict_on_bytes library task (table_of bytes)) (series_after (table_of bytes)) x name) (sym wanting)
+    (record { cause = tt; named = tt })
+table_missed (Some library) bytes st name (inr why) =
+    λ task. subst (λ (x : Status). Ends (verdict_on_bytes library task (table_of bytes)) (series_after (table_of bytes)) x name) (sym why.0)
+    (record { cause = ap (λ (t : Option Members). status_of (verdict_on_bytes library task t)) why.1; named = tt })
+
+-- the fetch of a study file that gave no bytes
+study_ends : (library : Files) (request : Request) (answer : Content) (st : Status) (told : List ℕ)
+    → Fetches answer request.study st told → Ends (verdict_on_study library request answer) (request.study ∷ series_behind answer) st told
+study_ends library request answer status.Ok told f = absurd f
+study_ends library request answer status.Usage told f = absurd f
+study_ends library request answer status.NoStudy told f = record {
+  cause = ap (λ (a : Content). status_of (verdict_on_study library request a)) f.0;
+  named = ap (λ (a : Content). verdict_on_study library request a) f.0 ∙ ap no_file (sym f.1);
+}
+study_ends library request answer status.TooLong told f = record {
+  cause = ap (λ (a : Content). status_of (verdict_on_study library request a)) f.0;
+  named = ap (λ (a : Content). verdict_on_study library request a) f.0 ∙ ap file_too_long (sym f.1);
+}
+study_ends library request answer (status.Refused rule place) told f = absurd f
+study_ends library request answer status.ReadFault told f = record { cause = study_asked library request answer; named = inl f }
+study_ends library request answer status.WriteFault told f = absurd f
+study_ends library request answer status.Memory told f = record { cause = tt; named = tt }
+
+pub study_unfetched : (files : Option Files) (words : List (List ℕ)) (request : Request) (st : Status) (told : List ℕ) → Some request ≡ asked_of words
+    → IfSome files (λ library. Fetches (content (held library request.study) most_bytes) request.study st told)
+    → IfSome files (λ library. Ends (verdict library words) (fetched library words) st told)
+study_unfetched None words request st told asks f = tt
+study_unfetched (Some library) words request st told asks f =
+    subst (λ (o : Option Request). Ends (verdict_for library o) (fetched_for library o) st told) asks
+    (study_ends library request (content (held library request.study) most_bytes) st told f)
+
+pub study_found : (files : Option Files) (words : List (List ℕ)) (request : Request) (bytes : List ℕ) (s : StudyTold) → Some request ≡ asked_of words
+    → IfSome files (λ library. content (held library request.study) most_bytes ≡ whole bytes)
+    → IfSome files (λ library. (task : Task) → verdict_on_bytes library task (table_of bytes) ≡ accepted task s)
+    → IfSome files (λ library. verdict library words ≡ accepted request.task s)
+study_found None words request bytes s asks has says = tt
+study_found (Some library) words request bytes s asks has says =
+    ap (λ (o : Option Request). verdict_for library o) (sym asks)
+    ∙ ap (λ (a : Content). verdict_on_study library request a) has
+    ∙ says request.task
+
+-- one more file was fetched
+names_more : (come : Verdict) (other : List ℕ) (names : List (List ℕ)) (st : Status) (name : List ℕ) → Names come names st name → Names come (other ∷ names) st name
+names_more come other names status.Ok name n = tt
+names_more come other names status.Usage name n = tt
+names_more come other names status.NoStudy name n = n
+names_more come other names status.TooLong name n = n
+names_more come other names (status.Refused rule place) name n = tt
+names_more come other names status.ReadFault name n = inr n
+names_more come other names status.WriteFault name n = tt
+names_more come other names status.Memory name n = tt
+
+bytes_end : (library : Files) (request : Request) (bytes : List ℕ) (st : Status) (name : List ℕ)
+    → Ends (verdict_on_bytes library request.task (table_of bytes)) (series_after (table_of bytes)) st name
+    → Ends (verdict_on_study library request (whole bytes)) (request.study ∷ series_behind (whole bytes)) st name
+bytes_end library request bytes st name e = record {
+  cause = e.cause;
+  named = names_more (verdict_on_bytes library request.task (table_of bytes)) request.study (series_after (table_of bytes)) st name e.named;
+}
+
+pub study_unfound : (files : Option Files) (words : List (List ℕ)) (request : Request) (bytes : List ℕ) (st : Status) (name : List ℕ) → Some request ≡ asked_of words
+    → IfSome files (λ library. content (held library request.study) most_bytes ≡ whole bytes)
+    → IfSome files (λ library. (task : Task) → Ends (verdict_on_bytes library task (table_of bytes)) (series_after (table_of bytes)) st name)
+    → IfSome files (λ library. Ends (verdict library words) (fetched library words) st name)
+study_unfound None words request bytes st name asks has ends = tt
+study_unfound (Some library) words request bytes st name asks has ends =
+    subst (λ (o : Option Request). Ends (verdict_for library o) (fetched_for library o) st name) asks
+    (subst (λ (a : Content). Ends (verdict_on_study library request a) (request.study ∷ series_behind a) st name) (sym has)
+    (bytes_end library request bytes st name (ends request.task)))
+
+-- faulty words, or want of memory while they were read
+pub words_unasked : (files : Option Files) (words : List (List ℕ)) (st : Status) (name : List ℕ)
+    → (st ≡ status.Memory) ⊎ ((st ≡ status.Usage) × (None ≡ asked_of words))
+    → IfSome files (λ library. Ends (verdict library words) (fetched library words) st name)
+words_unasked None words st name why = tt
+words_unasked (Some library) words st name (inl wanting) =
+    subst (λ (x : Status). Ends (verdict library words) (fetched library words) x name) (sym wanting) (record { cause = tt; named = tt })
+words_unasked (Some library) words st name (inr why) =
+    subst (λ (x : Status). Ends (verdict library words) (fetched library words) x name) (sym why.0)
+    (record { cause = ap (λ (o : Option Request). status_of (verdict_for library o)) (sym why.1); named = tt })

@@ -1,4 +1,5 @@
-pub mod Agents
 pub mod Answered
+pub mod Bundles
 pub mod Come
-pub mod Whole
+pub mod Fetching
+pub mod Performing

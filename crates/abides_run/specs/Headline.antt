@@ -3,7 +3,7 @@ use Rattle.std.specs.Prelude.{◌≡◌, ◌⊎◌, ◌≤◌, ℕ, List, Option
 use Rattle.outside.specs.Rose.{Rose}
 use Rattle.outside.specs.Taken.{appended, TookPrefix}
 use Rattle.abides_run.specs.Words.{asked_of}
-use Rattle.abides_run.specs.Verdict.{Verdict, verdict, IsStudy, output, distinct}
+use Rattle.abides_run.specs.Verdict.{Verdict, Files, verdict, IsStudy, output, distinct}
 use Rattle.abides_run.specs.Statuses.{Cause, Counts, IsRefusal, status_of}
 use Rattle.abides_run.specs.Notes.{note}
 use Rattle.abides_run.specs.declared.status.Status.{Status}
@@ -22,7 +22,7 @@ pub record Seen : Type 0 where
 pub record Fulfilled (come : Verdict) (bytes : List ℕ) (events : ℕ) (before after : Seen) (status : Status) : Type 0 where
   -- At status 0 out took the output and nothing else.
   pub output : status ≡ Ok → after.taken ≡ appended before.taken bytes
-  -- How many steps were counted: each event of the study once.
+  -- How many steps were counted: for a run each event of the study's segments once.
   pub counter : Counts events before.steps after.steps before.taken after.taken status
   -- Each status has its cause, and without a study and with no fault each cause its status.
   pub cause : Cause come status
@@ -34,7 +34,7 @@ pub record Fulfilled (come : Verdict) (bytes : List ℕ) (events : ℕ) (before 
       (status ≡ Ok) ⊎ (status ≡ Memory)
 
 -- What holds of all but the note. The files are there where the library tells them.
-pub record Answered (files : Option (List (List ℕ × List ℕ))) (words : List (List ℕ)) (before after : Seen) (status : Status) : Type 0 where
+pub record Answered (files : Option Files) (words : List (List ℕ)) (before after : Seen) (status : Status) : Type 0 where
   pub told : IfSome files (λ held. Fulfilled (verdict held words) (output (verdict held words)) (distinct (verdict held words)) before after status)
   -- Faulty words are told as such, and the library is not asked: its count stands.
   pub usage : status ≡ Usage → asked_of words ≡ None
@@ -51,8 +51,8 @@ pub record Answered (files : Option (List (List ℕ × List ℕ))) (words : List
   pub reads_never_fall : before.reads ≤ after.reads
   pub writes_never_fall : before.writes ≤ after.writes
 
--- What holds of the note, where the words name this study: the counts of failed writes to the notes, and what the notes
--- have taken, before and after.
+-- What holds of the note, where the status speaks of a file with this name: the counts of failed writes to the notes, and
+-- what the notes have taken, before and after.
 pub record Noted (name : List ℕ) (faults_before faults_after : ℕ) (before after : Option (List ℕ)) (status : Status) : Type 0 where
   -- The line for the status, and nothing at status 0.
   pub whole : ¬ (Rose faults_before faults_after) → after ≡ appended before (note name status)

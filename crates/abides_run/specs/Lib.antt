@@ -1,10 +1,11 @@
 pub mod Words
-pub mod Closing
-pub mod Full
-pub mod Study
+pub mod Output
 pub mod Verdict
+pub mod Fetched
 pub mod Statuses
+pub mod Ends
 pub mod Notes
 pub mod Headline
+pub mod Performed
 pub mod Code
 pub mod Worked

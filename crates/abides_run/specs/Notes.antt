@@ -8,7 +8,7 @@ use Rattle.abides_run.specs.declared.status.Status.TheVariants.{Ok, Usage, NoStu
 abbrev pub refused_line : ℕ → ℕ → List ℕ
 refused_line rule place = codes "study refused: rule " ++ decimal rule ++ codes ", place " ++ decimal place ++ 10 ∷ []
 
--- the line for a status, where the words name this study
+-- the line for a status, where this is the name of the file that it speaks of
 abbrev pub note : List ℕ → Status → List ℕ
 note name Ok = []
 note name Usage = codes "usage: abides COMMAND STUDY [MORE...] [--workers N] [--places N]\n"

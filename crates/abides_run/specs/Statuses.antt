@@ -1,27 +1,40 @@
 -- What each status of a run says.
 use Rattle.std.specs.Prelude.{◌≡◌, ℕ, ◌+◌, ◌≤◌, List, Option}
-use Rattle.abides_run.specs.Verdict.{Verdict, usage, no_study, study_too_long, refused, accepted, IsStudy, IsAsked}
+use Rattle.abides_run.specs.Verdict.{Verdict, usage, no_file, file_too_long, refused, accepted, IsStudy, IsAsked}
+use Rattle.abides_run.specs.Fetched.{IsAmong}
 use Rattle.abides_run.specs.declared.status.Status.{Status}
 use Rattle.abides_run.specs.declared.status.Status.TheVariants.{Ok, Usage, NoStudy, TooLong, Refused, ReadFault, WriteFault, Memory}
-
--- What words and files say of each status. Only want of memory may always come.
-abbrev pub Cause : Verdict → Status → Type 0
-Cause verdict Ok = IsStudy verdict
-Cause verdict Usage = verdict ≡ usage
-Cause verdict NoStudy = verdict ≡ no_study
-Cause verdict TooLong = verdict ≡ study_too_long
-Cause verdict (Refused rule place) = verdict ≡ refused rule place
-Cause verdict ReadFault = IsAsked verdict
-Cause verdict WriteFault = IsStudy verdict
-Cause verdict Memory = Unit {0}
 
 -- the status where nothing fails and memory is there
 abbrev pub status_of : Verdict → Status
 status_of usage = Usage
-status_of no_study = NoStudy
-status_of study_too_long = TooLong
+status_of (no_file name) = NoStudy
+status_of (file_too_long name) = TooLong
 status_of (refused rule place) = Refused rule place
-status_of (accepted s) = Ok
+status_of (accepted task study) = Ok
+
+-- What words and files say of each status. Only want of memory may always come.
+abbrev pub Cause : Verdict → Status → Type 0
+Cause come Ok = IsStudy come
+Cause come Usage = status_of come ≡ Usage
+Cause come NoStudy = status_of come ≡ NoStudy
+Cause come TooLong = status_of come ≡ TooLong
+Cause come (Refused rule place) = status_of come ≡ Refused rule place
+Cause come ReadFault = IsAsked come
+Cause come WriteFault = IsStudy come
+Cause come Memory = Unit {0}
+
+-- The file that a status's line names, where words and files come to this verdict and these files are fetched. Which of the
+-- reads failed, no file tells.
+abbrev pub Names : Verdict → List (List ℕ) → Status → List ℕ → Type 0
+Names come fetched Ok name = Unit {0}
+Names come fetched Usage name = Unit {0}
+Names come fetched NoStudy name = come ≡ no_file name
+Names come fetched TooLong name = come ≡ file_too_long name
+Names come fetched (Refused rule place) name = Unit {0}
+Names come fetched ReadFault name = IsAmong name fetched
+Names come fetched WriteFault name = Unit {0}
+Names come fetched Memory name = Unit {0}
 
 -- The rise of the counter at each status, where so many steps are to be counted, and out had taken this before and has
 -- taken this now. No byte goes out before all steps are made.

@@ -1,67 +1,96 @@
 -- What words and files come to, before anything is simulated. The order of refusals is the order of this computation.
-use Rattle.std.specs.Prelude.{ℕ, List, [], Option, Some, None}
+use Rattle.std.specs.Prelude.{ℕ, List, [], ◌∷◌, Option, Some, None, Result, Ok, Err, codes}
+use Rattle.toml.specs.Data.{Members}
 use Rattle.outside.specs.Files.{Content, absent, too_long, whole, held, content}
-use Rattle.study_rules.specs.declared.accept.WatcherStudy.{WatcherStudy}
-use Rattle.study_rules.specs.Watchers.{study_of}
+use Rattle.study_file.specs.Tables.{table_of, text_at}
+use Rattle.study_tables.specs.declared.refusal.Refusal.{Refusal}
+use Rattle.study_accept.specs.Accepted.{StudyTold, study_of}
+use Rattle.abides_run.specs.declared.request.Request.{Request}
+use Rattle.abides_run.specs.declared.request.Task.{Task}
 use Rattle.abides_run.specs.Words.{asked_of}
-use Rattle.abides_run.specs.Study.{study_bundle, study_events}
+use Rattle.abides_run.specs.Output.{written, simulated}
 
 pub data Verdict : Type 0 where
   usage : Verdict
-  no_study : Verdict
-  study_too_long : Verdict
+  no_file : List ℕ → Verdict
+  file_too_long : List ℕ → Verdict
   refused : ℕ → ℕ → Verdict
-  accepted : WatcherStudy → Verdict
+  accepted : Task → StudyTold → Verdict
 
--- a study file may have so many bytes
+-- a study file or a series file may have so many bytes
 abbrev pub most_bytes : ℕ
 most_bytes = 16777216
 
--- bytes that say no watcher study break rule 99
-abbrev pub judged : Option WatcherStudy → Verdict
-judged None = refused 99 0
-judged (Some s) = accepted s
+-- the files as pairs of a name and its bytes
+abbrev pub Files : Type 0
+Files = List (List ℕ × List ℕ)
 
-abbrev pub verdict_on : Content → Verdict
-verdict_on absent = no_study
-verdict_on too_long = study_too_long
-verdict_on (whole bytes) = judged (study_of bytes)
+-- the series file that a study's table names
+abbrev pub series_of : Members → Option (List ℕ)
+series_of table = text_at (codes "series") table
 
-abbrev pub verdict_at : List (List ℕ × List ℕ) → Option (List ℕ) → Verdict
-verdict_at files None = usage
-verdict_at files (Some name) = verdict_on (content (held files name) most_bytes)
+-- the first broken rule of all, or a study
+abbrev pub judged : Task → Result StudyTold Refusal → Verdict
+judged task (Err refusal) = refused refusal.rule refusal.place
+judged task (Ok study) = accepted task study
 
-abbrev pub verdict : List (List ℕ × List ℕ) → List (List ℕ) → Verdict
-verdict files words = verdict_at files (asked_of words)
+-- the series file was asked for under its name
+abbrev pub verdict_on_series : Task → Members → List ℕ → Content → Verdict
+verdict_on_series task table name absent = no_file name
+verdict_on_series task table name too_long = file_too_long name
+verdict_on_series task table name (whole bytes) = judged task (study_of table (Some bytes))
+
+-- the table is there, and may name a series file
+abbrev pub verdict_on_table : Files → Task → Members → Option (List ℕ) → Verdict
+verdict_on_table files task table None = judged task (study_of table None)
+verdict_on_table files task table (Some name) = verdict_on_series task table name (content (held files name) most_bytes)
+
+-- the study's bytes may be the text of a table: without one they break rule 0
+abbrev pub verdict_on_bytes : Files → Task → Option Members → Verdict
+verdict_on_bytes files task None = refused 0 0
+verdict_on_bytes files task (Some table) = verdict_on_table files task table (series_of table)
+
+-- the study was asked for under its name
+abbrev pub verdict_on_study : Files → Request → Content → Verdict
+verdict_on_study files request absent = no_file request.study
+verdict_on_study files request too_long = file_too_long request.study
+verdict_on_study files request (whole bytes) = verdict_on_bytes files request.task (table_of bytes)
+
+abbrev pub verdict_for : Files → Option Request → Verdict
+verdict_for files None = usage
+verdict_for files (Some request) = verdict_on_study files request (content (held files request.study) most_bytes)
+
+abbrev pub verdict : Files → List (List ℕ) → Verdict
+verdict files words = verdict_for files (asked_of words)
 
 -- they come to a study
 abbrev pub IsStudy : Verdict → Type 0
 IsStudy usage = ⊥
-IsStudy no_study = ⊥
-IsStudy study_too_long = ⊥
+IsStudy (no_file name) = ⊥
+IsStudy (file_too_long name) = ⊥
 IsStudy (refused rule place) = ⊥
-IsStudy (accepted s) = Unit {0}
+IsStudy (accepted task study) = Unit {0}
 
 -- the words ask for a study
 abbrev pub IsAsked : Verdict → Type 0
 IsAsked usage = ⊥
-IsAsked no_study = Unit {0}
-IsAsked study_too_long = Unit {0}
+IsAsked (no_file name) = Unit {0}
+IsAsked (file_too_long name) = Unit {0}
 IsAsked (refused rule place) = Unit {0}
-IsAsked (accepted s) = Unit {0}
+IsAsked (accepted task study) = Unit {0}
 
--- what is to be written: a study's bundle, and nothing where there is no study
+-- what is to be written, which is nothing where there is no study
 abbrev pub output : Verdict → List ℕ
 output usage = []
-output no_study = []
-output study_too_long = []
+output (no_file name) = []
+output (file_too_long name) = []
 output (refused rule place) = []
-output (accepted s) = study_bundle s
+output (accepted task study) = written task study
 
 -- how many steps are to be counted
 abbrev pub distinct : Verdict → ℕ
 distinct usage = 0
-distinct no_study = 0
-distinct study_too_long = 0
+distinct (no_file name) = 0
+distinct (file_too_long name) = 0
 distinct (refused rule place) = 0
-distinct (accepted s) = study_events s
+distinct (accepted task study) = simulated task study

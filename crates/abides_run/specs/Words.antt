@@ -1,19 +1,26 @@
 -- What the words of a command line ask for.
-use Rattle.std.specs.Prelude.{ℕ, List, [], ◌∷◌, Option, Some, None, length, map, bytes_eq, codes, not, ◌&&◌, ◌==◌, if◌then◌else◌, unwrap_or, string_bytes}
+use Rattle.std.specs.Prelude.{ℕ, List, Option, Some, None, map, option_and_then, string_bytes}
 use Rattle.std.specs.declared.string.String.{String}
 use Rattle.std.specs.declared.alloc.Global.{Global}
+use Rattle.command_words.specs.declared.asked.Command.{Command}
+use Rattle.command_words.specs.declared.asked.Command.TheVariants.{Run, Table, Check, Rewind, Big}
+use Rattle.command_words.specs.declared.asked.Asked.{Asked}
+use Rattle.command_words.specs.Asked as line
+use Rattle.abides_run.specs.declared.request.Request.{Request}
+use Rattle.abides_run.specs.declared.request.Task.TheVariants as task
 
 -- the bytes of each word
 abbrev pub texts : List (String Global) → List (List ℕ)
 texts words = map string_bytes words
 
--- The name of the study that the words ask for: they are `run` and a name that is not empty.
-abbrev pub asked_of : List (List ℕ) → Option (List ℕ)
-asked_of [] = None
-asked_of (command ∷ []) = None
-asked_of (command ∷ name ∷ []) = if bytes_eq command (codes "run") && not (length name == 0) then Some name else None
-asked_of (command ∷ name ∷ more ∷ rest) = None
+-- what a command asks for; those that the program does not have ask for nothing
+abbrev pub request_of : Command → Option Request
+request_of (Run study) = Some (record { task = task.Run; study = study })
+request_of (Check study) = Some (record { task = task.Check; study = study })
+request_of (Table study) = None
+request_of (Rewind study marks) = None
+request_of (Big number) = None
 
--- that name, or nothing
-abbrev pub study_name_of : List (List ℕ) → List ℕ
-study_name_of words = unwrap_or (asked_of words) []
+-- what the words ask for, where they are a command line
+abbrev pub asked_of : List (List ℕ) → Option Request
+asked_of words = option_and_then (λ (asked : Asked). request_of asked.command) (line.asked_of words)

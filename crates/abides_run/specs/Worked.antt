@@ -1,9 +1,35 @@
 -- The empty run, byte by byte: one watcher would first wake after the close, so that no event comes.
-use Rattle.std.specs.Prelude.{ℕ, List, [], ◌∷◌, ◌++◌, replicate}
-use Rattle.study_rules.specs.declared.accept.WatcherStudy.{WatcherStudy}
+use Rattle.std.specs.Prelude.{ℕ, List, [], ◌∷◌, ◌++◌, replicate, codes}
+use Rattle.market_opening.specs.Worked.{market, watcher}
+use Rattle.market_rules.specs.declared.edit.Edit.TheVariants.{Latency}
+use Rattle.branch_tree.specs.declared.branch.Branch.{Branch}
+use Rattle.kernel_copy.specs.Courses.{CourseTold}
 
-abbrev pub empty_study : WatcherStudy
-empty_study = record { close = 1000; events = 100; first = 2000; count = 1 }
+abbrev pub root : Branch
+root = record { name = codes "root"; parent = 0; stop = 0; edits = [] }
+
+abbrev pub empty_course : CourseTold
+empty_course = record { opening = market 1000 0 (watcher 2000 ∷ []); plan = record { branches = root ∷ []; limit = 100 } }
+
+-- Two watchers, and three branches that leave the root after two events: in one messages are under way for 50 nanoseconds, in
+-- one for 7, and in the last nothing is changed.
+abbrev pub three_branches : CourseTold
+three_branches = record {
+  opening = market 2000 0 (watcher 1000 ∷ watcher 1000 ∷ []);
+  plan = record {
+    branches =
+      root
+      ∷ record { name = codes "x"; parent = 0; stop = 2; edits = Latency 0 0 50 0 ∷ [] }
+      ∷ record { name = codes "y"; parent = 0; stop = 2; edits = Latency 0 0 7 0 ∷ [] }
+      ∷ record { name = codes "z"; parent = 0; stop = 2; edits = [] }
+      ∷ [];
+    limit = 100;
+  };
+}
+
+-- a study file that names a series file
+abbrev pub study_with_series : List ℕ
+study_with_series = codes "series = \"t\""
 
 -- the header, 11 bytes with its length
 abbrev pub header_bytes : List ℕ

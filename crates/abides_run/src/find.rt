@@ -1,66 +1,178 @@
 //! From words and a library to a study.
 
-ghost use Rattle.std.specs.Prelude.{◌≡◌, ℕ, List, Option, IfOk, IfErr, IfSome, OnOk, None, Some};
-ghost use Rattle.study_rules.specs.Opening.{IsInRange};
-ghost use Rattle.study_rules.specs.Watchers.{study_of};
+ghost use Rattle.std.specs.Prelude.{◌≡◌, ◌⊎◌, ◌≤◌, ℕ, List, None, Some, IfOk, IfErr, IfSome, OnOk, option_map, string_bytes};
+ghost use Rattle.toml.specs.View.{table_view};
+ghost use Rattle.outside.specs.Rose.{Rose};
+ghost use Rattle.outside.specs.Files.{whole, held, content};
+ghost use Rattle.study_file.specs.Tables.{table_of};
+ghost use Rattle.study_accept.specs.Accepted.{study_told, study_of};
+ghost use Rattle.abides_run.specs.declared.request.Task.{Task as TaskTold};
 ghost use Rattle.abides_run.specs.Words.{texts, asked_of};
-ghost use Rattle.abides_run.specs.Verdict.{verdict, accepted};
-ghost use Rattle.abides_run.specs.Headline.{Answered};
+ghost use Rattle.abides_run.specs.Verdict.{verdict, verdict_on_bytes, verdict_on_table, accepted, judged, most_bytes, series_of};
+ghost use Rattle.abides_run.specs.Fetched.{fetched as fetched_names, series_after, named as named_file};
+ghost use Rattle.abides_run.specs.Ends.{Ends, Fetches, IsSought};
 
+use crate::ending::Ending;
+use crate::found::Found;
 use crate::status::Status;
 use crate::words::asked;
 use outside::{FetchError, Fetched, Library};
+use plain_lists::Memory;
 use std::alloc::Global;
-use study_file::{StudyError, read_tables};
-use study_rules::{WatcherStudy, watcher_study};
+use study_accept::{AcceptError, Study, accept};
+use study_file::{RawStudy, StudyError, read_tables, series_name};
 
-// A study file may have so many bytes.
+// A study file or a series file may have so many bytes.
 const MOST_BYTES: u64 = 16_777_216;
 
-// The study that a file's bytes say, or rule 99 where they say none.
-fn read_study(alloc: Global, bytes: &[u8]) -> Result<WatcherStudy, Status>
-    ensures study { IfOk result (λ s. study_of bytes.now ≡ Some s) }
-    ensures in_range { IfOk result IsInRange }
-    ensures refused { IfErr result (λ status. ¬ (status ≡ Status.Memory) → (status ≡ Status.Refused 99 0) × (study_of bytes.now ≡ None)) }
+// An end whose line names no file.
+fn nameless(alloc: Global, status: Status) -> Ending
+    ensures { result.status ≡ status }
 {
-    match read_tables(alloc, bytes) {
-        Ok(raw) => match watcher_study(&raw) {
-            Some(study) => Ok(study),
-            None => Err(Status::Refused { rule: 99, place: 0 }),
-        },
-        Err(StudyError::NotToml) => Err(Status::Refused { rule: 99, place: 0 }),
-        Err(StudyError::Memory) => Err(Status::Memory),
+    Ending {
+        status,
+        name: String::new(alloc),
     }
 }
 
-/// The study that the words ask for, or the status that refuses it. Whatever out took and however many steps were counted,
-/// that status answers the words where these stand.
+// An end whose line names this file, where there is memory for the name.
+fn named(alloc: Global, status: Status, name: &str) -> Ending
+    ensures { (result.status ≡ Status.Memory) ⊎ ((result.status ≡ status) × (string_bytes result.name ≡ name.now)) }
+{
+    match String::from_str(alloc, name) {
+        Ok(name) => Ending { status, name },
+        Err(_) => nameless(alloc, Status::Memory),
+    }
+}
+
+// The bytes that the library holds under a name.
+fn fetch_file<L: Library>(alloc: Global, name: &str, library: &mut L) -> Result<Vec<u8>, Ending>
+    ensures bytes { IfOk result (λ bytes. IfSome (L.files library.old) (λ files. content (held files name.now) most_bytes ≡ whole bytes.items)) }
+    ensures ended { IfErr result (λ e. IfSome (L.files library.old) (λ files.
+        Fetches (content (held files name.now) most_bytes) name.now e.status (string_bytes e.name))) }
+    ensures sought { IfErr result (λ e. IsSought e.status) }
+    ensures fault { IfErr result (λ e. e.status ≡ Status.ReadFault → Rose (L.faults library.old) (L.faults library.new)) }
+    ensures steady { OnOk result (L.faults library.new ≡ L.faults library.old) }
+    ensures rises { L.faults library.old ≤ L.faults library.new }
+    ensures files { L.files library.new ≡ L.files library.old }
+{
+    match library.fetch(alloc, name, MOST_BYTES) {
+        Ok(Fetched::Whole(bytes)) => Ok(bytes),
+        Ok(Fetched::Absent) => Err(named(alloc, Status::NoStudy, name)),
+        Ok(Fetched::TooLong) => Err(named(alloc, Status::TooLong, name)),
+        Err(FetchError::Failed) => Err(named(alloc, Status::ReadFault, name)),
+        Err(FetchError::Memory) => Err(nameless(alloc, Status::Memory)),
+    }
+}
+
+// The bytes of the series file, where the study's table names one: the verdict is then that of the table and these bytes.
+fn fetch_series<L: Library>(
+    alloc: Global,
+    raw: &RawStudy,
+    library: &mut L,
+) -> Result<Option<Vec<u8>>, Ending>
+    ensures bytes { IfOk result (λ series. IfSome (L.files library.old) (λ files. (task : TaskTold) →
+        verdict_on_table files task (table_view raw.now.table) (series_of (table_view raw.now.table))
+        ≡ judged task (study_of (table_view raw.now.table) (option_map (λ bytes. bytes.items) series)))) }
+    ensures ended { IfErr result (λ e. IfSome (L.files library.old) (λ files. (task : TaskTold) →
+        Ends (verdict_on_table files task (table_view raw.now.table) (series_of (table_view raw.now.table)))
+        (named_file (series_of (table_view raw.now.table))) e.status (string_bytes e.name))) }
+    ensures sought { IfErr result (λ e. IsSought e.status) }
+    ensures fault { IfErr result (λ e. e.status ≡ Status.ReadFault → Rose (L.faults library.old) (L.faults library.new)) }
+    ensures steady { OnOk result (L.faults library.new ≡ L.faults library.old) }
+    ensures rises { L.faults library.old ≤ L.faults library.new }
+    ensures files { L.files library.new ≡ L.files library.old }
+{
+    match series_name(raw) {
+        Some(name) => match fetch_file(alloc, name, library) {
+            Ok(bytes) => Ok(Some(bytes)),
+            Err(ending) => Err(ending),
+        },
+        None => Ok(None),
+    }
+}
+
+// The study that a table says, with the bytes of its series file where it names one.
+fn accept_study(alloc: Global, raw: &RawStudy, series: Option<&[u8]>) -> Result<Study, Ending>
+    ensures study { IfOk result (λ s. (task : TaskTold) →
+        judged task (study_of (table_view raw.now.table) (option_map (λ text. text.now) series.entry)) ≡ accepted task (study_told s)) }
+    ensures ended { IfErr result (λ e. (task : TaskTold) (fetched : List (List ℕ)) (name : List ℕ) →
+        Ends (judged task (study_of (table_view raw.now.table) (option_map (λ text. text.now) series.entry))) fetched e.status name) }
+    ensures sought { IfErr result (λ e. IsSought e.status) }
+    ensures silent { IfErr result (λ e. ¬ (e.status ≡ Status.ReadFault)) }
+{
+    match accept(alloc, raw, series) {
+        Ok(study) => Ok(study),
+        Err(AcceptError::Refused(refusal)) => Err(nameless(
+            alloc,
+            Status::Refused {
+                rule: refusal.rule,
+                place: refusal.place,
+            },
+        )),
+        Err(AcceptError::Memory) => Err(nameless(alloc, Status::Memory)),
+    }
+}
+
+// The table that a study's bytes say, which break rule 0 where they say none.
+fn tables(alloc: Global, bytes: &[u8]) -> Result<RawStudy, Ending>
+    ensures table { IfOk result (λ raw. table_of bytes.now ≡ Some (table_view raw.table)) }
+    ensures refused { IfErr result (λ e. (e.status ≡ Status.Memory) ⊎ ((e.status ≡ Status.Refused 0 0) × (table_of bytes.now ≡ None))) }
+{
+    match read_tables(alloc, bytes) {
+        Ok(raw) => Ok(raw),
+        Err(StudyError::NotToml) => {
+            Err(nameless(alloc, Status::Refused { rule: 0, place: 0 }))
+        }
+        Err(StudyError::Memory) => Err(nameless(alloc, Status::Memory)),
+    }
+}
+
+// The study that bytes say, with its series file from the library where they name one.
+fn read_study<L: Library>(alloc: Global, bytes: &[u8], library: &mut L) -> Result<Study, Ending>
+    ensures study { IfOk result (λ s. IfSome (L.files library.old) (λ files. (task : TaskTold) →
+        verdict_on_bytes files task (table_of bytes.now) ≡ accepted task (study_told s))) }
+    ensures ended { IfErr result (λ e. IfSome (L.files library.old) (λ files. (task : TaskTold) →
+        Ends (verdict_on_bytes files task (table_of bytes.now)) (series_after (table_of bytes.now)) e.status (string_bytes e.name))) }
+    ensures sought { IfErr result (λ e. IsSought e.status) }
+    ensures fault { IfErr result (λ e. e.status ≡ Status.ReadFault → Rose (L.faults library.old) (L.faults library.new)) }
+    ensures steady { OnOk result (L.faults library.new ≡ L.faults library.old) }
+    ensures rises { L.faults library.old ≤ L.faults library.new }
+    ensures files { L.files library.new ≡ L.files library.old }
+{
+    let raw = tables(alloc, bytes)?;
+    let series = fetch_series(alloc, &raw, library)?;
+    accept_study(alloc, &raw, series.as_deref())
+}
+
+/// The study that the words ask for and what is to be done with it, or how the search ends without one.
 pub fn find_study<L: Library>(
     alloc: Global,
     words: &[String],
     library: &mut L,
-) -> Result<WatcherStudy, Status>
-    ensures study { IfOk result (λ s. IfSome (L.files library.old) (λ files.
-        verdict files (texts words.now) ≡ accepted s)) }
-    ensures in_range { IfOk result IsInRange }
+) -> Result<Found, Ending>
+    ensures study { IfOk result (λ f. IfSome (L.files library.old) (λ files. verdict files (texts words.now) ≡ accepted f.task (study_told f.study))) }
     ensures asked { OnOk result (¬ (asked_of (texts words.now) ≡ None)) }
+    ensures ended { IfErr result (λ e. IfSome (L.files library.old) (λ files.
+        Ends (verdict files (texts words.now)) (fetched_names files (texts words.now)) e.status (string_bytes e.name))) }
+    ensures sought { IfErr result (λ e. (e.status ≡ Status.Usage) ⊎ IsSought e.status) }
+    ensures usage { IfErr result (λ e. e.status ≡ Status.Usage → asked_of (texts words.now) ≡ None) }
+    ensures not_asked { IfErr result (λ e. asked_of (texts words.now) ≡ None → (e.status ≡ Status.Usage) ⊎ (e.status ≡ Status.Memory)) }
+    ensures unasked { IfErr result (λ e. e.status ≡ Status.Usage → L.faults library.new ≡ L.faults library.old) }
+    ensures fault { IfErr result (λ e. e.status ≡ Status.ReadFault → Rose (L.faults library.old) (L.faults library.new)) }
     ensures steady { OnOk result (L.faults library.new ≡ L.faults library.old) }
-    ensures refused { IfErr result (λ status. (writes steps : ℕ) (taken : Option (List ℕ)) →
-        Answered (L.files library.old) (texts words.now)
-        (record { reads = L.faults library.old; writes = writes; taken = taken; steps = steps })
-        (record { reads = L.faults library.new; writes = writes; taken = taken; steps = steps })
-        status) }
+    ensures rises { L.faults library.old ≤ L.faults library.new }
     ensures files { L.files library.new ≡ L.files library.old }
 {
-    let Some(name) = asked(words) else {
-        return Err(Status::Usage);
+    let request = match asked(alloc, words) {
+        Ok(Some(request)) => request,
+        Ok(None) => return Err(nameless(alloc, Status::Usage)),
+        Err(Memory) => return Err(nameless(alloc, Status::Memory)),
     };
-    let bytes = match library.fetch(alloc, name, MOST_BYTES) {
-        Ok(Fetched::Whole(bytes)) => bytes,
-        Ok(Fetched::Absent) => return Err(Status::NoStudy),
-        Ok(Fetched::TooLong) => return Err(Status::TooLong),
-        Err(FetchError::Failed) => return Err(Status::ReadFault),
-        Err(FetchError::Memory) => return Err(Status::Memory),
-    };
-    read_study(alloc, &bytes)
+    let bytes = fetch_file(alloc, request.study.as_str(), library)?;
+    let study = read_study(alloc, &bytes, library)?;
+    Ok(Found {
+        task: request.task,
+        study,
+    })
 }

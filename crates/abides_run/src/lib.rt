@@ -1,11 +1,13 @@
 //! The one call of the program: words, a library and sinks in, a status out.
 #![tactic(auto)]
 
-mod closing;
-mod feed;
+mod ending;
 mod find;
+mod found;
 mod notes;
-mod simulation;
+mod perform;
+mod request;
+mod send;
 mod status;
 mod top;
 mod words;

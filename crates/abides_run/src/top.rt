@@ -1,14 +1,17 @@
 //! The one call that the program makes.
 
-ghost use Rattle.std.specs.Prelude.{◌≡◌, ◌≤◌, ◌^◌};
-ghost use Rattle.abides_run.specs.Words.{texts, study_name_of};
+ghost use Rattle.std.specs.Prelude.{◌≡◌, ◌≤◌, ◌^◌, ℕ, List, IfSome, string_bytes};
+ghost use Rattle.abides_run.specs.Words.{texts};
+ghost use Rattle.abides_run.specs.Verdict.{verdict};
+ghost use Rattle.abides_run.specs.Fetched.{fetched};
+ghost use Rattle.abides_run.specs.Statuses.{Names};
 ghost use Rattle.abides_run.specs.Headline.{Answered, Noted};
 
+use crate::ending::Ending;
 use crate::find::find_study;
 use crate::notes::write_note;
-use crate::simulation::simulate_and_write;
+use crate::perform::perform;
 use crate::status::Status;
-use crate::words::study_name;
 use outside::{Gate, Ledger, Library, Sink, Steps};
 use std::alloc::Global;
 
@@ -19,27 +22,32 @@ fn answer<L: Library, O: Sink, D: Ledger>(
     library: &mut L,
     out: &mut O,
     steps: &mut Steps<D>,
-) -> Status
+) -> Ending
     requires { steps.old ≤ 2 ^ 63 }
     ensures answered { Answered (L.files library.old) (texts words.now)
         (record { reads = L.faults library.old; writes = O.faults out.old; taken = O.taken out.old; steps = steps.old })
         (record { reads = L.faults library.new; writes = O.faults out.new; taken = O.taken out.new; steps = steps.new })
-        result }
+        result.status }
+    ensures named { IfSome (L.files library.old) (λ files.
+        Names (verdict files (texts words.now)) (fetched files (texts words.now)) result.status (string_bytes result.name)) }
     ensures files { L.files library.new ≡ L.files library.old }
 {
     match find_study(alloc, words, library) {
-        Ok(study) => simulate_and_write(alloc, &study, out, steps),
-        Err(status) => status,
+        Ok(found) => Ending {
+            status: perform(alloc, &found, out, steps),
+            name: String::new(alloc),
+        },
+        Err(ending) => ending,
     }
 }
 
-/// Runs what the words ask for: the study's file comes from the library, its bundle goes to `out`, and the line for the
-/// status to `notes`. The words are the command line without the program's name; each simulated event ticks `steps`
-/// once. The gate is where workers will pass; one thread needs none.
+/// Does what the words ask for: the study's file and the series file that it names come from the library, the bundle or the
+/// line of counts goes to `out`, and the line for the status to `notes`. The words are the command line without the
+/// program's name; each simulated event ticks `steps` once. The gate is where workers will pass; one thread needs none.
 ///
 /// What is promised of it are the fields of two records. `Answered` has the output, the rise of the counter, the cause of
 /// each status and the status of each cause, what stands at a refusal, and that want of memory is the only other end.
-/// `Noted` has the line of the status.
+/// `Noted` has the line of the status, with the name of the file that the status speaks of.
 pub fn run<L: Library, O: Sink, N: Sink, G: Gate, D: Ledger>(
     alloc: Global,
     words: &[String],
@@ -54,10 +62,11 @@ pub fn run<L: Library, O: Sink, N: Sink, G: Gate, D: Ledger>(
         (record { reads = L.faults library.old; writes = O.faults out.old; taken = O.taken out.old; steps = steps.old })
         (record { reads = L.faults library.new; writes = O.faults out.new; taken = O.taken out.new; steps = steps.new })
         result }
-    ensures noted { Noted (study_name_of (texts words.now)) (N.faults notes.old) (N.faults notes.new)
-        (N.taken notes.old) (N.taken notes.new) result }
+    ensures noted { (name : List ℕ)
+        × IfSome (L.files library.old) (λ files. Names (verdict files (texts words.now)) (fetched files (texts words.now)) result name)
+        × Noted name (N.faults notes.old) (N.faults notes.new) (N.taken notes.old) (N.taken notes.new) result }
     ensures files { L.files library.new ≡ L.files library.old }
 {
-    let status = answer(alloc, words, library, out, steps);
-    write_note(alloc, study_name(words), status, notes)
+    let ending = answer(alloc, words, library, out, steps);
+    write_note(alloc, ending.name.as_str(), ending.status, notes)
 }

@@ -1,30 +1,42 @@
 //! The words of a command line.
 
-ghost use Rattle.std.specs.Prelude.{◌≡◌, option_map};
-ghost use Rattle.abides_run.specs.Words.{texts, asked_of, study_name_of};
+ghost use Rattle.std.specs.Prelude.{◌≡◌, IfOk};
+ghost use Rattle.abides_run.specs.Words.{texts, request_of, asked_of};
 
-/// The name of the study that the words ask for.
-pub fn asked(words: &[String]) -> Option<&str>
-    ensures { option_map (λ name. name.now) result ≡ asked_of (texts words.now) }
+use crate::request::{Request, Task};
+use command_words::{Command, Memory, ask};
+use std::alloc::Global;
+
+// What a command asks for, where the program has it.
+fn request<'a>(command: Command<'a>) -> Option<Request<'a>>
+    ensures { result ≡ request_of command.entry }
 {
-    match words {
-        [command, name] => {
-            if command.as_str() == "run" && !name.is_empty() {
-                Some(name.as_str())
-            } else {
-                None
-            }
-        }
-        _ => None,
+    match command {
+        Command::Run(study) => Some(Request {
+            task: Task::Run,
+            study,
+        }),
+        Command::Check(study) => Some(Request {
+            task: Task::Check,
+            study,
+        }),
+        Command::Table(_study) => None,
+        Command::Rewind(_study, _marks) => None,
+        Command::Big(_number) => None,
     }
 }
 
-/// That name, or nothing.
-pub fn study_name(words: &[String]) -> &str
-    ensures { result.now ≡ study_name_of (texts words.now) }
+/// What the words ask for. `None` exactly where they are no command line, or one with a command that the program does not
+/// have.
+///
+/// # Errors
+/// Want of memory alone.
+pub fn asked<'a>(alloc: Global, words: &'a [String]) -> Result<Option<Request<'a>>, Memory>
+    ensures { IfOk result (λ request. request ≡ asked_of (texts words.entry.now)) }
 {
-    match asked(words) {
-        Some(name) => name,
-        None => "",
+    match ask(alloc, words) {
+        Ok(Some(asked)) => Ok(request(asked.command)),
+        Ok(None) => Ok(None),
+        Err(Memory) => Err(Memory),
     }
 }

@@ -4,20 +4,40 @@ use outside::{Counted, MemoryLibrary, MemorySink, OpenGate, Steps};
 use std::alloc::Global;
 use std::test::Fail;
 
-// A watcher study before its close, and what stands between its free values.
-const BEFORE_CLOSE: &str =
-    "version = 1\nkey = \"0000000000000000000000000000000000000000000000000000000000000000\"\nopen = 1000\nclose = ";
+// A study of one stock whose value stays at ten dollars, and what stands between its values that the tests change.
+const BEFORE_KEY: &str = "version = 1\nkey = \"";
 
-const BEFORE_EVENTS: &str = "\nevents = ";
+const KEY: &str = "0000000000000000000000000000000000000000000000000000000000000000";
 
-const BEFORE_FIRST: &str =
-    "\n\n[exchange]\ngroup = 0\ndelay = 0\n\n[latency]\nbase = [[5]]\njitter = [[0]]\n\n[[stock]]\nsymbol = \"ABM\"\nbands = [[0, 100]]\nadd = -20\ntake = 30\nseries = \"rule\"\nstart = 100000\nmean = 100000\npull = 0\nshock = 0\nevery = 1000000\n\n[[agent]]\nkind = \"watcher\"\ngroup = 0\nstock = \"ABM\"\nfirst = ";
+const BEFORE_CLOSE: &str = "\"\nopen = 1000\nclose = ";
 
-const BEFORE_COUNT: &str = "\nevery = 1000000\ncount = ";
+const BEFORE_STOCK: &str =
+    "\nevents = 100\n\n[exchange]\ngroup = 0\ndelay = 0\n\n[latency]\nbase = [[5]]\njitter = [[0]]\n\n[[stock]]\nsymbol = \"ABM\"\nbands = [[0, 100]]\nadd = -20\ntake = ";
 
-fn study(alloc: Global, close: u32, events: u32, first: u32, count: u32) -> Result<String, Fail> {
+const BEFORE_AGENT: &str =
+    "\nseries = \"rule\"\nstart = 100000\nmean = 100000\npull = 0\nshock = 0\nevery = 1000000\n\n[[agent]]\ngroup = 0\nstock = \"ABM\"\nevery = 1000000\n";
+
+const MAKER: &str =
+    "kind = \"maker\"\nfirst = 1000\nsize = 10\nhalf = 150\nstep = 100\nlevels = 1\npause = 0\n";
+
+const WATCHERS: &str = "kind = \"watcher\"\nfirst = 1000\ncount = 2\n";
+
+const LATE_WATCHER: &str = "kind = \"watcher\"\nfirst = 2000\n";
+
+// Three branches that leave the root after two events.
+const BRANCHES: &str =
+    "\n[[branch]]\nname = \"x\"\nparent = \"root\"\nat = 2\nedit = [{ kind = \"latency\", from = 0, to = 0, base = 50, jitter = 0 }]\n\n[[branch]]\nname = \"y\"\nparent = \"root\"\nat = 2\nedit = [{ kind = \"latency\", from = 0, to = 0, base = 7, jitter = 0 }]\n\n[[branch]]\nname = \"z\"\nparent = \"root\"\nat = 2\n";
+
+fn study(
+    alloc: Global,
+    key: &str,
+    close: u32,
+    take: u32,
+    agent: &str,
+    branches: &str,
+) -> Result<String, Fail> {
     Ok(format!(in alloc;
-        "{BEFORE_CLOSE}{close}{BEFORE_EVENTS}{events}{BEFORE_FIRST}{first}{BEFORE_COUNT}{count}\n"
+        "{BEFORE_KEY}{key}{BEFORE_CLOSE}{close}{BEFORE_STOCK}{take}{BEFORE_AGENT}{agent}{branches}"
     )?)
 }
 
@@ -29,15 +49,16 @@ fn words_of(alloc: Global, words: &[&str]) -> Result<Vec<String>, Fail> {
     Ok(all)
 }
 
-// A library with one file.
+// A library with the files `s` and `t`.
 fn library(
     alloc: Global,
-    name: &str,
-    bytes: &[u8],
+    study: &[u8],
+    series: &[u8],
     failing: &[u32],
 ) -> Result<MemoryLibrary, Fail> {
-    let mut files = Vec::with_capacity(alloc, 1)?;
-    files.push((String::from_str(alloc, name)?, bytes.to_vec(alloc)?))?;
+    let mut files = Vec::with_capacity(alloc, 2)?;
+    files.push((String::from_str(alloc, "s")?, study.to_vec(alloc)?))?;
+    files.push((String::from_str(alloc, "t")?, series.to_vec(alloc)?))?;
     Ok(MemoryLibrary::new(files, failing.to_vec(alloc)?)?)
 }
 
@@ -45,17 +66,15 @@ fn sink(alloc: Global, room: usize, most: usize, failing: &[u32]) -> Result<Memo
     Ok(MemorySink::new(alloc, room, most, failing.to_vec(alloc)?)?)
 }
 
-// Runs words over one file `s`; answers the status and the counted steps.
+// Runs words over the files `s` and `t`; answers the status and the counted steps.
 fn run_over(
     alloc: Global,
     words: &[&str],
-    bytes: &[u8],
-    failing: &[u32],
+    mut library: MemoryLibrary,
     out: &mut MemorySink,
     notes: &mut MemorySink,
 ) -> Result<(Status, u64), Fail> {
     let words = words_of(alloc, words)?;
-    let mut library = library(alloc, "s", bytes, failing)?;
     let mut steps: Steps<Counted> = Steps::new();
     let status = run(
         alloc,
@@ -84,197 +103,183 @@ fn are_frames(bytes: &[u8], frames: &[&[u8]]) -> bool {
 #[test]
 fn bundles_byte_for_byte(rt: HostRuntime) -> Result<(), Fail> {
     let alloc = rt.alloc();
-    let empty = study(alloc, 1000, 100, 2000, 1)?;
-    let two = study(alloc, 1005, 100, 1000, 2)?;
     for most in [1, 7, 64, 1000] {
-        let mut out = sink(alloc, 402, most, &[])?;
-        let mut notes = sink(alloc, 100, most, &[])?;
-        let ended = run_over(
-            alloc,
-            &["run", "s"],
-            empty.as_bytes(),
-            &[],
-            &mut out,
-            &mut notes,
-        )?;
-        assert_eq!(rt; ended, (Status::Ok, 0));
-        assert!(rt; are_frames(out.taken(), &EMPTY_RUN) && notes.taken().is_empty());
-
-        let mut out = sink(alloc, 666, most, &[])?;
-        let ended = run_over(
-            alloc,
-            &["run", "s"],
-            two.as_bytes(),
-            &[],
-            &mut out,
-            &mut notes,
-        )?;
-        assert_eq!(rt; ended, (Status::Ok, 4));
-        assert!(rt; are_frames(out.taken(), &TWO_WATCHERS) && notes.taken().is_empty());
+        for (close, agent, frames, size, counted) in [
+            (1000, LATE_WATCHER, EMPTY_RUN.as_slice(), 402, 0),
+            (1005, WATCHERS, TWO_WATCHERS.as_slice(), 666, 4),
+        ] {
+            let text = study(alloc, KEY, close, 30, agent, "")?;
+            let mut out = sink(alloc, size, most, &[])?;
+            let mut notes = sink(alloc, 100, most, &[])?;
+            let held = library(alloc, text.as_bytes(), b"", &[])?;
+            let ended = run_over(alloc, &["run", "s"], held, &mut out, &mut notes)?;
+            assert_eq!(rt; ended, (Status::Ok, counted));
+            assert!(rt; are_frames(out.taken(), frames) && notes.taken().is_empty());
+        }
     }
     Ok(())
 }
 
 #[test]
-fn many_watchers_run(rt: HostRuntime) -> Result<(), Fail> {
+fn three_branches_share_two_events(rt: HostRuntime) -> Result<(), Fail> {
     let alloc = rt.alloc();
-    let text = study(alloc, 2000, 2000, 1000, 511)?;
-    let mut out = sink(alloc, 200_000, 4096, &[])?;
+    let text = study(alloc, KEY, 2000, 30, WATCHERS, BRANCHES)?;
+    let mut out = sink(alloc, 3255, 4096, &[])?;
     let mut notes = sink(alloc, 100, 64, &[])?;
-    let ended = run_over(
-        alloc,
-        &["run", "s"],
-        text.as_bytes(),
-        &[],
-        &mut out,
-        &mut notes,
-    )?;
-    // each watcher wakes, asks, and hears its quote
-    assert_eq!(rt; ended, (Status::Ok, 1533));
-    assert!(rt; notes.taken().is_empty());
+    let held = library(alloc, text.as_bytes(), b"", &[])?;
+    let ended = run_over(alloc, &["run", "s"], held, &mut out, &mut notes)?;
+    assert_eq!(rt; ended, (Status::Ok, 18));
+    let bytes = out.taken();
+    assert_eq!(rt; bytes.len(), 3255);
+    // the last branch changes nothing: behind its frame it is the root's trace
+    assert_eq!(rt; &bytes[27..813], &bytes[2464..3250]);
+    // the fifth event of the root, of x and of y
+    assert_eq!(rt; &bytes[295..308], b"e\0\0\0\x05\0\0\0\0\0\0\x03\xf2".as_slice());
+    assert_eq!(rt; &bytes[1114..1127], b"e\0\0\0\x05\0\0\0\0\0\0\x04\x1f".as_slice());
+    assert_eq!(rt; &bytes[1933..1946], b"e\0\0\0\x05\0\0\0\0\0\0\x03\xf4".as_slice());
+    Ok(())
+}
+
+#[test]
+fn commands_write_what_they_say(rt: HostRuntime) -> Result<(), Fail> {
+    let alloc = rt.alloc();
+    let maker = study(alloc, KEY, 2000, 30, MAKER, "")?;
+    let watchers = study(alloc, KEY, 2000, 30, WATCHERS, "")?;
+    let branches = study(alloc, KEY, 2000, 30, WATCHERS, BRANCHES)?;
+    let rows: [(&[&str], &str, usize, u64, &str); 5] = [
+        (&["run", "s"], maker.as_str(), 1148, 7, ""),
+        (
+            &["run", "--workers", "64", "s", "--places=0"],
+            maker.as_str(),
+            1148,
+            7,
+            "",
+        ),
+        (
+            &["check", "s"],
+            watchers.as_str(),
+            53,
+            0,
+            "accepted: agents 3, stocks 1, branches 1, segments 1\n",
+        ),
+        (
+            &["check", "--", "s"],
+            branches.as_str(),
+            53,
+            0,
+            "accepted: agents 3, stocks 1, branches 4, segments 5\n",
+        ),
+        (&["run", "s"], branches.as_str(), 3255, 18, ""),
+    ];
+    for (words, text, size, counted, line) in rows {
+        let mut out = sink(alloc, 4000, 4096, &[])?;
+        let mut notes = sink(alloc, 100, 64, &[])?;
+        let held = library(alloc, text.as_bytes(), b"", &[])?;
+        let ended = run_over(alloc, words, held, &mut out, &mut notes)?;
+        assert_eq!(rt; ended, (Status::Ok, counted));
+        assert_eq!(rt; out.taken().len(), size);
+        assert!(rt; line.is_empty() || out.taken() == line.as_bytes());
+        assert!(rt; notes.taken().is_empty());
+    }
     Ok(())
 }
 
 #[test]
 fn failing_writes_leave_a_first_part(rt: HostRuntime) -> Result<(), Fail> {
     let alloc = rt.alloc();
-    let text = study(alloc, 1005, 100, 1000, 2)?;
-    let mut whole = sink(alloc, 666, 666, &[])?;
+    let text = study(alloc, KEY, 2000, 30, WATCHERS, BRANCHES)?;
+    let mut whole = sink(alloc, 3255, 3255, &[])?;
     let mut notes = sink(alloc, 100, 64, &[])?;
-    let ended = run_over(
-        alloc,
-        &["run", "s"],
-        text.as_bytes(),
-        &[],
-        &mut whole,
-        &mut notes,
-    )?;
-    assert_eq!(rt; ended, (Status::Ok, 4));
-    // room, the most bytes a call, the failing call (0: none), and how many bytes are taken
-    for (room, most, failing, taken) in [
-        (666, 64, 1, 0),
-        (666, 64, 2, 64),
-        (666, 64, 3, 128),
-        (666, 64, 4, 192),
-        (666, 64, 5, 256),
-        (666, 64, 6, 320),
-        (666, 64, 7, 384),
-        (666, 64, 8, 448),
-        (666, 64, 9, 512),
-        (666, 64, 10, 576),
-        (666, 64, 11, 640),
-        (256, 64, 0, 256),
-        (665, 64, 0, 665),
-        (666, 0, 0, 0),
+    let held = library(alloc, text.as_bytes(), b"", &[])?;
+    let ended = run_over(alloc, &["run", "s"], held, &mut whole, &mut notes)?;
+    assert_eq!(rt; ended, (Status::Ok, 18));
+    // the command, room, the most bytes a call, the failing call (0: none), and how many steps are counted and bytes taken
+    for (command, room, most, failing, counted, taken) in [
+        ("run", 4000, 64, 1, 18, 0),
+        ("run", 4000, 64, 2, 18, 11),
+        ("run", 4000, 64, 5, 18, 203),
+        ("run", 256, 64, 0, 18, 256),
+        ("run", 3254, 64, 0, 18, 3254),
+        ("run", 4000, 0, 0, 18, 0),
+        ("check", 4000, 64, 1, 0, 0),
     ] {
         let mut out = sink(alloc, room, most, &[failing])?;
         let mut notes = sink(alloc, 100, 64, &[])?;
-        let ended = run_over(
-            alloc,
-            &["run", "s"],
-            text.as_bytes(),
-            &[],
-            &mut out,
-            &mut notes,
-        )?;
-        assert_eq!(rt; ended, (Status::WriteFault, 4));
+        let held = library(alloc, text.as_bytes(), b"", &[])?;
+        let ended = run_over(alloc, &[command, "s"], held, &mut out, &mut notes)?;
+        assert_eq!(rt; ended, (Status::WriteFault, counted));
         assert!(rt; whole.taken().starts_with(out.taken()) && out.taken().len() == taken);
         assert_eq!(rt; notes.taken(), b"write failed\n".as_slice());
     }
     Ok(())
 }
 
-const USAGE: &[u8] = b"usage: abides COMMAND STUDY [MORE...] [--workers N] [--places N]\n";
+const USAGE: &str = "usage: abides COMMAND STUDY [MORE...] [--workers N] [--places N]\n";
 
 #[test]
-fn refusals_take_nothing(rt: HostRuntime) -> Result<(), Fail> {
+fn faulty_words_ask_for_nothing(rt: HostRuntime) -> Result<(), Fail> {
     let alloc = rt.alloc();
-    let broken = Status::Refused { rule: 99, place: 0 };
-    let rows: [(&[&str], &[u8], u32, Status, &[u8]); 10] = [
-        (&[], b"", 0, Status::Usage, USAGE),
-        (&["run"], b"", 0, Status::Usage, USAGE),
-        (&["run", ""], b"", 0, Status::Usage, USAGE),
-        (&["ran", "s"], b"", 1, Status::Usage, USAGE),
-        (&["run", "s", "s"], b"", 0, Status::Usage, USAGE),
-        (&["run", "t"], b"", 0, Status::NoStudy, b"no such file: t\n"),
-        (
-            &["run", "s"],
-            b"",
-            1,
-            Status::ReadFault,
-            b"read failed: s\n",
-        ),
-        (
-            &["run", "s"],
-            b"",
-            2,
-            broken,
-            b"study refused: rule 99, place 0\n",
-        ),
-        (
-            &["run", "s"],
-            b"\xff",
-            0,
-            broken,
-            b"study refused: rule 99, place 0\n",
-        ),
-        (
-            &["run", "s"],
-            b"version = 1\n",
-            0,
-            broken,
-            b"study refused: rule 99, place 0\n",
-        ),
+    let lines: [&[&str]; 13] = [
+        &[],
+        &["run"],
+        &["run", ""],
+        &["run", "s", "more"],
+        &["ran", "s"],
+        &["run", "s", "--workers", "65"],
+        &["run", "s", "--workers", "0"],
+        &["run", "s", "--places", "129"],
+        &["run", "s", "--help"],
+        &["table", "s"],
+        &["rewind", "s", "root:0"],
+        &["big", "7"],
+        &["check", "s", "more"],
     ];
-    for (words, bytes, failing, status, note) in rows {
+    for words in lines {
         let mut out = sink(alloc, 100, 64, &[])?;
         let mut notes = sink(alloc, 100, 7, &[])?;
-        let ended = run_over(alloc, words, bytes, &[failing], &mut out, &mut notes)?;
-        assert_eq!(rt; ended, (status, 0));
-        assert!(rt; out.taken().is_empty());
-        assert_eq!(rt; notes.taken(), note);
+        // a fetch would fail
+        let held = library(alloc, b"", b"", &[1])?;
+        let ended = run_over(alloc, words, held, &mut out, &mut notes)?;
+        assert_eq!(rt; ended, (Status::Usage, 0));
+        assert!(rt; out.taken().is_empty() && notes.taken() == USAGE.as_bytes());
     }
     Ok(())
 }
 
 #[test]
-fn free_values_have_their_ends(rt: HostRuntime) -> Result<(), Fail> {
+fn refusals_come_in_order(rt: HostRuntime) -> Result<(), Fail> {
     let alloc = rt.alloc();
-    for (close, events, first, count, accepted) in [
-        (1000, 1, 1000, 1, true),
-        (999, 1, 1000, 1, false),
-        (1000, 0, 1000, 1, false),
-        (1000, 1_000_000, 1001, 511, true),
-        (1000, 1_000_001, 1001, 1, false),
-        (1000, 1, 999, 1, false),
-        (1000, 1, 1000, 0, false),
-        (1000, 1, 1000, 512, false),
-    ] {
-        let text = study(alloc, close, events, first, count)?;
-        let mut out = sink(alloc, 60_000, 4096, &[])?;
-        let mut notes = sink(alloc, 100, 64, &[])?;
-        let ended = run_over(
-            alloc,
-            &["run", "s"],
-            text.as_bytes(),
-            &[],
-            &mut out,
-            &mut notes,
-        )?;
-        assert_eq!(rt; ended.0 == Status::Ok, accepted, "{text}");
-    }
-    Ok(())
-}
-
-#[test]
-fn long_files_are_refused(rt: HostRuntime) -> Result<(), Fail> {
-    let alloc = rt.alloc();
+    let broken = study(alloc, "000000000000000000000000000000000000000000000000000000000000000", 2000, 2_000_000, WATCHERS, "")?;
+    let with_series = study(alloc, KEY, 2000, 30, WATCHERS, "")?;
+    let with_series = format!(in alloc; "series = \"t\"\n{with_series}")?;
     let long = vec![in alloc; 10; 16_777_217]?;
-    let mut out = sink(alloc, 100, 64, &[])?;
-    let mut notes = sink(alloc, 100, 64, &[])?;
-    let ended = run_over(alloc, &["run", "s"], &long, &[], &mut out, &mut notes)?;
-    assert_eq!(rt; ended, (Status::TooLong, 0));
-    assert_eq!(rt; notes.taken(), b"file too long: s\n".as_slice());
+    let rows: [(&str, &[u8], &[u8], u32, Status, &str); 14] = [
+        ("u", b"", b"", 0, Status::NoStudy, "no such file: u\n"),
+        ("s", b"", b"", 1, Status::ReadFault, "read failed: s\n"),
+        ("s", &long, b"", 0, Status::TooLong, "file too long: s\n"),
+        ("s", b"", b"", 2, Status::Refused { rule: 1, place: 1 }, "study refused: rule 1, place 1\n"),
+        ("s", b"\xff", b"", 0, Status::Refused { rule: 0, place: 0 }, "study refused: rule 0, place 0\n"),
+        ("s", b"series = \"t\" = 1", b"", 2, Status::Refused { rule: 0, place: 0 }, "study refused: rule 0, place 0\n"),
+        ("s", b"series = \"u\"", b"", 0, Status::NoStudy, "no such file: u\n"),
+        ("s", b"series = \"\"", b"", 0, Status::NoStudy, "no such file: \n"),
+        ("s", b"series = \"t\"", b"", 2, Status::ReadFault, "read failed: t\n"),
+        ("s", b"series = \"t\"", &long, 0, Status::TooLong, "file too long: t\n"),
+        ("s", b"series = 1", b"", 2, Status::Refused { rule: 1, place: 1 }, "study refused: rule 1, place 1\n"),
+        ("s", b"series = \"t\"", b"", 0, Status::Refused { rule: 1, place: 1 }, "study refused: rule 1, place 1\n"),
+        ("s", broken.as_bytes(), b"", 0, Status::Refused { rule: 3, place: 0 }, "study refused: rule 3, place 0\n"),
+        ("s", with_series.as_bytes(), b"", 0, Status::Refused { rule: 18, place: 0 }, "study refused: rule 18, place 0\n"),
+    ];
+    for (name, study, series, failing, status, line) in rows {
+        for command in ["run", "check"] {
+            let mut out = sink(alloc, 100, 64, &[])?;
+            let mut notes = sink(alloc, 100, 7, &[])?;
+            let held = library(alloc, study, series, &[failing])?;
+            let ended = run_over(alloc, &[command, name], held, &mut out, &mut notes)?;
+            assert_eq!(rt; ended, (status, 0), "{line}");
+            assert!(rt; out.taken().is_empty());
+            assert_eq!(rt; notes.taken(), line.as_bytes());
+        }
+    }
     Ok(())
 }
 
@@ -283,7 +288,8 @@ fn a_failed_note_changes_nothing(rt: HostRuntime) -> Result<(), Fail> {
     let alloc = rt.alloc();
     let mut out = sink(alloc, 100, 64, &[])?;
     let mut notes = sink(alloc, 100, 4, &[2])?;
-    let ended = run_over(alloc, &["run", "t"], b"", &[], &mut out, &mut notes)?;
+    let held = library(alloc, b"", b"", &[])?;
+    let ended = run_over(alloc, &["run", "u"], held, &mut out, &mut notes)?;
     assert_eq!(rt; ended, (Status::NoStudy, 0));
     assert_eq!(rt; notes.taken(), b"no s".as_slice());
     Ok(())

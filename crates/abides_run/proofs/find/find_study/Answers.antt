@@ -1,19 +1,20 @@
-use Rattle.std.proofs.Common.{refl}
-use Rattle.abides_run.specs.Words.{texts}
-use Rattle.abides_run.proofs.Answered.{read_failed, memory_wanting, no_study_read}
+use Rattle.std.proofs.Common.{◌≡◌, List, ℕ, Option, Some, IfSome, string_bytes, rules}
+use Rattle.abides_run.specs.declared.ending.Ending.{Ending}
+use Rattle.abides_run.specs.Words.{texts, asked_of}
+use Rattle.abides_run.specs.Verdict.{verdict}
+use Rattle.abides_run.specs.Fetched.{fetched}
+use Rattle.abides_run.specs.Ends.{Ends}
+use Rattle.abides_run.proofs.Come.{handed_on, study_unfound}
 use Rattle.abides_run.proofs.find.find_study.Goals as goal
 
-pub returns-in-Err-Failed-clause-refused : goal.returns-in-Err-Failed-clause-refused
-returns-in-Err-Failed-clause-refused g c =
-    λ writes steps taken. read_failed (g.L.Library.files c.args.library.now) (texts c.args.words.now) c.in-Some.name.now (g.L.Library.faults c.args.library.now) (g.L.Library.faults c.fetch.new.self) writes steps taken
-    c.in-Some.ensures ((rw c.in-Err-Failed.field-0-is at c.in-Err-Failed.ensures.failed) refl) c.fetch.ensures.never_falls
-
-pub returns-clause-refused : goal.returns-clause-refused
-returns-clause-refused g c =
-    no_study_read c.read_study.result (g.L.Library.files c.args.library.now) (texts c.args.words.now) c.in-Some.name.now c.in-Ok-Whole.bytes.items (g.L.Library.faults c.args.library.now) (g.L.Library.faults c.fetch.new.self)
-    (rw c.deref.ensures.value at c.read_study.ensures.refused) c.in-Some.ensures (rw c.in-Ok-Whole.field-0-is at c.in-Ok-Whole.ensures.answer) c.fetch.ensures.never_falls
-
-pub returns-in-Err-Memory-clause-refused : goal.returns-in-Err-Memory-clause-refused
-returns-in-Err-Memory-clause-refused g c =
-    λ writes steps taken. memory_wanting (g.L.Library.files c.args.library.now) (texts c.args.words.now) c.in-Some.name.now (g.L.Library.faults c.args.library.now) (g.L.Library.faults c.fetch.new.self) writes steps taken
-    c.in-Some.ensures c.fetch.ensures.never_falls
+pub returns-in_err-study-clause-ended : goal.returns-in_err-study-clause-ended
+returns-in_err-study-clause-ended g c =
+    let e = c.in_err-study.field-0.0 in
+    let request = c.in-Ok-Some.request in
+    let asks : Some request ≡ asked_of (texts c.args.words.now) = search rules in
+    handed_on c.from_residual-in_err-study.result e
+    (λ (e : Ending). IfSome (g.L.Library.files c.args.library.now) (λ files. Ends (verdict files (texts c.args.words.now)) (fetched files (texts c.args.words.now)) e.status (string_bytes e.name)))
+    c.from_residual-in_err-study.ensures
+    (study_unfound (g.L.Library.files c.args.library.now) (texts c.args.words.now) request c.in_ok-bytes.bytes.items e.status (string_bytes e.name) asks
+    (rw c.as_str.ensures at c.in_ok-bytes.ensures.bytes)
+    (rw c.fetch_file.ensures.files at (rw c.deref.ensures.value at c.in_err-study.ensures.ended)))

@@ -1,0 +1,35 @@
+-- Which files are fetched, in order.
+use Rattle.std.specs.Prelude.{◌≡◌, ◌⊎◌, ℕ, List, [], ◌∷◌, Option, Some, None}
+use Rattle.toml.specs.Data.{Members}
+use Rattle.outside.specs.Files.{Content, absent, too_long, whole, held, content}
+use Rattle.study_file.specs.Tables.{table_of}
+use Rattle.abides_run.specs.declared.request.Request.{Request}
+use Rattle.abides_run.specs.Words.{asked_of}
+use Rattle.abides_run.specs.Verdict.{Files, most_bytes, series_of}
+
+abbrev pub named : Option (List ℕ) → List (List ℕ)
+named None = []
+named (Some name) = name ∷ []
+
+-- the series file that the study's bytes name, where they are the text of a table
+abbrev pub series_after : Option Members → List (List ℕ)
+series_after None = []
+series_after (Some table) = named (series_of table)
+
+abbrev pub series_behind : Content → List (List ℕ)
+series_behind absent = []
+series_behind too_long = []
+series_behind (whole bytes) = series_after (table_of bytes)
+
+abbrev pub fetched_for : Files → Option Request → List (List ℕ)
+fetched_for files None = []
+fetched_for files (Some request) = request.study ∷ series_behind (content (held files request.study) most_bytes)
+
+-- the study that the words ask for, and then the series file that it names
+abbrev pub fetched : Files → List (List ℕ) → List (List ℕ)
+fetched files words = fetched_for files (asked_of words)
+
+-- the name is one of these
+abbrev pub IsAmong : List ℕ → List (List ℕ) → Type 0
+IsAmong name [] = ⊥
+IsAmong name (other ∷ names) = (name ≡ other) ⊎ IsAmong name names

@@ -1,0 +1,35 @@
+-- What is written for an accepted study, and how many events are simulated for it.
+use Rattle.std.specs.Prelude.{ℕ, ◌+◌, List, [], ◌∷◌, ◌++◌, length, codes}
+use Rattle.std.specs.Fmt.{decimal}
+use Rattle.branch_tree.specs.Segments.{segments_in}
+use Rattle.kernel_copy.specs.Segmentwise as segmentwise
+use Rattle.kernel_copy.specs.Courses.{CourseTold}
+use Rattle.branch_bundle.specs.Bundle.{bundle_of}
+use Rattle.study_accept.specs.Accepted.{StudyTold}
+use Rattle.abides_run.specs.declared.request.Task.{Task}
+use Rattle.abides_run.specs.declared.request.Task.TheVariants.{Run, Check}
+
+-- the bundle of a study: the trace of each branch
+unfoldable pub study_bundle : CourseTold → List ℕ
+study_bundle c = bundle_of c
+
+-- the line with a study's counts, in which the exchange is an agent and the root a branch
+abbrev pub counts_line : CourseTold → List ℕ
+counts_line c =
+    codes "accepted: agents " ++ decimal (length c.opening.traders + 1)
+    ++ codes ", stocks " ++ decimal (length c.opening.stocks)
+    ++ codes ", branches " ++ decimal (length c.plan.branches)
+    ++ codes ", segments " ++ decimal (length (segments_in c.plan)) ++ 10 ∷ []
+
+-- each segment's own events, once
+unfoldable pub study_events : CourseTold → ℕ
+study_events c = segmentwise.distinct c.opening c.plan
+
+abbrev pub written : Task → StudyTold → List ℕ
+written Run s = study_bundle s.course
+written Check s = counts_line s.course
+
+-- a check simulates nothing
+abbrev pub simulated : Task → StudyTold → ℕ
+simulated Run s = study_events s.course
+simulated Check s = 0

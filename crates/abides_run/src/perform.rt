@@ -1,0 +1,110 @@
+//! What is done with a study.
+
+ghost use Rattle.std.specs.Prelude.{◌≡◌, ◌+◌, ◌++◌, ◌∷◌, ◌≤◌, ◌^◌, [], ℕ, IfOk, codes, length, string_bytes};
+ghost use Rattle.std.specs.Fmt.{decimal};
+ghost use Rattle.abides_run.specs.Output.{counts_line, simulated, study_bundle, study_events, written};
+ghost use Rattle.abides_run.specs.Performed.{Performed};
+ghost use Rattle.study_accept.specs.Accepted.{study_told};
+
+use crate::found::Found;
+use crate::request::Task;
+use crate::send::{send, send_bundle};
+use crate::status::Status;
+use branch_bundle::laws::outcomes_are_a_run;
+use kernel_copy::{Course, run_segments};
+use outside::{Ledger, Sink, Steps};
+use plain_lists::Memory;
+use std::alloc::{AllocError, Global};
+use std::sync::Arc;
+
+// Simulates each segment of a study once, and then writes the bundle.
+fn run_study<O: Sink, D: Ledger>(
+    alloc: Global,
+    course: &Arc<Course>,
+    out: &mut O,
+    steps: &mut Steps<D>,
+) -> Status
+    requires { steps.old ≤ 2 ^ 63 }
+    ensures { (reads : ℕ) → Performed (study_bundle course.now.value) (study_events course.now.value)
+        (record { reads = reads; writes = O.faults out.old; taken = O.taken out.old; steps = steps.old })
+        (record { reads = reads; writes = O.faults out.new; taken = O.taken out.new; steps = steps.new })
+        result }
+{
+    outcomes_are_a_run();
+    let outcomes = match run_segments(alloc, course, steps) {
+        Ok(outcomes) => outcomes,
+        Err(Memory) => return Status::Memory,
+    };
+    match send_bundle(alloc, course, &outcomes, out) {
+        Ok(()) => Status::Ok,
+        Err(status) => status,
+    }
+}
+
+// The line with these counts.
+fn counts_text(
+    alloc: Global,
+    agents: usize,
+    stocks: usize,
+    branches: usize,
+    segments: usize,
+) -> Result<String, AllocError>
+    ensures { IfOk result (λ text. string_bytes text ≡
+        codes "accepted: agents " ++ decimal agents ++ codes ", stocks " ++ decimal stocks
+        ++ codes ", branches " ++ decimal branches ++ codes ", segments " ++ decimal segments ++ 10 ∷ []) }
+{
+    format!(in alloc;
+        "accepted: agents {agents}, stocks {stocks}, branches {branches}, segments {segments}\n"
+    )
+}
+
+// The line with a study's counts.
+fn counts_of(alloc: Global, course: &Course) -> Result<String, AllocError>
+    ensures { IfOk result (λ text. string_bytes text ≡ counts_line course.now) }
+{
+    let o = course.opening();
+    let plan = course.plan();
+    counts_text(
+        alloc,
+        o.traders.as_slice().len() + 1,
+        o.stocks.as_slice().len(),
+        plan.branches().len(),
+        plan.segments().len(),
+    )
+}
+
+// Writes a study's counts.
+fn check_study<O: Sink>(alloc: Global, course: &Course, out: &mut O) -> Status
+    ensures { (reads steps : ℕ) → Performed (counts_line course.now) 0
+        (record { reads = reads; writes = O.faults out.old; taken = O.taken out.old; steps = steps })
+        (record { reads = reads; writes = O.faults out.new; taken = O.taken out.new; steps = steps })
+        result }
+{
+    let text = match counts_of(alloc, course) {
+        Ok(text) => text,
+        Err(_) => return Status::Memory,
+    };
+    match send(out, text.as_bytes()) {
+        Ok(()) => Status::Ok,
+        Err(status) => status,
+    }
+}
+
+/// Does with a study what is asked for.
+pub fn perform<O: Sink, D: Ledger>(
+    alloc: Global,
+    found: &Found,
+    out: &mut O,
+    steps: &mut Steps<D>,
+) -> Status
+    requires { steps.old ≤ 2 ^ 63 }
+    ensures { (reads : ℕ) → Performed (written found.now.task (study_told found.now.study)) (simulated found.now.task (study_told found.now.study))
+        (record { reads = reads; writes = O.faults out.old; taken = O.taken out.old; steps = steps.old })
+        (record { reads = reads; writes = O.faults out.new; taken = O.taken out.new; steps = steps.new })
+        result }
+{
+    match found.task {
+        Task::Run => run_study(alloc, &found.study.course, out, steps),
+        Task::Check => check_study(alloc, &found.study.course, out),
+    }
+}

@@ -1,0 +1,21 @@
+//! What a command line asks for.
+
+use command_words::Text;
+
+/// What is to be done with a study.
+#[derive(Clone, Copy, PartialEq, Eq, Debug)]
+pub enum Task {
+    /// Its bundle is written.
+    Run,
+    /// Its counts are written, and nothing is simulated.
+    Check,
+}
+
+/// A task, and the name of the study's file.
+#[derive(Drop)]
+pub struct Request<'a> {
+    /// What is to be done.
+    pub task: Task,
+    /// The name of the file, which is not empty.
+    pub study: Text<'a>,
+}
