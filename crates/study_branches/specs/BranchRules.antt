@@ -35,15 +35,15 @@ is_name text = is_in_range 1 32 (length text) && list_all is_name_byte text
 abbrev pub names_of : List Data → List (List ℕ)
 names_of ds = codes "root" ∷ map name_in ds
 
-abbrev pub is_new_name : List Data → List ℕ → Bool
-is_new_name before name = is_name name && not (is_named (names_of before) name)
+abbrev pub has_new_name : List Data → Data → Bool
+has_new_name before d = is_name (name_in d) && not (is_named (names_of before) (name_in d))
 
 -- the first branch that doesn't pass the test beside those before it
 abbrev pub first_failing_beside : (List Data → Data → Bool) → List Data → Option ℕ
 first_failing_beside test ds = position (λ (p : ℕ × Data). not (test (take p.0 ds) p.1)) (enumerate_from 0 ds)
 
 abbrev pub names_broken : Members → Option ℕ
-names_broken t = first_failing_beside (λ before d. is_new_name before (name_in d)) (branch_entries t)
+names_broken t = first_failing_beside has_new_name (branch_entries t)
 
 -- parent of i is `root` or a branch before i
 abbrev pub has_parent : List Data → Data → Bool

@@ -1,5 +1,6 @@
 -- Edits as a study's entries say them, and the rule that each is one.
 use Rattle.std.specs.Prelude.{ℕ, ◌-◌, unsigned_abs, ℤ, pos, negsuc, int_le, int_lt, Bool, ◌&&◌, true, List, [], Option, None, Some, Result, Ok, Err, is_none, is_some, option_map, if◌then◌else◌, length, map, position, slice_index, slice_index_or, unwrap_or, codes}
+use Rattle.std.specs.Option.{option_or}
 use Rattle.std.specs.Str.{bytes_eq}
 use Rattle.toml.specs.Data.{Data, Members}
 use Rattle.hex.specs.Hex.{decode_of}
@@ -61,20 +62,31 @@ latency_in scope e = do
   jitter ← natural_in 0 4294967295 (codes "jitter") e
   Some (Latency from to base jitter)
 
--- the parameter of a name
-abbrev pub param_named : List ℕ → Option Param
-param_named name =
+-- the parameter of a name: of all kinds of trader, of those that send orders, of makers
+abbrev pub common_param : List ℕ → Option Param
+common_param name =
     if bytes_eq name (codes "every") then Some parameter.Every
     else if bytes_eq name (codes "wobble") then Some parameter.Wobble
     else if bytes_eq name (codes "delay") then Some parameter.Delay
-    else if bytes_eq name (codes "size") then Some parameter.Size
+    else None
+
+abbrev pub order_param : List ℕ → Option Param
+order_param name =
+    if bytes_eq name (codes "size") then Some parameter.Size
     else if bytes_eq name (codes "noise") then Some parameter.Noise
     else if bytes_eq name (codes "margin") then Some parameter.Margin
-    else if bytes_eq name (codes "half") then Some parameter.Half
+    else None
+
+abbrev pub maker_param : List ℕ → Option Param
+maker_param name =
+    if bytes_eq name (codes "half") then Some parameter.Half
     else if bytes_eq name (codes "step") then Some parameter.Step
     else if bytes_eq name (codes "levels") then Some parameter.Levels
     else if bytes_eq name (codes "pause") then Some parameter.Pause
     else None
+
+abbrev pub param_named : List ℕ → Option Param
+param_named name = option_or (common_param name) (option_or (order_param name) (maker_param name))
 
 -- the parameter belongs to a trader's kind
 abbrev pub has_param : List ℕ → Param → Bool
@@ -111,8 +123,8 @@ agent_in scope e = do
   trader ← trader_in scope e
   param ← param_named (string_at (codes "name") e)
   if has_param (kind_of_trader scope trader) param && is_param_value param (number_at (codes "value") e)
-  then Some (Agent trader param (unsigned_abs (number_at (codes "value") e)))
-  else None
+      then Some (Agent trader param (unsigned_abs (number_at (codes "value") e)))
+      else None
 
 abbrev pub silence_in : Scope → Members → Option Edit
 silence_in scope e = option_map Silence (trader_in scope e)
@@ -138,8 +150,8 @@ abbrev pub series_in : Scope → Members → Option Edit
 series_in scope e = do
   stock ← stock_in scope e
   if has_between (negsuc 1999999999) (pos 2000000000) (codes "offset") e
-  then Some (Series stock (number_at (codes "offset") e))
-  else None
+      then Some (Series stock (number_at (codes "offset") e))
+      else None
 
 -- The edit that an entry says. There is none where its stock, trader or groups don't exist, a number is out of its range, a
 -- parameter doesn't belong to the trader's kind, or the message is no order.

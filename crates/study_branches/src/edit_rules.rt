@@ -1,12 +1,17 @@
 //! Edits as a study's entries say them, and the rule that each is one.
 
 ghost use Rattle.std.specs.Prelude.{◌≡◌, ◌≤◌, ◌<◌, ◌+◌, ◌*◌, true, map, option_map, length, pos, None, IfOk, IfSome};
+ghost use Rattle.std.specs.List.{list_any};
+ghost use Rattle.std.specs.Str.{bytes_eq};
 ghost use Rattle.toml.specs.View.{table_view, view};
+ghost use Rattle.study_file.specs.Tables.{is_named};
 ghost use Rattle.study_file.specs.Values.{number_at as number_of, is_between as between, first_failing as first_failing_of};
-ghost use Rattle.study_tables.specs.StockRules.{band_in, are_bands, is_fee};
+ghost use Rattle.study_tables.specs.MarketRules.{squares_broken as rule_7};
+ghost use Rattle.study_tables.specs.StockRules.{band_in, are_bands, is_fee, stock_count_broken as rule_10};
+ghost use Rattle.study_refusals.specs.AgentRules.{counts_broken as rule_25};
 ghost use Rattle.study_refusals.specs.ChangeRules.{is_kind as kind_of};
 ghost use Rattle.study_branches.specs.BranchRules.{forms_broken as forms_of, first_edit, branch_keys_broken as rule_30, edit_keys_broken as rule_34};
-ghost use Rattle.study_branches.specs.EditRules.{natural_in as natural_of, stock_in as stock_of, trader_in as trader_of, group_in as group_of, tick_in as tick_of, fee_in as fee_of, latency_in as latency_of, param_named as param_of, has_param as param_belongs, is_param_value as param_value, agent_in as agent_of, silence_in as silence_of, order_in as order_of, message_in as message_of, inject_in as inject_of, series_in as series_of, edit_in as edit_of, is_edit as edit_among, edits_broken as rule_35};
+ghost use Rattle.study_branches.specs.EditRules.{natural_in as natural_of, stock_in as stock_of, trader_in as trader_of, group_in as group_of, tick_in as tick_of, fee_in as fee_of, latency_in as latency_of, common_param as common_of, order_param as ordering_of, maker_param as making_of, param_named as param_of, has_param as param_belongs, is_param_value as param_value, agent_in as agent_of, silence_in as silence_of, order_in as order_of, message_in as message_of, inject_in as inject_of, series_in as series_of, edit_in as edit_of, is_edit as edit_among, edits_broken as rule_35};
 
 use crate::entries::branch_edits;
 use crate::keys::few_branches;
@@ -149,28 +154,77 @@ fn latency_in(scope: &Scope<'_>, edit: &Table) -> Option<Edit>
     })
 }
 
+// The parameter of a name that traders of all kinds have.
+fn common_param(name: &str) -> Option<Param>
+    ensures { result ≡ common_of name.now }
+{
+    if name == "every" {
+        Some(Param::Every)
+    } else if name == "wobble" {
+        Some(Param::Wobble)
+    } else if name == "delay" {
+        Some(Param::Delay)
+    } else {
+        None
+    }
+}
+
+// The parameter of a name that traders who send orders have.
+fn order_param(name: &str) -> Option<Param>
+    ensures { result ≡ ordering_of name.now }
+{
+    if name == "size" {
+        Some(Param::Size)
+    } else if name == "noise" {
+        Some(Param::Noise)
+    } else if name == "margin" {
+        Some(Param::Margin)
+    } else {
+        None
+    }
+}
+
+// The parameter of a name that makers have.
+fn maker_param(name: &str) -> Option<Param>
+    ensures { result ≡ making_of name.now }
+{
+    if name == "half" {
+        Some(Param::Half)
+    } else if name == "step" {
+        Some(Param::Step)
+    } else if name == "levels" {
+        Some(Param::Levels)
+    } else if name == "pause" {
+        Some(Param::Pause)
+    } else {
+        None
+    }
+}
+
 // The parameter of a name.
 fn param_named(name: &str) -> Option<Param>
     ensures { result ≡ param_of name.now }
 {
-    let names = [
-        ("every", Param::Every),
-        ("wobble", Param::Wobble),
-        ("delay", Param::Delay),
-        ("size", Param::Size),
-        ("noise", Param::Noise),
-        ("margin", Param::Margin),
-        ("half", Param::Half),
-        ("step", Param::Step),
-        ("levels", Param::Levels),
-        ("pause", Param::Pause),
-    ];
-    for (known, param) in names {
-        if known == name {
-            return Some(param);
-        }
+    if let Some(param) = common_param(name) {
+        return Some(param);
     }
-    None
+    match order_param(name) {
+        Some(param) => Some(param),
+        None => maker_param(name),
+    }
+}
+
+fn is_listed(words: &[&str], word: &str) -> bool
+    ensures { result ≡ list_any (λ known. bytes_eq known.now word.now) words.now }
+{
+    words.iter().any(|known| *known == word)
+}
+
+// Whether a word is one of these.
+fn is_word(words: &[&str], word: &str) -> bool
+    ensures { result ≡ is_named (map (λ known. known.now) words.now) word.now }
+{
+    is_listed(words, word)
 }
 
 // Whether a parameter belongs to a trader's kind.
@@ -179,9 +233,9 @@ fn has_param(kind: &str, param: Param) -> bool
 {
     match param {
         Param::Every | Param::Wobble | Param::Delay => true,
-        Param::Size => kind == "noise" || kind == "value" || kind == "momentum" || kind == "maker",
-        Param::Noise | Param::Margin => kind == "value",
-        Param::Half | Param::Step | Param::Levels | Param::Pause => kind == "maker",
+        Param::Size => is_word(&["noise", "value", "momentum", "maker"], kind),
+        Param::Noise | Param::Margin => is_word(&["value"], kind),
+        Param::Half | Param::Step | Param::Levels | Param::Pause => is_word(&["maker"], kind),
     }
 }
 
@@ -229,7 +283,10 @@ fn silence_in(scope: &Scope<'_>, edit: &Table) -> Option<Edit>
 fn order_in(bytes: &[u8]) -> Option<Inbound>
     ensures { result ≡ order_of bytes.now }
 {
-    decode_in(bytes).ok()
+    match decode_in(bytes) {
+        Ok(message) => Some(message),
+        Err(_) => None,
+    }
 }
 
 // The order that the bytes of a text of hexadecimal digits spell.

@@ -1,7 +1,7 @@
 //! The branches of a study.
 
-ghost use Rattle.std.specs.Prelude.{◌≡◌, ◌≤◌, true, pos, List, map, length, None, IfOk, All};
-ghost use Rattle.std.specs.List.{filter_map};
+ghost use Rattle.std.specs.Prelude.{◌≡◌, ◌≤◌, ◌++◌, true, pos, List, [], map, length, None, IfOk, OnOk, All};
+ghost use Rattle.std.specs.List.{filter_map, cons_option};
 ghost use Rattle.toml.specs.View.{table_view, view};
 ghost use Rattle.branch_tree.specs.declared.branch.Branch.{Branch};
 ghost use Rattle.branch_tree.specs.Tree.{IsRooted, plan_refusal};
@@ -77,15 +77,23 @@ fn read_edit(alloc: Global, scope: &Scope<'_>, entry: &Value) -> Result<Option<E
     }
 }
 
+// Adds an edit, where there is one.
+fn add(edits: &mut Vec<Edit>, found: Option<Edit>) -> Result<(), Memory>
+    ensures { OnOk result (edits.new.items ≡ edits.old.items ++ cons_option found []) }
+{
+    if let Some(edit) = found {
+        edits.push(edit)?;
+    }
+    Ok(())
+}
+
 // The edits that entries say.
 fn read_edits(alloc: Global, scope: &Scope<'_>, entries: &[Value]) -> Result<Vec<Edit>, Memory>
     ensures { IfOk result (λ edits. edits.items ≡ filter_map (λ d. edit_of scope.now (entry_of d)) (map view entries.now)) }
 {
     let mut edits = Vec::new(alloc);
     for entry in entries {
-        if let Some(edit) = read_edit(alloc, scope, entry)? {
-            edits.push(edit)?;
-        }
+        add(&mut edits, read_edit(alloc, scope, entry)?)?;
     }
     Ok(edits)
 }
@@ -111,6 +119,25 @@ fn read_branch(
     })
 }
 
+// The branches that a study says.
+fn read_branches(alloc: Global, table: &Table) -> Result<Vec<Branch>, Memory>
+    requires limits { rule_5 (table_view table.now) ≡ None }
+    requires square { rule_7 (table_view table.now) ≡ None }
+    requires stocks { rule_10 (table_view table.now) ≡ None }
+    requires traders { rule_25 (table_view table.now) ≡ None }
+    requires branches { first_of_rules branch_rules (table_view table.now) ≡ None }
+    ensures { IfOk result (λ list. list.items ≡ branches_of (table_view table.now)) }
+{
+    let entries = few_branches(table);
+    let scope = study_scope(table);
+    let mut list = Vec::new(alloc);
+    list.push(root(alloc))?;
+    for entry in entries {
+        list.push(read_branch(alloc, &scope, entries, entry)?)?;
+    }
+    Ok(list)
+}
+
 /// The branches that a study says, the root first, where none of the rules of branches is broken, and none of those of the
 /// limits, the latencies' size and the counts of stocks and traders. They make a tree that a plan takes, and the edits of each
 /// can be made where there are the study's stocks, traders by kind and latency groups.
@@ -125,12 +152,5 @@ pub fn branches(alloc: Global, table: &Table) -> Result<Vec<Branch>, Memory>
     ensures planned { IfOk result (λ list. plan_refusal list.items (events_of (table_view table.now)) ≡ None) }
     ensures edits { (kinds : List Kind) → map word_of kinds ≡ kinds_of (agents (table_view table.now)) → IfOk result (λ list. All (λ (b : Branch). AreEditsAmong (length (stocks (table_view table.now))) kinds (size_of (table_view table.now)) b.edits) list.items) }
 {
-    let entries = few_branches(table);
-    let scope = study_scope(table);
-    let mut list = Vec::new(alloc);
-    list.push(root(alloc))?;
-    for entry in entries {
-        list.push(read_branch(alloc, &scope, entries, entry)?)?;
-    }
-    Ok(list)
+    read_branches(alloc, table)
 }

@@ -6,7 +6,7 @@ ghost use Rattle.std.specs.Str.{bytes_eq};
 ghost use Rattle.toml.specs.View.{table_view, view};
 ghost use Rattle.study_file.specs.Tables.{is_named};
 ghost use Rattle.study_branches.specs.Entries.{name_in, parent_in};
-ghost use Rattle.study_branches.specs.BranchRules.{is_name_byte as name_byte, is_name as name_text, names_of, is_new_name as new_name, has_parent as parent_among, place_named as place_in, branch_keys_broken as rule_30, names_broken as rule_31, parents_broken as rule_32};
+ghost use Rattle.study_branches.specs.BranchRules.{is_name_byte as name_byte, is_name as name_text, names_of, has_new_name as new_name, has_parent as parent_among, first_failing_beside as failing_beside, place_named as place_in, branch_keys_broken as rule_30, names_broken as rule_31, parents_broken as rule_32};
 
 use crate::entries::{branch_name, parent_name};
 use crate::keys::few_branches;
@@ -47,12 +47,12 @@ fn is_among_first(branches: &[Value], count: usize, name: &str) -> bool
 fn is_known(branches: &[Value], count: usize, name: &str) -> bool
     ensures { result ≡ is_named (names_of (map view (take count branches.now))) name.now }
 {
-    name == "root" || is_among_first(branches, count, name)
+    "root" == name || is_among_first(branches, count, name)
 }
 
 // Whether a branch has a name that neither the root nor one of the first so many branches has.
 fn has_new_name(branches: &[Value], count: usize, branch: &Value) -> bool
-    ensures { result ≡ new_name (map view (take count branches.now)) (name_in (view branch.now)) }
+    ensures { result ≡ new_name (map view (take count branches.now)) (view branch.now) }
 {
     let name = branch_name(branch);
     is_name(name) && !is_known(branches, count, name)
@@ -67,7 +67,7 @@ fn has_parent(branches: &[Value], count: usize, branch: &Value) -> bool
 
 // The place of the first branch whose name is none, or is the root's or one's before it.
 fn place_of_name(branches: &[Value]) -> Option<usize>
-    ensures { result ≡ position (λ (p : ℕ × _). not (new_name (map view (take p.0 branches.now)) (name_in (view p.1)))) (enumerate_from 0 branches.now) }
+    ensures { result ≡ position (λ (p : ℕ × _). not (new_name (map view (take p.0 branches.now)) (view p.1))) (enumerate_from 0 branches.now) }
 {
     branches
         .iter()
@@ -85,15 +85,49 @@ fn place_of_parent(branches: &[Value]) -> Option<usize>
         .position(|(at, branch)| !has_parent(branches, at, branch))
 }
 
+// The same, which is a place of the list.
+fn name_place(branches: &[Value]) -> Option<usize>
+    ensures place { result ≡ failing_beside new_name (map view branches.now) }
+    ensures within { IfSome result (λ at. at < length branches.now) }
+{
+    place_of_name(branches)
+}
+
+fn parent_place(branches: &[Value]) -> Option<usize>
+    ensures place { result ≡ failing_beside parent_among (map view branches.now) }
+    ensures within { IfSome result (λ at. at < length branches.now) }
+{
+    place_of_parent(branches)
+}
+
+// The first of at most 127 branches whose name is none, or is the root's or one's before it.
+fn first_bad_name(branches: &[Value]) -> Option<u32>
+    requires { length branches.now ≤ 127 }
+    ensures { result ≡ failing_beside new_name (map view branches.now) }
+{
+    match name_place(branches) {
+        Some(at) => Some(at as u32),
+        None => None,
+    }
+}
+
+// The first of at most 127 branches whose parent is neither the root nor before it.
+fn first_bad_parent(branches: &[Value]) -> Option<u32>
+    requires { length branches.now ≤ 127 }
+    ensures { result ≡ failing_beside parent_among (map view branches.now) }
+{
+    match parent_place(branches) {
+        Some(at) => Some(at as u32),
+        None => None,
+    }
+}
+
 /// The first branch whose name isn't 1 to 32 bytes of `a` to `z`, `0` to `9`, `_` and `-`, or is the root's or one's before it.
 pub fn names_broken(table: &Table) -> Option<u32>
     requires { rule_30 (table_view table.now) ≡ None }
     ensures { result ≡ rule_31 (table_view table.now) }
 {
-    match place_of_name(few_branches(table)) {
-        Some(at) => Some(at as u32),
-        None => None,
-    }
+    first_bad_name(few_branches(table))
 }
 
 /// The first branch whose parent is neither the root nor before it.
@@ -101,10 +135,7 @@ pub fn parents_broken(table: &Table) -> Option<u32>
     requires { rule_30 (table_view table.now) ≡ None }
     ensures { result ≡ rule_32 (table_view table.now) }
 {
-    match place_of_parent(few_branches(table)) {
-        Some(at) => Some(at as u32),
-        None => None,
-    }
+    first_bad_parent(few_branches(table))
 }
 
 // The place of the branch of a name among some.

@@ -1,6 +1,6 @@
 //! What a study's edits may speak of.
 
-ghost use Rattle.std.specs.Prelude.{◌≡◌, ◌≤◌, ◌<◌, map, length, position, slice_index_or, [], None, IfSome};
+ghost use Rattle.std.specs.Prelude.{◌≡◌, ◌≤◌, ◌<◌, map, length, position, slice_index_or, codes, [], None, IfSome};
 ghost use Rattle.std.specs.Str.{bytes_eq};
 ghost use Rattle.toml.specs.View.{table_view, view};
 ghost use Rattle.study_file.specs.Values.{string_at as text_of};
@@ -26,15 +26,15 @@ pub struct Scope<'a> {
 
 impl<'a> Model for Scope<'a> {
     ghost use Rattle.std.specs.Prelude.{map};
-    ghost use Rattle.toml.specs.View.{view};
+    ghost use Rattle.toml.specs.View.{view as shown};
     ghost use Rattle.study_tables.specs.StockRules.{symbol_in};
     ghost use Rattle.study_branches.specs.Scope.{Scope as Speakable, IsSmall, kinds_of};
 
     ghost Value = { Speakable };
 
-    ghost view = { λ s. record { stocks = map symbol_in (map view s.stocks.now); kinds = kinds_of (map view s.agents.now); groups = s.groups } };
+    ghost view = { λ s. record { stocks = map symbol_in (map shown s.stocks.now); kinds = kinds_of (map shown s.agents.now); groups = s.groups } };
 
-    ghost invariant = { λ s. IsSmall (record { stocks = map symbol_in (map view s.stocks.now); kinds = kinds_of (map view s.agents.now); groups = s.groups }) };
+    ghost invariant = { λ s. IsSmall (record { stocks = map symbol_in (map shown s.stocks.now); kinds = kinds_of (map shown s.agents.now); groups = s.groups }) };
 }
 
 // The entries of the agents.
@@ -70,7 +70,7 @@ fn count_in(entry: &Value) -> u64
 
 // The kind of an entry's traders.
 fn kind_in(entry: &Value) -> &str
-    ensures { result.now ≡ text_of "kind" (entry_of (view entry.now)) }
+    ensures { result.now ≡ text_of (codes "kind") (entry_of (view entry.now)) }
 {
     match entry.as_table() {
         Some(agent) => string_at(agent, "kind"),
@@ -115,12 +115,20 @@ fn place_of(stocks: &[Value], symbol: &str) -> Option<usize>
         .position(|stock| stock_symbol(stock) == symbol)
 }
 
+// The same, which is a place of the list.
+fn stock_place(stocks: &[Value], symbol: &str) -> Option<usize>
+    ensures place { result ≡ position (λ name. bytes_eq name symbol.now) (map symbol_in (map view stocks.now)) }
+    ensures within { IfSome result (λ at. at < length (map symbol_in (map view stocks.now))) }
+{
+    place_of(stocks, symbol)
+}
+
 impl<'a> Scope<'a> {
     /// The number of the stock of a symbol.
     pub fn stock(&self, symbol: &str) -> Option<StockNo>
         ensures { result ≡ position (λ name. bytes_eq name symbol.now) self.now.stocks }
     {
-        match place_of(self.stocks, symbol) {
+        match stock_place(self.stocks, symbol) {
             Some(at) => Some(at as StockNo),
             None => None,
         }

@@ -1,6 +1,6 @@
 //! The rules of where branches leave their parents, and of how many events all have.
 
-ghost use Rattle.std.specs.Prelude.{◌≡◌, ◌≤◌, not, map, length, position, None};
+ghost use Rattle.std.specs.Prelude.{◌≡◌, ◌≤◌, ◌<◌, not, map, length, pos, position, slice_index_or, None, IfSome};
 ghost use Rattle.toml.specs.View.{table_view, view};
 ghost use Rattle.study_branches.specs.Entries.{stop_in};
 ghost use Rattle.study_branches.specs.BranchRules.{events_of, has_stop as stop_among, stop_named as named_stop, branch_keys_broken as rule_30, stops_broken as rule_33, work_broken as rule_36};
@@ -17,12 +17,20 @@ fn events(table: &Table) -> u64
     number_at(table, "events").unsigned_abs()
 }
 
+// The event number at which the branch at a place leaves its parent.
+fn stop_at(branches: &[Value], at: usize) -> i64
+    requires { at < length branches.now }
+    ensures { result ≡ slice_index_or (map stop_in (map view branches.now)) at (pos 0) }
+{
+    branch_stop(&branches[at])
+}
+
 // The event number at which the branch of a name leaves its parent; the root's is 0.
 fn stop_named(branches: &[Value], name: &str) -> i64
     ensures { result ≡ named_stop (map view branches.now) name.now }
 {
     match place_named(branches, name) {
-        Some(at) => branch_stop(&branches[at]),
+        Some(at) => stop_at(branches, at),
         None => 0,
     }
 }
@@ -44,15 +52,31 @@ fn place_of_stop(events: u64, branches: &[Value]) -> Option<usize>
         .position(|branch| !has_stop(events, branches, branch))
 }
 
+// The same, which is a place of the list.
+fn stop_place(events: u64, branches: &[Value]) -> Option<usize>
+    ensures place { result ≡ position (λ d. not (stop_among events (map view branches.now) d)) (map view branches.now) }
+    ensures within { IfSome result (λ at. at < length branches.now) }
+{
+    place_of_stop(events, branches)
+}
+
+// The first of at most 127 branches that doesn't.
+fn first_bad_stop(events: u64, branches: &[Value]) -> Option<u32>
+    requires { length branches.now ≤ 127 }
+    ensures { result ≡ position (λ d. not (stop_among events (map view branches.now) d)) (map view branches.now) }
+{
+    match stop_place(events, branches) {
+        Some(at) => Some(at as u32),
+        None => None,
+    }
+}
+
 /// The first branch that leaves its parent below where the parent leaves its own, or above the most events of a run.
 pub fn stops_broken(table: &Table) -> Option<u32>
     requires { rule_30 (table_view table.now) ≡ None }
     ensures { result ≡ rule_33 (table_view table.now) }
 {
-    match place_of_stop(events(table), few_branches(table)) {
-        Some(at) => Some(at as u32),
-        None => None,
-    }
+    first_bad_stop(events(table), few_branches(table))
 }
 
 /// Whether the branches with the root have more than 4,000,000 events.
