@@ -1,8 +1,7 @@
--- The first broken rule of a study.
-use Rattle.std.specs.Prelude.{ℕ, ◌==◌, List, [], ◌∷◌, Option, None, Some, option_map, Result, Ok, Err, length, codes}
+-- The first broken rule of a study, as far as its agents: those of its branches are not among these.
+use Rattle.std.specs.Prelude.{ℕ, List, [], ◌∷◌, Option, None, Some, option_map, Result, Ok, Err}
 use Rattle.std.specs.Option.{option_or}
 use Rattle.toml.specs.Data.{Members}
-use Rattle.study_file.specs.Values.{list_at, broken_unless}
 use Rattle.study_tables.specs.declared.refusal.Refusal.{Refusal}
 use Rattle.study_tables.specs.FirstBroken.{Rule, rule, market_rules, stock_rules, first_of_rules}
 use Rattle.study_tables.specs.MarketRules.{start_of}
@@ -13,20 +12,16 @@ use Rattle.series_file.specs.Late.{first_late}
 use Rattle.study_refusals.specs.ChangeRules.{change_keys_broken, dates_broken, change_stock_broken, change_rules_broken}
 use Rattle.study_refusals.specs.AgentRules.{counts_broken, agent_keys_broken, timing_broken, agent_stock_broken, own_broken}
 
--- there are no branches: for now each study with branches is refused
-abbrev pub branches_broken : Members → Option ℕ
-branches_broken t = broken_unless (length (list_at (codes "branch") t) == 0) 0
-
 -- the rules of the changes
 abbrev pub change_rules : List Rule
 change_rules =
     rule 21 change_keys_broken ∷ rule 22 dates_broken ∷ rule 23 change_stock_broken ∷ rule 24 change_rules_broken ∷ []
 
--- the rules of the agents and of the branches
+-- the rules of the agents
 abbrev pub agent_rules : List Rule
 agent_rules =
     rule 25 counts_broken ∷ rule 26 agent_keys_broken ∷ rule 27 timing_broken ∷ rule 28 agent_stock_broken
-    ∷ rule 29 own_broken ∷ rule 30 branches_broken ∷ []
+    ∷ rule 29 own_broken ∷ []
 
 -- the rows of each stock that the series file says, and no rows where none is named
 abbrev pub tables_of : Members → Option (List ℕ) → Result (List (List SeriesRow)) ℕ

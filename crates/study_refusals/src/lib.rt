@@ -1,4 +1,4 @@
-//! Which rule a study breaks first, and at which place.
+//! Which rule of its market, stocks, changes and agents a study breaks first, and at which place.
 #![tactic(auto)]
 
 mod agents;

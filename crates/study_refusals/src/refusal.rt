@@ -1,4 +1,4 @@
-//! The first broken rule of a study.
+//! The first broken rule of a study, as far as its agents.
 
 ghost use Rattle.std.specs.Prelude.{◌≡◌, None, Some, ℕ, map, option_map, IfOk, IfErr, Ok, Err};
 ghost use Rattle.toml.specs.View.{table_view};
@@ -6,7 +6,7 @@ ghost use Rattle.study_tables.specs.MarketRules.{squares_broken as rule_7};
 ghost use Rattle.study_tables.specs.StockRules.{stock_count_broken as rule_10};
 ghost use Rattle.study_tables.specs.FirstBroken.{first_of_rules};
 ghost use Rattle.study_refusals.specs.Judged.{AreJudged, IsJudged};
-ghost use Rattle.study_refusals.specs.FirstBroken.{change_rules, agent_rules, branches_broken as rule_30, tables_of, early_refusal as early_rules, late_refusal as late_rule, last_refusal as last_rules};
+ghost use Rattle.study_refusals.specs.FirstBroken.{change_rules, agent_rules, tables_of, early_refusal as early_rules, late_refusal as late_rule, last_refusal as last_rules};
 
 use crate::agents::{agent_keys_broken, agent_stock_broken, own_broken, timing_broken};
 use crate::changes::{change_keys_broken, change_rules_broken, change_stock_broken};
@@ -15,15 +15,8 @@ use crate::dates::{dates_broken, start};
 use market_types::Memory;
 use series_file::{SeriesError, SeriesTables, late_stock, read_series};
 use std::alloc::Global;
-use study_file::{Table, broken_unless, list_at};
+use study_file::Table;
 use study_tables::{Refusal, few_stocks, market_refusal, stock_refusal, stocks};
-
-// Whether there are branches: for now each study with branches is refused.
-fn branches_broken(table: &Table) -> Option<u32>
-    ensures { result ≡ rule_30 (table_view table.now) }
-{
-    broken_unless(list_at(table, "branch").is_empty(), 0)
-}
 
 // The first broken one of the rules of the changes.
 fn change_refusal(alloc: Global, table: &Table) -> Result<Option<Refusal>, Memory>
@@ -44,7 +37,7 @@ fn change_refusal(alloc: Global, table: &Table) -> Result<Option<Refusal>, Memor
     }
 }
 
-// The first broken one of the rules of the agents and the branches.
+// The first broken one of the rules of the agents.
 fn agent_refusal(table: &Table) -> Option<Refusal>
     requires { rule_7 (table_view table.now) ≡ None }
     ensures { result ≡ first_of_rules agent_rules (table_view table.now) }
@@ -61,21 +54,18 @@ fn agent_refusal(table: &Table) -> Option<Refusal>
     if let Some(place) = agent_stock_broken(table) {
         return Some(Refusal { rule: 28, place });
     }
-    if let Some(place) = own_broken(table) {
-        return Some(Refusal { rule: 29, place });
-    }
-    match branches_broken(table) {
-        Some(place) => Some(Refusal { rule: 30, place }),
+    match own_broken(table) {
+        Some(place) => Some(Refusal { rule: 29, place }),
         None => None,
     }
 }
 
-/// What the rules say of a study.
+/// What the rules up to those of the agents say of a study.
 #[derive(Drop)]
 pub enum Judged {
     /// The first broken rule.
     Refused(Refusal),
-    /// No rule is broken; the rows of each stock.
+    /// None of these rules is broken; the rows of each stock.
     Accepted(SeriesTables),
 }
 
@@ -156,7 +146,8 @@ fn judge_series(alloc: Global, table: &Table, series: Option<&[u8]>) -> Result<J
     }
 }
 
-/// The first broken rule of a study's table, with the text of its series file where it names one, or the rows of each stock.
+/// The first broken rule of a study's table up to those of the agents, with the text of its series file where it names one, or
+/// the rows of each stock. The rules of branches are not among these.
 #[tactic(auto, using(crate::proofs::Judging::broken_early))]
 pub fn judge(alloc: Global, table: &Table, series: Option<&[u8]>) -> Result<Judged, Memory>
     ensures { IfOk result (λ judged. IsJudged (table_view table.now) (option_map (λ text. text.now) series.entry) judged) }

@@ -1,4 +1,4 @@
-//! One broken study for each rule after those of the stocks, and kind of place.
+//! One broken study for each rule from those after the stocks to those of the agents, and kind of place.
 
 use super::{Judged, Refusal, judge};
 use std::alloc::Global;
@@ -48,7 +48,7 @@ fn refused(alloc: Global, old: &str, new: &str) -> Result<Option<Refusal>, Fail>
 
 #[test]
 fn the_first_broken_rule_is_told_with_its_place(rt: HostRuntime) -> Result<(), Fail> {
-    let cases: [(&str, &str, u32, u32); 24] = [
+    let cases: [(&str, &str, u32, u32); 23] = [
         ("version = 1", "version = 2", 2, 0),
         ("add = 0", "add = 1000001", 15, 1),
         ("symbol,time", "symbol,times", 19, 0),
@@ -87,12 +87,6 @@ fn the_first_broken_rule_is_told_with_its_place(rt: HostRuntime) -> Result<(), F
         ("size = 1 }", "size = 1000000 }", 29, 1),
         ("short = 1", "short = 2", 29, 3),
         ("levels = 8", "levels = 9", 29, 4),
-        (
-            "agent = [",
-            "branch = [{ name = \"x\", parent = \"root\", at = 1 }]\nagent = [",
-            30,
-            0,
-        ),
     ];
     assert!(rt; refused(rt.alloc(), "spread = 1", "spread = 173146292583")?.is_none());
     for (old, new, rule, place) in cases {
