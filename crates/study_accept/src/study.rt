@@ -1,17 +1,21 @@
 //! Accepting a study.
 
-ghost use Rattle.std.specs.Prelude.{◌≡◌, ◌≤◌, ◌∷◌, [], Ok, Err, IfOk, IfErr, option_map};
+ghost use Rattle.std.specs.Prelude.{◌≡◌, All, None, Some, Ok, Err, IfOk, IfErr, option_map};
 ghost use Rattle.toml.specs.View.{table_view};
 ghost use Rattle.study_tables.specs.declared.refusal.Refusal.{Refusal};
-ghost use Rattle.study_parts.specs.Opening.{IsAccepted};
-ghost use Rattle.study_accept.specs.Accepted.{root, course_of, told_of, study_of, study_told};
+ghost use Rattle.study_tables.specs.FirstBroken.{first_of_rules};
+ghost use Rattle.study_branches.specs.FirstBroken.{branch_rules};
+ghost use Rattle.study_parts.specs.Opening.{IsAccepted, limit_of, opening_of};
+ghost use Rattle.kernel_copy.specs.Courses.{AreEdits};
+ghost use Rattle.study_accept.specs.Accepted.{plan_of, course_of, told_of, study_of, study_told};
 
-use branch_tree::{Branch, BranchPlan, Name, PlanError, plan};
+use branch_tree::{BranchPlan, PlanError, plan};
 use kernel_copy::Course;
-use market_types::{Memory, Sequence};
+use market_types::Memory;
 use series_file::SeriesTables;
 use std::alloc::Global;
 use std::sync::Arc;
+use study_branches::{branch_refusal, branches};
 use study_file::{RawStudy, Table};
 use study_parts::{opening, stride};
 use study_refusals::{Judged, Refusal, judge};
@@ -37,36 +41,21 @@ pub enum AcceptError {
     Memory,
 }
 
-// The first of a study's branches, which is its own parent and changes nothing.
-fn root_branch(alloc: Global) -> Branch
-    ensures { result ≡ root }
+// The tree of the branches of a study that breaks no rule.
+fn branch_plan(
+    alloc: Global,
+    table: &Table,
+    rows: &SeriesTables,
+    limit: u32,
+) -> Result<BranchPlan, Memory>
+    requires accepted { IsAccepted (table_view table.now) rows.now }
+    requires branches { first_of_rules branch_rules (table_view table.now) ≡ None }
+    requires limit { limit ≡ limit_of (table_view table.now) }
+    ensures plan { IfOk result (λ p. p ≡ plan_of (table_view table.now)) }
+    ensures edits { IfOk result (λ p. All (λ b. AreEdits (opening_of (table_view table.now) rows.now) b.edits) p.branches) }
 {
-    let Some(name) = Name::new(b"root") else {
-        unreachable!()
-    };
-    Branch {
-        name,
-        parent: 0,
-        stop: 0,
-        edits: Sequence::empty(alloc),
-    }
-}
-
-// The branches of a study, the root first: no study with others is accepted yet.
-fn branches(alloc: Global) -> Result<Vec<Branch>, Memory>
-    ensures { IfOk result (λ v. v.items ≡ root ∷ []) }
-{
-    let mut branches = Vec::new(alloc);
-    branches.push(root_branch(alloc))?;
-    Ok(branches)
-}
-
-// The plan of a study's branches, of which each has at most so many events.
-fn branch_plan(alloc: Global, limit: u32) -> Result<BranchPlan, Memory>
-    requires { limit ≤ 1000000 }
-    ensures { IfOk result (λ p. p ≡ record { branches = root ∷ []; limit = limit }) }
-{
-    let branches = branches(alloc)?;
+    let _ = rows;
+    let branches = branches(alloc, table)?;
     match plan(alloc, branches, limit) {
         Ok(plan) => Ok(plan),
         Err(PlanError::Memory) => Err(Memory),
@@ -76,17 +65,19 @@ fn branch_plan(alloc: Global, limit: u32) -> Result<BranchPlan, Memory>
 
 // What the branches of an accepted study share.
 fn accepted_course(alloc: Global, table: &Table, rows: &SeriesTables) -> Result<Course, Memory>
-    requires { IsAccepted (table_view table.now) rows.now }
+    requires accepted { IsAccepted (table_view table.now) rows.now }
+    requires branches { first_of_rules branch_rules (table_view table.now) ≡ None }
     ensures { IfOk result (λ c. c ≡ course_of (table_view table.now) rows.now) }
 {
     let opening = opening(alloc, table, rows)?;
-    let plan = branch_plan(alloc, opening.limit)?;
+    let plan = branch_plan(alloc, table, rows, opening.limit)?;
     Ok(Course::new(opening, plan))
 }
 
 // What an accepted study says.
 fn accepted_study(alloc: Global, table: &Table, rows: &SeriesTables) -> Result<Study, Memory>
-    requires { IsAccepted (table_view table.now) rows.now }
+    requires accepted { IsAccepted (table_view table.now) rows.now }
+    requires branches { first_of_rules branch_rules (table_view table.now) ≡ None }
     ensures { IfOk result (λ s. study_told s ≡ told_of (table_view table.now) rows.now) }
 {
     let course = accepted_course(alloc, table, rows)?;
@@ -99,10 +90,31 @@ fn accepted_study(alloc: Global, table: &Table, rows: &SeriesTables) -> Result<S
     }
 }
 
+// What the rules of branches say of a study that breaks none of those before them, or the study.
+fn accept_branches(
+    alloc: Global,
+    table: &Table,
+    rows: &SeriesTables,
+) -> Result<Study, AcceptError>
+    requires { IsAccepted (table_view table.now) rows.now }
+    ensures accepted { IfOk result (λ s. (first_of_rules branch_rules (table_view table.now) ≡ None) × (study_told s ≡ told_of (table_view table.now) rows.now)) }
+    ensures refused { IfErr result (λ e. (r : Refusal) → e ≡ AcceptError.Refused r → first_of_rules branch_rules (table_view table.now) ≡ Some r) }
+{
+    match branch_refusal(alloc, table) {
+        Ok(None) => match accepted_study(alloc, table, rows) {
+            Ok(study) => Ok(study),
+            Err(Memory) => Err(AcceptError::Memory),
+        },
+        Ok(Some(refusal)) => Err(AcceptError::Refused(refusal)),
+        Err(Memory) => Err(AcceptError::Memory),
+    }
+}
+
 /// The study that the tables say, with the bytes of its series file where it names one.
 ///
 /// # Errors
 /// The first broken rule of the study; or want of memory.
+#[tactic(auto, using(crate::proofs::Accepting::accepted_told, crate::proofs::Accepting::refused_told, crate::proofs::Accepting::branches_refused))]
 pub fn accept(
     alloc: Global,
     raw: &RawStudy,
@@ -112,10 +124,7 @@ pub fn accept(
     ensures refused { IfErr result (λ e. (r : Refusal) → e ≡ AcceptError.Refused r → study_of (table_view raw.now.table) (option_map (λ text. text.now) series.entry) ≡ Err r) }
 {
     match judge(alloc, &raw.table, series) {
-        Ok(Judged::Accepted(rows)) => match accepted_study(alloc, &raw.table, &rows) {
-            Ok(study) => Ok(study),
-            Err(Memory) => Err(AcceptError::Memory),
-        },
+        Ok(Judged::Accepted(rows)) => accept_branches(alloc, &raw.table, &rows),
         Ok(Judged::Refused(refusal)) => Err(AcceptError::Refused(refusal)),
         Err(Memory) => Err(AcceptError::Memory),
     }

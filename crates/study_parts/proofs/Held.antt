@@ -11,7 +11,7 @@ use Rattle.study_tables.specs.StockRules.{stocks, stock_count_broken, stock_keys
 use Rattle.fundamental_series.specs.declared.rule.SeriesRow.{SeriesRow}
 use Rattle.series_file.specs.Late.{first_late}
 use Rattle.study_refusals.specs.ChangeRules.{change_keys_broken, dates_broken, change_stock_broken, change_rules_broken}
-use Rattle.study_refusals.specs.AgentRules.{counts_broken, timing_broken, agent_stock_broken, own_broken}
+use Rattle.study_refusals.specs.AgentRules.{counts_broken, agent_keys_broken, timing_broken, agent_stock_broken, own_broken}
 use Rattle.study_refusals.specs.FirstBroken.{change_rules, agent_rules, tables_of, late_refusal, series_refusal, early_refusal, last_refusal}
 use Rattle.study_parts.specs.Opening.{IsAccepted}
 
@@ -66,6 +66,7 @@ pub record AreHeld (t : Members) (tables : List (List SeriesRow)) : Type 0 where
   pub change_stocks : change_stock_broken t ≡ None
   pub new_rules : change_rules_broken t ≡ None
   pub counts : counts_broken t ≡ None
+  pub agent_keys : agent_keys_broken t ≡ None
   pub timing : timing_broken t ≡ None
   pub agent_stocks : agent_stock_broken t ≡ None
   pub own : own_broken t ≡ None
@@ -110,6 +111,7 @@ are-held t tables h =
       change_stocks = dated.1.1.0;
       new_rules = dated.1.1.1.0;
       counts = acting.0;
+      agent_keys = acting.1.0;
       timing = acting.1.1.0;
       agent_stocks = acting.1.1.1.0;
       own = acting.1.1.1.1.0;
