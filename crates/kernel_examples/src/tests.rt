@@ -1,0 +1,439 @@
+//! Runs over the code whose events were computed by hand, and a long run beside its copy.
+
+ghost use Rattle.std.specs.Prelude.{◌≡◌, ◌≤◌, ℕ, IfOk, max, map, length, All};
+ghost use Rattle.agent_shell.specs.Parameters.{IsKind};
+ghost use Rattle.market_types.specs.Limits.{longest_delay};
+ghost use Rattle.market_opening.specs.Opening.{IsOpening};
+ghost use Rattle.market_opening.specs.Worked.{market_of, trader};
+ghost use Rattle.kernel_core.specs.Step.{Fits};
+ghost use Rattle.kernel_examples.specs.Examples.{IsPlain};
+
+use agent_shell::{Kind, TraderSetting};
+use kernel_core::{Kernel, Opening, Stepped};
+use market_opening::worked::{markets_are_openings, opening};
+use market_rules::{Band, Edit, FeeTable, Param, TickTable};
+use market_types::{
+    End, Enter, Entry, Inbound, Memory, Side, Symbol, Time, Token, Trace, TraderTold,
+};
+use outside::{Counted, Steps};
+use std::alloc::{AllocError, Global};
+use std::test::Fail;
+
+// One trader of each kind, with its first wakeup.
+const KINDS: [(Kind, Time); 5] = [
+    (Kind::Watcher, 1000),
+    (Kind::Noise { size: 100 }, 1001),
+    (
+        Kind::Value {
+            size: 100,
+            noise: 500,
+            margin: 200,
+        },
+        1002,
+    ),
+    (
+        Kind::Momentum {
+            size: 100,
+            short: 1,
+            long: 2,
+        },
+        1003,
+    ),
+    (
+        Kind::Maker {
+            size: 200,
+            half: 200,
+            step: 100,
+            levels: 3,
+            pause: 100,
+        },
+        1000,
+    ),
+];
+
+// A trader of a kind that first wakes at a time, and then each millisecond.
+fn setting(kind: Kind, first: Time) -> TraderSetting
+    ensures { result ≡ trader kind first }
+{
+    TraderSetting {
+        kind,
+        group: 0,
+        stock: 0,
+        first,
+        every: 1_000_000,
+        wobble: 0,
+        delay: 0,
+        cash: 0,
+    }
+}
+
+// Traders of these kinds, each with its first wakeup.
+fn traders(alloc: Global, kinds: &[(Kind, Time)]) -> Result<Vec<TraderSetting>, AllocError>
+    ensures { IfOk result (λ v. v.items ≡ map (λ (k : Kind × ℕ). trader k.0 k.1) kinds.now) }
+{
+    kinds.iter().map(|k| setting(k.0, k.1)).collect(alloc)
+}
+
+// A market of such traders, whose exchange computes for `delay` nanoseconds.
+fn market(
+    alloc: Global,
+    close: Time,
+    delay: Time,
+    kinds: &[(Kind, Time)],
+) -> Result<Opening, Memory>
+    requires low { 1000 ≤ close }
+    requires high { close ≤ 65535001000 }
+    requires delay { delay ≤ 1000 }
+    requires some { 1 ≤ length kinds.now }
+    requires few { length kinds.now ≤ 511 }
+    requires kinds { All (λ (k : Kind × ℕ). IsKind k.0) kinds.now }
+    requires early { All (λ (k : Kind × ℕ). 1000 ≤ k.1) kinds.now }
+    requires late { All (λ (k : Kind × ℕ). k.1 ≤ 2000) kinds.now }
+    ensures opening { IfOk result IsOpening }
+    ensures made { IfOk result (λ o. o ≡ market_of close 100000 delay (map (λ (k : Kind × ℕ). trader k.0 k.1) kinds.now)) }
+{
+    markets_are_openings();
+    let settings = traders(alloc, kinds)?;
+    opening(alloc, close, 100_000, delay, settings)
+}
+
+// Events until so many of them stand.
+fn run(
+    alloc: Global,
+    o: &Opening,
+    kernel: &mut Kernel,
+    stop: u32,
+    trace: &mut Trace,
+) -> Result<Option<End>, Memory>
+    requires { Fits o.now kernel.old }
+    ensures fits { Fits o.now kernel.new }
+    ensures offsets { kernel.new.floor.offsets ≡ kernel.old.floor.offsets }
+    ensures drops { kernel.new.post.dropped ≤ max kernel.old.post.dropped 2000002 }
+{
+    let mut steps: Steps<Counted> = Steps::new();
+    let end = kernel.run_until(alloc, o, stop, trace, &mut steps);
+    steps.close();
+    end
+}
+
+// A run from the opening on: before each edit events until so many of them stand, and so many at last.
+fn branch(
+    alloc: Global,
+    o: &Opening,
+    edits: &[(u32, Edit)],
+    last: u32,
+    trace: &mut Trace,
+) -> Result<Kernel, Memory>
+    requires opening { IsOpening o.now }
+    requires few { length edits.now ≤ 16 }
+    requires plain { All (λ (e : ℕ × Edit). IsPlain e.1) edits.now }
+    ensures { IfOk result (λ k. Fits o.now k) }
+{
+    let mut kernel = Kernel::open(alloc, o)?;
+    for i in 0..edits.len() {
+        run(alloc, o, &mut kernel, edits[i].0, trace)?;
+        kernel.apply(alloc, o, &edits[i].1, 1, i as u16, trace)?;
+    }
+    run(alloc, o, &mut kernel, last, trace)?;
+    Ok(kernel)
+}
+
+// An order of the first trader that is due so long after the state's time: 100 shares to sell at 10.01 dollars.
+fn order(letter: u8, after: Time) -> Edit
+    requires { after ≤ 1000 }
+    ensures { IsPlain result }
+{
+    Edit::Inject {
+        agent: 1,
+        after,
+        message: Inbound::Enter(Enter {
+            token: Token([
+                letter, b'0', b'0', b'0', b'1', b'0', b'0', b'0', b'0', b'0', b'0', b'0', b'0',
+                b'1',
+            ]),
+            side: Side::Sell,
+            shares: 100,
+            stock: Symbol(*b"ABM     "),
+            price: 100_100,
+            tif: 99_999,
+            firm: *b"ABID",
+            display: b'Y',
+            capacity: b'P',
+            sweep: b'N',
+            minimum: 0,
+            cross: b'N',
+            customer: b'N',
+        }),
+    }
+}
+
+// Other latencies from now on.
+fn latency(base: Time, jitter: u32) -> Edit
+    requires { base ≤ longest_delay }
+    ensures { IsPlain result }
+{
+    Edit::Latency {
+        from: 0,
+        to: 0,
+        base,
+        jitter,
+    }
+}
+
+// One step, and by how much the counter rose.
+fn stepped(
+    alloc: Global,
+    o: &Opening,
+    kernel: &mut Kernel,
+    trace: &mut Trace,
+) -> Result<(Stepped, u64), Memory>
+    requires { Fits o.now kernel.old }
+    ensures { Fits o.now kernel.new }
+{
+    let mut steps: Steps<Counted> = Steps::new();
+    let answer = kernel.step(alloc, o, trace, &mut steps);
+    let ticks = steps.close();
+    Ok((answer?, ticks))
+}
+
+#[test]
+fn a_step_is_one_event_and_one_tick(rt: HostRuntime) -> Result<(), Fail> {
+    let alloc = rt.alloc();
+    let o = market(alloc, 1005, 0, &[(Kind::Watcher, 1000)])?;
+    let mut trace = Trace::new(alloc);
+    let mut kernel = Kernel::open(alloc, &o)?;
+    let first = stepped(alloc, &o, &mut kernel, &mut trace)?;
+    let second = stepped(alloc, &o, &mut kernel, &mut trace)?;
+    let third = stepped(alloc, &o, &mut kernel, &mut trace)?;
+    assert!(rt; first == (Stepped::Event(1), 1) && second == (Stepped::Event(2), 1));
+    assert!(rt; third == (Stepped::Ended(End::Closed), 0) && trace.len() == 2);
+    Ok(())
+}
+
+// Ticks of five cents for the first stock.
+fn ticks(alloc: Global) -> Result<Edit, Memory>
+    ensures { IfOk result IsPlain }
+{
+    let Ok(table) = TickTable::new(alloc, &[Band { from: 0, tick: 500 }]) else {
+        return Err(Memory);
+    };
+    Ok(Edit::Tick { stock: 0, table })
+}
+
+// The letter of an edit's mark and its place among the edits; 0 and 0 of an event.
+fn mark_of(entry: &Entry) -> (u8, u16) {
+    match entry {
+        Entry::Event(_) => (0, 0),
+        Entry::Edit(mark) => (mark.letter, mark.index),
+    }
+}
+
+#[test]
+fn each_kind_of_edit_is_made(rt: HostRuntime) -> Result<(), Fail> {
+    let alloc = rt.alloc();
+    let o = market(alloc, 2000, 0, &[(Kind::Watcher, 1000)])?;
+    let fees = FeeTable { add: 0, take: 0 };
+    let name = Param::Delay;
+    let (agent, stock, value, offset) = (1, 0, 7, -5);
+    let edits = [
+        (0, ticks(alloc)?),
+        (0, Edit::Fee { stock, fees }),
+        (0, Edit::Halt { stock }),
+        (0, Edit::Resume { stock }),
+        (0, latency(7, 9)),
+        (0, Edit::Agent { agent, name, value }),
+        (0, Edit::Silence { agent }),
+        (0, order(b'A', 100)),
+        (0, Edit::Series { stock, offset }),
+    ];
+    let mut trace = Trace::new(alloc);
+    let kernel = branch(alloc, &o, &edits, 0, &mut trace)?;
+    let marks = trace.as_slice().iter().map(mark_of);
+    let letters = b"tfhrlpsiv".iter().copied();
+    assert!(rt; marks.eq(letters.zip(0..9)));
+    assert!(rt; kernel.silenced(1) && kernel.offset(0) == -5 && kernel.counts().waiting == 2);
+    assert!(rt; kernel.exchange().ticks(0).tick_at(100_100) == 500);
+    Ok(())
+}
+
+// An event's time, its message's number, whether it was put back, and until when its receiver is busy.
+fn row(entry: &Entry) -> Option<(Time, u64, bool, Time)> {
+    match entry {
+        Entry::Event(e) => Some((e.time, e.seq, e.put_back, e.until)),
+        Entry::Edit(_) => None,
+    }
+}
+
+#[test]
+fn a_busy_exchange_puts_back(rt: HostRuntime) -> Result<(), Fail> {
+    let alloc = rt.alloc();
+    let watcher = Kind::Watcher;
+    let o = market(
+        alloc,
+        2000,
+        3,
+        &[(watcher, 1000), (watcher, 1000), (watcher, 1003)],
+    )?;
+    let mut trace = Trace::new(alloc);
+    let kernel = branch(alloc, &o, &[], 100, &mut trace)?;
+    let rows = [
+        (1000, 0, false, 1000),
+        (1000, 1, false, 1000),
+        (1003, 2, false, 1003),
+        (1005, 3, false, 1008),
+        (1005, 5, true, 1008),
+        (1008, 5, false, 1011),
+        (1008, 7, true, 1011),
+        (1011, 7, false, 1014),
+        (1013, 9, false, 1013),
+        (1016, 10, false, 1016),
+        (1019, 11, false, 1019),
+    ];
+    assert!(rt;
+        trace
+            .as_slice()
+            .iter()
+            .map(row)
+            .eq(rows.iter().map(|r| Some(*r)))
+    );
+    let counts = kernel.counts();
+    assert!(rt;
+        kernel.end(&o) == Some(End::Closed) && counts.waiting == 3 && counts.next_seq == 12
+    );
+    Ok(())
+}
+
+// When the message of number 1 is due after the first event under this jitter, without another latency.
+fn due(alloc: Global, o: &Opening, jitter: u32) -> Result<Option<Time>, Memory>
+    requires { IsOpening o.now }
+{
+    let mut trace = Trace::new(alloc);
+    let kernel = branch(alloc, o, &[(0, latency(0, jitter))], 1, &mut trace)?;
+    let messages = kernel.messages(alloc)?;
+    Ok(messages.iter().find(|m| m.seq == 1).map(|m| m.time))
+}
+
+// The word of number 1 under the zero key is 2,419,978,656.
+#[test]
+fn a_latency_is_drawn_by_number(rt: HostRuntime) -> Result<(), Fail> {
+    let alloc = rt.alloc();
+    let o = market(alloc, 2000, 0, &[(Kind::Watcher, 1000)])?;
+    for (jitter, time) in [(0, 1000), (9, 1005), (4_294_967_295, 2_419_979_656)] {
+        assert!(rt; due(alloc, &o, jitter)? == Some(time), "under {jitter}");
+    }
+    Ok(())
+}
+
+// Why a run has ended, after how many events, how many messages wait, and the next number.
+fn ending(kernel: &Kernel, o: &Opening) -> (Option<End>, u32, u32, u64) {
+    let counts = kernel.counts();
+    (
+        kernel.end(o),
+        kernel.events(),
+        counts.waiting,
+        counts.next_seq,
+    )
+}
+
+// An order that is due goes on with a run that was closed or quiet; a silenced watcher hears nothing of its quote.
+#[test]
+fn ended_runs_go_on(rt: HostRuntime) -> Result<(), Fail> {
+    let alloc = rt.alloc();
+    let mut trace = Trace::new(alloc);
+    let two = market(
+        alloc,
+        2000,
+        0,
+        &[(Kind::Watcher, 1000), (Kind::Watcher, 1000)],
+    )?;
+    let closed = branch(alloc, &two, &[(50, order(b'A', 100))], 100, &mut trace)?;
+    assert!(rt; ending(&closed, &two) == (Some(End::Closed), 8, 2, 10) && closed.time() == 1115);
+    let one = market(alloc, 2000, 0, &[(Kind::Watcher, 1000)])?;
+    let silence = Edit::Silence { agent: 1 };
+    let quiet = branch(
+        alloc,
+        &one,
+        &[(0, silence), (50, order(b'A', 100))],
+        100,
+        &mut trace,
+    )?;
+    assert!(rt; ending(&quiet, &one) == (Some(End::Quiet), 3, 0, 3) && quiet.time() == 1105);
+    let silence = Edit::Silence { agent: 1 };
+    let silent = branch(alloc, &one, &[(1, silence)], 100, &mut trace)?;
+    assert!(rt; ending(&silent, &one) == (Some(End::Closed), 3, 1, 4));
+    assert!(rt; silent.own_time(1) == 1010 && silent.trader(1).quotes == 0);
+    Ok(())
+}
+
+// With each wakeup one message more waits, of a question that is under way for an hour.
+#[test]
+fn an_order_into_a_full_queue_is_dropped_and_counted(rt: HostRuntime) -> Result<(), Fail> {
+    let alloc = rt.alloc();
+    let o = market(alloc, 65_535_001_000, 0, &[(Kind::Watcher, 1000)])?;
+    let mut trace = Trace::new(alloc);
+    let slow = (0, latency(3_600_000_000_000, 0));
+    let late = (65_535, order(b'A', 100));
+    let kernel = branch(alloc, &o, &[slow, late], 100_000, &mut trace)?;
+    assert!(rt; ending(&kernel, &o) == (Some(End::QueueFull), 65_535, 65_536, 131_071));
+    assert!(rt; kernel.counts().dropped == 1);
+    Ok(())
+}
+
+// Whether two entries are one event: of one message, with one outcome and one feed.
+fn is_same(a: &Entry, b: &Entry) -> bool {
+    let (Entry::Event(a), Entry::Event(b)) = (a, b) else {
+        return false;
+    };
+    let is_one = a.number == b.number && a.seq == b.seq && a.from == b.from && a.to == b.to;
+    let is_met = a.time == b.time && a.put_back == b.put_back && a.until == b.until;
+    is_one
+        && is_met
+        && a.body == b.body
+        && a.fee == b.fee
+        && a.after.as_slice() == b.after.as_slice()
+}
+
+// What the traders tell of themselves, in their order.
+fn tellings(alloc: Global, kernel: &Kernel) -> Result<Vec<TraderTold>, Memory> {
+    let mut told = Vec::new(alloc);
+    for agent in 1..kernel.agents() {
+        told.push(kernel.trader(agent))?;
+    }
+    Ok(told)
+}
+
+#[test]
+fn a_copy_goes_on_as_its_kernel_does(rt: HostRuntime) -> Result<(), Fail> {
+    let alloc = rt.alloc();
+    let o = market(alloc, 60_000_000, 2, &KINDS)?;
+    let edits = [
+        (100, latency(7, 9)),
+        (200, Edit::Silence { agent: 1 }),
+        (
+            300,
+            Edit::Series {
+                stock: 0,
+                offset: 250,
+            },
+        ),
+    ];
+    let mut trace = Trace::new(alloc);
+    let mut kernel = branch(alloc, &o, &edits, 500, &mut trace)?;
+    let mut copy = kernel.copy(alloc)?;
+    let mut copied = Trace::new(alloc);
+    let first = trace.len();
+    let end = run(alloc, &o, &mut kernel, 100_000, &mut trace)?;
+    let again = run(alloc, &o, &mut copy, 100_000, &mut copied)?;
+    assert!(rt; end == Some(End::Closed) && again == end && kernel.events() > 1000);
+    assert!(rt; kernel.counts() == copy.counts() && kernel.time() == copy.time());
+    assert!(rt; kernel.messages(alloc)? == copy.messages(alloc)?);
+    assert!(rt; tellings(alloc, &kernel)? == tellings(alloc, &copy)?);
+    let later = trace.as_slice().iter().skip(first);
+    assert!(rt; trace.len() == first + copied.len());
+    assert!(rt;
+        later
+            .zip(copied.as_slice())
+            .all(|pair| is_same(pair.0, pair.1))
+    );
+    Ok(())
+}
