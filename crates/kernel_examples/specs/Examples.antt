@@ -11,6 +11,7 @@ use Rattle.market_types.specs.declared.reply.Reply.{Reply}
 use Rattle.market_types.specs.declared.reply.Reply.TheVariants as reply
 use Rattle.market_types.specs.Told.{EntryTold, event, edit}
 use Rattle.market_rules.specs.declared.changes.Change.TheVariants as change
+use Rattle.market_rules.specs.declared.changes.Dated.{Dated}
 use Rattle.market_rules.specs.declared.edit.Edit.{Edit}
 use Rattle.market_rules.specs.declared.edit.Edit.TheVariants as kind
 use Rattle.market_rules.specs.declared.edit.Param.TheVariants as parameter
@@ -87,11 +88,13 @@ mark_told (edit e) = (e.letter, e.index, e.branch, length e.feed)
 abbrev pub marks : Opening → List (ℕ × ℕ × ℕ × ℕ)
 marks o = map mark_told (edited 3 each_kind (opening_run o)).entries
 
--- a market of one watcher whose ticks become five cents at 1500
+-- ticks of five cents from 1500 on
+abbrev pub later_ticks : List Dated
+later_ticks = record { time = 1500; stock = 0; change = change.Tick (record { from = 0; tick = 500 } ∷ []) } ∷ []
+
+-- a market of one watcher in which they are dated
 abbrev pub dated_market : Opening
-dated_market = record (market 2000 0 (watcher 1000 ∷ [])) {
-  dated = record { time = 1500; stock = 0; change = change.Tick (record { from = 0; tick = 500 } ∷ []) } ∷ [];
-}
+dated_market = record (market 2000 0 (watcher 1000 ∷ [])) { dated = later_ticks }
 
 -- an answer of the exchange in short: its letter or the reason of a rejection, and its time
 abbrev pub reply_told : Reply → List (ℕ × ℕ)

@@ -1,19 +1,19 @@
 //! Runs over the code whose events were computed by hand, and a long run beside its copy.
 
-ghost use Rattle.std.specs.Prelude.{◌≡◌, ◌≤◌, ℕ, IfOk, max, map, length, All};
+ghost use Rattle.std.specs.Prelude.{◌≡◌, ◌≤◌, ◌∷◌, [], ℕ, IfOk, max, map, length, All};
 ghost use Rattle.agent_shell.specs.Parameters.{IsKind};
 ghost use Rattle.market_types.specs.Limits.{longest_delay};
 ghost use Rattle.market_opening.specs.Opening.{IsOpening};
 ghost use Rattle.market_opening.specs.Worked.{market_of, trader};
 ghost use Rattle.kernel_core.specs.Step.{Fits};
-ghost use Rattle.kernel_examples.specs.Examples.{IsPlain};
+ghost use Rattle.kernel_examples.specs.Examples.{IsPlain, later_ticks};
 
 use agent_shell::{Kind, TraderSetting};
 use kernel_core::{Kernel, Opening, Stepped};
 use market_opening::worked::{markets_are_openings, opening};
-use market_rules::{Band, Edit, FeeTable, Param, TickTable};
+use market_rules::{Band, Change, Dated, DatedList, Edit, FeeTable, Param, TickTable};
 use market_types::{
-    End, Enter, Entry, Inbound, Memory, Side, Symbol, Time, Token, Trace, TraderTold,
+    Body, End, Enter, Entry, Inbound, Memory, Reply, Side, Symbol, Time, Token, Trace, TraderTold,
 };
 use outside::{Counted, Steps};
 use std::alloc::{AllocError, Global};
@@ -210,13 +210,21 @@ fn a_step_is_one_event_and_one_tick(rt: HostRuntime) -> Result<(), Fail> {
     Ok(())
 }
 
-// Ticks of five cents for the first stock.
-fn ticks(alloc: Global) -> Result<Edit, Memory>
-    ensures { IfOk result IsPlain }
+// Ticks of five cents.
+fn five_cents(alloc: Global) -> Result<TickTable, Memory>
+    ensures { IfOk result (λ t. t ≡ record { from = 0; tick = 500 } ∷ []) }
 {
     let Ok(table) = TickTable::new(alloc, &[Band { from: 0, tick: 500 }]) else {
         return Err(Memory);
     };
+    Ok(table)
+}
+
+// Ticks of five cents for the first stock.
+fn ticks(alloc: Global) -> Result<Edit, Memory>
+    ensures { IfOk result IsPlain }
+{
+    let table = five_cents(alloc)?;
     Ok(Edit::Tick { stock: 0, table })
 }
 
@@ -435,5 +443,57 @@ fn a_copy_goes_on_as_its_kernel_does(rt: HostRuntime) -> Result<(), Fail> {
             .zip(copied.as_slice())
             .all(|pair| is_same(pair.0, pair.1))
     );
+    Ok(())
+}
+
+// Ticks of five cents from 1500 on.
+fn later_ticks(alloc: Global) -> Result<DatedList, Memory>
+    ensures { IfOk result (λ d. d ≡ later_ticks) }
+{
+    let table = five_cents(alloc)?;
+    let mut dates = Vec::new(alloc);
+    dates.push(Dated {
+        time: 1500,
+        stock: 0,
+        change: Change::Tick(table),
+    })?;
+    let Ok(dated) = DatedList::new(dates) else {
+        return Err(Memory);
+    };
+    Ok(dated)
+}
+
+// The market of one watcher with these dated ticks.
+fn dated_market(alloc: Global) -> Result<Opening, Memory>
+    ensures { IfOk result IsOpening }
+{
+    let dated = later_ticks(alloc)?;
+    let mut o = market(alloc, 2000, 0, &[(Kind::Watcher, 1000)])?;
+    o.dated = dated;
+    Ok(o)
+}
+
+// What the exchange answers in short: `A`, or the reason of a rejection, and when.
+fn answer_of(entry: &Entry) -> Option<(u8, Time)> {
+    let Entry::Event(e) = entry else {
+        return None;
+    };
+    match e.body {
+        Body::Answer(Reply::Accepted { time, .. }) => Some((b'A', time)),
+        Body::Answer(Reply::Rejected { time, reason, .. }) => Some((reason, time)),
+        _ => None,
+    }
+}
+
+#[test]
+fn dated_ticks_hold_from_their_nanosecond_on(rt: HostRuntime) -> Result<(), Fail> {
+    let alloc = rt.alloc();
+    let o = dated_market(alloc)?;
+    let mut trace = Trace::new(alloc);
+    let orders = [(0, order(b'A', 499)), (0, order(b'B', 500))];
+    branch(alloc, &o, &orders, 100, &mut trace)?;
+    let answers = trace.as_slice().iter().filter_map(answer_of);
+    let hoped = [(b'A', 1499), (b'X', 1500)];
+    assert!(rt; answers.eq(hoped.iter().copied()));
     Ok(())
 }
