@@ -1,8 +1,9 @@
 //! Runs over the code whose events were computed by hand, and a long run beside its copy.
 
-ghost use Rattle.std.specs.Prelude.{◌≡◌, ◌≤◌, ◌∷◌, [], ℕ, IfOk, max, map, length, All};
+ghost use Rattle.std.specs.Prelude.{◌≡◌, ◌≤◌, ◌∷◌, [], ℕ, IfOk, max, map, length, All, true};
 ghost use Rattle.agent_shell.specs.Parameters.{IsKind};
 ghost use Rattle.market_types.specs.Limits.{longest_delay};
+ghost use Rattle.market_rules.specs.EditRanges.{is_near_zero};
 ghost use Rattle.market_opening.specs.Opening.{IsOpening};
 ghost use Rattle.market_opening.specs.Worked.{market_of, trader};
 ghost use Rattle.kernel_core.specs.Step.{Fits};
@@ -180,6 +181,26 @@ fn latency(base: Time, jitter: u32) -> Edit
     }
 }
 
+// The first trader computes for so long from now on.
+fn delayed(value: u64) -> Edit
+    requires { value ≤ longest_delay }
+    ensures { IsPlain result }
+{
+    Edit::Agent {
+        agent: 1,
+        name: Param::Delay,
+        value,
+    }
+}
+
+// The first stock's value is shifted from now on.
+fn shifted(offset: i64) -> Edit
+    requires { is_near_zero 2000000000 offset ≡ true }
+    ensures { IsPlain result }
+{
+    Edit::Series { stock: 0, offset }
+}
+
 // One step, and by how much the counter rose.
 fn stepped(
     alloc: Global,
@@ -236,31 +257,49 @@ fn mark_of(entry: &Entry) -> (u8, u16) {
     }
 }
 
-#[test]
-fn each_kind_of_edit_is_made(rt: HostRuntime) -> Result<(), Fail> {
-    let alloc = rt.alloc();
-    let o = market(alloc, 2000, 0, &[(Kind::Watcher, 1000)])?;
+// Edits of one watcher's market: each kind once, before the first event.
+fn each_kind(alloc: Global, o: &Opening, trace: &mut Trace) -> Result<Kernel, Memory>
+    requires { IsOpening o.now }
+    ensures { IfOk result (λ k. Fits o.now k) }
+{
+    let finer = ticks(alloc)?;
     let fees = FeeTable { add: 0, take: 0 };
-    let name = Param::Delay;
-    let (agent, stock, value, offset) = (1, 0, 7, -5);
+    let (agent, stock) = (1, 0);
     let edits = [
-        (0, ticks(alloc)?),
+        (0, finer),
         (0, Edit::Fee { stock, fees }),
         (0, Edit::Halt { stock }),
         (0, Edit::Resume { stock }),
         (0, latency(7, 9)),
-        (0, Edit::Agent { agent, name, value }),
+        (0, delayed(7)),
         (0, Edit::Silence { agent }),
         (0, order(b'A', 100)),
-        (0, Edit::Series { stock, offset }),
+        (0, shifted(-5)),
     ];
+    branch(alloc, o, &edits, 0, trace)
+}
+
+// Whether the first trader is silenced, the offset of the first stock, and its tick at 10.01 dollars.
+fn first_of_all(kernel: &Kernel, o: &Opening) -> (bool, i64, u32)
+    requires { Fits o.now kernel.now }
+{
+    (
+        kernel.silenced(1),
+        kernel.offset(0),
+        kernel.exchange().ticks(0).tick_at(100_100),
+    )
+}
+
+#[test]
+fn each_kind_of_edit_is_made(rt: HostRuntime) -> Result<(), Fail> {
+    let alloc = rt.alloc();
+    let o = market(alloc, 2000, 0, &[(Kind::Watcher, 1000)])?;
     let mut trace = Trace::new(alloc);
-    let kernel = branch(alloc, &o, &edits, 0, &mut trace)?;
+    let kernel = each_kind(alloc, &o, &mut trace)?;
     let marks = trace.as_slice().iter().map(mark_of);
     let letters = b"tfhrlpsiv".iter().copied();
     assert!(rt; marks.eq(letters.zip(0..9)));
-    assert!(rt; kernel.silenced(1) && kernel.offset(0) == -5 && kernel.counts().waiting == 2);
-    assert!(rt; kernel.exchange().ticks(0).tick_at(100_100) == 500);
+    assert!(rt; first_of_all(&kernel, &o) == (true, -5, 500) && kernel.counts().waiting == 2);
     Ok(())
 }
 
@@ -332,44 +371,52 @@ fn a_latency_is_drawn_by_number(rt: HostRuntime) -> Result<(), Fail> {
     Ok(())
 }
 
-// Why a run has ended, after how many events, how many messages wait, and the next number.
-fn ending(kernel: &Kernel, o: &Opening) -> (Option<End>, u32, u32, u64) {
-    let counts = kernel.counts();
-    (
-        kernel.end(o),
-        kernel.events(),
-        counts.waiting,
-        counts.next_seq,
-    )
+// Why a run has ended, after how many events, at which time, how many messages wait, the next number, and how many
+// messages were dropped.
+type Ending = (Option<End>, u32, Time, u32, u64, u64);
+
+// How a run of a market ends in which edits are made.
+fn ending(alloc: Global, o: &Opening, edits: &[(u32, Edit)]) -> Result<Ending, Memory>
+    requires opening { IsOpening o.now }
+    requires few { length edits.now ≤ 16 }
+    requires plain { All (λ (e : ℕ × Edit). IsPlain e.1) edits.now }
+{
+    let mut trace = Trace::new(alloc);
+    let k = branch(alloc, o, edits, 100_000, &mut trace)?;
+    let told = k.counts();
+    Ok((
+        k.end(o),
+        k.events(),
+        k.time(),
+        told.waiting,
+        told.next_seq,
+        told.dropped,
+    ))
 }
 
-// An order that is due goes on with a run that was closed or quiet; a silenced watcher hears nothing of its quote.
+// An order that is due goes on with a run that was closed.
 #[test]
-fn ended_runs_go_on(rt: HostRuntime) -> Result<(), Fail> {
+fn a_closed_run_goes_on(rt: HostRuntime) -> Result<(), Fail> {
     let alloc = rt.alloc();
-    let mut trace = Trace::new(alloc);
-    let two = market(
+    let o = market(
         alloc,
         2000,
         0,
         &[(Kind::Watcher, 1000), (Kind::Watcher, 1000)],
     )?;
-    let closed = branch(alloc, &two, &[(50, order(b'A', 100))], 100, &mut trace)?;
-    assert!(rt; ending(&closed, &two) == (Some(End::Closed), 8, 2, 10) && closed.time() == 1115);
-    let one = market(alloc, 2000, 0, &[(Kind::Watcher, 1000)])?;
-    let silence = Edit::Silence { agent: 1 };
-    let quiet = branch(
-        alloc,
-        &one,
-        &[(0, silence), (50, order(b'A', 100))],
-        100,
-        &mut trace,
-    )?;
-    assert!(rt; ending(&quiet, &one) == (Some(End::Quiet), 3, 0, 3) && quiet.time() == 1105);
-    let silence = Edit::Silence { agent: 1 };
-    let silent = branch(alloc, &one, &[(1, silence)], 100, &mut trace)?;
-    assert!(rt; ending(&silent, &one) == (Some(End::Closed), 3, 1, 4));
-    assert!(rt; silent.own_time(1) == 1010 && silent.trader(1).quotes == 0);
+    let closed = ending(alloc, &o, &[(50, order(b'A', 100))])?;
+    assert!(rt; closed == (Some(End::Closed), 8, 1115, 2, 10, 0));
+    Ok(())
+}
+
+// An order that is due goes on with a run that was quiet.
+#[test]
+fn a_quiet_run_goes_on(rt: HostRuntime) -> Result<(), Fail> {
+    let alloc = rt.alloc();
+    let o = market(alloc, 2000, 0, &[(Kind::Watcher, 1000)])?;
+    let edits = [(0, Edit::Silence { agent: 1 }), (50, order(b'A', 100))];
+    let quiet = ending(alloc, &o, &edits)?;
+    assert!(rt; quiet == (Some(End::Quiet), 3, 1105, 0, 3, 0));
     Ok(())
 }
 
@@ -378,12 +425,21 @@ fn ended_runs_go_on(rt: HostRuntime) -> Result<(), Fail> {
 fn an_order_into_a_full_queue_is_dropped_and_counted(rt: HostRuntime) -> Result<(), Fail> {
     let alloc = rt.alloc();
     let o = market(alloc, 65_535_001_000, 0, &[(Kind::Watcher, 1000)])?;
-    let mut trace = Trace::new(alloc);
-    let slow = (0, latency(3_600_000_000_000, 0));
-    let late = (65_535, order(b'A', 100));
-    let kernel = branch(alloc, &o, &[slow, late], 100_000, &mut trace)?;
-    assert!(rt; ending(&kernel, &o) == (Some(End::QueueFull), 65_535, 65_536, 131_071));
-    assert!(rt; kernel.counts().dropped == 1);
+    let edits = [
+        (0, latency(3_600_000_000_000, 0)),
+        (65_535, order(b'A', 100)),
+    ];
+    let full = ending(alloc, &o, &edits)?;
+    assert!(rt;
+        full == (
+            Some(End::QueueFull),
+            65_535,
+            65_534_001_000,
+            65_536,
+            131_071,
+            1
+        )
+    );
     Ok(())
 }
 
@@ -410,39 +466,56 @@ fn tellings(alloc: Global, kernel: &Kernel) -> Result<Vec<TraderTold>, Memory> {
     Ok(told)
 }
 
+// Whether two traces have the same events.
+fn are_same(a: &[Entry], b: &[Entry]) -> bool {
+    a.len() == b.len() && a.iter().zip(b).all(|pair| is_same(pair.0, pair.1))
+}
+
+// Whether two states tell the same.
+fn tell_the_same(alloc: Global, a: &Kernel, b: &Kernel) -> Result<bool, Memory> {
+    let messages = a.messages(alloc)? == b.messages(alloc)?;
+    let traders = tellings(alloc, a)? == tellings(alloc, b)?;
+    Ok(messages && traders && a.counts() == b.counts() && a.time() == b.time())
+}
+
+// A state after 500 events, on whose way latencies, a trader and the value were edited.
+fn halfway(alloc: Global, o: &Opening) -> Result<Kernel, Memory>
+    requires { IsOpening o.now }
+    ensures { IfOk result (λ k. Fits o.now k) }
+{
+    let mut trace = Trace::new(alloc);
+    let silence = Edit::Silence { agent: 1 };
+    let edits = [(100, latency(7, 9)), (200, silence), (300, shifted(250))];
+    branch(alloc, o, &edits, 500, &mut trace)
+}
+
+// A run to its end: why it ended, its state, and its trace.
+#[derive(Drop)]
+struct Gone {
+    end: Option<End>,
+    kernel: Kernel,
+    trace: Trace,
+}
+
+fn gone_on(alloc: Global, o: &Opening, mut kernel: Kernel) -> Result<Gone, Memory>
+    requires { Fits o.now kernel }
+{
+    let mut trace = Trace::new(alloc);
+    let end = run(alloc, o, &mut kernel, 100_000, &mut trace)?;
+    Ok(Gone { end, kernel, trace })
+}
+
 #[test]
 fn a_copy_goes_on_as_its_kernel_does(rt: HostRuntime) -> Result<(), Fail> {
     let alloc = rt.alloc();
     let o = market(alloc, 60_000_000, 2, &KINDS)?;
-    let edits = [
-        (100, latency(7, 9)),
-        (200, Edit::Silence { agent: 1 }),
-        (
-            300,
-            Edit::Series {
-                stock: 0,
-                offset: 250,
-            },
-        ),
-    ];
-    let mut trace = Trace::new(alloc);
-    let mut kernel = branch(alloc, &o, &edits, 500, &mut trace)?;
-    let mut copy = kernel.copy(alloc)?;
-    let mut copied = Trace::new(alloc);
-    let first = trace.len();
-    let end = run(alloc, &o, &mut kernel, 100_000, &mut trace)?;
-    let again = run(alloc, &o, &mut copy, 100_000, &mut copied)?;
-    assert!(rt; end == Some(End::Closed) && again == end && kernel.events() > 1000);
-    assert!(rt; kernel.counts() == copy.counts() && kernel.time() == copy.time());
-    assert!(rt; kernel.messages(alloc)? == copy.messages(alloc)?);
-    assert!(rt; tellings(alloc, &kernel)? == tellings(alloc, &copy)?);
-    let later = trace.as_slice().iter().skip(first);
-    assert!(rt; trace.len() == first + copied.len());
-    assert!(rt;
-        later
-            .zip(copied.as_slice())
-            .all(|pair| is_same(pair.0, pair.1))
-    );
+    let kernel = halfway(alloc, &o)?;
+    let copy = kernel.copy(alloc)?;
+    let a = gone_on(alloc, &o, kernel)?;
+    let b = gone_on(alloc, &o, copy)?;
+    assert!(rt; a.end == Some(End::Closed) && b.end == a.end && a.kernel.events() > 1000);
+    assert!(rt; tell_the_same(alloc, &a.kernel, &b.kernel)?);
+    assert!(rt; are_same(a.trace.as_slice(), b.trace.as_slice()));
     Ok(())
 }
 
