@@ -14,7 +14,8 @@ use kernel_core::{Kernel, Opening, Stepped};
 use market_opening::worked::{markets_are_openings, opening};
 use market_rules::{Band, Change, Dated, DatedList, Edit, FeeTable, Param, TickTable};
 use market_types::{
-    Body, End, Enter, Entry, Inbound, Memory, Reply, Side, Symbol, Time, Token, Trace, TraderTold,
+    AgentNo, Body, End, Enter, Entry, Inbound, Memory, Reply, Side, Symbol, Time, Token, Trace,
+    TraderTold,
 };
 use outside::{Counted, Steps};
 use std::alloc::{AllocError, Global};
@@ -443,18 +444,37 @@ fn an_order_into_a_full_queue_is_dropped_and_counted(rt: HostRuntime) -> Result<
     Ok(())
 }
 
-// Whether two entries are one event: of one message, with one outcome and one feed.
-fn is_same(a: &Entry, b: &Entry) -> bool {
-    let (Entry::Event(a), Entry::Event(b)) = (a, b) else {
-        return false;
-    };
-    let is_one = a.number == b.number && a.seq == b.seq && a.from == b.from && a.to == b.to;
-    let is_met = a.time == b.time && a.put_back == b.put_back && a.until == b.until;
-    is_one
-        && is_met
-        && a.body == b.body
-        && a.fee == b.fee
-        && a.after.as_slice() == b.after.as_slice()
+// An event in plain values; of its feeds their lengths.
+#[derive(Clone, Copy, PartialEq, Eq, Debug)]
+struct EventTold {
+    number: u32,
+    time: Time,
+    seq: u64,
+    from: AgentNo,
+    to: AgentNo,
+    put_back: bool,
+    until: Time,
+    fee: i64,
+    body: Body,
+    feeds: (usize, usize),
+}
+
+fn told(entry: &Entry) -> Option<EventTold> {
+    match entry {
+        Entry::Event(e) => Some(EventTold {
+            number: e.number,
+            time: e.time,
+            seq: e.seq,
+            from: e.from,
+            to: e.to,
+            put_back: e.put_back,
+            until: e.until,
+            fee: e.fee,
+            body: e.body,
+            feeds: (e.before.len(), e.after.len()),
+        }),
+        Entry::Edit(_) => None,
+    }
 }
 
 // What the traders tell of themselves, in their order.
@@ -468,7 +488,7 @@ fn tellings(alloc: Global, kernel: &Kernel) -> Result<Vec<TraderTold>, Memory> {
 
 // Whether two traces have the same events.
 fn are_same(a: &[Entry], b: &[Entry]) -> bool {
-    a.len() == b.len() && a.iter().zip(b).all(|pair| is_same(pair.0, pair.1))
+    a.iter().map(told).eq(b.iter().map(told))
 }
 
 // Whether two states tell the same.
