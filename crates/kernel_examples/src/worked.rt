@@ -1,8 +1,11 @@
 //! What the definitions of edits and dated changes give on worked runs.
 
-ghost use Rattle.std.specs.Prelude.{◌≡◌, ◌∷◌, [], Some, false};
+ghost use Rattle.std.specs.Prelude.{◌≡◌, ◌∷◌, [], Some, None, false};
 ghost use Rattle.market_types.specs.declared.entry.End.TheVariants as why;
 ghost use Rattle.market_opening.specs.Worked.{market, watcher};
+ghost use Rattle.kernel_mail.specs.Post.{nothing_waits};
+ghost use Rattle.kernel_core.specs.Open.{opened};
+ghost use Rattle.kernel_core.specs.Step.{end_of};
 ghost use Rattle.kernel_core.specs.Worked.{ended, full_run, opening_run, rows};
 ghost use Rattle.kernel_examples.specs.Examples.{answers, dated_market, dues, gone_on, heard, marks, quieted, reopened, revived, silenced, sold};
 
@@ -50,4 +53,12 @@ pub fn each_kind_leaves_its_mark()
 /// Of two orders at one price the one before the change of ticks is accepted, and the one at its very nanosecond rejected.
 pub fn a_dated_change_comes_first()
     ensures { answers (gone_on dated_market (sold 65 499 ∷ sold 66 500 ∷ []) (opening_run dated_market)) ≡ (65, 1499) ∷ (88, 1500) ∷ [] }
+{}
+
+/// The ends in their order: a dropped message, so many events as may be, and no message.
+pub fn ends_in_order()
+    ensures full { end_of (market 2000 0 (watcher 1000 ∷ [])) (record (opened (market 2000 0 (watcher 1000 ∷ []))) { events = 100; post = record nothing_waits { dropped = 1 } }) ≡ Some why.QueueFull }
+    ensures limit { end_of (market 2000 0 (watcher 1000 ∷ [])) (record (opened (market 2000 0 (watcher 1000 ∷ []))) { events = 100; post = nothing_waits }) ≡ Some why.EventLimit }
+    ensures quiet { end_of (market 2000 0 (watcher 1000 ∷ [])) (record (opened (market 2000 0 (watcher 1000 ∷ []))) { post = nothing_waits }) ≡ Some why.Quiet }
+    ensures going { end_of (market 2000 0 (watcher 1000 ∷ [])) (opened (market 2000 0 (watcher 1000 ∷ []))) ≡ None }
 {}

@@ -3,5 +3,6 @@
 
 mod closing;
 pub mod laws;
+pub mod worked;
 
 pub use closing::closing_of;
