@@ -16,4 +16,5 @@ pub unreachable-requires : goal.unreachable-requires
 unreachable-requires c =
     let none : plan_refusal c.in_ok-branches.branches.items c.args.limit ≡ None
     = ap (λ (bs : List Branch). plan_refusal bs c.args.limit) c.in_ok-branches.ensures ∙ root-planned c.args.limit c.requires in
-    ?
+    let memory = at-none (plan_refusal c.in_ok-branches.branches.items c.args.limit) _ none c.in-Err.ensures.memory in
+    c.in_default.not-Memory memory
