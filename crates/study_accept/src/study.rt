@@ -58,8 +58,10 @@ fn branch_plan(
     let branches = branches(alloc, table)?;
     match plan(alloc, branches, limit) {
         Ok(plan) => Ok(plan),
-        Err(PlanError::Memory) => Err(Memory),
-        Err(_) => unreachable!(),
+        Err(e) => match e {
+            PlanError::Memory => Err(Memory),
+            _ => unreachable!(),
+        },
     }
 }
 
