@@ -2,3 +2,4 @@ pub mod Feed
 pub mod Bundle
 pub mod Ran
 pub mod Outcomes
+pub mod Worked

@@ -6,6 +6,7 @@ mod feed;
 pub mod laws;
 mod outcomes;
 mod ran;
+pub mod worked;
 
 pub use bundle::{write_branch, write_header};
 pub use ran::Ran;
