@@ -1,4 +1,3 @@
 pub mod Whole
 pub mod OneByOne
 pub mod Digits
-pub mod Ordered

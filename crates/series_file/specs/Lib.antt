@@ -2,4 +2,3 @@ pub mod Records
 pub mod Rows
 pub mod Late
 pub mod Worked
-pub mod Order

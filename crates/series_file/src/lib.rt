@@ -5,7 +5,6 @@
 
 mod file;
 mod late;
-pub mod laws;
 mod row;
 mod tables;
 #[cfg(test)]

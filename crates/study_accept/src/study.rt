@@ -75,7 +75,7 @@ fn branch_plan(alloc: Global, limit: u32) -> Result<BranchPlan, Memory>
 }
 
 // What the branches of an accepted study share.
-fn course(alloc: Global, table: &Table, rows: &SeriesTables) -> Result<Course, Memory>
+fn accepted_course(alloc: Global, table: &Table, rows: &SeriesTables) -> Result<Course, Memory>
     requires { IsAccepted (table_view table.now) rows.now }
     ensures { IfOk result (λ c. c ≡ course_of (table_view table.now) rows.now) }
 {
@@ -85,11 +85,11 @@ fn course(alloc: Global, table: &Table, rows: &SeriesTables) -> Result<Course, M
 }
 
 // What an accepted study says.
-fn study(alloc: Global, table: &Table, rows: &SeriesTables) -> Result<Study, Memory>
+fn accepted_study(alloc: Global, table: &Table, rows: &SeriesTables) -> Result<Study, Memory>
     requires { IsAccepted (table_view table.now) rows.now }
     ensures { IfOk result (λ s. study_told s ≡ told_of (table_view table.now) rows.now) }
 {
-    let course = course(alloc, table, rows)?;
+    let course = accepted_course(alloc, table, rows)?;
     match Arc::new(alloc, course) {
         Ok(course) => Ok(Study {
             course,
@@ -112,7 +112,7 @@ pub fn accept(
     ensures refused { IfErr result (λ e. (r : Refusal) → e ≡ AcceptError.Refused r → study_of (table_view raw.now.table) (option_map (λ text. text.now) series.entry) ≡ Err r) }
 {
     match judge(alloc, &raw.table, series) {
-        Ok(Judged::Accepted(rows)) => match study(alloc, &raw.table, &rows) {
+        Ok(Judged::Accepted(rows)) => match accepted_study(alloc, &raw.table, &rows) {
             Ok(study) => Ok(study),
             Err(Memory) => Err(AcceptError::Memory),
         },

@@ -25,8 +25,8 @@ use Rattle.study_parts.specs.Changes.{change_of, dated_of, changes_of}
 use Rattle.study_parts.specs.Opening.{opening_of}
 use Rattle.study_parts.proofs.Lists.{each-kept, found-place}
 use Rattle.study_parts.proofs.Numbers.{Within, natural-between}
-use Rattle.study_parts.proofs.Stocks.{is-tick-table, is-fee}
-use Rattle.study_parts.proofs.Series.{implied}
+use Rattle.study_parts.proofs.StockRanges.{is-tick-table, is-fee}
+use Rattle.study_parts.proofs.SeriesRanges.{implied}
 
 -- a known symbol has its place among the stocks
 pub known-place : (known : List (List ℕ)) (t : Members) → names_stock known t ≡ true → place_of known (string_at (codes "stock") t) < length known

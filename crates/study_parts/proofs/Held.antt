@@ -104,7 +104,7 @@ are-held t tables h =
       fees = numbers.0;
       prices = numbers.1.0;
       pace = numbers.1.1.0;
-      late = none-mapped (λ (place : ℕ). record { rule = 20; place = place }) (first_late (start_of t) (stocks t) tables) (of-rows (tables_of t h.series) t tables h.rows late.0);
+      late = none-mapped {A = ℕ} {B = Refusal} (λ (place : ℕ). record { rule = 20; place = place }) (first_late (start_of t) (stocks t) tables) (of-rows (tables_of t h.series) t tables h.rows late.0);
       change_keys = dated.0;
       dates = dated.1.0;
       change_stocks = dated.1.1.0;

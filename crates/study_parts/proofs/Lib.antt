@@ -2,10 +2,11 @@ pub mod Held
 pub mod Hex
 pub mod Lists
 pub mod Numbers
-pub mod Stocks
+pub mod StockRanges
 pub mod Symbols
-pub mod Series
-pub mod Latencies
+pub mod Ordered
+pub mod SeriesRanges
+pub mod LatencyRanges
 pub mod Dates
-pub mod Traders
+pub mod TraderRanges
 pub mod Openings

@@ -34,14 +34,14 @@ group-below size (pos n) h =
 group-below size (negsuc n) h = absurd (cc h)
 
 -- the hours of a day
-pub hours : (open close : ℤ) → (int_le (pos 0) open && int_le open close && int_le close (pos 86399999999999)) ≡ true
-    → (unsigned_abs open ≤ unsigned_abs close) × (unsigned_abs close ≤ 86399999999999)
+pub hours : (opens closes : ℤ) → (int_le (pos 0) opens && int_le opens closes && int_le closes (pos 86399999999999)) ≡ true
+    → (unsigned_abs opens ≤ unsigned_abs closes) × (unsigned_abs closes ≤ 86399999999999)
 hours (pos a) (pos b) h =
     let parts : ((nat_le 0 a && nat_le a b) ≡ true) × (nat_le b 86399999999999 ≡ true) = and_parts (nat_le 0 a && nat_le a b) (nat_le b 86399999999999) h in
     let first : (nat_le 0 a ≡ true) × (nat_le a b ≡ true) = and_parts (nat_le 0 a) (nat_le a b) parts.0 in
     (grind (arith, nat_tests, first.1), grind (arith, nat_tests, parts.1))
 hours (pos a) (negsuc b) h =
-    let parts : ((nat_le 0 a && false) ≡ true) × _ = and_parts (nat_le 0 a && false) _ h in
+    let parts : ((nat_le 0 a && false) ≡ true) × (true ≡ true) = and_parts (nat_le 0 a && false) true h in
     absurd (cc (and_parts (nat_le 0 a) false parts.0).1)
 hours (negsuc a) b h = absurd (cc h)
 

@@ -18,12 +18,12 @@ use Rattle.study_parts.specs.Traders.{traders_of}
 use Rattle.study_parts.specs.Opening.{opening_of, limit_of, stride_of, IsAccepted}
 use Rattle.study_parts.proofs.Held.{AreHeld, are-held, both-none, held-unless}
 use Rattle.study_parts.proofs.Numbers.{Within, natural-between, natural-in-range, group-below, hours}
-use Rattle.study_parts.proofs.Stocks.{are-stocks}
+use Rattle.study_parts.proofs.StockRanges.{are-stocks}
 use Rattle.study_parts.proofs.Symbols.{are-distinct}
-use Rattle.study_parts.proofs.Series.{RowsAreOrdered, are-series}
-use Rattle.study_parts.proofs.Latencies.{are-latencies}
+use Rattle.study_parts.proofs.SeriesRanges.{are-series}
+use Rattle.study_parts.proofs.LatencyRanges.{are-latencies}
 use Rattle.study_parts.proofs.Dates.{are-dated}
-use Rattle.study_parts.proofs.Traders.{how-many, are-traders}
+use Rattle.study_parts.proofs.TraderRanges.{how-many, are-traders}
 
 -- the hours of the market
 day : (t : Members) → day_broken t ≡ None → (start_of t ≤ close_of t) × (close_of t ≤ 86399999999999)
@@ -46,8 +46,8 @@ exchange t h =
 pub how-many-stocks : (t : Members) → stock_count_broken t ≡ None → Within 1 16 (length (stocks t))
 how-many-stocks t h = natural-in-range 1 16 (length (stocks t)) (held-unless (is_in_range 1 16 (length (stocks t))) 0 h)
 
-pub is-opening : RowsAreOrdered → (t : Members) (tables : List (List SeriesRow)) → IsAccepted t tables → IsOpening (opening_of t tables)
-is-opening law t tables accepted =
+pub is-opening : (t : Members) (tables : List (List SeriesRow)) → IsAccepted t tables → IsOpening (opening_of t tables)
+is-opening t tables accepted =
     let h : AreHeld t tables = are-held t tables accepted in
     let hours_held = day t h.day in
     let events : Within 1 1000000 (limit_of t) = (limits t h.limits).0 in
@@ -69,7 +69,7 @@ is-opening law t tables accepted =
         traders = omega (arith, acting.1, length-map (traders_of t) (λ (s : TraderSetting). s.cash));
       };
       stocks = are-stocks t h.symbol_texts h.bands h.fees;
-      series = are-series law t accepted.series tables accepted.rows h.stock_keys h.prices h.pace h.late;
+      series = are-series t accepted.series tables accepted.rows h.stock_keys h.prices h.pace h.late;
       dated = are-dated t tables h.change_keys h.dates h.change_stocks h.new_rules;
       some_trader = acting.0;
       traders = are-traders t tables h.timing h.agent_stocks h.own;

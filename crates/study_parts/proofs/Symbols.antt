@@ -8,7 +8,7 @@ use Rattle.std.specs.List.{list_all, list_any, enumerate_from}
 use Rattle.std.proofs.lemmas.Bool.{and_parts, false≢true}
 use Rattle.std.proofs.lemmas.List.{get_or-map, get_or-take, length-map, length-take-le}
 use Rattle.std.proofs.lemmas.List.Elements.{filter-append}
-use Rattle.std.proofs.lemmas.List.FromFn.{length-enumerate_from, get_or-enumerate_from}
+use Rattle.std.proofs.lemmas.List.FromFn.{length-enumerate_from}
 use Rattle.toml.specs.Data.{Data, Members, no_members, table}
 use Rattle.market_types.specs.Readers.{is_symbol, padded}
 use Rattle.market_types.specs.declared.order.Symbol.{Symbol}
@@ -18,7 +18,7 @@ use Rattle.study_file.specs.Values.{string_at}
 use Rattle.study_tables.specs.StockRules.{stocks, symbols, symbol_in, has_symbol, symbol_broken, repeat_broken}
 use Rattle.study_parts.specs.Entries.{entry_of}
 use Rattle.study_parts.specs.Stocks.{stock_of, stock_rules_of}
-use Rattle.study_parts.proofs.Lists.{position-none, any-fails, each-kept}
+use Rattle.study_parts.proofs.Lists.{position-none, any-fails, each-kept, numbered}
 
 filter-all : (p : ℕ → Bool) (xs : List ℕ) → list_all p xs ≡ true → filter p xs ≡ xs
 filter-all p [] h = refl
@@ -49,10 +49,10 @@ no-entry = table no_members
 texts-apart : (texts : List (List ℕ)) (i j : ℕ) → position (λ (p : ℕ × List ℕ). is_named (take p.0 texts) p.1) (enumerate_from 0 texts) ≡ None
     → i < j → j < length texts → get_or texts i [] ≡ get_or texts j [] → ⊥
 texts-apart texts i j h less within same =
-    let e : get_or (enumerate_from 0 texts) j (0, []) ≡ (0 + j, get_or texts j []) = get_or-enumerate_from 0 texts j (0, []) within in
+    let e : get_or (enumerate_from 0 texts) j (0, []) ≡ (j, get_or texts j []) = numbered texts j (0, []) within in
     let long : j < length (enumerate_from 0 texts) = omega (arith, within, length-enumerate_from 0 texts) in
     let none = position-none (λ (p : ℕ × List ℕ). is_named (take p.0 texts) p.1) (enumerate_from 0 texts) h j (0, []) long in
-    let other : is_named (take (0 + j) texts) (get_or texts j []) ≡ false = ap (λ (p : ℕ × List ℕ). is_named (take p.0 texts) p.1) (sym e) ∙ none in
+    let other : is_named (take j texts) (get_or texts j []) ≡ false = ap (λ (p : ℕ × List ℕ). is_named (take p.0 texts) p.1) (sym e) ∙ none in
     let short : i < length (take j texts) = omega (arith, length-take-le j texts (omega (arith, within)), less) in
     let apart : bytes_eq (get_or (take j texts) i []) (get_or texts j []) ≡ false
     = any-fails (λ (name : List ℕ). bytes_eq name (get_or texts j [])) (take j texts) other i [] short in

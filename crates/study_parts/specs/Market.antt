@@ -14,7 +14,7 @@ hex_value c = if is_in_range 48 57 c then c - 48 else c - 87
 abbrev pub hex_bytes : List ℕ → List ℕ
 hex_bytes [] = []
 hex_bytes (a ∷ []) = []
-hex_bytes (a ∷ (b ∷ rest)) = hex_value a * 16 + hex_value b ∷ hex_bytes rest
+hex_bytes (a ∷ (b ∷ rest)) = (hex_value a * 16 + hex_value b) ∷ hex_bytes rest
 
 -- the key of the draws
 abbrev pub key_of : Members → List ℕ

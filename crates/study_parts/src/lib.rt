@@ -6,7 +6,7 @@ mod entries;
 mod kind;
 mod latencies;
 mod market;
-mod opening;
+mod parts;
 mod series;
 mod stocks;
 mod traders;
@@ -16,4 +16,4 @@ pub mod worked;
 mod tests;
 
 pub use market::stride;
-pub use opening::opening;
+pub use parts::opening;

@@ -1,10 +1,10 @@
 //! What the top table says of the market.
 
-ghost use Rattle.std.specs.Prelude.{◌≡◌, ◌<◌, None, true, length};
+ghost use Rattle.std.specs.Prelude.{◌≡◌, ◌<◌, None, true, length, codes};
 ghost use Rattle.std.specs.List.{list_all};
 ghost use Rattle.toml.specs.View.{table_view};
 ghost use Rattle.study_file.specs.Keys.{is_hex_digit};
-ghost use Rattle.study_tables.specs.MarketRules.{start_of, close_of, exchange_of, key_broken as rule_3, limits_broken as rule_5};
+ghost use Rattle.study_tables.specs.MarketRules.{start_of, close_of, exchange_of, key_broken as rule_3, limits_broken as rule_5, squares_broken as rule_7, exchange_broken as rule_9};
 ghost use Rattle.study_parts.specs.Entries.{natural_at as natural_of};
 ghost use Rattle.study_parts.specs.Market.{hex_value as hex_value_of, hex_bytes, key_of};
 ghost use Rattle.study_parts.specs.Opening.{limit_of, stride_of};
@@ -85,4 +85,13 @@ pub fn exchange_natural(table: &Table, key: &str) -> u64
         Some(exchange) => natural_at(exchange, key),
         None => 0,
     }
+}
+
+/// The exchange's latency group, of a study whose latencies are square and whose exchange keeps its rule.
+pub fn exchange_group(table: &Table) -> u8
+    requires square { rule_7 (table_view table.now) ≡ None }
+    requires exchange { rule_9 (table_view table.now) ≡ None }
+    ensures { result ≡ natural_of (codes "group") (exchange_of (table_view table.now)) }
+{
+    exchange_natural(table, "group") as u8
 }

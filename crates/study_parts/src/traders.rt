@@ -49,6 +49,13 @@ fn trader(stocks: &[Value], agent: &Table, number: u64) -> TraderSetting
     }
 }
 
+// How many traders an entry makes.
+fn count_in(agent: &Table) -> u64
+    ensures { result ≡ count_of (table_view agent.now) }
+{
+    number_or(agent, "count", 1).unsigned_abs()
+}
+
 // Puts as many traders as an entry counts behind those before them.
 fn push_traders(
     stocks: &[Value],
@@ -61,7 +68,7 @@ fn push_traders(
     requires own { has_own (table_view agent.now) ≡ true }
     ensures { OnOk result (traders.new.items ≡ traders.old.items ++ traders_in (map symbol_in (map view stocks.now)) (table_view agent.now)) }
 {
-    let count = number_or(agent, "count", 1).unsigned_abs();
+    let count = count_in(agent);
     for number in 0..count {
         traders.push(trader(stocks, agent, number))?;
     }

@@ -1,13 +1,15 @@
 -- The latencies of an accepted study are in their ranges.
-use Rattle.std.proofs.Common.{◌≡◌, ◌∙◌, ◌≤◌, ◌<◌, ◌+◌, ◌==◌, ◌&&◌, Bool, true, false, not, ℕ, ℤ, pos, unsigned_abs, List, [], ◌∷◌, length, get_or, map, Option, None, Some, All, refl, sym, ap, arith}
+use Rattle.std.proofs.Common.{◌≡◌, ◌∙◌, ◌≤◌, ◌<◌, ◌+◌, ◌==◌, ◌&&◌, Bool, true, false, not, ℕ, ℤ, pos, unsigned_abs, List, [], ◌∷◌, length, get_or, map, Option, None, Some, All, refl, sym, ap, subst, arith}
 use Rattle.std.specs.Prelude.{position, option_map}
 use Rattle.std.specs.Option.{option_or}
 use Rattle.std.specs.Int.{is_in_range}
 use Rattle.std.specs.List.{list_all}
 use Rattle.std.proofs.lemmas.Bool.{and_parts, eqb-true, not-false}
-use Rattle.std.proofs.lemmas.List.{length-map}
+use Rattle.std.proofs.lemmas.List.{length-map, get_or-map}
 use Rattle.std.proofs.lemmas.List.Elements.{All-nil, All-cons, All-map}
 use Rattle.toml.specs.Data.{Data, Members}
+use Rattle.toml.specs.View.{view}
+use Rattle.toml.specs.declared.value.Value.{Value}
 use Rattle.market_types.specs.Limits.{longest_delay}
 use Rattle.latency_model.specs.Ranges.{IsSquare, IsInRange}
 use Rattle.study_file.specs.Values.{number_in, list_in, is_between}
@@ -70,3 +72,15 @@ are-latencies t square cells =
       base_low = All-map (All (λ (n : ℕ). n ≤ longest_delay)) numbers_in (bases t)
       (λ k d within. low-numbers 3600000000000 (get_or (bases t) k d) (each-cell (pos 3600000000000) 0 (bases t) low k d within));
     }
+
+-- the same of the values that say the rows
+pub value-cells : (high : ℤ) (place : ℕ) (vs : List Value) (i : ℕ) (d : Value) → i < length vs → cell_outside high place (map view vs) ≡ None
+    → All (λ (x : Data). is_between (pos 0) high (number_in x) ≡ true) (list_in (view (get_or vs i d)))
+value-cells high place vs i d within h =
+    subst (λ (e : Data). All (λ (x : Data). is_between (pos 0) high (number_in x) ≡ true) (list_in e)) (get_or-map view vs i d (view d) within)
+    (each-cell high place (map view vs) h i (view d) (omega (arith, within, length-map vs view)))
+
+pub value-cell : (high : ℤ) (vs : List Value) (i : ℕ) (d : Value) → i < length vs → All (λ (x : Data). is_between (pos 0) high (number_in x) ≡ true) (map view vs)
+    → is_between (pos 0) high (number_in (view (get_or vs i d))) ≡ true
+value-cell high vs i d within h =
+    subst (λ (e : Data). is_between (pos 0) high (number_in e) ≡ true) (get_or-map view vs i d (view d) within) (h i (view d) (omega (arith, within, length-map vs view)))

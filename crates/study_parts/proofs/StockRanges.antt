@@ -1,6 +1,6 @@
 -- The stocks of an accepted study are those of an opening.
 use Rattle.std.proofs.Common.{◌≡◌, ◌∙◌, ◌≤◌, ◌&&◌, nat_le, Bool, true, false, ℕ, List, [], ◌∷◌, length, get_or, map, Option, None, Some, Ok, Err, All, refl, sym, ap, arith, if◌then◌else◌, codes}
-use Rattle.std.specs.Prelude.{is_none}
+use Rattle.std.specs.Prelude.{is_none, Result}
 use Rattle.std.specs.Int.{is_in_range}
 use Rattle.std.specs.List.{list_all}
 use Rattle.std.proofs.lemmas.Bool.{and_parts, and_from, le-leb}
@@ -28,7 +28,7 @@ use Rattle.study_parts.proofs.Numbers.{Within, natural-between, fee-near, is-wit
 use Rattle.std.specs.Prelude.{ℤ, pos, unsigned_abs}
 
 symbol-if : (b : Bool) (text : List ℕ) → b ≡ true
-    → (if b then Ok (record { 0 = padded 8 text }) else Err BadSymbol) ≡ Ok {T = Symbol} {E = TypeError} (record { 0 = padded 8 text })
+    → ◌≡◌ {A = Result Symbol TypeError} (if b then Ok (record { 0 = padded 8 text }) else Err BadSymbol) (Ok (record { 0 = padded 8 text }))
 symbol-if true text h = refl
 symbol-if false text h = absurd (cc h)
 

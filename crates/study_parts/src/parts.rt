@@ -7,7 +7,7 @@ ghost use Rattle.study_parts.specs.Opening.{opening_of, IsAccepted};
 
 use crate::changes::dated_list;
 use crate::latencies::latencies;
-use crate::market::{close, exchange_natural, key, limit, start};
+use crate::market::{close, exchange_group, exchange_natural, key, limit, start};
 use crate::series::all_series;
 use crate::stocks::stock_rules;
 use crate::traders::all_traders;
@@ -16,6 +16,26 @@ use market_types::Memory;
 use series_file::SeriesTables;
 use std::alloc::Global;
 use study_file::Table;
+
+// The parts of what a run starts from.
+fn all_parts(alloc: Global, table: &Table, rows: &SeriesTables) -> Result<Opening, Memory>
+    requires { IsAccepted (table_view table.now) rows.now }
+    ensures { IfOk result (λ o. o ≡ opening_of (table_view table.now) rows.now) }
+{
+    Ok(Opening {
+        start: start(table),
+        close: close(table),
+        limit: limit(table),
+        key: key(table),
+        groups: latencies(alloc, table)?,
+        exchange_group: exchange_group(table),
+        exchange_delay: exchange_natural(table, "delay"),
+        stocks: stock_rules(alloc, table)?,
+        series: all_series(alloc, table, rows)?,
+        dated: dated_list(alloc, table)?,
+        traders: all_traders(alloc, table)?,
+    })
+}
 
 /// What a run of an accepted study starts from, by its tables and the rows of its series file.
 ///
@@ -26,17 +46,5 @@ pub fn opening(alloc: Global, table: &Table, rows: &SeriesTables) -> Result<Open
     ensures opening { IfOk result (λ o. o ≡ opening_of (table_view table.now) rows.now) }
     ensures fits { IsOpening (opening_of (table_view table.now) rows.now) }
 {
-    Ok(Opening {
-        start: start(table),
-        close: close(table),
-        limit: limit(table),
-        key: key(table),
-        groups: latencies(alloc, table)?,
-        exchange_group: exchange_natural(table, "group") as u8,
-        exchange_delay: exchange_natural(table, "delay"),
-        stocks: stock_rules(alloc, table)?,
-        series: all_series(alloc, table, rows)?,
-        dated: dated_list(alloc, table)?,
-        traders: all_traders(alloc, table)?,
-    })
+    all_parts(alloc, table, rows)
 }

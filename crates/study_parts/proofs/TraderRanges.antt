@@ -1,14 +1,16 @@
 -- The traders of an accepted study are those of an opening.
-use Rattle.std.proofs.Common.{◌≡◌, ◌∙◌, ◌<◌, ◌≤◌, ◌+◌, ◌-◌, ◌*◌, ◌==◌, ◌&&◌, nat_le, Bool, true, false, not, ℕ, suc, ℤ, pos, unsigned_abs, List, [], ◌∷◌, ◌++◌, length, get_or, map, Option, None, Some, All, unwrap_or, refl, sym, ap, subst, inl, inr, arith, codes, if◌then◌else◌}
+use Rattle.std.proofs.Common.{◌≡◌, ◌∙◌, ◌<◌, ◌≤◌, ◌+◌, ◌-◌, ◌*◌, ◌==◌, ◌&&◌, nat_le, nat_lt, Bool, true, false, not, ℕ, suc, ℤ, pos, negsuc, unsigned_abs, List, [], ◌∷◌, ◌++◌, length, get_or, map, Option, None, Some, All, unwrap_or, refl, sym, ap, subst, inl, inr, arith, codes, if◌then◌else◌}
 use Rattle.std.specs.Prelude.{◌||◌, int_le, int_lt, option_and_then}
 use Rattle.std.specs.List.{flat_map, range_with_len}
-use Rattle.std.proofs.lemmas.Bool.{and_parts, leb-true}
+use Rattle.std.proofs.lemmas.Bool.{and_parts, and_from, leb-true, le-leb, ltb-true, lt-ltb}
 use Rattle.std.proofs.lemmas.Bool.Decides.{nat_tests}
-use Rattle.std.proofs.lemmas.List.{length-map, length-append}
+use Rattle.std.proofs.lemmas.List.{length-map, length-append, get_or-map, append_assoc}
 use Rattle.std.proofs.lemmas.List.Elements.{All-nil, All-cons, All-weaker}
-use Rattle.std.proofs.lemmas.List.FromFn.{length-map-range_with_len}
+use Rattle.std.proofs.lemmas.List.FromFn.{length-map-range_with_len, map-range_with_len_more}
 use Rattle.std.proofs.lemmas.Nat.{mul-le}
 use Rattle.std.proofs.lemmas.Option.{same_Some}
+use Rattle.toml.specs.View.{view}
+use Rattle.toml.specs.declared.value.Value.{Value as TomlValue}
 use Rattle.toml.specs.Data.{Data, Members, no_members, as_table, as_integer, get_member}
 use Rattle.market_types.specs.Limits.{longest_delay, last_time}
 use Rattle.agent_shell.specs.Parameters.{IsBetween, IsSize, IsKind, IsSetting}
@@ -17,7 +19,7 @@ use Rattle.agent_shell.specs.declared.setting.Kind.TheVariants.{Watcher, Noise, 
 use Rattle.agent_shell.specs.declared.setting.TraderSetting.{TraderSetting}
 use Rattle.fundamental_series.specs.declared.rule.SeriesRow.{SeriesRow}
 use Rattle.market_opening.specs.Opening.{IsTraderOf}
-use Rattle.study_file.specs.Values.{number_at, number_or, string_at, is_between, has_between}
+use Rattle.study_file.specs.Values.{number_at, number_or, string_at, is_between, has_between, first_failing}
 use Rattle.study_tables.specs.MarketRules.{size_of, bases, start_of, is_group, squares_broken}
 use Rattle.study_tables.specs.StockRules.{symbols, stocks}
 use Rattle.study_refusals.specs.ChangeRules.{is_kind, names_stock}
@@ -26,10 +28,11 @@ use Rattle.study_parts.specs.Entries.{entry_of, natural_at}
 use Rattle.study_parts.specs.Market.{numbers_in}
 use Rattle.study_parts.specs.Traders.{value_kind_of, momentum_kind_of, maker_kind_of, kind_of, trader_of, traders_in, traders_of, size_of as shares_of}
 use Rattle.study_parts.specs.Opening.{opening_of}
-use Rattle.study_parts.proofs.Lists.{each-kept, all-flat, all-counted}
+use Rattle.study_parts.proofs.Lists.{each-kept, all-flat, all-counted, still-none}
 use Rattle.study_parts.proofs.Numbers.{Within, natural-between, group-below, at-least, below-other}
+use Rattle.study_parts.proofs.LatencyRanges.{groups}
 use Rattle.study_parts.proofs.Dates.{known-stock}
-use Rattle.study_parts.proofs.Series.{implied}
+use Rattle.study_parts.proofs.SeriesRanges.{implied}
 
 -- how many traders there are
 
@@ -229,3 +232,55 @@ are-traders t tables timing named own =
     (λ k d within. all-counted (IsTraderOf (opening_of t tables)) (trader_of (symbols t) (entry_of (get_or (agents t) k d))) (count_of (entry_of (get_or (agents t) k d)))
       (λ n less. is-trader t (entry_of (get_or (agents t) k d)) tables n (each-kept (has_timing (size_of t) (start_of t)) (agents t) timing k d within)
         (each-kept has_own (agents t) own k d within) (each-kept (names_stock (symbols t)) (agents t) named k d within) less))
+
+-- for what the code asks
+
+pub value-counts : (vs : List TomlValue) (i : ℕ) (d : TomlValue) → i < length vs → first_too_many 511 0 (map view vs) ≡ None → count_of (entry_of (view (get_or vs i d))) ≤ 511
+value-counts vs i d within h =
+    subst (λ (e : Data). count_of (entry_of e) ≤ 511) (get_or-map view vs i d (view d) within)
+    ((are-counted [] 511 0 (map view vs) h).each i (view d) (omega (arith, within, length-map vs view)))
+
+group-within : (size : ℕ) (z : ℤ) → size ≤ 32 → (int_le (pos 0) z && int_lt z (pos size)) ≡ true → (int_le (pos 0) z && int_lt z (pos 32)) ≡ true
+group-within size (pos n) few h =
+    let parts : (nat_le 0 n ≡ true) × (nat_lt n size ≡ true) = and_parts (nat_le 0 n) (nat_lt n size) h in
+    and_from (nat_le 0 n) (nat_lt n 32) parts.0 (lt-ltb n 32 (omega (arith, few, ltb-true n size parts.1)))
+group-within size (negsuc n) few h = absurd (cc h)
+
+from-zero : (start : ℕ) (z : ℤ) → int_le (pos start) z ≡ true → int_le (pos 0) z ≡ true
+from-zero start (pos n) h = le-leb 0 n (omega arith)
+from-zero start (negsuc n) h = absurd (cc h)
+
+-- an entry is timed for a market of 32 groups that opens at 0, where it is for one of fewer groups that opens later
+loosely : (size start : ℕ) (t : Members) → size ≤ 32 → has_timing size start t ≡ true → has_timing 32 0 t ≡ true
+loosely size start t few h =
+    let first : Bool = int_le (pos start) (number_at (codes "first") t) in
+    let spread : Bool = has_between (pos 0) (pos 3600000000000) (codes "spread") t in
+    let delay : Bool = has_between (pos 0) (pos 3600000000000) (codes "delay") t in
+    let every : Bool = has_between (pos 1) (pos 3600000000000) (codes "every") t in
+    let wobble : Bool = has_between (pos 0) (pos 4294967295) (codes "wobble") t in
+    let last : Bool = nat_le (first_of (count_of t - 1) t) 86399999999999 in
+    let seven = and_parts (is_group size t && first && spread && delay && every && wobble) last h in
+    let six = and_parts (is_group size t && first && spread && delay && every) wobble seven.0 in
+    let five = and_parts (is_group size t && first && spread && delay) every six.0 in
+    let four = and_parts (is_group size t && first && spread) delay five.0 in
+    let three = and_parts (is_group size t && first) spread four.0 in
+    let two = and_parts (is_group size t) first three.0 in
+    let group : is_group 32 t ≡ true = group-within size (number_at (codes "group") t) few two.0 in
+    let zero-on : Bool = int_le (pos 0) (number_at (codes "first") t) in
+    let low : zero-on ≡ true = from-zero start (number_at (codes "first") t) two.1 in
+    and_from (is_group 32 t && zero-on && spread && delay && every && wobble) last
+    (and_from (is_group 32 t && zero-on && spread && delay && every) wobble
+      (and_from (is_group 32 t && zero-on && spread && delay) every
+        (and_from (is_group 32 t && zero-on && spread) delay
+          (and_from (is_group 32 t && zero-on) spread (and_from (is_group 32 t) zero-on group low) three.1) four.1) five.1) six.1) seven.1
+
+pub loosely-timed : (t : Members) (ds : List Data) → ds ≡ agents t → squares_broken t ≡ None → timing_broken t ≡ None → first_failing (has_timing 32 0) ds ≡ None
+loosely-timed t ds e square timing =
+    ap (first_failing (has_timing 32 0)) e
+    ∙ still-none (has_timing (size_of t) (start_of t)) (has_timing 32 0) (λ x h. loosely (size_of t) (start_of t) x (groups t square).0.not_above h) (agents t) timing
+
+pub one-trader-more : (old : List TraderSetting) (known : List (List ℕ)) (t : Members) (n : ℕ)
+    → old ++ map (trader_of known t) (range_with_len 0 (n + 1)) ≡ (old ++ map (trader_of known t) (range_with_len 0 n)) ++ trader_of known t n ∷ []
+one-trader-more old known t n =
+    ap (λ ys. old ++ ys) (map-range_with_len_more (trader_of known t) 0 n n (omega arith))
+    ∙ sym (append_assoc old (map (trader_of known t) (range_with_len 0 n)) (trader_of known t n ∷ []))

@@ -1,4 +1,4 @@
--- The rows of each stock are in order.
+-- The rows of each stock that a series file says are in order.
 use Rattle.std.proofs.Common.{◌≡◌, ◌∙◌, ◌<◌, ◌≤◌, ◌+◌, ◌-◌, ◌&&◌, ◌==◌, nat_lt, nat_le, Bool, true, false, ℕ, suc, List, [], ◌∷◌, ◌++◌, length, get_or, set, replicate, Option, Some, None, Result, Ok, Err, All, if◌then◌else◌, refl, sym, ap, subst, inl, inr, arith}
 use Rattle.std.specs.Prelude.{position}
 use Rattle.std.specs.List.{AllByRecursion}
@@ -8,13 +8,19 @@ use Rattle.std.proofs.lemmas.Bool.Decides.{nat_tests}
 use Rattle.std.proofs.lemmas.List.{get_or-set_same, get_or-set_other, set_past, get_or-replicate, get_or_past, length-replicate}
 use Rattle.std.proofs.lemmas.List.Elements.{All-nil, All-push}
 use Rattle.std.proofs.lemmas.Option.{same_Some}
-use Rattle.toml.specs.Data.{Data}
+use Rattle.toml.specs.Data.{Data, Members}
+use Rattle.study_tables.specs.StockRules.{stocks}
+use Rattle.study_refusals.specs.FirstBroken.{tables_of}
 use Rattle.fundamental_series.specs.declared.rule.SeriesRow.{SeriesRow}
 use Rattle.fundamental_series.specs.Ranges.{IsPrice, IsRising}
 use Rattle.series_file.specs.declared.row.FileRow.{FileRow}
 use Rattle.series_file.specs.Records.{is_header, is_stock_of, is_time, is_value, number_of, timed_row, row_of, row_in, field_of, records_of}
 use Rattle.series_file.specs.Rows.{last_row, is_later, rows_of, with_row, with_record, after_record, at_end, rows_from, no_rows, read_rows}
-use Rattle.series_file.specs.Order.{AreOrdered}
+
+-- the values are prices, and the times rise
+pub record AreOrdered (rows : List SeriesRow) : Type 0 where
+  pub prices : All (λ (r : SeriesRow). IsPrice r.value) rows
+  pub rising : IsRising rows
 
 -- all rows are earlier than one that is later than the last
 all-earlier : (rows : List SeriesRow) (row : SeriesRow) → IsRising rows → is_later rows row ≡ true → AllByRecursion (λ (s : SeriesRow). s.time < row.time) rows
@@ -134,10 +140,18 @@ unfolding AllOrdered
 none-ordered n = λ k.
     elim (cases_lt k n) [
       | inl within ↦ subst AreOrdered (sym (get_or-replicate n k [] [] within)) no-rows
-      | inr past ↦ subst AreOrdered (sym (get_or_past (replicate n []) k [] (omega (arith, past, length-replicate n [])))) no-rows
+      | inr past ↦ subst AreOrdered (sym (get_or_past (replicate n []) k [] (omega (arith, past, length-replicate {A = List SeriesRow} n [])))) no-rows
     ]
 
-pub read-ordered : (stocks : List Data) (text : List ℕ) (tables : List (List SeriesRow)) (stock : ℕ) → read_rows stocks text ≡ Ok tables → AreOrdered (rows_of tables stock)
+read-ordered : (entries : List Data) (text : List ℕ) (tables : List (List SeriesRow)) → read_rows entries text ≡ Ok tables → AllOrdered tables
+read-ordered entries text tables h = from-ordered entries 0 (no_rows entries) tables (records_of text) (none-ordered (length entries)) h
+
+empty-ordered : (n : ℕ) (tables : List (List SeriesRow)) → ◌≡◌ {A = Result (List (List SeriesRow)) ℕ} (Ok (replicate n [])) (Ok tables) → AllOrdered tables
+empty-ordered n tables h = let same : replicate n [] ≡ tables = cc h in subst AllOrdered same (none-ordered n)
+
+-- the rows of each stock of a study
+pub are-ordered : (t : Members) (series : Option (List ℕ)) (tables : List (List SeriesRow)) → tables_of t series ≡ Ok tables
+    → (k : ℕ) → AreOrdered (rows_of tables k)
 unfolding AllOrdered
-read-ordered stocks text tables stock h =
-    from-ordered stocks 0 (no_rows stocks) tables (records_of text) (none-ordered (length stocks)) h stock
+are-ordered t None tables h k = empty-ordered (length (stocks t)) tables h k
+are-ordered t (Some text) tables h k = read-ordered (stocks t) text tables h k
