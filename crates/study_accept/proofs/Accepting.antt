@@ -1,7 +1,7 @@
 -- From what the rules say of a study to the study that it says.
 use Rattle.std.proofs.Common.{◌≡◌, ◌∙◌, ◌≤◌, ◌*◌, ◌&&◌, nat_le, Bool, true, false, ℕ, List, [], ◌∷◌, length, Option, None, Some, Ok, Err, All, refl, ap, arith, if◌then◌else◌}
 use Rattle.std.specs.Prelude.{Result, option_map}
-use Rattle.core.specs.Result.{result_unwrap_or}
+use Rattle.std.specs.Result.{result_unwrap_or}
 use Rattle.std.proofs.lemmas.Bool.{le-leb}
 use Rattle.std.proofs.lemmas.List.Elements.{All-nil, All-cons}
 use Rattle.toml.specs.Data.{Members}
@@ -29,11 +29,13 @@ refused-if (Some refusal) x r h = let same : refusal ≡ r = cc h in ap Err same
 
 pub accepted-told : (t : Members) (series : Option (List ℕ)) (tables : List (List SeriesRow)) → first_broken t series ≡ None → tables_of t series ≡ Ok tables
     → study_of t series ≡ Ok (told_of t tables)
+unfolding study_of
 accepted-told t series tables e f =
     told-if (first_broken t series) (told_of t (result_unwrap_or (tables_of t series) [])) e
     ∙ ap (λ (r : Result (List (List SeriesRow)) ℕ). Ok (told_of t (result_unwrap_or r []))) f
 
 pub refused-told : (t : Members) (series : Option (List ℕ)) (r : Refusal) → first_broken t series ≡ Some r → study_of t series ≡ Err r
+unfolding study_of
 refused-told t series r e = refused-if (first_broken t series) (told_of t (result_unwrap_or (tables_of t series) [])) r e
 
 pub root-rooted : IsRooted (root ∷ [])

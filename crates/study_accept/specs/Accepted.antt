@@ -1,6 +1,6 @@
 -- The study that a study's tables and its series file say.
 use Rattle.std.specs.Prelude.{ℕ, List, [], ◌∷◌, Option, None, Some, Result, Ok, Err, codes}
-use Rattle.core.specs.Result.{result_unwrap_or}
+use Rattle.std.specs.Result.{result_unwrap_or}
 use Rattle.toml.specs.Data.{Members}
 use Rattle.fundamental_series.specs.declared.rule.SeriesRow.{SeriesRow}
 use Rattle.branch_tree.specs.declared.branch.Branch.{Branch}
@@ -37,7 +37,7 @@ abbrev pub told_of : Members → List (List SeriesRow) → StudyTold
 told_of t tables = record { course = course_of t tables; stride = stride_of t }
 
 -- the study that a table says with the text of its series file, where it names one; or the first broken rule
-abbrev pub study_of : Members → Option (List ℕ) → Result StudyTold Refusal
+unfoldable pub study_of : Members → Option (List ℕ) → Result StudyTold Refusal
 study_of t series = elim (first_broken t series) [
   | Some refusal ↦ Err refusal
   | None ↦ Ok (told_of t (rows_in t series))

@@ -69,8 +69,10 @@ fn branch_plan(alloc: Global, limit: u32) -> Result<BranchPlan, Memory>
     let branches = branches(alloc)?;
     match plan(alloc, branches, limit) {
         Ok(plan) => Ok(plan),
-        Err(PlanError::Memory) => Err(Memory),
-        Err(_) => unreachable!(),
+        Err(e) => match e {
+            PlanError::Memory => Err(Memory),
+            _ => unreachable!(),
+        },
     }
 }
 
