@@ -116,7 +116,6 @@ fn accept_branches(
 ///
 /// # Errors
 /// The first broken rule of the study; or want of memory.
-#[tactic(auto, using(crate::proofs::Accepting::accepted_told, crate::proofs::Accepting::refused_told, crate::proofs::Accepting::branches_refused))]
 pub fn accept(
     alloc: Global,
     raw: &RawStudy,

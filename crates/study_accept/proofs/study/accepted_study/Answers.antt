@@ -3,4 +3,4 @@ use Rattle.study_parts.proofs.Held.{are-held}
 use Rattle.study_accept.proofs.study.accepted_study.Goals as goal
 
 pub stride-requires : goal.stride-requires
-stride-requires c = (are-held (table_view c.args.table.now) c.args.rows.now c.requires).limits
+stride-requires c = (are-held (table_view c.args.table.now) c.args.rows.now c.requires.accepted).limits
