@@ -9,11 +9,10 @@ mod market;
 mod parts;
 mod series;
 mod stocks;
-mod traders;
-pub mod worked;
-
 #[cfg(test)]
 mod tests;
+mod traders;
+pub mod worked;
 
 pub use market::stride;
 pub use parts::opening;

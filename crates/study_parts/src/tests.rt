@@ -51,51 +51,116 @@ fn tables_say_what_a_run_starts_from(rt: HostRuntime) -> Result<(), Fail> {
         return Ok(());
     };
     let o = opening(alloc, &raw.table, &rows)?;
-    assert_eq!(rt; (o.start, o.close, o.limit, stride(&raw.table)), (1000, 2000, 100, 10_000));
-    assert_eq!(rt; (o.key[0], o.key[10], o.key[15], o.key[16], o.key[31]), (0x00, 0xaa, 0xff, 0x01, 0xef));
+    assert_eq!(rt;
+        (o.start, o.close, o.limit, stride(&raw.table)),
+        (1000, 2000, 100, 10_000)
+    );
+    assert_eq!(rt;
+        (o.key[0], o.key[10], o.key[15], o.key[16], o.key[31]),
+        (0x00, 0xaa, 0xff, 0x01, 0xef)
+    );
     assert_eq!(rt; (o.exchange_group, o.exchange_delay), (1, 7));
-    assert_eq!(rt; (o.groups.delay(1, 0, 0), o.groups.delay(0, 1, u32::MAX)), (7, 7));
+    assert_eq!(rt;
+        (o.groups.delay(1, 0, 0), o.groups.delay(0, 1, u32::MAX)),
+        (7, 7)
+    );
     let stocks = o.stocks.as_slice();
     assert_eq!(rt; stocks.len(), 3);
     assert_eq!(rt; stocks[1].symbol, Symbol(*b"XYZ     "));
-    assert!(rt; stocks[1].ticks.bands() == [Band { from: 0, tick: 100 }, Band { from: 1_000_000, tick: 500 }].as_slice());
+    assert!(rt;
+        stocks[1].ticks.bands()
+            == [
+                Band { from: 0, tick: 100 },
+                Band {
+                    from: 1_000_000,
+                    tick: 500
+                }
+            ]
+            .as_slice()
+    );
     assert_eq!(rt; stocks[1].fees, FeeTable { add: 0, take: -1 });
     let series = o.series.as_slice();
-    assert_eq!(rt; (series[0].value_at(1000), series[1].value_at(1499), series[1].value_at(1500), series[2].value_at(2000)), (100_000, 99_000, 98_000, 5));
+    assert_eq!(rt;
+        (
+            series[0].value_at(1000),
+            series[1].value_at(1499),
+            series[1].value_at(1500),
+            series[2].value_at(2000)
+        ),
+        (100_000, 99_000, 98_000, 5)
+    );
     let dated = o.dated.as_slice();
     assert_eq!(rt; dated.len(), 4);
     assert_eq!(rt; (dated[0].time, dated[0].stock), (1000, 0));
     assert!(rt; dated[0].change == Change::Halt);
-    assert!(rt; matches!(&dated[1].change, Change::Tick(ticks) if ticks.bands() == [Band { from: 0, tick: 1 }].as_slice()));
-    assert!(rt; dated[2] == Dated { time: 1500, stock: 2, change: Change::Fee(FeeTable { add: 1, take: 2 }) });
+    assert!(rt;
+        matches!(&dated[1].change, Change::Tick(ticks) if ticks.bands() == [Band { from: 0, tick: 1 }].as_slice())
+    );
+    assert!(rt;
+        dated[2]
+            == Dated {
+                time: 1500,
+                stock: 2,
+                change: Change::Fee(FeeTable { add: 1, take: 2 })
+            }
+    );
     assert!(rt; dated[3].change == Change::Resume);
     let traders = o.traders.as_slice();
     assert_eq!(rt; traders.len(), 7);
     for (number, first) in [(0, 1000), (1, 1010), (2, 1020)] {
-        assert_eq!(rt; traders[number], TraderSetting {
-            kind: Kind::Watcher,
-            group: 0,
-            stock: 2,
-            first,
-            every: 1,
-            wobble: 0,
-            delay: 0,
-            cash: -5,
-        });
+        assert_eq!(rt;
+            traders[number],
+            TraderSetting {
+                kind: Kind::Watcher,
+                group: 0,
+                stock: 2,
+                first,
+                every: 1,
+                wobble: 0,
+                delay: 0,
+                cash: -5,
+            }
+        );
     }
-    assert_eq!(rt; traders[3], TraderSetting {
-        kind: Kind::Noise { size: 11 },
-        group: 1,
-        stock: 1,
-        first: 1001,
-        every: 2,
-        wobble: 9,
-        delay: 8,
-        cash: 1_000_000,
-    });
-    assert_eq!(rt; traders[4].kind, Kind::Value { size: 12, noise: 13, margin: 14 });
-    assert_eq!(rt; traders[5].kind, Kind::Momentum { size: 15, short: 16, long: 17 });
-    assert_eq!(rt; traders[6].kind, Kind::Maker { size: 18, half: 19, step: 20, levels: 8, pause: 22 });
+    assert_eq!(rt;
+        traders[3],
+        TraderSetting {
+            kind: Kind::Noise { size: 11 },
+            group: 1,
+            stock: 1,
+            first: 1001,
+            every: 2,
+            wobble: 9,
+            delay: 8,
+            cash: 1_000_000,
+        }
+    );
+    assert_eq!(rt;
+        traders[4].kind,
+        Kind::Value {
+            size: 12,
+            noise: 13,
+            margin: 14
+        }
+    );
+    assert_eq!(rt;
+        traders[5].kind,
+        Kind::Momentum {
+            size: 15,
+            short: 16,
+            long: 17
+        }
+    );
+    assert_eq!(rt;
+        traders[6].kind,
+        Kind::Maker {
+            size: 18,
+            half: 19,
+            step: 20,
+            levels: 8,
+            pause: 22
+        }
+    );
     assert_eq!(rt; (traders[5].stock, traders[6].stock), (1, 0));
     Ok(())
 }
