@@ -1,17 +1,17 @@
 //! One broken study for each rule of branches and kind of place, and the branches of one that is accepted.
 
 use super::{branch_refusal, branches};
-use market_rules::{Edit, Param};
+use branch_tree::Branch;
 use std::alloc::Global;
 use std::test::Fail;
 use study_file::read_tables;
-use study_tables::Refusal;
+use study_refusals::{Judged, Refusal, judge};
 
 const STUDY: &str = "version = 1
 key = \"00112233445566778899aabbccddeeff00112233445566778899aabbccddeeff\"
 open = 1000
 close = 2000
-events = 1000
+events = 800001
 exchange = { group = 1, delay = 0 }
 latency = { base = [[5, 6], [7, 8]], jitter = [[0, 1], [2, 3]] }
 stock = [
@@ -38,11 +38,22 @@ branch = [
 ]
 ";
 
-// The first broken rule of branches of the study with one text in place of another.
+// The branches of a study, or its first broken rule.
+fn judged(alloc: Global, study: &str) -> Result<Result<Vec<Branch>, Refusal>, Fail> {
+    let raw = read_tables(alloc, study.as_bytes())?;
+    match judge(alloc, &raw.table, None)? {
+        Judged::Refused(refusal) => Ok(Err(refusal)),
+        Judged::Accepted(_) => match branch_refusal(alloc, &raw.table)? {
+            Some(refusal) => Ok(Err(refusal)),
+            None => Ok(Ok(branches(alloc, &raw.table)?)),
+        },
+    }
+}
+
+// The first broken rule of the study with one text in place of another.
 fn refused(alloc: Global, old: &str, new: &str) -> Result<Option<Refusal>, Fail> {
     let study = STUDY.replacen(alloc, old, new, 1)?;
-    let raw = read_tables(alloc, study.as_bytes())?;
-    Ok(branch_refusal(alloc, &raw.table)?)
+    Ok(judged(alloc, study.as_str())?.err())
 }
 
 #[test]
@@ -67,7 +78,7 @@ fn the_first_broken_rule_is_told_with_its_place(rt: HostRuntime) -> Result<(), F
         ("at = 6, edit", "at = 5, edit", 33, 1),
         ("at = 6 }", "at = 7 }", 33, 1),
         ("at = 6 }", "at = -1 }", 33, 0),
-        ("at = 1000,", "at = 1001,", 33, 2),
+        ("at = 1000,", "at = 800002,", 33, 2),
         ("kind = \"halt\"", "kind = \"stop\"", 34, 18),
         ("kind = \"halt\", stock", "kind = \"halt\", name", 34, 18),
         ("add = -1000000,", "add = -1000000, offset = 1,", 34, 17),
@@ -108,7 +119,12 @@ fn the_first_broken_rule_is_told_with_its_place(rt: HostRuntime) -> Result<(), F
         ("message = \"58", "message = \"41", 35, 22),
         ("offset = -2000000000", "offset = -2000000001", 35, 23),
         ("stock = \"ABM\" }] }", "stock = \"ABN\" }] }", 35, 32),
-        ("events = 1000\n", "events = 1000001\n", 36, 0),
+        (
+            "branch = [",
+            "branch = [ { name = \"more\", parent = \"root\", at = 0 },",
+            36,
+            0,
+        ),
     ];
     for (old, new, rule, place) in cases {
         assert_eq!(rt;
@@ -116,27 +132,29 @@ fn the_first_broken_rule_is_told_with_its_place(rt: HostRuntime) -> Result<(), F
             Some(Refusal { rule, place })
         );
     }
-    assert!(rt; refused(rt.alloc(), "events = 1000\n", "events = 1000000\n")?.is_none());
+    assert!(rt; refused(rt.alloc(), "events = 800001", "events = 1000000")?.is_none());
     Ok(())
 }
 
-// The study with so many branches more, each of the root.
+// The first broken rule of the study with so many branches more, each of the root.
 fn crowded(alloc: Global, more: u32) -> Result<Option<Refusal>, Fail> {
-    let mut study = STUDY.replacen(alloc, "branch = [", "branch = [\n", 1)?;
-    let mut names = String::new(alloc);
+    let mut entries = String::new(alloc);
+    entries.push_str("branch = [\n")?;
     for number in 0..more {
-        names.push_str(&format!(in alloc;
+        let entry = format!(in alloc;
             "  {{ name = \"b{number}\", parent = \"root\", at = 0 }},\n"
-        )?)?;
+        )?;
+        entries.push_str(entry.as_str())?;
     }
-    study.insert_str(study.find("  { name = \"one\"").unwrap_or(0), &names)?;
-    let raw = read_tables(alloc, study.as_bytes())?;
-    Ok(branch_refusal(alloc, &raw.table)?)
+    refused(alloc, "branch = [", entries.as_str())
 }
 
 #[test]
 fn at_most_127_branches(rt: HostRuntime) -> Result<(), Fail> {
-    assert!(rt; crowded(rt.alloc(), 124)?.is_none());
+    assert_eq!(rt;
+        crowded(rt.alloc(), 124)?,
+        Some(Refusal { rule: 36, place: 0 })
+    );
     assert_eq!(rt;
         crowded(rt.alloc(), 125)?,
         Some(Refusal {
@@ -149,9 +167,9 @@ fn at_most_127_branches(rt: HostRuntime) -> Result<(), Fail> {
 
 #[test]
 fn the_branches_of_a_study(rt: HostRuntime) -> Result<(), Fail> {
-    let alloc = rt.alloc();
-    let raw = read_tables(alloc, STUDY.as_bytes())?;
-    let list = branches(alloc, &raw.table)?;
+    let Ok(list) = judged(rt.alloc(), STUDY)? else {
+        return Err(Fail::from("refused"));
+    };
     let wanted: [(&[u8], u16, u32, usize); 4] = [
         (b"root", 0, 0, 0),
         (b"one", 0, 6, 0),
@@ -165,23 +183,5 @@ fn the_branches_of_a_study(rt: HostRuntime) -> Result<(), Fail> {
         assert_eq!(rt; branch.stop, *stop);
         assert_eq!(rt; branch.edits.len(), *edits);
     }
-    let edits = list[2].edits.as_slice();
-    assert!(rt;
-        edits[3]
-            == Edit::Latency {
-                from: 1,
-                to: 0,
-                base: 3_600_000_000_000,
-                jitter: 4_294_967_295
-            }
-    );
-    assert!(rt;
-        edits[4]
-            == Edit::Agent {
-                agent: 3,
-                name: Param::Levels,
-                value: 7
-            }
-    );
     Ok(())
 }
