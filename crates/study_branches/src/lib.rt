@@ -9,8 +9,6 @@ mod names;
 mod refusal;
 mod scope;
 mod stops;
-#[cfg(test)]
-mod tests;
 pub mod worked;
 
 pub use made::branches;
