@@ -1,7 +1,7 @@
-use Rattle.std.proofs.Common.{◌≡◌, ◌<◌, ℕ, List, [], ◌++◌, length, sym, ap, ◌∙◌}
+use Rattle.std.proofs.Common.{◌≡◌, ℕ, List, ◌++◌, sym, ap, ◌∙◌}
 use Rattle.std.specs.List.{flat_map}
 use Rattle.bundle_frames.specs.Frames.{entry_frames, feed_frames}
-use Rattle.branch_tree.specs.Segments.{last_of, segment_at}
+use Rattle.branch_tree.specs.Segments.{segment_at}
 use Rattle.market_opening.specs.declared.opening.Opening.{Opening}
 use Rattle.kernel_core.specs.Until.{Run}
 use Rattle.kernel_copy.specs.Courses.{CourseTold}

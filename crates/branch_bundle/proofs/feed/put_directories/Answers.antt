@@ -1,4 +1,4 @@
-use Rattle.std.proofs.Common.{◌≡◌, ◌<◌, List, ◌++◌, length, get_or, sym, ap, ◌∙◌, arith}
+use Rattle.std.proofs.Common.{◌≡◌, List, ◌++◌, length, get_or, sym, ap, ◌∙◌, arith}
 use Rattle.std.specs.Prelude.{ℕ}
 use Rattle.market_types.specs.declared.feed.Feed.{Feed}
 use Rattle.bundle_frames.specs.Frames.{message_frame}
