@@ -65,8 +65,8 @@ in-hours earliest close place (d ∷ ds) h =
     let here : Within earliest close (unsigned_abs (time_in d)) = natural-between earliest close (time_in d) next.0 in
     All-cons (λ (e : Data). Within earliest close (unsigned_abs (time_in e))) d ds here
     (All-weaker (λ (e : Data). Within (unsigned_abs (time_in d)) close (unsigned_abs (time_in e))) (λ (e : Data). Within earliest close (unsigned_abs (time_in e)))
-      (λ e w. record { not_below = omega (arith, here.not_below, w.not_below); not_above = w.not_above }) ds
-      (in-hours (unsigned_abs (time_in d)) close (place + 1) ds next.1))
+    (λ e w. record { not_below = omega (arith, here.not_below, w.not_below); not_above = w.not_above }) ds
+    (in-hours (unsigned_abs (time_in d)) close (place + 1) ds next.1))
 
 break-if : (b : Bool) (before x : Dated) (k : ℕ) (xs : List Dated) → nat_le before.time x.time ≡ b → b ≡ true
     → break_after (λ (p q : Dated). nat_le p.time q.time) x (k + 1) xs ≡ None
@@ -97,11 +97,11 @@ are-dated t tables keys dates named rules = record {
   few = omega (arith, few-changes t keys, length-map (changes t) (λ (d : Data). dated_of (symbols t) (entry_of d)));
   rising = dates-rise (symbols t) (start_of t) (close_of t) (changes t) dates;
   each = All-map (IsDated (opening_of t tables)) (λ (d : Data). dated_of (symbols t) (entry_of d)) (changes t)
-  (λ k d within.
-    let hours : Within (start_of t) (close_of t) (unsigned_abs (time_in (get_or (changes t) k d))) = in-hours (start_of t) (close_of t) 0 (changes t) dates k d within in record {
-      start = hours.not_below;
-      close = hours.not_above;
-      stock = known-stock t (entry_of (get_or (changes t) k d)) (each-kept (names_stock (symbols t)) (changes t) named k d within);
-      change = is-change (entry_of (get_or (changes t) k d)) (each-kept has_new_rules (changes t) rules k d within);
-    });
+      (λ k d within.
+      let hours : Within (start_of t) (close_of t) (unsigned_abs (time_in (get_or (changes t) k d))) = in-hours (start_of t) (close_of t) 0 (changes t) dates k d within in record {
+        start = hours.not_below;
+        close = hours.not_above;
+        stock = known-stock t (entry_of (get_or (changes t) k d)) (each-kept (names_stock (symbols t)) (changes t) named k d within);
+        change = is-change (entry_of (get_or (changes t) k d)) (each-kept has_new_rules (changes t) rules k d within);
+      });
 }

@@ -33,7 +33,7 @@ each-cell high place (d ∷ ds) h =
     let none = none-placed place (position (λ (x : Data). not (is_between (pos 0) high (number_in x))) (list_in d)) parts.0 in
     All-cons (λ (e : Data). All (λ (x : Data). is_between (pos 0) high (number_in x) ≡ true) (list_in e)) d ds
     (λ k e within. not-false (is_between (pos 0) high (number_in (get_or (list_in d) k e)))
-      (position-none (λ (x : Data). not (is_between (pos 0) high (number_in x))) (list_in d) none k e within))
+    (position-none (λ (x : Data). not (is_between (pos 0) high (number_in x))) (list_in d) none k e within))
     (each-cell high (place + 32) ds parts.1)
 
 low-numbers : (high : ℕ) (d : Data) → All (λ (x : Data). is_between (pos 0) (pos high) (number_in x) ≡ true) (list_in d) → All (λ (n : ℕ). n ≤ high) (numbers_in d)
@@ -47,8 +47,8 @@ square-rows size ds h =
     = and_parts (length ds == size) (list_all (λ (d : Data). length (list_in d) == size) ds) h in record {
       rows = length-map ds numbers_in ∙ eqb-true (length ds) size parts.0;
       columns = All-map (λ (row : List ℕ). length row ≡ size) numbers_in ds
-      (λ k d within. length-map (list_in (get_or ds k d)) (λ (x : Data). unsigned_abs (number_in x))
-        ∙ eqb-true (length (list_in (get_or ds k d))) size (all-pass (λ (e : Data). length (list_in e) == size) ds parts.1 k d within));
+          (λ k d within. length-map (list_in (get_or ds k d)) (λ (x : Data). unsigned_abs (number_in x))
+          ∙ eqb-true (length (list_in (get_or ds k d))) size (all-pass (λ (e : Data). length (list_in e) == size) ds parts.1 k d within));
     }
 
 -- how many groups there are
@@ -70,7 +70,7 @@ are-latencies t square cells =
       base_square = rw same (square-rows (size_of t) (bases t) sizes.1);
       jitter_square = rw same (square-rows (size_of t) (jitters t) sizes.2);
       base_low = All-map (All (λ (n : ℕ). n ≤ longest_delay)) numbers_in (bases t)
-      (λ k d within. low-numbers 3600000000000 (get_or (bases t) k d) (each-cell (pos 3600000000000) 0 (bases t) low k d within));
+          (λ k d within. low-numbers 3600000000000 (get_or (bases t) k d) (each-cell (pos 3600000000000) 0 (bases t) low k d within));
     }
 
 -- the same of the values that say the rows

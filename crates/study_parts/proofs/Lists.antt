@@ -136,4 +136,4 @@ pub all-counted : {A : Type 0} (P : A → Type 0) (f : ℕ → A) (n : ℕ) → 
 all-counted P f n h =
     All-map P f (range_with_len 0 n)
     (λ k d within. let few : k < n = omega (arith, within, length-range_with_len 0 n) in
-      subst (λ (i : ℕ). P (f i)) (sym (get_or-range_with_len 0 n k d few)) (h (0 + k) (omega (arith, few))))
+    subst (λ (i : ℕ). P (f i)) (sym (get_or-range_with_len 0 n k d few)) (h (0 + k) (omega (arith, few))))

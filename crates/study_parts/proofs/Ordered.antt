@@ -57,9 +57,9 @@ unfolding AllOrdered
 ordered-set tables stock rows h new = λ k.
     elim (cases_eq k stock) [
       | inl e ↦ elim (cases_lt stock (length tables)) [
-          | inl within ↦ rw e (subst AreOrdered (sym (get_or-set_same tables stock rows [] within)) new)
-          | inr past ↦ subst (λ (ts : List (List SeriesRow)). AreOrdered (rows_of ts k)) (sym (set_past tables stock rows past)) (h k)
-        ]
+        | inl within ↦ rw e (subst AreOrdered (sym (get_or-set_same tables stock rows [] within)) new)
+        | inr past ↦ subst (λ (ts : List (List SeriesRow)). AreOrdered (rows_of ts k)) (sym (set_past tables stock rows past)) (h k)
+      ]
       | inr other ↦ subst AreOrdered (sym (get_or-set_other tables stock k rows [] other)) (h k)
     ]
 

@@ -61,9 +61,9 @@ by-word (Some word) rest h other =
     elim (or_cases (bytes_eq (codes "rule") word) (bytes_eq (codes "rows") word || false) named) [
       | inl e ↦ absurd (false≢true (sym other ∙ same-text (codes "rule") word e))
       | inr e ↦ elim (or_cases (bytes_eq (codes "rows") word) false e) [
-          | inl f ↦ same-text (codes "rows") word f
-          | inr f ↦ absurd (false≢true f)
-        ]
+        | inl f ↦ same-text (codes "rows") word f
+        | inr f ↦ absurd (false≢true f)
+      ]
     ]
 
 by-rows : (t : Members) → has_form stock_form t ≡ true → goes_by (codes "rule") t ≡ false → goes_by (codes "rows") t ≡ true
@@ -116,7 +116,7 @@ pub is-series-rule : (span : ℕ) (t : Members) → goes_by (codes "rule") t ≡
     → IsInRange (series_rule_of t) × (span / (series_rule_of t).every ≤ 65535)
 is-series-rule span t goes prices pace =
     let two = and_parts (has_between (pos 1) (pos 1999999900) (codes "start") t) (has_between (pos 1) (pos 1999999900) (codes "mean") t)
-        (implied (goes_by (codes "rule") t) (has_between (pos 1) (pos 1999999900) (codes "start") t && has_between (pos 1) (pos 1999999900) (codes "mean") t) prices goes) in
+    (implied (goes_by (codes "rule") t) (has_between (pos 1) (pos 1999999900) (codes "start") t && has_between (pos 1) (pos 1999999900) (codes "mean") t) prices goes) in
     let pull : Bool = has_between (pos 0) (pos 1000000) (codes "pull") t in
     let shock : Bool = has_between (pos 0) (pos 1000000000) (codes "shock") t in
     let some : Bool = int_le (pos 1) (number_at (codes "every") t) in
@@ -164,11 +164,11 @@ are-series t series tables read forms prices pace late =
           let entry : Data = get_or (stocks t) k no-entry in
           let found : get_or (series_of t tables) k no_series ≡ series_in t tables k (entry_of entry)
           = get_or-map (λ (p : ℕ × Data). series_in t tables p.0 (entry_of p.1)) (enumerate_from 0 (stocks t)) k (0, no-entry) no_series long
-              ∙ ap (λ (p : ℕ × Data). series_in t tables p.0 (entry_of p.1)) (numbered (stocks t) k (0, no-entry) few) in
+          ∙ ap (λ (p : ℕ × Data). series_in t tables p.0 (entry_of p.1)) (numbered (stocks t) k (0, no-entry) few) in
           subst (IsSeriesFor (opening_of t tables) k) (sym found)
           (series-if (goes_by (codes "rule") (entry_of entry)) t tables k (entry_of entry) refl (each-kept has_prices (stocks t) prices k no-entry few)
-            (each-kept (has_pace (span_of t)) (stocks t) pace k no-entry few)
-            (have-rows (start_of t) (stocks t) tables (are-ordered t series tables read) (each-passes (has_form stock_form) (stocks t) forms) late k no-entry few));
+          (each-kept (has_pace (span_of t)) (stocks t) pace k no-entry few)
+          (have-rows (start_of t) (stocks t) tables (are-ordered t series tables read) (each-passes (has_form stock_form) (stocks t) forms) late k no-entry few));
     }
 
 -- the rows of the stocks that go by rows
@@ -188,8 +188,8 @@ series-more t tables vs i d within =
     let long : i < length (enumerate_from 0 (map view vs)) = omega (arith, few, length-enumerate_from 0 (map view vs)) in
     let found : get_or (map f (enumerate_from 0 (map view vs))) i no_series ≡ series_in t tables i (entry_of (view (get_or vs i d)))
     = get_or-map f (enumerate_from 0 (map view vs)) i (0, view d) no_series long
-        ∙ ap f (numbered (map view vs) i (0, view d) few)
-        ∙ ap (λ (e : Data). series_in t tables i (entry_of e)) (get_or-map view vs i d (view d) within) in
+    ∙ ap f (numbered (map view vs) i (0, view d) few)
+    ∙ ap (λ (e : Data). series_in t tables i (entry_of e)) (get_or-map view vs i d (view d) within) in
     take_more (map f (enumerate_from 0 (map view vs))) i no_series (omega (arith, long, length-map (enumerate_from 0 (map view vs)) f))
     ∙ ap (λ (m : Made). take i (map f (enumerate_from 0 (map view vs))) ++ m ∷ []) found
 

@@ -80,4 +80,4 @@ pub are-stocks : (t : Members) → symbol_broken t ≡ None → bands_broken t �
 are-stocks t symbols bands fees =
     All-map IsStock (λ (d : Data). stock_of (entry_of d)) (stocks t)
     (λ k d within. is-stock (entry_of (get_or (stocks t) k d)) (each-kept has_symbol (stocks t) symbols k d within)
-      (each-kept has_bands (stocks t) bands k d within) (each-kept has_fees (stocks t) fees k d within))
+    (each-kept has_bands (stocks t) bands k d within) (each-kept has_fees (stocks t) fees k d within))

@@ -76,10 +76,10 @@ more-counted known left rest d ds e h =
     let here = counted left rest d e in
     let long : length (traders_in known (entry_of d)) ≡ count_of (entry_of d) = length-map-range_with_len (trader_of known (entry_of d)) 0 (count_of (entry_of d)) in
     let both : length (flat_map (λ (x : Data). traders_in known (entry_of x)) (d ∷ ds))
-        ≡ length (traders_in known (entry_of d)) + length (flat_map (λ (x : Data). traders_in known (entry_of x)) ds)
+    ≡ length (traders_in known (entry_of d)) + length (flat_map (λ (x : Data). traders_in known (entry_of x)) ds)
     = length-append (traders_in known (entry_of d)) (flat_map (λ (x : Data). traders_in known (entry_of x)) ds) in record {
       each = All-cons (λ (x : Data). count_of (entry_of x) ≤ left) d ds here.0.not_above
-      (All-weaker (λ (x : Data). count_of (entry_of x) ≤ rest) (λ (x : Data). count_of (entry_of x) ≤ left) (λ x le. omega (arith, le, here.1)) ds h.each);
+          (All-weaker (λ (x : Data). count_of (entry_of x) ≤ rest) (λ (x : Data). count_of (entry_of x) ≤ left) (λ x le. omega (arith, le, here.1)) ds h.each);
       some = omega (arith, both, long, here.0.not_below, h.some);
       few = omega (arith, both, long, here.1, h.few);
     }
@@ -230,8 +230,8 @@ pub are-traders : (t : Members) (tables : List (List SeriesRow)) → timing_brok
 are-traders t tables timing named own =
     all-flat (IsTraderOf (opening_of t tables)) (λ (d : Data). traders_in (symbols t) (entry_of d)) (agents t)
     (λ k d within. all-counted (IsTraderOf (opening_of t tables)) (trader_of (symbols t) (entry_of (get_or (agents t) k d))) (count_of (entry_of (get_or (agents t) k d)))
-      (λ n less. is-trader t (entry_of (get_or (agents t) k d)) tables n (each-kept (has_timing (size_of t) (start_of t)) (agents t) timing k d within)
-        (each-kept has_own (agents t) own k d within) (each-kept (names_stock (symbols t)) (agents t) named k d within) less))
+    (λ n less. is-trader t (entry_of (get_or (agents t) k d)) tables n (each-kept (has_timing (size_of t) (start_of t)) (agents t) timing k d within)
+    (each-kept has_own (agents t) own k d within) (each-kept (names_stock (symbols t)) (agents t) named k d within) less))
 
 -- for what the code asks
 
@@ -270,9 +270,9 @@ loosely size start t few h =
     let low : zero-on ≡ true = from-zero start (number_at (codes "first") t) two.1 in
     and_from (is_group 32 t && zero-on && spread && delay && every && wobble) last
     (and_from (is_group 32 t && zero-on && spread && delay && every) wobble
-      (and_from (is_group 32 t && zero-on && spread && delay) every
-        (and_from (is_group 32 t && zero-on && spread) delay
-          (and_from (is_group 32 t && zero-on) spread (and_from (is_group 32 t) zero-on group low) three.1) four.1) five.1) six.1) seven.1
+    (and_from (is_group 32 t && zero-on && spread && delay) every
+    (and_from (is_group 32 t && zero-on && spread) delay
+    (and_from (is_group 32 t && zero-on) spread (and_from (is_group 32 t) zero-on group low) three.1) four.1) five.1) six.1) seven.1
 
 pub loosely-timed : (t : Members) (ds : List Data) → ds ≡ agents t → squares_broken t ≡ None → timing_broken t ≡ None → first_failing (has_timing 32 0) ds ≡ None
 loosely-timed t ds e square timing =

@@ -69,11 +69,7 @@ fn entry_change(alloc: Global, stocks: &[Value], value: &Value) -> Result<Dated,
 }
 
 // The dated change of each entry in order.
-fn entry_changes(
-    alloc: Global,
-    stocks: &[Value],
-    values: &[Value],
-) -> Result<Vec<Dated>, Memory>
+fn entry_changes(alloc: Global, stocks: &[Value], values: &[Value]) -> Result<Vec<Dated>, Memory>
     requires few { length stocks.now ≤ 16 }
     requires rules { first_failing has_new_rules (map view values.now) ≡ None }
     ensures { IfOk result (λ v. v.items ≡ map (λ d. dated_of (map symbol_in (map view stocks.now)) (entry_of d)) (map view values.now)) }

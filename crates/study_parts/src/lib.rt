@@ -12,8 +12,5 @@ mod stocks;
 mod traders;
 pub mod worked;
 
-#[cfg(test)]
-mod tests;
-
 pub use market::stride;
 pub use parts::opening;

@@ -15,6 +15,6 @@ pub unreachable-requires : goal.unreachable-requires
 unreachable-requires c =
     let none : dates_refusal c.in_ok-list.list.items ≡ None
     = ap dates_refusal c.in_ok-list.ensures
-        ∙ dates-rise (symbols (table_view c.args.table.now)) (start_of (table_view c.args.table.now)) (close_of (table_view c.args.table.now)) (changes (table_view c.args.table.now)) c.requires.dates in
+    ∙ dates-rise (symbols (table_view c.args.table.now)) (start_of (table_view c.args.table.now)) (close_of (table_view c.args.table.now)) (changes (table_view c.args.table.now)) c.requires.dates in
     let made = at-none (dates_refusal c.in_ok-list.list.items) _ none c.new.ensures.made in
     cc (sym made ∙ c.in-Err.is)

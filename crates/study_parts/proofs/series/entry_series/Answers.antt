@@ -27,7 +27,7 @@ stock_series-requires c =
       key = c.requires.key;
       prices = subst (λ (m : Members). has_prices m ≡ true) (sym same) (value-kept has_prices c.args.values.now c.loop-number.number item c.loop-number-test.true c.requires.prices);
       pace = subst (λ (m : Members). has_pace (span_of (table_view c.args.table.now)) m ≡ true) (sym same)
-      (value-kept (has_pace (span_of (table_view c.args.table.now))) c.args.values.now c.loop-number.number item c.loop-number-test.true c.requires.pace);
+          (value-kept (has_pace (span_of (table_view c.args.table.now))) c.args.values.now c.loop-number.number item c.loop-number-test.true c.requires.pace);
       rows = λ other. value-rows c.args.values.now c.args.tables.now c.loop-number.number item c.loop-number-test.true c.requires.rows
           (ap (goes_by (codes "rule")) (sym same) ∙ other);
     }
