@@ -116,11 +116,7 @@ fn accept_branches(
 ///
 /// # Errors
 /// The first broken rule of the study; or want of memory.
-pub fn accept(
-    alloc: Global,
-    raw: &RawStudy,
-    series: Option<&[u8]>,
-) -> Result<Study, AcceptError>
+pub fn accept(alloc: Global, raw: &RawStudy, series: Option<&[u8]>) -> Result<Study, AcceptError>
     ensures accepted { IfOk result (λ s. study_of (table_view raw.now.table) (option_map (λ text. text.now) series.entry) ≡ Ok (study_told s)) }
     ensures refused { IfErr result (λ e. (r : Refusal) → e ≡ AcceptError.Refused r → study_of (table_view raw.now.table) (option_map (λ text. text.now) series.entry) ≡ Err r) }
 {
