@@ -74,9 +74,10 @@ traces_begin c n zero m is =
     ([], ap (λ (x : ℕ). traces_of c x) same ∙ sym (append-nil (traces_of c n)))
 traces_begin c n (suc k) m is =
     let up : m ≡ suc (n + k) = omega (arith, is) in
-    let rest : (more : List ℕ) × (traces_of c (n + k) ≡ traces_of c n ++ more) = traces_begin c n k (n + k) refl in
-    (rest.0 ++ trace_of c (n + k),
-    ap (λ (x : ℕ). traces_of c x) up ∙ ap (λ (l : List ℕ). l ++ trace_of c (n + k)) rest.1 ∙ append_assoc (traces_of c n) rest.0 (trace_of c (n + k)))
+    let rest : (more : List ℕ) × (traces_of c (n + k) ≡ traces_of c n ++ more) = traces_begin c n k (n + k) refl in (
+      rest.0 ++ trace_of c (n + k),
+      ap (λ (x : ℕ). traces_of c x) up ∙ ap (λ (l : List ℕ). l ++ trace_of c (n + k)) rest.1 ∙ append_assoc (traces_of c n) rest.0 (trace_of c (n + k)),
+    )
 
 -- one branch more was sent
 pub branch_sent : (c : CourseTold) (i : ℕ) (old mid new : Option (List ℕ)) → mid ≡ appended old (traces_of c i) → new ≡ appended mid (trace_of c i)

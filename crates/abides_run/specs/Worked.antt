@@ -18,11 +18,11 @@ three_branches = record {
   opening = market 2000 0 (watcher 1000 ∷ watcher 1000 ∷ []);
   plan = record {
     branches =
-      root
-      ∷ record { name = codes "x"; parent = 0; stop = 2; edits = Latency 0 0 50 0 ∷ [] }
-      ∷ record { name = codes "y"; parent = 0; stop = 2; edits = Latency 0 0 7 0 ∷ [] }
-      ∷ record { name = codes "z"; parent = 0; stop = 2; edits = [] }
-      ∷ [];
+        root
+        ∷ record { name = codes "x"; parent = 0; stop = 2; edits = Latency 0 0 50 0 ∷ [] }
+        ∷ record { name = codes "y"; parent = 0; stop = 2; edits = Latency 0 0 7 0 ∷ [] }
+        ∷ record { name = codes "z"; parent = 0; stop = 2; edits = [] }
+        ∷ [];
     limit = 100;
   };
 }

@@ -121,9 +121,7 @@ fn tables(alloc: Global, bytes: &[u8]) -> Result<RawStudy, Ending>
 {
     match read_tables(alloc, bytes) {
         Ok(raw) => Ok(raw),
-        Err(StudyError::NotToml) => {
-            Err(nameless(alloc, Status::Refused { rule: 0, place: 0 }))
-        }
+        Err(StudyError::NotToml) => { Err(nameless(alloc, Status::Refused { rule: 0, place: 0 })) }
         Err(StudyError::Memory) => Err(nameless(alloc, Status::Memory)),
     }
 }

@@ -134,9 +134,18 @@ fn three_branches_share_two_events(rt: HostRuntime) -> Result<(), Fail> {
     // the last branch changes nothing: behind its frame it is the root's trace
     assert_eq!(rt; &bytes[27..813], &bytes[2464..3250]);
     // the fifth event of the root, of x and of y
-    assert_eq!(rt; &bytes[295..308], b"e\0\0\0\x05\0\0\0\0\0\0\x03\xf2".as_slice());
-    assert_eq!(rt; &bytes[1114..1127], b"e\0\0\0\x05\0\0\0\0\0\0\x04\x1f".as_slice());
-    assert_eq!(rt; &bytes[1933..1946], b"e\0\0\0\x05\0\0\0\0\0\0\x03\xf4".as_slice());
+    assert_eq!(rt;
+        &bytes[295..308],
+        b"e\0\0\0\x05\0\0\0\0\0\0\x03\xf2".as_slice()
+    );
+    assert_eq!(rt;
+        &bytes[1114..1127],
+        b"e\0\0\0\x05\0\0\0\0\0\0\x04\x1f".as_slice()
+    );
+    assert_eq!(rt;
+        &bytes[1933..1946],
+        b"e\0\0\0\x05\0\0\0\0\0\0\x03\xf4".as_slice()
+    );
     Ok(())
 }
 
@@ -249,7 +258,14 @@ fn faulty_words_ask_for_nothing(rt: HostRuntime) -> Result<(), Fail> {
 #[test]
 fn refusals_come_in_order(rt: HostRuntime) -> Result<(), Fail> {
     let alloc = rt.alloc();
-    let broken = study(alloc, "000000000000000000000000000000000000000000000000000000000000000", 2000, 2_000_000, WATCHERS, "")?;
+    let broken = study(
+        alloc,
+        "000000000000000000000000000000000000000000000000000000000000000",
+        2000,
+        2_000_000,
+        WATCHERS,
+        "",
+    )?;
     let with_series = study(alloc, KEY, 2000, 30, WATCHERS, "")?;
     let with_series = format!(in alloc; "series = \"t\"\n{with_series}")?;
     let long = vec![in alloc; 10; 16_777_217]?;
@@ -257,17 +273,94 @@ fn refusals_come_in_order(rt: HostRuntime) -> Result<(), Fail> {
         ("u", b"", b"", 0, Status::NoStudy, "no such file: u\n"),
         ("s", b"", b"", 1, Status::ReadFault, "read failed: s\n"),
         ("s", &long, b"", 0, Status::TooLong, "file too long: s\n"),
-        ("s", b"", b"", 2, Status::Refused { rule: 1, place: 1 }, "study refused: rule 1, place 1\n"),
-        ("s", b"\xff", b"", 0, Status::Refused { rule: 0, place: 0 }, "study refused: rule 0, place 0\n"),
-        ("s", b"series = \"t\" = 1", b"", 2, Status::Refused { rule: 0, place: 0 }, "study refused: rule 0, place 0\n"),
-        ("s", b"series = \"u\"", b"", 0, Status::NoStudy, "no such file: u\n"),
-        ("s", b"series = \"\"", b"", 0, Status::NoStudy, "no such file: \n"),
-        ("s", b"series = \"t\"", b"", 2, Status::ReadFault, "read failed: t\n"),
-        ("s", b"series = \"t\"", &long, 0, Status::TooLong, "file too long: t\n"),
-        ("s", b"series = 1", b"", 2, Status::Refused { rule: 1, place: 1 }, "study refused: rule 1, place 1\n"),
-        ("s", b"series = \"t\"", b"", 0, Status::Refused { rule: 1, place: 1 }, "study refused: rule 1, place 1\n"),
-        ("s", broken.as_bytes(), b"", 0, Status::Refused { rule: 3, place: 0 }, "study refused: rule 3, place 0\n"),
-        ("s", with_series.as_bytes(), b"", 0, Status::Refused { rule: 18, place: 0 }, "study refused: rule 18, place 0\n"),
+        (
+            "s",
+            b"",
+            b"",
+            2,
+            Status::Refused { rule: 1, place: 1 },
+            "study refused: rule 1, place 1\n",
+        ),
+        (
+            "s",
+            b"\xff",
+            b"",
+            0,
+            Status::Refused { rule: 0, place: 0 },
+            "study refused: rule 0, place 0\n",
+        ),
+        (
+            "s",
+            b"series = \"t\" = 1",
+            b"",
+            2,
+            Status::Refused { rule: 0, place: 0 },
+            "study refused: rule 0, place 0\n",
+        ),
+        (
+            "s",
+            b"series = \"u\"",
+            b"",
+            0,
+            Status::NoStudy,
+            "no such file: u\n",
+        ),
+        (
+            "s",
+            b"series = \"\"",
+            b"",
+            0,
+            Status::NoStudy,
+            "no such file: \n",
+        ),
+        (
+            "s",
+            b"series = \"t\"",
+            b"",
+            2,
+            Status::ReadFault,
+            "read failed: t\n",
+        ),
+        (
+            "s",
+            b"series = \"t\"",
+            &long,
+            0,
+            Status::TooLong,
+            "file too long: t\n",
+        ),
+        (
+            "s",
+            b"series = 1",
+            b"",
+            2,
+            Status::Refused { rule: 1, place: 1 },
+            "study refused: rule 1, place 1\n",
+        ),
+        (
+            "s",
+            b"series = \"t\"",
+            b"",
+            0,
+            Status::Refused { rule: 1, place: 1 },
+            "study refused: rule 1, place 1\n",
+        ),
+        (
+            "s",
+            broken.as_bytes(),
+            b"",
+            0,
+            Status::Refused { rule: 3, place: 0 },
+            "study refused: rule 3, place 0\n",
+        ),
+        (
+            "s",
+            with_series.as_bytes(),
+            b"",
+            0,
+            Status::Refused { rule: 18, place: 0 },
+            "study refused: rule 18, place 0\n",
+        ),
     ];
     for (name, study, series, failing, status, line) in rows {
         for command in ["run", "check"] {
