@@ -1,5 +1,5 @@
 -- How the clauses of the one call follow from those of the search, of what is done with a study, and of the note.
-use Rattle.std.proofs.Common.{◌≡◌, ◌⊎◌, ◌≤◌, ◌+◌, ℕ, List, [], Option, Some, None, IfSome, refl, sym, ap, ◌∙◌, subst, inl, inr, arith, append-nil}
+use Rattle.std.proofs.Common.{◌≡◌, ◌⊎◌, ◌≤◌, ℕ, List, [], Option, Some, None, IfSome, refl, sym, ap, ◌∙◌, subst, inl, inr, arith, append-nil}
 use Rattle.outside.specs.Rose.{Rose}
 use Rattle.outside.specs.Taken.{TookPrefix}
 use Rattle.study_accept.specs.Accepted.{StudyTold}

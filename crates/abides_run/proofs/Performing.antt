@@ -1,12 +1,11 @@
 -- What is done with a study ends as its parts end.
-use Rattle.std.proofs.Common.{◌≡◌, ◌⊎◌, ◌≤◌, ◌+◌, ℕ, List, Option, Result, Ok, Err, [], append-nil, refl, sym, subst, inl, inr, arith}
+use Rattle.std.proofs.Common.{◌≡◌, ◌≤◌, ◌+◌, ℕ, List, Option, Ok, Err, [], append-nil, refl, sym, subst, inl, inr, arith}
 use Rattle.outside.specs.Taken.{appended, TookPrefix}
 use Rattle.study_accept.specs.Accepted.{StudyTold}
 use Rattle.abides_run.specs.declared.request.Task.{Task}
 use Rattle.abides_run.specs.declared.request.Task.TheVariants.{Run, Check}
 use Rattle.abides_run.specs.Output.{counts_line, study_bundle, study_events, written, simulated}
 use Rattle.abides_run.specs.Statuses.{Counts}
-use Rattle.abides_run.specs.Headline.{Seen}
 use Rattle.abides_run.specs.Performed.{Performed, Sent, IsUnsent}
 use Rattle.abides_run.specs.declared.status.Status.{Status}
 use Rattle.abides_run.specs.declared.status.Status.TheVariants as status

@@ -1,5 +1,5 @@
 -- What words and files come to, before anything is simulated. The order of refusals is the order of this computation.
-use Rattle.std.specs.Prelude.{ℕ, List, [], ◌∷◌, Option, Some, None, Result, Ok, Err, codes}
+use Rattle.std.specs.Prelude.{ℕ, List, [], Option, Some, None, Result, Ok, Err, codes}
 use Rattle.toml.specs.Data.{Members}
 use Rattle.outside.specs.Files.{Content, absent, too_long, whole, held, content}
 use Rattle.study_file.specs.Tables.{table_of, text_at}

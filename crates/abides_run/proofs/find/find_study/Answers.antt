@@ -1,4 +1,4 @@
-use Rattle.std.proofs.Common.{◌≡◌, List, ℕ, Option, Some, IfSome, string_bytes, rules}
+use Rattle.std.proofs.Common.{◌≡◌, Some, IfSome, string_bytes, rules}
 use Rattle.abides_run.specs.declared.ending.Ending.{Ending}
 use Rattle.abides_run.specs.Words.{texts, asked_of}
 use Rattle.abides_run.specs.Verdict.{verdict}

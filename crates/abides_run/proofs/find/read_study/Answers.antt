@@ -1,4 +1,4 @@
-use Rattle.std.proofs.Common.{List, ℕ, Option, IfSome, string_bytes, option_map, vec_items, Bor}
+use Rattle.std.proofs.Common.{List, ℕ, IfSome, string_bytes, option_map, vec_items, Bor}
 use Rattle.toml.specs.View.{table_view}
 use Rattle.study_file.specs.Tables.{table_of}
 use Rattle.abides_run.specs.declared.ending.Ending.{Ending}

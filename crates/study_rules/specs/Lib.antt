@@ -1,2 +1,0 @@
-pub mod Watchers
-pub mod Opening
