@@ -21,38 +21,6 @@ use outside::{Counted, Steps};
 use std::alloc::{AllocError, Global};
 use std::test::Fail;
 
-// One trader of each kind, with its first wakeup.
-const KINDS: [(Kind, Time); 5] = [
-    (Kind::Watcher, 1000),
-    (Kind::Noise { size: 100 }, 1001),
-    (
-        Kind::Value {
-            size: 100,
-            noise: 500,
-            margin: 200,
-        },
-        1002,
-    ),
-    (
-        Kind::Momentum {
-            size: 100,
-            short: 1,
-            long: 2,
-        },
-        1003,
-    ),
-    (
-        Kind::Maker {
-            size: 200,
-            half: 200,
-            step: 100,
-            levels: 3,
-            pause: 100,
-        },
-        1000,
-    ),
-];
-
 // A trader of a kind that first wakes at a time, and then each millisecond.
 fn setting(kind: Kind, first: Time) -> TraderSetting
     ensures { result ≡ trader kind first }
@@ -505,6 +473,58 @@ fn tell_alike(alloc: Global, a: &Kernel, b: &Kernel) -> Result<bool, Memory> {
     Ok(here.iter().copied().eq(there.iter().copied()))
 }
 
+fn noise() -> Kind
+    ensures { IsKind result }
+{
+    Kind::Noise { size: 100 }
+}
+
+fn value() -> Kind
+    ensures { IsKind result }
+{
+    Kind::Value {
+        size: 100,
+        noise: 500,
+        margin: 200,
+    }
+}
+
+fn momentum() -> Kind
+    ensures { IsKind result }
+{
+    Kind::Momentum {
+        size: 100,
+        short: 1,
+        long: 2,
+    }
+}
+
+fn maker() -> Kind
+    ensures { IsKind result }
+{
+    Kind::Maker {
+        size: 200,
+        half: 200,
+        step: 100,
+        levels: 3,
+        pause: 100,
+    }
+}
+
+// A market of one trader of each kind.
+fn crowd(alloc: Global) -> Result<Opening, Memory>
+    ensures { IfOk result IsOpening }
+{
+    let kinds = [
+        (Kind::Watcher, 1000),
+        (noise(), 1001),
+        (value(), 1002),
+        (momentum(), 1003),
+        (maker(), 1000),
+    ];
+    market(alloc, 60_000_000, 2, &kinds)
+}
+
 // A state after 500 events, on whose way latencies, a trader and the value were edited.
 fn halfway(alloc: Global, o: &Opening) -> Result<Kernel, Memory>
     requires { IsOpening o.now }
@@ -535,7 +555,7 @@ fn gone_on(alloc: Global, o: &Opening, mut kernel: Kernel) -> Result<Gone, Memor
 #[test]
 fn a_copy_goes_on_as_its_kernel_does(rt: HostRuntime) -> Result<(), Fail> {
     let alloc = rt.alloc();
-    let o = market(alloc, 60_000_000, 2, &KINDS)?;
+    let o = crowd(alloc)?;
     let kernel = halfway(alloc, &o)?;
     let copy = kernel.copy(alloc)?;
     let a = gone_on(alloc, &o, kernel)?;
