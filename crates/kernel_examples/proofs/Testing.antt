@@ -1,19 +1,17 @@
 -- Lemmas on the worked runs of the tests.
 use Rattle.std.proofs.Common.{◌≡◌, ℕ, ◌+◌, ◌*◌, ◌<◌, ◌≤◌, ℤ, pos, negsuc, true, false, cond, ltb, List, [], ◌∷◌, length, map, replicate, refl, sym, ap, ◌∙◌, subst, arith, lit≤, lit<, All}
-use Rattle.std.specs.Prelude.{◌^◌, slice_index_or}
+use Rattle.std.specs.Prelude.{◌^◌}
 use Rattle.std.proofs.lemmas.Bool.{le-leb}
 use Rattle.std.proofs.lemmas.Bool.Decides.{nat_tests}
 use Rattle.std.proofs.lemmas.List.{length-map}
-use Rattle.std.proofs.lemmas.List.Elements.{All-cons, All-map, All-nil, All-replicate, All-weaker}
+use Rattle.std.proofs.lemmas.List.Elements.{All-map, All-replicate, All-weaker}
 use Rattle.market_types.specs.Limits.{longest_delay, most_waiting}
 use Rattle.event_queue.specs.Waiting.{joined}
-use Rattle.market_rules.specs.declared.changes.Dated.{Dated}
 use Rattle.market_rules.specs.declared.edit.Edit.{Edit}
 use Rattle.market_rules.specs.declared.edit.Edit.TheVariants.{Tick, Fee, Halt, Resume, Latency, Agent, Silence, Inject, Series}
 use Rattle.market_rules.specs.declared.edit.Param.{Param}
 use Rattle.market_rules.specs.EditRanges.{is_near_zero, is_value_of}
 use Rattle.latency_model.specs.Tables.{group_count}
-use Rattle.fundamental_series.specs.Made.{Made, by_rows, by_rule}
 use Rattle.agent_shell.specs.declared.setting.Kind.{Kind}
 use Rattle.agent_shell.specs.declared.setting.TraderSetting.{TraderSetting}
 use Rattle.agent_shell.specs.declared.setting.Kind.TheVariants.{Watcher, Noise, Value, Momentum, Maker}
@@ -22,7 +20,7 @@ use Rattle.agent_shell.specs.Parameters.{IsKind, IsOwnParam}
 use Rattle.market_opening.specs.declared.opening.Opening.{Opening}
 use Rattle.market_opening.specs.declared.posting.Posting.{Posting}
 use Rattle.market_opening.specs.declared.posting.Posting.TheVariants.{WakeAt}
-use Rattle.market_opening.specs.Opening.{AreDated, IsDated, IsOpening, IsSeriesFor, IsTraderOf, no_series}
+use Rattle.market_opening.specs.Opening.{IsOpening, IsTraderOf}
 use Rattle.market_opening.specs.Worked.{market_of, trader}
 use Rattle.kernel_core.specs.State.{State}
 use Rattle.market_floor.specs.Floor.{party_at}
@@ -31,7 +29,7 @@ use Rattle.kernel_mail.specs.Send.{message_of, sent}
 use Rattle.kernel_core.specs.Open.{opened, woken}
 use Rattle.kernel_core.specs.Step.{Fits}
 use Rattle.kernel_core.specs.Edited.{IsEditOf}
-use Rattle.kernel_examples.specs.Examples.{IsPlain, later_ticks}
+use Rattle.kernel_examples.specs.Examples.{IsPlain}
 
 -- traders of kinds in their ranges are in those of a market
 pub kinds-admitted : (close limit delay : ℕ) (ts : List TraderSetting) (ks : List (Kind × ℕ)) → All (λ (k : Kind × ℕ). IsKind k.0) ks → All (λ (k : Kind × ℕ). 1000 ≤ k.1) ks
@@ -131,37 +129,3 @@ plain-edit o s (Series stock offset) f p =
     let some = first-stock o s f in
     let zero = p.0 in
     record { among = grind (arith, nat_tests); range = p.1; parameter = tt }
-
--- the series of an opening are those of the same opening with other dated changes
-series-kept : (o : Opening) (ds : List Dated) (k : ℕ) (m : Made) → IsSeriesFor o k m → IsSeriesFor (record o { dated = ds }) k m
-series-kept o ds k (by_rule m) q = record { key = q.key; stock = q.stock; start = q.start; close = q.close; rule = q.rule; steps = q.steps }
-series-kept o ds k (by_rows rows) q = record { rows = q.rows; first = q.first }
-
--- an opening with other dated changes in their ranges is one
-pub dated-opens : (o : Opening) (ds : List Dated) → IsOpening o → AreDated (record o { dated = ds }) → IsOpening (record o { dated = ds })
-dated-opens o ds h d = record {
-  close = h.close;
-  start = h.start;
-  some = h.some;
-  limit = h.limit;
-  groups = h.groups;
-  exchange_group = h.exchange_group;
-  exchange_delay = h.exchange_delay;
-  market = h.market;
-  stocks = h.stocks;
-  series = record { count = h.series.count; each = λ k within. series-kept o ds k (slice_index_or o.series k no_series) (h.series.each k within) };
-  dated = d;
-  some_trader = h.some_trader;
-  traders = All-weaker (λ (s : TraderSetting). IsTraderOf o s) (λ (s : TraderSetting). IsTraderOf (record o { dated = ds }) s)
-      (λ s q. record { setting = q.setting; group = q.group; stock = q.stock; start = q.start; first = q.first; wobble = q.wobble }) o.traders h.traders;
-}
-
--- ticks that are dated within the hours of a market that has a stock
-pub later-ticks-dated : (o : Opening) → o.start ≤ 1500 → 1500 ≤ o.close → 0 < length o.stocks → AreDated (record o { dated = later_ticks })
-later-ticks-dated o start close some = record {
-  few = lit≤ tt;
-  rising = refl;
-  each = All-cons (λ (d : Dated). IsDated (record o { dated = later_ticks }) d) _ []
-      (record { start = start; close = close; stock = some; change = record { accepted = refl; modest = refl } })
-      (All-nil (λ (d : Dated). IsDated (record o { dated = later_ticks }) d));
-}

@@ -1,4 +1,4 @@
-//! Runs over the code whose events were computed by hand, and a long run beside its copy.
+//! Runs over the code whose events were computed by hand.
 
 ghost use Rattle.std.specs.Prelude.{◌≡◌, ◌≤◌, ◌∷◌, [], ℕ, IfOk, max, map, length, All, true};
 ghost use Rattle.agent_shell.specs.Parameters.{IsKind};
@@ -7,51 +7,16 @@ ghost use Rattle.market_rules.specs.EditRanges.{is_near_zero};
 ghost use Rattle.market_opening.specs.Opening.{IsOpening};
 ghost use Rattle.market_opening.specs.Worked.{market_of, trader};
 ghost use Rattle.kernel_core.specs.Step.{Fits};
-ghost use Rattle.kernel_examples.specs.Examples.{IsPlain, later_ticks};
+ghost use Rattle.kernel_examples.specs.Examples.{IsPlain};
 
 use agent_shell::{Kind, TraderSetting};
 use kernel_core::{Kernel, Opening, Stepped};
 use market_opening::worked::{markets_are_openings, opening};
-use market_rules::{Band, Change, Dated, DatedList, Edit, FeeTable, Param, TickTable};
-use market_types::{
-    AgentNo, Body, End, Enter, Entry, Inbound, Memory, Reply, Side, Symbol, Time, Token, Trace,
-    TraderTold,
-};
+use market_rules::{Band, Edit, FeeTable, Param, TickTable};
+use market_types::{End, Enter, Entry, Inbound, Memory, Side, Symbol, Time, Token, Trace};
 use outside::{Counted, Steps};
 use std::alloc::{AllocError, Global};
 use std::test::Fail;
-
-// One trader of each kind, with its first wakeup.
-const KINDS: [(Kind, Time); 5] = [
-    (Kind::Watcher, 1000),
-    (Kind::Noise { size: 100 }, 1001),
-    (
-        Kind::Value {
-            size: 100,
-            noise: 500,
-            margin: 200,
-        },
-        1002,
-    ),
-    (
-        Kind::Momentum {
-            size: 100,
-            short: 1,
-            long: 2,
-        },
-        1003,
-    ),
-    (
-        Kind::Maker {
-            size: 200,
-            half: 200,
-            step: 100,
-            levels: 3,
-            pause: 100,
-        },
-        1000,
-    ),
-];
 
 // A trader of a kind that first wakes at a time, and then each millisecond.
 fn setting(kind: Kind, first: Time) -> TraderSetting
@@ -441,161 +406,5 @@ fn an_order_into_a_full_queue_is_dropped_and_counted(rt: HostRuntime) -> Result<
             1
         )
     );
-    Ok(())
-}
-
-// An event in plain values; of its feeds their lengths.
-#[derive(Clone, Copy, PartialEq, Eq, Debug)]
-struct EventTold {
-    number: u32,
-    time: Time,
-    seq: u64,
-    from: AgentNo,
-    to: AgentNo,
-    put_back: bool,
-    until: Time,
-    fee: i64,
-    body: Body,
-    feeds: (usize, usize),
-}
-
-fn told(entry: &Entry) -> Option<EventTold> {
-    match entry {
-        Entry::Event(e) => Some(EventTold {
-            number: e.number,
-            time: e.time,
-            seq: e.seq,
-            from: e.from,
-            to: e.to,
-            put_back: e.put_back,
-            until: e.until,
-            fee: e.fee,
-            body: e.body,
-            feeds: (e.before.len(), e.after.len()),
-        }),
-        Entry::Edit(_) => None,
-    }
-}
-
-// What the traders tell of themselves, in their order.
-fn tellings(alloc: Global, kernel: &Kernel) -> Result<Vec<TraderTold>, Memory> {
-    let mut told = Vec::new(alloc);
-    for agent in 1..kernel.agents() {
-        told.push(kernel.trader(agent))?;
-    }
-    Ok(told)
-}
-
-// Whether two traces have the same events.
-fn are_same(a: &[Entry], b: &[Entry]) -> bool {
-    a.iter().map(told).eq(b.iter().map(told))
-}
-
-// Whether the same messages wait, in one order.
-fn wait_alike(alloc: Global, a: &Kernel, b: &Kernel) -> Result<bool, Memory> {
-    let here = a.messages(alloc)?;
-    let there = b.messages(alloc)?;
-    Ok(here.iter().copied().eq(there.iter().copied()))
-}
-
-// Whether the traders tell the same of themselves.
-fn tell_alike(alloc: Global, a: &Kernel, b: &Kernel) -> Result<bool, Memory> {
-    let here = tellings(alloc, a)?;
-    let there = tellings(alloc, b)?;
-    Ok(here.iter().copied().eq(there.iter().copied()))
-}
-
-// A state after 500 events, on whose way latencies, a trader and the value were edited.
-fn halfway(alloc: Global, o: &Opening) -> Result<Kernel, Memory>
-    requires { IsOpening o.now }
-    ensures { IfOk result (λ k. Fits o.now k) }
-{
-    let mut trace = Trace::new(alloc);
-    let silence = Edit::Silence { agent: 1 };
-    let edits = [(100, latency(7, 9)), (200, silence), (300, shifted(250))];
-    branch(alloc, o, &edits, 500, &mut trace)
-}
-
-// A run to its end: why it ended, its state, and its trace.
-#[derive(Drop)]
-struct Gone {
-    end: Option<End>,
-    kernel: Kernel,
-    trace: Trace,
-}
-
-fn gone_on(alloc: Global, o: &Opening, mut kernel: Kernel) -> Result<Gone, Memory>
-    requires { Fits o.now kernel }
-{
-    let mut trace = Trace::new(alloc);
-    let end = run(alloc, o, &mut kernel, 100_000, &mut trace)?;
-    Ok(Gone { end, kernel, trace })
-}
-
-#[test]
-fn a_copy_goes_on_as_its_kernel_does(rt: HostRuntime) -> Result<(), Fail> {
-    let alloc = rt.alloc();
-    let o = market(alloc, 60_000_000, 2, &KINDS)?;
-    let kernel = halfway(alloc, &o)?;
-    let copy = kernel.copy(alloc)?;
-    let a = gone_on(alloc, &o, kernel)?;
-    let b = gone_on(alloc, &o, copy)?;
-    assert!(rt; a.end == Some(End::Closed) && b.end == a.end && a.kernel.events() > 1000);
-    assert!(rt; wait_alike(alloc, &a.kernel, &b.kernel)?);
-    assert!(rt; tell_alike(alloc, &a.kernel, &b.kernel)?);
-    assert!(rt; a.kernel.counts() == b.kernel.counts());
-    assert!(rt; are_same(a.trace.as_slice(), b.trace.as_slice()));
-    Ok(())
-}
-
-// Ticks of five cents from 1500 on.
-fn later_ticks(alloc: Global) -> Result<DatedList, Memory>
-    ensures { IfOk result (λ d. d ≡ later_ticks) }
-{
-    let table = five_cents(alloc)?;
-    let mut dates = Vec::new(alloc);
-    dates.push(Dated {
-        time: 1500,
-        stock: 0,
-        change: Change::Tick(table),
-    })?;
-    let Ok(dated) = DatedList::new(dates) else {
-        return Err(Memory);
-    };
-    Ok(dated)
-}
-
-// The market of one watcher with these dated ticks.
-fn dated_market(alloc: Global) -> Result<Opening, Memory>
-    ensures { IfOk result IsOpening }
-{
-    let dated = later_ticks(alloc)?;
-    let mut o = market(alloc, 2000, 0, &[(Kind::Watcher, 1000)])?;
-    o.dated = dated;
-    Ok(o)
-}
-
-// What the exchange answers in short: `A`, or the reason of a rejection, and when.
-fn answer_of(entry: &Entry) -> Option<(u8, Time)> {
-    let Entry::Event(e) = entry else {
-        return None;
-    };
-    match e.body {
-        Body::Answer(Reply::Accepted { time, .. }) => Some((b'A', time)),
-        Body::Answer(Reply::Rejected { time, reason, .. }) => Some((reason, time)),
-        _ => None,
-    }
-}
-
-#[test]
-fn dated_ticks_hold_from_their_nanosecond_on(rt: HostRuntime) -> Result<(), Fail> {
-    let alloc = rt.alloc();
-    let o = dated_market(alloc)?;
-    let mut trace = Trace::new(alloc);
-    let orders = [(0, order(b'A', 499)), (0, order(b'B', 500))];
-    branch(alloc, &o, &orders, 100, &mut trace)?;
-    let answers = trace.as_slice().iter().filter_map(answer_of);
-    let hoped = [(b'A', 1499), (b'X', 1500)];
-    assert!(rt; answers.eq(hoped.iter().copied()));
     Ok(())
 }
