@@ -114,7 +114,7 @@ words-of names (d ∷ ds) h =
     ap (map word_of) (map-append (λ (s : TraderSetting). s.kind) here later)
     ∙ map-append word_of (kinds_in here) (kinds_in later)
     ∙ ap (λ (xs : List (List ℕ)). xs ++ map word_of (kinds_in later))
-      (words-in-row names (entry_of d) (kind_text (entry_of d)) (kind-word (entry_of d) (All-head P d ds h)) 0 (count_of (entry_of d)))
+    (words-in-row names (entry_of d) (kind_text (entry_of d)) (kind-word (entry_of d) (All-head P d ds h)) 0 (count_of (entry_of d)))
     ∙ ap (λ (xs : List (List ℕ)). replicate (count_of (entry_of d)) (kind_text (entry_of d)) ++ xs) (words-of names ds (All-tail P d ds h))
 
 pub kinds-said : (t : Members) (rows : List (List SeriesRow)) → IsAccepted t rows → map word_of (kinds_in (traders_of t)) ≡ kinds_of (agents t)

@@ -93,11 +93,7 @@ fn accepted_study(alloc: Global, table: &Table, rows: &SeriesTables) -> Result<S
 }
 
 // What the rules of branches say of a study that breaks none of those before them, or the study.
-fn accept_branches(
-    alloc: Global,
-    table: &Table,
-    rows: &SeriesTables,
-) -> Result<Study, AcceptError>
+fn accept_branches(alloc: Global, table: &Table, rows: &SeriesTables) -> Result<Study, AcceptError>
     requires { IsAccepted (table_view table.now) rows.now }
     ensures accepted { IfOk result (λ s. (first_of_rules branch_rules (table_view table.now) ≡ None) × (study_told s ≡ told_of (table_view table.now) rows.now)) }
     ensures refused { IfErr result (λ e. (r : Refusal) → e ≡ AcceptError.Refused r → first_of_rules branch_rules (table_view table.now) ≡ Some r) }

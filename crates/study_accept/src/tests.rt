@@ -80,8 +80,8 @@ fn studies_are_accepted_or_refused(rt: HostRuntime) -> Result<(), Fail> {
         ("first = 1000", "first = 999", 27, 0),
         (
             "agent = [",
-            "branch = [{ name = \"x\", parent = \"root\", at = 2 }]\nagent = [",
-            30,
+            "branch = [{ name = \"x\", parent = \"y\", at = 2 }]\nagent = [",
+            32,
             0,
         ),
     ];
@@ -89,6 +89,8 @@ fn studies_are_accepted_or_refused(rt: HostRuntime) -> Result<(), Fail> {
         assert!(rt; refused(rt.alloc(), old, new)? == (rule, place));
     }
     assert!(rt; counts(rt.alloc(), "version", "version")? == [3, 4, 7, 1, 1, 10_000]);
+    let branch = "branch = [{ name = \"x\", parent = \"root\", at = 2 }]\nagent = [";
+    assert!(rt; counts(rt.alloc(), "agent = [", branch)? == [3, 4, 7, 2, 3, 10_000]);
     assert!(rt;
         counts(rt.alloc(), "events = 100", "events = 100\nstride = 500")? == [3, 4, 7, 1, 1, 500]
     );

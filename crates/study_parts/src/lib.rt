@@ -9,8 +9,6 @@ mod market;
 mod parts;
 mod series;
 mod stocks;
-#[cfg(test)]
-mod tests;
 mod traders;
 pub mod worked;
 
