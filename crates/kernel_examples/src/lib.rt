@@ -1,6 +1,4 @@
 //! Worked runs of the kernel.
 #![tactic(auto)]
 
-#[cfg(test)]
-mod tests;
 pub mod worked;
