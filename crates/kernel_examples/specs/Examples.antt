@@ -1,6 +1,7 @@
 -- Edits for worked runs.
-use Rattle.std.specs.Prelude.{ℕ, negsuc, pos, List, [], ◌∷◌, length, map, slice_index}
+use Rattle.std.specs.Prelude.{◌≡◌, ◌≤◌, ℕ, negsuc, pos, true, List, [], ◌∷◌, length, map, slice_index}
 use Rattle.std.specs.List.{flat_map}
+use Rattle.market_types.specs.Limits.{longest_delay}
 use Rattle.market_types.specs.declared.order.Inbound.TheVariants as inbound
 use Rattle.market_types.specs.declared.order.Side.TheVariants.{Sell}
 use Rattle.market_types.specs.declared.message.Body.{Body}
@@ -14,6 +15,7 @@ use Rattle.market_rules.specs.declared.changes.Dated.{Dated}
 use Rattle.market_rules.specs.declared.edit.Edit.{Edit}
 use Rattle.market_rules.specs.declared.edit.Edit.TheVariants as kind
 use Rattle.market_rules.specs.declared.edit.Param.TheVariants as parameter
+use Rattle.market_rules.specs.EditRanges.{is_modest_fee, is_modest_table, is_near_zero}
 use Rattle.exchange_agent.specs.Worked.{order}
 use Rattle.market_opening.specs.declared.opening.Opening.{Opening}
 use Rattle.market_opening.specs.Worked.{market, watcher}
@@ -39,6 +41,18 @@ each_kind =
     ∷ sold 65 100
     ∷ kind.Series 0 (negsuc 4)
     ∷ []
+
+-- edits that each state of a market can take: of the first stock, the first trader and the first group
+abbrev pub IsPlain : Edit → Type 0
+IsPlain (kind.Tick stock table) = (stock ≡ 0) × (is_modest_table table ≡ true)
+IsPlain (kind.Fee stock fees) = (stock ≡ 0) × (is_modest_fee fees ≡ true)
+IsPlain (kind.Halt stock) = stock ≡ 0
+IsPlain (kind.Resume stock) = stock ≡ 0
+IsPlain (kind.Latency from to base jitter) = (from ≡ 0) × (to ≡ 0) × (base ≤ longest_delay)
+IsPlain (kind.Agent agent name value) = (agent ≡ 1) × (name ≡ parameter.Delay) × (value ≤ longest_delay)
+IsPlain (kind.Silence agent) = agent ≡ 1
+IsPlain (kind.Inject agent after message) = (agent ≡ 1) × (after ≤ 1000)
+IsPlain (kind.Series stock offset) = (stock ≡ 0) × (is_near_zero 2000000000 offset ≡ true)
 
 -- a run to its end once edits of branch 1 were made
 abbrev pub gone_on : Opening → List Edit → Run → Run

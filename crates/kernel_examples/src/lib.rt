@@ -1,4 +1,6 @@
 //! Worked runs of the kernel.
 #![tactic(auto)]
 
+#[cfg(test)]
+mod tests;
 pub mod worked;
