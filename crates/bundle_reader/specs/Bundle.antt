@@ -1,17 +1,19 @@
 -- The bytes of a bundle, and what a bundle may tell.
-use Rattle.std.specs.Prelude.{◌≡◌, ◌≢◌, ℕ, ◌+◌, ◌<◌, ◌^◌, Bool, true, false, IsTrue, not, ◌&&◌, List, [], ◌∷◌, ◌++◌, length, map, All, Option, Some, None}
-use Rattle.std.specs.List.{flat_map, range_with_len, list_all}
+use Rattle.std.specs.Prelude.{◌≡◌, ℕ, ◌+◌, ◌*◌, ◌≤◌, Bool, true, false, IsTrue, not, ◌&&◌, List, [], ◌∷◌, ◌++◌, length, map, All, Option, Some, None}
+use Rattle.std.specs.List.{flat_map, list_all}
 use Rattle.market_types.specs.declared.feed.Feed.{Feed}
 use Rattle.market_types.specs.Told.{EntryTold, EventTold, EditTold, event, edit}
 use Rattle.bundle_frames.specs.declared.closing.Closing.{Closing}
 use Rattle.bundle_frames.specs.Frames.{header_frame, branch_frame, end_frame, message_frame, feed_frames, entry_frames, closing_frames}
-use Rattle.frame_reader.specs.Frames.{HasRanges}
+use Rattle.frame_reader.specs.Frames.{HasRanges, payload}
 use Rattle.frame_reader.specs.declared.frame.Frame.{Frame}
 use Rattle.frame_reader.specs.declared.frame.Frame.TheVariants as frame
 use Rattle.frame_reader.specs.declared.frame.EventFrame.{EventFrame}
 use Rattle.frame_parts.specs.declared.head.EditHead.{EditHead}
 use Rattle.bundle_reader.specs.Told.{BranchTold, BundleTold}
-use Rattle.bundle_reader.specs.Order.{is_system, is_directory, is_trading, is_of_orders, belongs, is_none}
+use Rattle.bundle_frames.specs.declared.closing.ClosingStock.{ClosingStock}
+use Rattle.bundle_frames.specs.declared.closing.ClosingAgent.{ClosingAgent}
+use Rattle.bundle_reader.specs.Order.{is_system, is_trading, is_of_orders, opens, belongs}
 
 -- ---- the bytes, in the words of writing
 
@@ -78,15 +80,24 @@ bundle_list b =
 abbrev pub AreAll : (Feed → Bool) → List Feed → Type 0
 AreAll test feed = IsTrue (list_all test feed)
 
+-- each message may stand at its place of the opening, of which the first is this one
+abbrev pub stand : ℕ → ℕ → List Feed → Bool
+stand stocks at [] = true
+stand stocks at (m ∷ ms) = opens stocks at m.what && stand stocks (at + 1) ms
+
 -- An opening of so many stocks has a system event, a directory for each stock and a trading action for each.
 pub record IsOpening (stocks : ℕ) (feed : List Feed) : Type 0 where
-  pub first : Feed
-  pub directories : List Feed
-  pub tradings : List Feed
-  pub same : feed ≡ first ∷ (directories ++ tradings)
-  pub system : IsTrue (is_system first.what)
-  pub listed : (length directories ≡ stocks) × AreAll (λ m. is_directory m.what) directories
-  pub traded : (length tradings ≡ stocks) × AreAll (λ m. is_trading m.what) tradings
+  pub count : length feed ≡ 1 + 2 * stocks
+  pub order : IsTrue (stand stocks 0 feed)
+
+-- stocks, or agents, are numbered from this number on
+abbrev pub AreStocks : ℕ → List ClosingStock → Type 0
+AreStocks n [] = Unit {0}
+AreStocks n (s ∷ ss) = (s.stock ≡ n) × AreStocks (n + 1) ss
+
+abbrev pub AreAgents : ℕ → List ClosingAgent → Type 0
+AreAgents n [] = Unit {0}
+AreAgents n (a ∷ rest) = (a.agent ≡ n) × AreAgents (n + 1) rest
 
 -- Messages are none, or the one trading action that belongs to an edit.
 abbrev pub is_own : EditTold → List Feed → Bool
@@ -119,8 +130,10 @@ IsSplit (x ∷ rest) = HasFeed x × IsApart x rest × IsSplit rest
 
 -- A closing has each stock and each agent by its number.
 pub record IsClosing (stocks agents : ℕ) (c : Closing) : Type 0 where
-  pub stocks : map (λ s. s.stock) c.stocks ≡ range_with_len 0 stocks
-  pub agents : map (λ a. a.agent) c.agents ≡ range_with_len 0 agents
+  pub stock_count : length c.stocks ≡ stocks
+  pub stocks : AreStocks 0 c.stocks
+  pub agent_count : length c.agents ≡ agents
+  pub agents : AreAgents 0 c.agents
 
 pub record IsBranch (stocks agents : ℕ) (b : BranchTold) : Type 0 where
   pub opening : IsOpening stocks b.opening
@@ -128,7 +141,9 @@ pub record IsBranch (stocks agents : ℕ) (b : BranchTold) : Type 0 where
   pub ended : IsTrue (is_system b.ended.what)
   pub closing : IsClosing stocks agents b.closing
 
--- A bundle tells branches of so many agents and stocks, and each field of each frame is in its range.
+-- A bundle tells branches of so many agents and stocks. Each field of each frame is in its range, and a frame's length has
+-- two bytes.
 pub record IsBundle (b : BundleTold) : Type 0 where
   pub branches : All (IsBranch b.stocks b.agents) b.branches
   pub ranges : All (HasRanges (Some b.stocks)) (bundle_list b)
+  pub short : All (λ f. length (payload f) ≤ 65535) (bundle_list b)

@@ -1,0 +1,5 @@
+pub mod Runs
+pub mod Opening
+pub mod Entries
+pub mod Closings
+pub mod Complete
