@@ -3,3 +3,6 @@ pub mod Opening
 pub mod Entries
 pub mod Closings
 pub mod Complete
+pub mod Bytes
+pub mod Split
+pub mod Sound
