@@ -9,6 +9,9 @@ use Rattle.market_types.specs.declared.feed.Feed.{Feed}
 use Rattle.market_types.specs.Told.{EntryTold, EventTold, EditTold}
 use Rattle.market_types.specs.Told as told
 use Rattle.bundle_frames.specs.declared.closing.Closing.{Closing}
+use Rattle.bundle_frames.specs.declared.closing.ClosingStock.{ClosingStock}
+use Rattle.bundle_frames.specs.declared.closing.ClosingOrder.{ClosingOrder}
+use Rattle.bundle_frames.specs.declared.closing.ClosingAgent.{ClosingAgent}
 use Rattle.frame_reader.specs.Frames.{event_with, edit_with}
 use Rattle.frame_reader.specs.declared.frame.HeaderFrame.{HeaderFrame}
 use Rattle.frame_parts.specs.declared.head.EditHead.{EditHead}
@@ -17,7 +20,7 @@ use Rattle.frame_reader.specs.declared.frame.EventFrame.{EventFrame}
 use Rattle.frame_reader.specs.declared.frame.Frame.{Frame}
 use Rattle.frame_reader.specs.declared.frame.Frame.TheVariants as frame
 use Rattle.bundle_reader.specs.Told.{BranchTold, BundleTold, BegunTold, WholeTold, LastTold, apart, event, edit, ReadingTold, start, between, opening, entries, ended, closing, end}
-use Rattle.bundle_reader.specs.Order.{is_none, is_system, is_trading, is_of_orders, opens, opened, belongs, all_entries, before_next, take_trading, take_of_orders, counted, is_closed, branch_of, with_branch, take_next, begun, bundle_of, taken}
+use Rattle.bundle_reader.specs.Order.{is_none, is_system, is_trading, is_of_orders, opens, opened, belongs, all_entries, before_next, take_trading, take_of_orders, counted, more_closing, is_closed, branch_of, with_branch, take_next, begun, bundle_of, taken}
 use Rattle.bundle_reader.specs.Bundle.{feed_list, entry_list, closing_list, branch_list, branches_list, bundle_list, stand, event_part, edit_part, is_own, is_left, HasFeed, IsSplit, IsOpening, AreStocks, AreAgents, IsClosing, IsBranch}
 use Rattle.bundle_reader.proofs.Runs.{some_same, none_some}
 use Rattle.bundle_reader.proofs.Split.{IsFreeBehind, with_event, with_edit, other_event, other_edit, last_feed, free_behind_event, free_behind_edit, free_more, free_none, all_more}
@@ -309,3 +312,198 @@ step_entries w b es l (frame.Edit x) next e so =
     moved (entries w b es l) next now (frame.Edit x) test.1 (step_edit w b es l x (empty (before_next l) test.0) so)
 step_entries w b es l (frame.Message m) next e so = step_message w b es l m next (is_trading m.what) (is_of_orders m.what) refl refl e so
 step_entries w b es l f next e so = absurd (none_some next e)
+
+-- ---- one step of the closing
+
+step_counts : (w : WholeTold) (b : BegunTold) (es : List EntryTold) (m : Feed) (f : Frame) (next : ReadingTold) → taken (ended w b es m) f ≡ Some next → IsSo (ended w b es m) → IsStep (ended w b es m) f next
+unfolding taken
+step_counts w b es m (frame.Counts c) next e so =
+    let now = closing w b es m (counted c) in
+    moved (ended w b es m) next now (frame.Counts c) (some_same now next e) (record {
+      list = behind (begun_list w b) (flat_map entry_list es ++ frame.Message m ∷ []) (flat_map entry_list es ++ (frame.Message m ∷ frame.Counts c ∷ [])) (frame.Counts c ∷ [])
+          (sym (append_assoc (flat_map entry_list es) (frame.Message m ∷ []) (frame.Counts c ∷ [])));
+      so = (so, record { stocks = tt; agents = tt; late = λ few. (refl, refl) });
+    })
+step_counts w b es m f next e so = absurd (none_some next e)
+
+-- a frame behind a closing
+closing_behind : (w : WholeTold) (b : BegunTold) (es : List EntryTold) (m : Feed) (c d : Closing) (f : Frame) → closing_list d ≡ closing_list c ++ f ∷ []
+    → read_list (closing w b es m d) ≡ read_list (closing w b es m c) ++ f ∷ []
+closing_behind w b es m c d f e =
+    behind (begun_list w b) (flat_map entry_list es ++ (frame.Message m ∷ closing_list c)) (flat_map entry_list es ++ (frame.Message m ∷ closing_list d)) (f ∷ [])
+        (behind (flat_map entry_list es) (frame.Message m ∷ closing_list c) (frame.Message m ∷ closing_list d) (f ∷ []) (ap (λ (l : List Frame). frame.Message m ∷ l) e))
+
+stocks_push : (n : ℕ) (ss : List ClosingStock) (s : ClosingStock) → AreStocks n ss → s.stock ≡ n + length ss → AreStocks n (ss ++ s ∷ [])
+stocks_push n [] s are is = (is, tt)
+stocks_push n (x ∷ ss) s are is = (are.0, stocks_push (n + 1) ss s are.1 (is ∙ omega arith))
+
+agents_push : (n : ℕ) (xs : List ClosingAgent) (a : ClosingAgent) → AreAgents n xs → a.agent ≡ n + length xs → AreAgents n (xs ++ a ∷ [])
+agents_push n [] a are is = (is, tt)
+agents_push n (x ∷ xs) a are is = (are.0, agents_push (n + 1) xs a are.1 (is ∙ omega arith))
+
+abbrev stock_list : List ClosingStock → List Frame
+stock_list = map frame.Stock
+
+abbrev order_list : List ClosingOrder → List Frame
+order_list = map frame.Order
+
+abbrev agent_list : List ClosingAgent → List Frame
+agent_list = map frame.Agent
+
+-- an option of a closing that was put
+put : (w : WholeTold) (b : BegunTold) (es : List EntryTold) (m : Feed) (t : Bool) (d : Closing) (next : ReadingTold)
+    → more_closing w b es m (if t then Some d else None) ≡ Some next → (t ≡ true) × (closing w b es m d ≡ next)
+put w b es m true d next e = (refl, some_same (closing w b es m d) next e)
+put w b es m false d next e = absurd (none_some next e)
+
+step_stock : (w : WholeTold) (b : BegunTold) (es : List EntryTold) (m : Feed) (c : Closing) (s : ClosingStock) → length c.stocks < w.header.stocks → s.stock ≡ length c.stocks
+    → IsSo (closing w b es m c) → IsStep (closing w b es m c) (frame.Stock s) (closing w b es m (record c { stocks = c.stocks ++ s ∷ [] }))
+step_stock w b es m c s few number so =
+    let none = so.1.late few in
+    let len = length-append c.stocks (s ∷ []) in
+    let grown : Closing = record c { stocks = c.stocks ++ s ∷ [] } in
+    let at : List ClosingOrder → List ClosingAgent → List Frame = λ os xs. frame.Counts c.counts ∷ (stock_list (c.stocks ++ s ∷ []) ++ order_list os ++ agent_list xs) in
+    let old : List ClosingOrder → List ClosingAgent → List Frame = λ os xs. (frame.Counts c.counts ∷ (stock_list c.stocks ++ order_list os ++ agent_list xs)) ++ frame.Stock s ∷ [] in
+    let bare : at [] [] ≡ old [] [] =
+        ap (λ (l : List Frame). frame.Counts c.counts ∷ l)
+            (append-nil (stock_list (c.stocks ++ s ∷ []) ++ []) ∙ append-nil (stock_list (c.stocks ++ s ∷ [])) ∙ map-append frame.Stock c.stocks (s ∷ [])
+             ∙ ap (λ (l : List Frame). l ++ frame.Stock s ∷ []) (sym (append-nil (stock_list c.stocks)) ∙ sym (append-nil (stock_list c.stocks ++ [])))) in
+    record {
+      list = closing_behind w b es m c grown (frame.Stock s)
+          (ap (λ os. at os c.agents) none.0 ∙ ap (at []) none.1 ∙ bare ∙ ap (old []) (sym none.1) ∙ ap (λ os. old os c.agents) (sym none.0));
+      so = (so.0, record { stocks = stocks_push 0 c.stocks s so.1.stocks (number ∙ omega arith); agents = so.1.agents; late = λ h. so.1.late (omega (arith, h, len)) });
+    }
+
+step_order : (w : WholeTold) (b : BegunTold) (es : List EntryTold) (m : Feed) (c : Closing) (o : ClosingOrder) → length c.stocks ≡ w.header.stocks → c.agents ≡ []
+    → IsSo (closing w b es m c) → IsStep (closing w b es m c) (frame.Order o) (closing w b es m (record c { orders = c.orders ++ o ∷ [] }))
+step_order w b es m c o all none so =
+    let grown : Closing = record c { orders = c.orders ++ o ∷ [] } in
+    let at : List ClosingAgent → List Frame = λ xs. frame.Counts c.counts ∷ (stock_list c.stocks ++ order_list (c.orders ++ o ∷ []) ++ agent_list xs) in
+    let old : List ClosingAgent → List Frame = λ xs. (frame.Counts c.counts ∷ (stock_list c.stocks ++ order_list c.orders ++ agent_list xs)) ++ frame.Order o ∷ [] in
+    let bare : at [] ≡ old [] =
+        ap (λ (l : List Frame). frame.Counts c.counts ∷ l)
+            (append-nil (stock_list c.stocks ++ order_list (c.orders ++ o ∷ []))
+             ∙ behind (stock_list c.stocks) (order_list c.orders) (order_list (c.orders ++ o ∷ [])) (frame.Order o ∷ []) (map-append frame.Order c.orders (o ∷ []))
+             ∙ ap (λ (l : List Frame). l ++ frame.Order o ∷ []) (sym (append-nil (stock_list c.stocks ++ order_list c.orders)))) in
+    record {
+      list = closing_behind w b es m c grown (frame.Order o) (ap at none ∙ bare ∙ ap old (sym none));
+      so = (so.0, record { stocks = so.1.stocks; agents = so.1.agents; late = λ few. absurd (omega (arith, few, all)) });
+    }
+
+step_agent : (w : WholeTold) (b : BegunTold) (es : List EntryTold) (m : Feed) (c : Closing) (a : ClosingAgent) → length c.stocks ≡ w.header.stocks → a.agent ≡ length c.agents
+    → IsSo (closing w b es m c) → IsStep (closing w b es m c) (frame.Agent a) (closing w b es m (record c { agents = c.agents ++ a ∷ [] }))
+step_agent w b es m c a all number so = record {
+  list = closing_behind w b es m c (record c { agents = c.agents ++ a ∷ [] }) (frame.Agent a)
+      (ap (λ (l : List Frame). frame.Counts c.counts ∷ l)
+          (behind (stock_list c.stocks ++ order_list c.orders) (agent_list c.agents) (agent_list (c.agents ++ a ∷ [])) (frame.Agent a ∷ []) (map-append frame.Agent c.agents (a ∷ []))));
+  so = (so.0, record { stocks = so.1.stocks; agents = agents_push 0 c.agents a so.1.agents (number ∙ omega arith); late = λ few. absurd (omega (arith, few, all)) });
+}
+
+-- ---- behind a whole branch
+
+branches_push : (n : ℕ) (bs : List BranchTold) (b : BranchTold) → branches_list n (bs ++ b ∷ []) ≡ branches_list n bs ++ branch_list (n + length bs) b
+branches_push n [] b = append-nil (branch_list n b) ∙ ap (λ k. branch_list k b) (omega arith)
+branches_push n (x ∷ bs) b =
+    let there : n + 1 + length bs ≡ n + length (x ∷ bs) = omega arith in
+    behind (branch_list n x) (branches_list (n + 1) bs) (branches_list (n + 1) (bs ++ b ∷ [])) (branch_list (n + length (x ∷ bs)) b)
+        (branches_push (n + 1) bs b ∙ ap (λ k. branches_list (n + 1) bs ++ branch_list k b) there)
+
+-- what was read behind whole branches is these branches
+pub record IsNext (w : WholeTold) (f : Frame) (next : ReadingTold) : Type 0 where
+  pub list : read_list next ≡ header_list w ++ f ∷ []
+  pub so : IsSo next
+
+next_moved : (w : WholeTold) (next x : ReadingTold) (f : Frame) → x ≡ next → IsNext w f x → IsNext w f next
+next_moved w next x f e is = let P : ReadingTold → Type 0 = λ y. IsNext w f y in subst P e is
+
+next_of : (w : WholeTold) (f : Frame) (next : ReadingTold) → take_next w f ≡ Some next → AreWhole w → IsNext w f next
+next_of w (frame.Branch x) next e whole =
+    let test = passed (nat_lt (length w.branches) w.header.branches && (x.branch == length w.branches)) (opening w (begun x)) next e in
+    let number = equal x.branch (length w.branches) (second (nat_lt (length w.branches) w.header.branches) (x.branch == length w.branches) test.0) in
+    let at : ℕ → Frame = λ n. frame.Branch (record { branch = n; parent = x.parent; stop = x.stop; name = x.name }) in
+    next_moved w next (opening w (begun x)) (frame.Branch x) test.1
+        (record { list = ap (λ n. header_list w ++ at n ∷ []) (sym number); so = (whole, refl) })
+next_of w (frame.End n) next e whole =
+    let tests = passed ((length w.branches == w.header.branches) && (n == w.header.branches)) (end (bundle_of w)) next e in
+    let count = equal (length w.branches) w.header.branches (first (length w.branches == w.header.branches) (n == w.header.branches) tests.0) in
+    let last = equal n w.header.branches (second (length w.branches == w.header.branches) (n == w.header.branches) tests.0) in
+    let at : ℕ → ℕ → List Frame = λ k j. frame.Header (record { agents = w.header.agents; stocks = w.header.stocks; branches = k }) ∷ (branches_list 0 w.branches ++ frame.End j ∷ []) in
+    next_moved w next (end (bundle_of w)) (frame.End n) tests.1
+        (record { list = ap (λ k. at k (length w.branches)) count ∙ ap (at w.header.branches) (count ∙ sym last); so = whole })
+next_of w f next e whole = absurd (none_some next e)
+
+-- a whole branch is read as the last of the branches
+whole_list : (w : WholeTold) (b : BegunTold) (es : List EntryTold) (m : Feed) (c : Closing) → header_list (with_branch w (branch_of b es m c)) ≡ read_list (closing w b es m c)
+whole_list w b es m c =
+    let x = frame.Branch (record { branch = length w.branches; parent = b.parent; stop = b.stop; name = b.name }) in
+    let tail = frame.Message m ∷ closing_list c in
+    let es_list = flat_map entry_list es in
+    ap (λ (l : List Frame). frame.Header w.header ∷ l) (branches_push 0 w.branches (branch_of b es m c) ∙ ap (λ k. branches_list 0 w.branches ++ branch_list k (branch_of b es m c)) (omega arith))
+    ∙ ap (λ (l : List Frame). header_list w ++ (x ∷ l)) (append_assoc (feed_list b.opening) es_list tail)
+    ∙ sym (append_assoc (header_list w) (x ∷ feed_list b.opening) (es_list ++ tail))
+
+whole_branch : (w : WholeTold) (b : BegunTold) (es : List EntryTold) (m : Feed) (c : Closing) → is_closed w.header c ≡ true → IsSo (closing w b es m c) → AreWhole (with_branch w (branch_of b es m c))
+whole_branch w b es m c closed so =
+    let count = equal (length c.stocks) w.header.stocks (first (length c.stocks == w.header.stocks) (length c.agents == w.header.agents) closed) in
+    let agents = equal (length c.agents) w.header.agents (second (length c.stocks == w.header.stocks) (length c.agents == w.header.agents) closed) in
+    All-push (IsBranch w.header.stocks w.header.agents) w.branches (branch_of b es m c) so.0.branches (record {
+      opening = so.0.opening;
+      split = so.0.split;
+      ended = so.0.ended;
+      closing = record { stock_count = count; stocks = so.1.stocks; agent_count = agents; agents = so.1.agents };
+    })
+
+step_behind : (w : WholeTold) (b : BegunTold) (es : List EntryTold) (m : Feed) (c : Closing) (f : Frame) (next : ReadingTold) (t : Bool) → is_closed w.header c ≡ t
+    → (if t then take_next (with_branch w (branch_of b es m c)) f else None) ≡ Some next → IsSo (closing w b es m c) → IsStep (closing w b es m c) f next
+step_behind w b es m c f next true closed e so =
+    let is = next_of (with_branch w (branch_of b es m c)) f next e (whole_branch w b es m c closed so) in
+    record { list = is.list ∙ ap (λ (l : List Frame). l ++ f ∷ []) (whole_list w b es m c); so = is.so }
+step_behind w b es m c f next false closed e so = absurd (none_some next e)
+
+step_closing : (w : WholeTold) (b : BegunTold) (es : List EntryTold) (m : Feed) (c : Closing) (f : Frame) (next : ReadingTold) → taken (closing w b es m c) f ≡ Some next → IsSo (closing w b es m c) → IsStep (closing w b es m c) f next
+unfolding taken
+step_closing w b es m c (frame.Stock s) next e so =
+    let few = nat_lt (length c.stocks) w.header.stocks in
+    let is = put w b es m (few && (s.stock == length c.stocks)) (record c { stocks = c.stocks ++ s ∷ [] }) next e in
+    moved (closing w b es m c) next (closing w b es m (record c { stocks = c.stocks ++ s ∷ [] })) (frame.Stock s) is.1
+        (step_stock w b es m c s (less (length c.stocks) w.header.stocks (first few (s.stock == length c.stocks) is.0)) (equal s.stock (length c.stocks) (second few (s.stock == length c.stocks) is.0)) so)
+step_closing w b es m c (frame.Order o) next e so =
+    let all = length c.stocks == w.header.stocks in
+    let is = put w b es m (all && is_none c.agents) (record c { orders = c.orders ++ o ∷ [] }) next e in
+    moved (closing w b es m c) next (closing w b es m (record c { orders = c.orders ++ o ∷ [] })) (frame.Order o) is.1
+        (step_order w b es m c o (equal (length c.stocks) w.header.stocks (first all (is_none c.agents) is.0)) (empty c.agents (second all (is_none c.agents) is.0)) so)
+step_closing w b es m c (frame.Agent a) next e so =
+    let all = length c.stocks == w.header.stocks in
+    let few = nat_lt (length c.agents) w.header.agents in
+    let number = a.agent == length c.agents in
+    let is = put w b es m (all && (few && number)) (record c { agents = c.agents ++ a ∷ [] }) next e in
+    moved (closing w b es m c) next (closing w b es m (record c { agents = c.agents ++ a ∷ [] })) (frame.Agent a) is.1
+        (step_agent w b es m c a (equal (length c.stocks) w.header.stocks (first all (few && number) is.0)) (equal a.agent (length c.agents) (second few number (second all (few && number) is.0))) so)
+step_closing w b es m c f next e so = step_behind w b es m c f next (is_closed w.header c) refl e so
+
+-- ---- one step
+
+step_start : (f : Frame) (next : ReadingTold) → taken start f ≡ Some next → IsStep start f next
+unfolding taken
+step_start (frame.Header h) next e =
+    let now = between (record { header = h; branches = [] }) in
+    moved start next now (frame.Header h) (some_same now next e) (record { list = refl; so = All-nil (IsBranch h.stocks h.agents) })
+step_start f next e = absurd (none_some next e)
+
+step_between : (w : WholeTold) (f : Frame) (next : ReadingTold) → taken (between w) f ≡ Some next → IsSo (between w) → IsStep (between w) f next
+unfolding taken
+step_between w f next e so = let is = next_of w f next e so in record { list = is.list; so = is.so }
+
+step_end : (b : BundleTold) (f : Frame) (next : ReadingTold) → taken (end b) f ≡ Some next → ⊥
+unfolding taken
+step_end b f next e = none_some next e
+
+-- one frame more
+pub step : (r : ReadingTold) (f : Frame) (next : ReadingTold) → taken r f ≡ Some next → IsSo r → IsStep r f next
+step start f next e so = step_start f next e
+step (between w) f next e so = step_between w f next e so
+step (opening w b) f next e so = step_opening w b f next e so
+step (entries w b es l) f next e so = step_entries w b es l f next e so
+step (ended w b es m) f next e so = step_counts w b es m f next e so
+step (closing w b es m c) f next e so = step_closing w b es m c f next e so
+step (end b) f next e so = absurd (step_end b f next e)
