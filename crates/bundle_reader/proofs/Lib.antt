@@ -6,3 +6,4 @@ pub mod Complete
 pub mod Bytes
 pub mod Split
 pub mod Sound
+pub mod Reached

@@ -1,6 +1,7 @@
 -- How far a bundle is read, frame by frame, and why reading stops.
 use Rattle.std.specs.Prelude.{◌≡◌, ◌≢◌, ◌⊎◌, ℕ, ◌+◌, Bool, true, false, List, [], ◌∷◌, length, Option, Some, None, Result, Ok, Err}
 use Rattle.bundle_frames.specs.declared.closing.Closing.{Closing}
+use Rattle.std.specs.Borrow.{Bor}
 use Rattle.frame_reader.specs.declared.frame.Frame.{Frame}
 use Rattle.frame_reader.specs.Frames.{Begins}
 use Rattle.frame_reader.specs.Next.{IsCut, IsBad}
@@ -78,3 +79,19 @@ abbrev pub Puts : Option Closing → Closing → Result Unit Misplaced → Type 
 Puts after new (Ok u) = after ≡ Some new
 Puts after new (Err misplaced.Order) = after ≡ None
 Puts after new (Err misplaced.Memory) = Unit {0}
+
+-- one frame more was read, or why not
+abbrev pub More : ReadingTold → List ℕ → ℕ → Result (Reading × Bor (List ℕ)) BundleError → Type 0
+More r rest offset (Ok p) = (f : Frame) × Begins (stocks_known r) rest f p.1.now × (taken r f ≡ Some (reading_told p.0))
+More r rest offset (Err (Cut left)) = (left ≡ length rest) × IsCut rest
+More r rest offset (Err (BadFrame at)) = (at ≡ offset) × IsBad (stocks_known r) rest
+More r rest offset (Err (BadOrder at)) = (at ≡ offset) × (f : Frame) × (after : List ℕ) × Begins (stocks_known r) rest f after × (taken r f ≡ None)
+More r rest offset (Err Memory) = Unit {0}
+
+-- where this frame and this rest stand there, they were read, unless memory ran out
+abbrev pub Only : ReadingTold → Frame → List ℕ → Result (Reading × Bor (List ℕ)) BundleError → Type 0
+Only r f after (Ok p) = (taken r f ≡ Some (reading_told p.0)) × (p.1.now ≡ after)
+Only r f after (Err (Cut left)) = ⊥
+Only r f after (Err (BadFrame at)) = ⊥
+Only r f after (Err (BadOrder at)) = taken r f ≡ None
+Only r f after (Err Memory) = Unit {0}

@@ -1,9 +1,12 @@
 //! Bundles and why bytes are none.
 
-ghost use Rattle.std.specs.Prelude.{◌≡◌, IfOk, IfErr};
-ghost use Rattle.bundle_reader.specs.Told.{BundleTold, bundle_told};
+ghost use Rattle.std.specs.Prelude.{◌≡◌, ◌<◌, ℕ, List, length, IfOk, IfErr};
+ghost use Rattle.frame_reader.specs.declared.frame.Frame.{Frame as FrameOf};
+ghost use Rattle.frame_reader.specs.Frames.{Begins};
+ghost use Rattle.bundle_reader.specs.Told.{BundleTold, bundle_told, reading_told};
+ghost use Rattle.bundle_reader.specs.Order.{stocks_known};
 ghost use Rattle.bundle_reader.specs.Bundle.{IsBundle, bundle_bytes};
-ghost use Rattle.bundle_reader.specs.Reads.{Gives, Stops};
+ghost use Rattle.bundle_reader.specs.Reads.{Gives, More, Only, Stops};
 
 use crate::reading::{Misplaced, Reading};
 use branch_tree::Name;
@@ -81,7 +84,11 @@ fn read_more(
     reading: Reading,
     rest: &[u8],
     offset: usize,
-) -> Result<(Reading, &[u8]), BundleError> {
+) -> Result<(Reading, &[u8]), BundleError>
+    ensures more { More (reading_told reading) rest.now offset result }
+    ensures only { (f : FrameOf) (after : List ℕ) → Begins (stocks_known (reading_told reading)) rest.now f after → Only (reading_told reading) f after result }
+    ensures shorter { IfOk result (λ p. length p.1.now < length rest.now) }
+{
     let (frame, after) = match next_frame(alloc, reading.stocks(), rest) {
         Ok(read) => read,
         Err(FrameError::Cut) => return Err(BundleError::Cut(rest.len())),

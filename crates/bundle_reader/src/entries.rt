@@ -1,9 +1,9 @@
 //! The entries of a branch, and how their feed is split.
 
-ghost use Rattle.std.specs.Prelude.{◌≡◌, IfOk, Some};
-ghost use Rattle.market_types.specs.Told.{edit_told};
+ghost use Rattle.std.specs.Prelude.{◌≡◌, [], IfOk, Some};
+ghost use Rattle.market_types.specs.Told.{edit_told, event_told};
 ghost use Rattle.frame_reader.specs.Frames.{event_with, edit_with};
-ghost use Rattle.bundle_reader.specs.Told.{begun_told, last_told, whole_told};
+ghost use Rattle.bundle_reader.specs.Told.{BegunTold, WholeTold, begun_told, entries as entries_read, last_told, whole_told};
 ghost use Rattle.bundle_reader.specs.Order.{all_entries, before_next, belongs, is_none, take_entry as take_entry_of, take_message as take_message_of, take_of_orders, take_trading};
 ghost use Rattle.bundle_reader.specs.Reads.{Takes};
 
@@ -150,7 +150,9 @@ fn with_trading(
     entries: Trace,
     last: Last,
     message: Feed,
-) -> Result<(Trace, Last), Memory> {
+) -> Result<(Trace, Last), Memory>
+    ensures { IfOk result (λ p. (w : WholeTold) (b : BegunTold) → take_trading w b entries.list (last_told last) message ≡ entries_read w b p.0.list (last_told p.1)) }
+{
     match last {
         Last::Edit(mut edit) if belongs(&edit, &message) => {
             edit.feed.push(message)?;
