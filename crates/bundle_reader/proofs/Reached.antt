@@ -44,3 +44,108 @@ pub reads_short : (r last : ReadingTold) (bytes rest : List ℕ) (fs : List Fram
 reads_short r last bytes rest [] reads = All-nil (λ f. length (payload f) ≤ 65535)
 reads_short r last bytes rest (f ∷ fs) reads =
     All-cons (λ x. length (payload x) ≤ 65535) f fs reads.2.short (reads_short reads.0 last reads.1 rest fs reads.4)
+
+-- ---- how many stocks there are
+
+abbrev stocks_in : List Frame → Option ℕ
+stocks_in [] = None
+stocks_in (frame.Header h ∷ fs) = Some h.stocks
+stocks_in (frame.Branch x ∷ fs) = None
+stocks_in (frame.Message x ∷ fs) = None
+stocks_in (frame.Event x ∷ fs) = None
+stocks_in (frame.Edit x ∷ fs) = None
+stocks_in (frame.Counts x ∷ fs) = None
+stocks_in (frame.Stock x ∷ fs) = None
+stocks_in (frame.Order x ∷ fs) = None
+stocks_in (frame.Agent x ∷ fs) = None
+stocks_in (frame.Waiting x ∷ fs) = None
+stocks_in (frame.End x ∷ fs) = None
+
+known_in : (r : ReadingTold) → stocks_known r ≡ stocks_in (read_list r)
+known_in start = refl
+known_in (between w) = refl
+known_in (opening w b) = refl
+known_in (entries w b es l) = refl
+known_in (ended w b es m) = refl
+known_in (closing w b es m c) = refl
+known_in (end b) = refl
+
+known_more : (r : ReadingTold) (fs : List Frame) (n : ℕ) → stocks_known r ≡ Some n → stocks_in (read_list r ++ fs) ≡ Some n
+known_more start fs n e = absurd (none_some n e)
+known_more (between w) fs n e = e
+known_more (opening w b) fs n e = e
+known_more (entries w b es l) fs n e = e
+known_more (ended w b es m) fs n e = e
+known_more (closing w b es m c) fs n e = e
+known_more (end b) fs n e = e
+
+known_next : (r next : ReadingTold) (f : Frame) (n : ℕ) → taken r f ≡ Some next → IsSo r → stocks_known r ≡ Some n → stocks_known next ≡ Some n
+known_next r next f n e so known = known_in next ∙ ap stocks_in (step r f next e so).list ∙ known_more r (f ∷ []) n known
+
+reads_ranges : (r last : ReadingTold) (bytes rest : List ℕ) (fs : List Frame) (n : ℕ) → Reads r bytes fs last rest → IsSo r → stocks_known r ≡ Some n
+    → All (HasRanges (Some n)) fs × (stocks_known last ≡ Some n)
+reads_ranges r last bytes rest [] n reads so known = (All-nil (HasRanges (Some n)), ap stocks_known (sym reads.0) ∙ known)
+reads_ranges r last bytes rest (f ∷ fs) n reads so known =
+    let others = reads_ranges reads.0 last reads.1 rest fs n reads.4 (step r f reads.0 reads.3 so).so (known_next r reads.0 f n reads.3 so known) in
+    let P : Option ℕ → Type 0 = λ k. HasRanges k f in
+    (All-cons (HasRanges (Some n)) f fs (subst P known reads.2.ranges) others.0, others.1)
+
+-- a header is the first frame, and its ranges know no stocks
+first_frame : (f : Frame) (next : ReadingTold) (n : ℕ) → taken start f ≡ Some next → HasRanges None f → HasRanges (Some n) f × ((k : ℕ) × (stocks_known next ≡ Some k))
+unfolding taken
+first_frame (frame.Header h) next n e ranges =
+    (ranges, (h.stocks, ap stocks_known (sym (some_same (between (record { header = h; branches = [] })) next e))))
+first_frame f next n e ranges = absurd (none_some next e)
+
+start_is_none : (b : BundleTold) → start ≡ end b → ⊥
+start_is_none b e = omega (arith, ap (λ r. frames_known (stocks_known r)) e)
+
+-- all of a bundle was read
+found_from : (bytes : List ℕ) (b : BundleTold) (fs : List Frame) → Reads start bytes fs (end b) [] → (bytes ≡ bundle_bytes b) × IsBundle b
+found_from bytes b [] reads = absurd (start_is_none b reads.0)
+found_from bytes b (f ∷ fs) reads =
+    let list = reads_list start (end b) bytes [] (f ∷ fs) reads tt in
+    let first = first_frame f reads.0 b.stocks reads.3 reads.2.ranges in
+    let others = reads_ranges reads.0 (end b) reads.1 [] fs first.1.0 reads.4 (step start f reads.0 reads.3 tt).so first.1.1 in
+    let same : first.1.0 ≡ b.stocks = sym (some_same b.stocks first.1.0 others.1) in
+    let P : ℕ → Type 0 = λ n. All (HasRanges (Some n)) fs in
+    let ranges = All-cons (HasRanges (Some b.stocks)) f fs first.0 (subst P same others.0) in
+    let Q : List Frame → Type 0 = λ l. All (HasRanges (Some b.stocks)) l in
+    let S : List Frame → Type 0 = λ l. All (λ x. length (payload x) ≤ 65535) l in
+    (reads_bytes start (end b) bytes [] (f ∷ fs) reads ∙ append-nil (all_bytes (f ∷ fs)) ∙ ap all_bytes (sym list.0) ∙ bundle_are b,
+     record {
+       branches = list.1;
+       ranges = subst Q (sym list.0) ranges;
+       short = subst S (sym list.0) (reads_short start (end b) bytes [] (f ∷ fs) reads);
+     })
+
+pub found : (bytes : List ℕ) (b : BundleTold) → Reached bytes (end b) [] → (bytes ≡ bundle_bytes b) × IsBundle b
+found bytes b reached = found_from bytes b reached.frames reached.reads
+
+-- ---- what is still to be read of a bundle
+
+-- nothing was read yet, or the number of stocks is known
+abbrev IsKnown : ReadingTold → ℕ → Type 0
+IsKnown start n = Unit {0}
+IsKnown (between w) n = w.header.stocks ≡ n
+IsKnown (opening w b) n = w.header.stocks ≡ n
+IsKnown (entries w b es l) n = w.header.stocks ≡ n
+IsKnown (ended w b es m) n = w.header.stocks ≡ n
+IsKnown (closing w b es m c) n = w.header.stocks ≡ n
+IsKnown (end b) n = b.stocks ≡ n
+
+pub record IsAhead (r : ReadingTold) (rest : List ℕ) (b : BundleTold) : Type 0 where
+  pub frames : List Frame
+  pub same : rest ≡ all_bytes frames
+  pub takes_all : takes r frames ≡ Some (end b)
+  pub ranges : All (HasRanges (Some b.stocks)) frames
+  pub short : All (λ f. length (payload f) ≤ 65535) frames
+
+pub ahead_first : (bytes : List ℕ) (b : BundleTold) → IsBundle b → bytes ≡ bundle_bytes b → IsAhead start bytes b
+ahead_first bytes b is e = record {
+  frames = bundle_list b;
+  same = e ∙ sym (bundle_are b);
+  takes_all = bundle_read b is.branches;
+  ranges = is.ranges;
+  short = is.short;
+}
