@@ -1,5 +1,5 @@
 -- Bytes that are read as frames.
-use Rattle.std.proofs.Common.{◌≡◌, ◌∙◌, ℕ, ◌≤◌, List, [], ◌∷◌, ◌++◌, length, Option, Some, None, refl, sym, ap, subst, append_assoc, arith}
+use Rattle.std.proofs.Common.{◌≡◌, ◌∙◌, ℕ, ◌≤◌, Bool, true, false, List, [], ◌∷◌, ◌++◌, length, Option, Some, None, refl, sym, ap, subst, append_assoc, arith}
 use Rattle.std.specs.Prelude.{All}
 use Rattle.std.proofs.lemmas.List.{append-nil}
 use Rattle.std.proofs.lemmas.List.Elements.{All-head, All-tail, All-nil, All-cons}
@@ -8,7 +8,7 @@ use Rattle.frame_reader.specs.declared.frame.Frame.{Frame}
 use Rattle.frame_reader.specs.declared.frame.Frame.TheVariants as frame
 use Rattle.frame_reader.specs.Frames.{payload, HasRanges, Begins}
 use Rattle.bundle_reader.specs.Told.{BundleTold, ReadingTold, start, between, opening, entries, ended, closing, end}
-use Rattle.bundle_reader.specs.Order.{taken, stocks_known}
+use Rattle.bundle_reader.specs.Order.{taken, stocks_known, is_whole}
 use Rattle.bundle_reader.specs.Bundle.{bundle_list, bundle_bytes, IsBundle}
 use Rattle.bundle_reader.specs.Reads.{Reads, Reached}
 use Rattle.bundle_reader.proofs.Runs.{takes, takes_then, go_on, some_same, none_some}
@@ -98,7 +98,7 @@ first_frame (frame.Header h) next n e ranges =
 first_frame f next n e ranges = absurd (none_some next e)
 
 start_is_none : (b : BundleTold) → start ≡ end b → ⊥
-start_is_none b e = omega (arith, ap (λ r. frames_known (stocks_known r)) e)
+start_is_none b e = none_some b.stocks (ap stocks_known e)
 
 -- all of a bundle was read
 found_from : (bytes : List ℕ) (b : BundleTold) (fs : List Frame) → Reads start bytes fs (end b) [] → (bytes ≡ bundle_bytes b) × IsBundle b
@@ -124,16 +124,6 @@ found bytes b reached = found_from bytes b reached.frames reached.reads
 
 -- ---- what is still to be read of a bundle
 
--- nothing was read yet, or the number of stocks is known
-abbrev IsKnown : ReadingTold → ℕ → Type 0
-IsKnown start n = Unit {0}
-IsKnown (between w) n = w.header.stocks ≡ n
-IsKnown (opening w b) n = w.header.stocks ≡ n
-IsKnown (entries w b es l) n = w.header.stocks ≡ n
-IsKnown (ended w b es m) n = w.header.stocks ≡ n
-IsKnown (closing w b es m c) n = w.header.stocks ≡ n
-IsKnown (end b) n = b.stocks ≡ n
-
 pub record IsAhead (r : ReadingTold) (rest : List ℕ) (b : BundleTold) : Type 0 where
   pub frames : List Frame
   pub same : rest ≡ all_bytes frames
@@ -149,3 +139,94 @@ ahead_first bytes b is e = record {
   ranges = is.ranges;
   short = is.short;
 }
+
+-- frames that are taken are taken one by one
+pub record TakesFirst (r last : ReadingTold) (f : Frame) (fs : List Frame) : Type 0 where
+  pub next : ReadingTold
+  pub one : taken r f ≡ Some next
+  pub others : takes next fs ≡ Some last
+
+takes_by : (r last : ReadingTold) (f : Frame) (fs : List Frame) (o : Option ReadingTold) → taken r f ≡ o → go_on o (λ n. takes n fs) ≡ Some last → TakesFirst r last f fs
+takes_by r last f fs None is e = absurd (none_some last e)
+takes_by r last f fs (Some next) is e = record { next = next; one = is; others = e }
+
+takes_first : (r last : ReadingTold) (f : Frame) (fs : List Frame) → takes r (f ∷ fs) ≡ Some last → TakesFirst r last f fs
+takes_first r last f fs e = takes_by r last f fs (taken r f) refl e
+
+takes_known : (r : ReadingTold) (fs : List Frame) (b : BundleTold) (n : ℕ) → IsSo r → takes r fs ≡ Some (end b) → stocks_known r ≡ Some n → n ≡ b.stocks
+takes_known r [] b n so e known = some_same n b.stocks (sym known ∙ ap stocks_known (some_same r (end b) e))
+takes_known r (f ∷ fs) b n so e known =
+    let t = takes_first r (end b) f fs e in
+    takes_known t.next fs b n (step r f t.next t.one so).so t.others (known_next r t.next f n t.one so known)
+
+first_back : (f : Frame) (next : ReadingTold) (n : ℕ) → taken start f ≡ Some next → HasRanges (Some n) f → HasRanges None f
+unfolding taken
+first_back (frame.Header h) next n e ranges = ranges
+first_back f next n e ranges = absurd (none_some next e)
+
+known_ranges : (r : ReadingTold) (f : Frame) (fs : List Frame) (b : BundleTold) (k : ℕ) → IsSo r → takes r (f ∷ fs) ≡ Some (end b) → stocks_known r ≡ Some k
+    → HasRanges (Some b.stocks) f → HasRanges (stocks_known r) f
+known_ranges r f fs b k so e known ranges =
+    let P : Option ℕ → Type 0 = λ o. HasRanges o f in
+    subst P (sym (known ∙ ap Some (takes_known r (f ∷ fs) b k so e known))) ranges
+
+ranges_there : (r next : ReadingTold) (f : Frame) (fs : List Frame) (b : BundleTold) → IsSo r → takes r (f ∷ fs) ≡ Some (end b) → taken r f ≡ Some next
+    → HasRanges (Some b.stocks) f → HasRanges (stocks_known r) f
+ranges_there start next f fs b so e one ranges = first_back f next b.stocks one ranges
+ranges_there (between w) next f fs b so e one ranges = known_ranges (between w) f fs b w.header.stocks so e refl ranges
+ranges_there (opening w g) next f fs b so e one ranges = known_ranges (opening w g) f fs b w.header.stocks so e refl ranges
+ranges_there (entries w g es l) next f fs b so e one ranges = known_ranges (entries w g es l) f fs b w.header.stocks so e refl ranges
+ranges_there (ended w g es m) next f fs b so e one ranges = known_ranges (ended w g es m) f fs b w.header.stocks so e refl ranges
+ranges_there (closing w g es m c) next f fs b so e one ranges = known_ranges (closing w g es m c) f fs b w.header.stocks so e refl ranges
+ranges_there (end c) next f fs b so e one ranges = known_ranges (end c) f fs b c.stocks so e refl ranges
+
+-- the next frame of a bundle that isn't read to its end
+pub record IsNextOf (r : ReadingTold) (rest : List ℕ) (b : BundleTold) : Type 0 where
+  pub f : Frame
+  pub after : List ℕ
+  pub next : ReadingTold
+  pub begins : Begins (stocks_known r) rest f after
+  pub one : taken r f ≡ Some next
+  pub ahead : IsAhead next after b
+
+ahead_by : (r : ReadingTold) (rest : List ℕ) (b : BundleTold) (frames : List Frame) → IsSo r → is_whole r ≡ false → rest ≡ all_bytes frames → takes r frames ≡ Some (end b)
+    → All (HasRanges (Some b.stocks)) frames → All (λ f. length (payload f) ≤ 65535) frames → IsNextOf r rest b
+ahead_by r rest b [] so goes_on same e ranges short =
+    let whole : is_whole r ≡ true = ap is_whole (some_same r (end b) e) in absurd (cc (whole, goes_on))
+ahead_by r rest b (f ∷ fs) so goes_on same e ranges short =
+    let t = takes_first r (end b) f fs e in
+    record {
+      f = f;
+      after = all_bytes fs;
+      next = t.next;
+      begins = record {
+        same = same;
+        short = All-head (λ x. length (payload x) ≤ 65535) f fs short;
+        ranges = ranges_there r t.next f fs b so e t.one (All-head (HasRanges (Some b.stocks)) f fs ranges);
+      };
+      one = t.one;
+      ahead = record {
+        frames = fs;
+        same = refl;
+        takes_all = t.others;
+        ranges = All-tail (HasRanges (Some b.stocks)) f fs ranges;
+        short = All-tail (λ x. length (payload x) ≤ 65535) f fs short;
+      };
+    }
+
+pub ahead_step : (r : ReadingTold) (rest : List ℕ) (b : BundleTold) → IsSo r → is_whole r ≡ false → IsAhead r rest b → IsNextOf r rest b
+ahead_step r rest b so goes_on is = ahead_by r rest b is.frames so goes_on is.same is.takes_all is.ranges is.short
+
+end_takes_none : (b : BundleTold) (f : Frame) → taken (end b) f ≡ None
+unfolding taken
+end_takes_none b f = refl
+
+-- behind the end stands nothing
+ahead_end_by : (c b : BundleTold) (rest : List ℕ) (frames : List Frame) → rest ≡ all_bytes frames → takes (end c) frames ≡ Some (end b) → (rest ≡ []) × (end c ≡ end b)
+ahead_end_by c b rest [] same e = (same, some_same (end c) (end b) e)
+ahead_end_by c b rest (f ∷ fs) same e =
+    let t = takes_first (end c) (end b) f fs e in
+    absurd (none_some t.next (sym (end_takes_none c f) ∙ t.one))
+
+pub ahead_end : (c b : BundleTold) (rest : List ℕ) → IsAhead (end c) rest b → (rest ≡ []) × (end c ≡ end b)
+ahead_end c b rest is = ahead_end_by c b rest is.frames is.same is.takes_all
