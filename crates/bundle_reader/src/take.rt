@@ -1,7 +1,8 @@
 //! One frame more.
 
-ghost use Rattle.bundle_reader.specs.Told.{begun_told, branch_told, reading_told, whole_told};
-ghost use Rattle.bundle_reader.specs.Order.{branch_of, is_closed, more_closing, take_agent, take_closing, take_counts, take_entry, take_first, take_header, take_next, take_order, take_stock, taken, with_branch};
+ghost use Rattle.std.specs.Prelude.{None, if◌then◌else◌};
+ghost use Rattle.bundle_reader.specs.Told.{begun_told, reading_told, whole_told};
+ghost use Rattle.bundle_reader.specs.Order.{branch_of, is_closed, take_closing, take_counts, take_first, take_header, take_next, taken, with_branch};
 ghost use Rattle.bundle_reader.specs.Reads.{Takes};
 
 use crate::bundle::{Bundle, Told};

@@ -60,11 +60,20 @@ market_is bytes (body.Answer m) r no_wakeup no_order no_answer only is = absurd 
 market_is bytes (body.Ask m) r no_wakeup no_order no_answer only is = (Ask m, refl, only (Ask m) (record { same = is.same; in_range = is.in_range }))
 market_is bytes (body.Quote m) r no_wakeup no_order no_answer only is = (Quote m, refl, only (Quote m) (record { same = is.same; in_range = is.in_range }))
 
--- what was read is the body, and what was refused is none
-pub read_same : {A : Type 0} (f : A → Body) (x m : A) (b : Body) → b ≡ f m → ◌≡◌ {A = Result A CodecError} (Ok x) (Ok m) → Some (f x) ≡ Some b
-read_same f x m b is read =
-    let same : x ≡ m = cc in
-    ap (λ y. Some (f y)) same ∙ ap (λ y. Some y) (sym is)
+same_read : (r : Result MarketBody CodecError) (x y m : MarketBody) → r ≡ Ok x → x ≡ y → r ≡ Ok m → y ≡ m
+same_read r x y m is same read = cc
 
-pub read_none : {A : Type 0} (m : A) (e : CodecError) → ◌≡◌ {A = Result A CodecError} (Err e) (Ok m) → ⊥
-read_none m e read = cc
+-- what was read is the body, and what was refused is none
+pub market_read : (bytes : List ℕ) (b : Body) (r : Result MarketBody CodecError) (x y : MarketBody) → slice_get bytes 0 ≢ Some 119 → slice_get bytes 0 ≢ Some 105 → slice_get bytes 0 ≢ Some 111
+    → ((m : MarketBody) → IsSpelled bytes (market_wire m) → r ≡ Ok m) → IsBody bytes b → r ≡ Ok x → x ≡ y → Some (body_of y) ≡ Some b
+market_read bytes b r x y no_wakeup no_order no_answer only is read same =
+    let m = market_is bytes b r no_wakeup no_order no_answer only is in
+    ap (λ (k : MarketBody). Some (body_of k)) (same_read r x y m.0 read same m.2) ∙ ap (λ (k : Body). Some k) (sym m.1)
+
+read_none : (r : Result MarketBody CodecError) (m : MarketBody) (e : CodecError) → r ≡ Err e → r ≡ Ok m → ⊥
+read_none r m e is read = cc
+
+pub market_refused : (bytes : List ℕ) (b : Body) (r : Result MarketBody CodecError) (e : CodecError) → slice_get bytes 0 ≢ Some 119 → slice_get bytes 0 ≢ Some 105 → slice_get bytes 0 ≢ Some 111
+    → ((m : MarketBody) → IsSpelled bytes (market_wire m) → r ≡ Ok m) → IsBody bytes b → r ≡ Err e → ⊥
+market_refused bytes b r e no_wakeup no_order no_answer only is refused =
+    let m = market_is bytes b r no_wakeup no_order no_answer only is in read_none r m.0 e refused m.2
