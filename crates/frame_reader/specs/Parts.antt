@@ -1,5 +1,5 @@
 -- A frame as its head, the fixed fields with which it begins, and what follows them.
-use Rattle.std.specs.Prelude.{◌≡◌, ◌/◌, ◌%◌, ◌^◌, ℕ, ℤ, List, [], length, Option, Some, None}
+use Rattle.std.specs.Prelude.{◌≡◌, ◌/◌, ◌%◌, ◌^◌, ℕ, ℤ, Bool, true, false, List, [], ◌∷◌, length, Option, Some, None}
 use Rattle.std.specs.Int.{cast_unsigned, w64, w128}
 use Rattle.bundle_frames.specs.Wires.{letter_of_delivery, letter_of_body, letter_of_silence, body_bytes, positions_bytes}
 use Rattle.bundle_frames.specs.declared.closing.ClosingStock.{ClosingStock}
@@ -97,6 +97,11 @@ rest_part (Order o) = []
 rest_part (Agent a) = positions_bytes a.positions
 rest_part (Waiting w) = body_bytes w.body
 rest_part (End branches) = []
+
+-- whether nothing follows
+abbrev pub is_none : List ℕ → Bool
+is_none [] = true
+is_none (b ∷ bytes) = false
 
 -- A frame has this head, this rest, and each field in its range.
 pub record IsOf (stocks : Option ℕ) (h : Head) (rest : List ℕ) (f : Frame) : Type 0 where

@@ -1,11 +1,10 @@
 //! One frame without its length.
 
-ghost use Rattle.std.specs.Prelude.{◌≡◌, ◌++◌, [], IfSome, IfOk, Some, Option};
-ghost use Rattle.wire_fields.specs.Wire.{IsInRange, spelling};
-ghost use Rattle.frame_parts.specs.Heads.{head_wire, IsLed};
+ghost use Rattle.std.specs.Prelude.{◌≡◌, IfSome, IfOk, Some, None, if◌then◌else◌};
+ghost use Rattle.frame_parts.specs.Heads.{IsLed};
 ghost use Rattle.frame_reader.specs.declared.frame.Frame.{Frame as FrameOf};
 ghost use Rattle.frame_reader.specs.Frames.{IsFrame};
-ghost use Rattle.frame_reader.specs.Parts.{IsOf};
+ghost use Rattle.frame_reader.specs.Parts.{IsOf, is_none};
 
 use crate::frame::Frame;
 use crate::parts;
@@ -32,40 +31,39 @@ pub fn read_payload(
     }
     match read_head(payload) {
         None => Ok(None),
-        Some((Head::Agent(head), rest)) => parts::agent(alloc, stocks, &head, rest),
-        Some((head, rest)) => Ok(plain(&head, rest, payload)),
+        Some((head, rest)) => headed(alloc, stocks, &head, rest, payload),
     }
 }
 
-// The frame of a head that is no agent's.
-fn plain(head: &Head, rest: &[u8], payload: &[u8]) -> Option<Frame>
+// The frame of a head and of what follows it.
+fn headed(
+    alloc: Global,
+    stocks: Option<u16>,
+    head: &Head,
+    rest: &[u8],
+    payload: &[u8],
+) -> Result<Option<Frame>, Memory>
     requires { IsLed payload.now head.now rest.now }
-    ensures frame { IfSome result (λ f. (stocks : Option ℕ) → IsOf stocks head.now rest.now f) }
+    ensures frame { IfOk result (λ o. IfSome o (IsOf stocks head.now rest.now)) }
+    ensures only { (f : FrameOf) → IsOf stocks head.now rest.now f → IfOk result (λ o. o ≡ Some f) }
 {
-    match head {
+    Ok(match head {
         Head::Header(h) => parts::header(h, rest),
         Head::Branch(h) => parts::branch(h, rest),
         Head::Event(h) => parts::event(h, rest, &payload[42..]),
-        Head::Waiting(h) => parts::waiting(h, rest, &payload[21..]),
+        Head::Edit(h) => alone(Frame::Edit(*h), rest),
+        Head::Counts(h) => alone(Frame::Counts(*h), rest),
         Head::Stock(h) => parts::stock(h, rest),
-        Head::Agent(_) => None,
-        _ => bare(head, rest),
-    }
+        Head::Order(h) => alone(Frame::Order(*h), rest),
+        Head::Agent(h) => return parts::agent(alloc, stocks, h, rest),
+        Head::Waiting(h) => parts::waiting(h, rest, &payload[21..]),
+        Head::End(branches) => alone(Frame::End(*branches), rest),
+    })
 }
 
-// The frame of a head that stands as it is.
-fn bare(head: &Head, rest: &[u8]) -> Option<Frame>
-    requires { IsInRange (head_wire head.now) }
-    ensures frame { IfSome result (λ f. (stocks : Option ℕ) → IsOf stocks head.now rest.now f) }
+// A frame that nothing follows.
+fn alone(frame: Frame, rest: &[u8]) -> Option<Frame>
+    ensures { result ≡ (if is_none rest.now then Some frame else None) }
 {
-    if !rest.is_empty() {
-        return None;
-    }
-    match head {
-        Head::Edit(h) => Some(Frame::Edit(*h)),
-        Head::Counts(h) => Some(Frame::Counts(*h)),
-        Head::Order(h) => Some(Frame::Order(*h)),
-        Head::End(branches) => Some(Frame::End(*branches)),
-        _ => None,
-    }
+    if rest.is_empty() { Some(frame) } else { None }
 }
