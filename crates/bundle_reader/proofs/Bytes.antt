@@ -82,8 +82,8 @@ entry_is : (x : EntryTold) → all_bytes (entry_list x) ≡ entry_frames x
 entry_is (event e) =
     both (feed_list e.before) (frame.Event (event_part e) ∷ feed_list e.after)
     ∙ same_both (all_bytes (feed_list e.before)) (feed_frames e.before) (frame_bytes (frame.Event (event_part e)) ++ all_bytes (feed_list e.after)) (event_frame e ++ feed_frames e.after)
-        (feed_is e.before)
-        (same_both (frame_bytes (frame.Event (event_part e))) (event_frame e) (all_bytes (feed_list e.after)) (feed_frames e.after) (event_is e) (feed_is e.after))
+    (feed_is e.before)
+    (same_both (frame_bytes (frame.Event (event_part e))) (event_frame e) (all_bytes (feed_list e.after)) (feed_frames e.after) (event_is e) (feed_is e.after))
     ∙ sym (append_assoc (feed_frames e.before) (event_frame e) (feed_frames e.after))
 entry_is (edit d) =
     same_both (frame_bytes (frame.Edit (edit_part d))) (edit_frame d) (all_bytes (feed_list d.feed)) (feed_frames d.feed) (edit_is d) (feed_is d.feed)
@@ -104,10 +104,10 @@ closing_is c =
     let agents = mapped frame.Agent agent_frame agent_is c.agents in
     let first = both (ss ++ os) xs ∙ ap (λ (l : List ℕ). l ++ all_bytes xs) (both ss os) in
     let parts =
-        same_both (all_bytes ss ++ all_bytes os) (flat_map stock_frame c.stocks ++ flat_map order_frame c.orders) (all_bytes xs) (flat_map agent_frame c.agents)
-            (same_both (all_bytes ss) (flat_map stock_frame c.stocks) (all_bytes os) (flat_map order_frame c.orders) stocks orders) agents in
+    same_both (all_bytes ss ++ all_bytes os) (flat_map stock_frame c.stocks ++ flat_map order_frame c.orders) (all_bytes xs) (flat_map agent_frame c.agents)
+    (same_both (all_bytes ss) (flat_map stock_frame c.stocks) (all_bytes os) (flat_map order_frame c.orders) stocks orders) agents in
     same_both (frame_bytes (frame.Counts c.counts)) (counts_frame c.counts) (all_bytes (ss ++ os ++ xs)) (flat_map stock_frame c.stocks ++ flat_map order_frame c.orders ++ flat_map agent_frame c.agents)
-        (counts_is c) (first ∙ parts)
+    (counts_is c) (first ∙ parts)
     ∙ sym (append_assoc (counts_frame c.counts) (flat_map stock_frame c.stocks ++ flat_map order_frame c.orders) (flat_map agent_frame c.agents))
     ∙ ap (λ (l : List ℕ). l ++ flat_map agent_frame c.agents) (sym (append_assoc (counts_frame c.counts) (flat_map stock_frame c.stocks) (flat_map order_frame c.orders)))
 
@@ -119,13 +119,13 @@ branch_are n b =
     let tail = message_frame b.ended ++ closing_frames b.closing in
     let last = same_both (frame_bytes (frame.Message b.ended)) (message_frame b.ended) (all_bytes (closing_list b.closing)) (closing_frames b.closing) (message_is b.ended) (closing_is b.closing) in
     let middle =
-        both (feed_list b.opening ++ flat_map entry_list b.entries) (frame.Message b.ended ∷ closing_list b.closing)
-        ∙ same_both (all_bytes (feed_list b.opening ++ flat_map entry_list b.entries)) (feed ++ es) (frame_bytes (frame.Message b.ended) ++ all_bytes (closing_list b.closing)) tail
-            (both (feed_list b.opening) (flat_map entry_list b.entries)
-             ∙ same_both (all_bytes (feed_list b.opening)) feed (all_bytes (flat_map entry_list b.entries)) es (feed_is b.opening) (entries_are b.entries))
-            last in
+    both (feed_list b.opening ++ flat_map entry_list b.entries) (frame.Message b.ended ∷ closing_list b.closing)
+    ∙ same_both (all_bytes (feed_list b.opening ++ flat_map entry_list b.entries)) (feed ++ es) (frame_bytes (frame.Message b.ended) ++ all_bytes (closing_list b.closing)) tail
+    (both (feed_list b.opening) (flat_map entry_list b.entries)
+    ∙ same_both (all_bytes (feed_list b.opening)) feed (all_bytes (flat_map entry_list b.entries)) es (feed_is b.opening) (entries_are b.entries))
+    last in
     same_both (frame_bytes (frame.Branch (record { branch = n; parent = b.parent; stop = b.stop; name = b.name }))) first
-        (all_bytes (feed_list b.opening ++ flat_map entry_list b.entries ++ (frame.Message b.ended ∷ closing_list b.closing))) (feed ++ es ++ tail) (branch_is n b) middle
+    (all_bytes (feed_list b.opening ++ flat_map entry_list b.entries ++ (frame.Message b.ended ∷ closing_list b.closing))) (feed ++ es ++ tail) (branch_is n b) middle
     ∙ sym (append_assoc first (feed ++ es) tail)
     ∙ ap (λ (l : List ℕ). l ++ tail) (sym (append_assoc first feed es))
     ∙ sym (append_assoc (first ++ feed ++ es) (message_frame b.ended) (closing_frames b.closing))
@@ -143,7 +143,7 @@ bundle_are b =
     let last = end_frame (length b.branches) in
     let end = append-nil (frame_bytes (frame.End (length b.branches))) ∙ end_is (length b.branches) in
     same_both (frame_bytes (frame.Header (record { agents = b.agents; stocks = b.stocks; branches = length b.branches }))) first
-        (all_bytes (branches_list 0 b.branches ++ frame.End (length b.branches) ∷ [])) (branches_bytes 0 b.branches ++ last) (header_is b)
-        (both (branches_list 0 b.branches) (frame.End (length b.branches) ∷ [])
-         ∙ same_both (all_bytes (branches_list 0 b.branches)) (branches_bytes 0 b.branches) (frame_bytes (frame.End (length b.branches)) ++ []) last (branches_are 0 b.branches) end)
+    (all_bytes (branches_list 0 b.branches ++ frame.End (length b.branches) ∷ [])) (branches_bytes 0 b.branches ++ last) (header_is b)
+    (both (branches_list 0 b.branches) (frame.End (length b.branches) ∷ [])
+    ∙ same_both (all_bytes (branches_list 0 b.branches)) (branches_bytes 0 b.branches) (frame_bytes (frame.End (length b.branches)) ++ []) last (branches_are 0 b.branches) end)
     ∙ sym (append_assoc first (branches_bytes 0 b.branches) last)

@@ -34,7 +34,7 @@ stock_taken : (w : WholeTold) (b : BegunTold) (es : List EntryTold) (m : Feed) (
 unfolding taken
 stock_taken w b es m counts ss s less is =
     ap (λ t. more_closing w b es m (if t then Some (parts counts (ss ++ s ∷ []) [] []) else None))
-        (both_true (nat_lt (length ss) w.header.stocks) (s.stock == length ss) (less_true (length ss) w.header.stocks less) (same_true s.stock (length ss) is))
+    (both_true (nat_lt (length ss) w.header.stocks) (s.stock == length ss) (less_true (length ss) w.header.stocks less) (same_true s.stock (length ss) is))
 
 pub stocks_read : (w : WholeTold) (b : BegunTold) (es : List EntryTold) (m : Feed) (counts : ClosingCounts) (ss xs : List ClosingStock)
     → length ss + length xs ≡ w.header.stocks → AreStocks (length ss) xs
@@ -44,9 +44,9 @@ stocks_read w b es m counts ss (x ∷ xs) count are =
     let len : length (ss ++ x ∷ []) ≡ length ss + 1 = length-append ss (x ∷ []) in
     let P : ℕ → Type 0 = λ n. AreStocks n xs in
     takes_then (closing w b es m (parts counts ss [] [])) (closing w b es m (parts counts (ss ++ x ∷ []) [] [])) (closing w b es m (parts counts (ss ++ x ∷ xs) [] [])) (frame.Stock x) (map frame.Stock xs)
-        (stock_taken w b es m counts ss x (omega (arith, count)) are.0)
-        (stocks_read w b es m counts (ss ++ x ∷ []) xs (omega (arith, len, count)) (subst P (sym len) are.1)
-         ∙ ap (λ l. Some (closing w b es m (parts counts l [] []))) (append_assoc ss (x ∷ []) xs))
+    (stock_taken w b es m counts ss x (omega (arith, count)) are.0)
+    (stocks_read w b es m counts (ss ++ x ∷ []) xs (omega (arith, len, count)) (subst P (sym len) are.1)
+    ∙ ap (λ l. Some (closing w b es m (parts counts l [] []))) (append_assoc ss (x ∷ []) xs))
 
 order_taken : (w : WholeTold) (b : BegunTold) (es : List EntryTold) (m : Feed) (counts : ClosingCounts) (ss : List ClosingStock) (os : List ClosingOrder) (o : ClosingOrder)
     → length ss ≡ w.header.stocks
@@ -54,7 +54,7 @@ order_taken : (w : WholeTold) (b : BegunTold) (es : List EntryTold) (m : Feed) (
 unfolding taken
 order_taken w b es m counts ss os o is =
     ap (λ t. more_closing w b es m (if t then Some (parts counts ss (os ++ o ∷ []) []) else None))
-        (both_true (length ss == w.header.stocks) true (same_true (length ss) w.header.stocks is) refl)
+    (both_true (length ss == w.header.stocks) true (same_true (length ss) w.header.stocks is) refl)
 
 pub orders_read : (w : WholeTold) (b : BegunTold) (es : List EntryTold) (m : Feed) (counts : ClosingCounts) (ss : List ClosingStock) (os xs : List ClosingOrder)
     → length ss ≡ w.header.stocks
@@ -62,8 +62,8 @@ pub orders_read : (w : WholeTold) (b : BegunTold) (es : List EntryTold) (m : Fee
 orders_read w b es m counts ss os [] is = ap (λ l. Some (closing w b es m (parts counts ss l []))) (sym (append-nil os))
 orders_read w b es m counts ss os (x ∷ xs) is =
     takes_then (closing w b es m (parts counts ss os [])) (closing w b es m (parts counts ss (os ++ x ∷ []) [])) (closing w b es m (parts counts ss (os ++ x ∷ xs) [])) (frame.Order x) (map frame.Order xs)
-        (order_taken w b es m counts ss os x is)
-        (orders_read w b es m counts ss (os ++ x ∷ []) xs is ∙ ap (λ l. Some (closing w b es m (parts counts ss l []))) (append_assoc os (x ∷ []) xs))
+    (order_taken w b es m counts ss os x is)
+    (orders_read w b es m counts ss (os ++ x ∷ []) xs is ∙ ap (λ l. Some (closing w b es m (parts counts ss l []))) (append_assoc os (x ∷ []) xs))
 
 agent_taken : (w : WholeTold) (b : BegunTold) (es : List EntryTold) (m : Feed) (counts : ClosingCounts) (ss : List ClosingStock) (os : List ClosingOrder) (as_ : List ClosingAgent) (a : ClosingAgent)
     → length ss ≡ w.header.stocks → length as_ < w.header.agents → a.agent ≡ length as_
@@ -71,8 +71,8 @@ agent_taken : (w : WholeTold) (b : BegunTold) (es : List EntryTold) (m : Feed) (
 unfolding taken
 agent_taken w b es m counts ss os as_ a all less is =
     ap (λ t. more_closing w b es m (if t then Some (parts counts ss os (as_ ++ a ∷ [])) else None))
-        (both_true (length ss == w.header.stocks) (nat_lt (length as_) w.header.agents && (a.agent == length as_)) (same_true (length ss) w.header.stocks all)
-            (both_true (nat_lt (length as_) w.header.agents) (a.agent == length as_) (less_true (length as_) w.header.agents less) (same_true a.agent (length as_) is)))
+    (both_true (length ss == w.header.stocks) (nat_lt (length as_) w.header.agents && (a.agent == length as_)) (same_true (length ss) w.header.stocks all)
+    (both_true (nat_lt (length as_) w.header.agents) (a.agent == length as_) (less_true (length as_) w.header.agents less) (same_true a.agent (length as_) is)))
 
 pub agents_read : (w : WholeTold) (b : BegunTold) (es : List EntryTold) (m : Feed) (counts : ClosingCounts) (ss : List ClosingStock) (os : List ClosingOrder) (as_ xs : List ClosingAgent)
     → length ss ≡ w.header.stocks → length as_ + length xs ≡ w.header.agents → AreAgents (length as_) xs
@@ -82,6 +82,6 @@ agents_read w b es m counts ss os as_ (x ∷ xs) all count are =
     let len : length (as_ ++ x ∷ []) ≡ length as_ + 1 = length-append as_ (x ∷ []) in
     let P : ℕ → Type 0 = λ n. AreAgents n xs in
     takes_then (closing w b es m (parts counts ss os as_)) (closing w b es m (parts counts ss os (as_ ++ x ∷ []))) (closing w b es m (parts counts ss os (as_ ++ x ∷ xs))) (frame.Agent x) (map frame.Agent xs)
-        (agent_taken w b es m counts ss os as_ x all (omega (arith, count)) are.0)
-        (agents_read w b es m counts ss os (as_ ++ x ∷ []) xs all (omega (arith, len, count)) (subst P (sym len) are.1)
-         ∙ ap (λ l. Some (closing w b es m (parts counts ss os l))) (append_assoc as_ (x ∷ []) xs))
+    (agent_taken w b es m counts ss os as_ x all (omega (arith, count)) are.0)
+    (agents_read w b es m counts ss os (as_ ++ x ∷ []) xs all (omega (arith, len, count)) (subst P (sym len) are.1)
+    ∙ ap (λ l. Some (closing w b es m (parts counts ss os l))) (append_assoc as_ (x ∷ []) xs))

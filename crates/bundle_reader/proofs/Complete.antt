@@ -92,7 +92,7 @@ behind_branch : (w : WholeTold) (b : BranchTold) → length b.closing.stocks ≡
 unfolding taken
 behind_branch w b stocks agents =
     let closed = both_true (length b.closing.stocks == w.header.stocks) (length b.closing.agents == w.header.agents)
-        (same_true (length b.closing.stocks) w.header.stocks stocks) (same_true (length b.closing.agents) w.header.agents agents) in
+    (same_true (length b.closing.stocks) w.header.stocks stocks) (same_true (length b.closing.agents) w.header.agents agents) in
     record {
       branch = λ x. ap (λ t. if t then take_next (with_branch w b) (frame.Branch x) else None) closed;
       last = λ n. ap (λ t. if t then take_next (with_branch w b) (frame.End n) else None) closed;
@@ -107,8 +107,8 @@ branch_taken : (r : ReadingTold) (w : WholeTold) (b : BranchTold) → IsBehind r
 branch_taken r w b behind less =
     behind.branch (frame_of (length w.branches) b)
     ∙ ap (λ t. if t then Some (opening w (begun (frame_of (length w.branches) b))) else None)
-        (both_true (nat_lt (length w.branches) w.header.branches) (length w.branches == length w.branches) (less_true (length w.branches) w.header.branches less)
-            (same_true (length w.branches) (length w.branches) refl))
+    (both_true (nat_lt (length w.branches) w.header.branches) (length w.branches == length w.branches) (less_true (length w.branches) w.header.branches less)
+    (same_true (length w.branches) (length w.branches) refl))
 
 -- from the counters on
 closing_read : (w : WholeTold) (b : BranchTold) → IsBranch w.header.stocks w.header.agents b
@@ -120,26 +120,26 @@ closing_read w b is =
     let orders = orders_read w (begun_of b) b.entries b.ended c.counts c.stocks [] c.orders is.closing.stock_count in
     let agents = agents_read w (begun_of b) b.entries b.ended c.counts c.stocks c.orders [] c.agents is.closing.stock_count is.closing.agent_count is.closing.agents in
     takes_then (ended w (begun_of b) b.entries b.ended) (at [] [] []) (at c.stocks c.orders c.agents) (frame.Counts c.counts)
-        (map frame.Stock c.stocks ++ map frame.Order c.orders ++ map frame.Agent c.agents)
-        (counts_taken w (begun_of b) b.entries b.ended c)
-        (takes_both (at [] [] []) (at c.stocks c.orders []) (at c.stocks c.orders c.agents) (map frame.Stock c.stocks ++ map frame.Order c.orders) (map frame.Agent c.agents)
-            (takes_both (at [] [] []) (at c.stocks [] []) (at c.stocks c.orders []) (map frame.Stock c.stocks) (map frame.Order c.orders) stocks orders)
-            agents)
+    (map frame.Stock c.stocks ++ map frame.Order c.orders ++ map frame.Agent c.agents)
+    (counts_taken w (begun_of b) b.entries b.ended c)
+    (takes_both (at [] [] []) (at c.stocks c.orders []) (at c.stocks c.orders c.agents) (map frame.Stock c.stocks ++ map frame.Order c.orders) (map frame.Agent c.agents)
+    (takes_both (at [] [] []) (at c.stocks [] []) (at c.stocks c.orders []) (map frame.Stock c.stocks) (map frame.Order c.orders) stocks orders)
+    agents)
 
 -- from the entries on
 ending_read : (w : WholeTold) (b : BranchTold) → IsBranch w.header.stocks w.header.agents b
     → takes (entries w (begun_of b) [] (apart [])) (flat_map entry_list b.entries ++ (frame.Message b.ended ∷ closing_list b.closing))
-        ≡ Some (closing w (begun_of b) b.entries b.ended b.closing)
+    ≡ Some (closing w (begun_of b) b.entries b.ended b.closing)
 ending_read w b is =
     let done : EntriesRead w (begun_of b) (entries w (begun_of b) [] (apart [])) (flat_map entry_list b.entries) b.entries =
-        entries_read w (begun_of b) [] (apart []) b.entries refl (all_free b.entries is.split) is.split in
+    entries_read w (begun_of b) [] (apart []) b.entries refl (all_free b.entries is.split) is.split in
     let after : taken (entries w (begun_of b) done.now done.last) (frame.Message b.ended) ≡ Some (ended w (begun_of b) b.entries b.ended) =
-        system_taken w (begun_of b) done.now done.last b.ended is.ended done.none ∙ ap (λ es. Some (ended w (begun_of b) es b.ended)) done.same in
+    system_taken w (begun_of b) done.now done.last b.ended is.ended done.none ∙ ap (λ es. Some (ended w (begun_of b) es b.ended)) done.same in
     takes_both (entries w (begun_of b) [] (apart [])) (entries w (begun_of b) done.now done.last) (closing w (begun_of b) b.entries b.ended b.closing)
-        (flat_map entry_list b.entries) (frame.Message b.ended ∷ closing_list b.closing)
-        done.read
-        (takes_then (entries w (begun_of b) done.now done.last) (ended w (begun_of b) b.entries b.ended) (closing w (begun_of b) b.entries b.ended b.closing)
-            (frame.Message b.ended) (closing_list b.closing) after (closing_read w b is))
+    (flat_map entry_list b.entries) (frame.Message b.ended ∷ closing_list b.closing)
+    done.read
+    (takes_then (entries w (begun_of b) done.now done.last) (ended w (begun_of b) b.entries b.ended) (closing w (begun_of b) b.entries b.ended b.closing)
+    (frame.Message b.ended) (closing_list b.closing) after (closing_read w b is))
 
 -- an opening has a first message
 opening_of : (w : WholeTold) (beg : BegunTold) (feed : List Feed) → beg.opening ≡ [] → IsOpening w.header.stocks feed
@@ -157,12 +157,12 @@ branch_read r w b behind less is =
     let first = frame_of (length w.branches) b in
     let rest = flat_map entry_list b.entries ++ (frame.Message b.ended ∷ closing_list b.closing) in
     takes_then r (opening w (begun first)) (closing w (begun_of b) b.entries b.ended b.closing) (frame.Branch first)
-        (feed_list b.opening ++ flat_map entry_list b.entries ++ (frame.Message b.ended ∷ closing_list b.closing))
-        (branch_taken r w b behind less)
-        (ap (takes (opening w (begun first))) (append_assoc (feed_list b.opening) (flat_map entry_list b.entries) (frame.Message b.ended ∷ closing_list b.closing))
-         ∙ takes_both (opening w (begun first)) (entries w (begun_of b) [] (apart [])) (closing w (begun_of b) b.entries b.ended b.closing) (feed_list b.opening) rest
-            (opening_of w (begun first) b.opening refl is.opening)
-            (ending_read w b is))
+    (feed_list b.opening ++ flat_map entry_list b.entries ++ (frame.Message b.ended ∷ closing_list b.closing))
+    (branch_taken r w b behind less)
+    (ap (takes (opening w (begun first))) (append_assoc (feed_list b.opening) (flat_map entry_list b.entries) (frame.Message b.ended ∷ closing_list b.closing))
+    ∙ takes_both (opening w (begun first)) (entries w (begun_of b) [] (apart [])) (closing w (begun_of b) b.entries b.ended b.closing) (feed_list b.opening) rest
+    (opening_of w (begun first) b.opening refl is.opening)
+    (ending_read w b is))
 
 -- several branches
 pub record BranchesRead (r : ReadingTold) (fs : List Frame) (w : WholeTold) : Type 0 where
@@ -198,10 +198,10 @@ bundle_read b all =
     let whole : WholeTold = record { header = header; branches = b.branches } in
     let done = branches_read (between w) w b.branches (behind_header w) refl all in
     let last : taken done.next (frame.End (length b.branches)) ≡ Some (end b) =
-        done.behind.last (length b.branches)
-        ∙ ap (λ t. if t then Some (end (bundle_of whole)) else None)
-            (both_true (length b.branches == length b.branches) (length b.branches == length b.branches) (same_true (length b.branches) (length b.branches) refl)
-                (same_true (length b.branches) (length b.branches) refl)) in
+    done.behind.last (length b.branches)
+    ∙ ap (λ t. if t then Some (end (bundle_of whole)) else None)
+    (both_true (length b.branches == length b.branches) (length b.branches == length b.branches) (same_true (length b.branches) (length b.branches) refl)
+    (same_true (length b.branches) (length b.branches) refl)) in
     takes_then start (between w) (end b) (frame.Header header) (branches_list 0 b.branches ++ frame.End (length b.branches) ∷ []) (header_taken header)
-        (takes_both (between w) done.next (end b) (branches_list 0 b.branches) (frame.End (length b.branches) ∷ []) done.read
-            (takes_then done.next (end b) (end b) (frame.End (length b.branches)) [] last refl))
+    (takes_both (between w) done.next (end b) (branches_list 0 b.branches) (frame.End (length b.branches) ∷ []) done.read
+    (takes_then done.next (end b) (end b) (frame.End (length b.branches)) [] last refl))

@@ -49,9 +49,9 @@ pub tradings_read : (w : WholeTold) (b : BegunTold) (es : List EntryTold) (befor
 tradings_read w b es before [] all = ap (λ l. Some (entries w b es (apart l))) (sym (append-nil before))
 tradings_read w b es before (m ∷ rest) all =
     takes_then (entries w b es (apart before)) (entries w b es (apart (before ++ m ∷ []))) (entries w b es (apart (before ++ m ∷ rest))) (frame.Message m) (feed_list rest)
-        (trading_taken w b es (apart before) m (and_left (is_trading m.what) (list_all (λ n. is_trading n.what) rest) all))
-        (tradings_read w b es (before ++ m ∷ []) rest (and_right (is_trading m.what) (list_all (λ n. is_trading n.what) rest) all)
-         ∙ ap (λ l. Some (entries w b es (apart l))) (append_assoc before (m ∷ []) rest))
+    (trading_taken w b es (apart before) m (and_left (is_trading m.what) (list_all (λ n. is_trading n.what) rest) all))
+    (tradings_read w b es (before ++ m ∷ []) rest (and_right (is_trading m.what) (list_all (λ n. is_trading n.what) rest) all)
+    ∙ ap (λ l. Some (entries w b es (apart l))) (append_assoc before (m ∷ []) rest))
 
 -- messages on orders behind an event
 abbrev with_after : EventTold → List Feed → EventTold
@@ -86,7 +86,7 @@ not_trading m e = not_both m.what e
 
 message_taken : (w : WholeTold) (b : BegunTold) (es : List EntryTold) (l : LastTold) (m : Feed) (t : Bool) → is_trading m.what ≡ t
     → taken (entries w b es l) (frame.Message m)
-        ≡ (if t then Some (take_trading w b es l m) else (if is_of_orders m.what then take_of_orders w b es l m else (if is_system m.what && is_none (before_next l) then Some (ended w b (all_entries es l) m) else None)))
+    ≡ (if t then Some (take_trading w b es l m) else (if is_of_orders m.what then take_of_orders w b es l m else (if is_system m.what && is_none (before_next l) then Some (ended w b (all_entries es l) m) else None)))
 unfolding taken
 message_taken w b es l m t e =
     ap (λ s. if s then Some (take_trading w b es l m) else (if is_of_orders m.what then take_of_orders w b es l m else (if is_system m.what && is_none (before_next l) then Some (ended w b (all_entries es l) m) else None))) e
@@ -102,9 +102,9 @@ afters_read : (w : WholeTold) (b : BegunTold) (es : List EntryTold) (e : EventTo
 afters_read w b es e [] all = ap (λ l. Some (entries w b es (event (record e { after = l })))) (sym (append-nil e.after))
 afters_read w b es e (m ∷ rest) all =
     takes_then (entries w b es (event e)) (entries w b es (event (with_after e (m ∷ [])))) (entries w b es (event (with_after e (m ∷ rest)))) (frame.Message m) (feed_list rest)
-        (after_taken w b es e m (and_left (is_of_orders m.what) (list_all (λ n. is_of_orders n.what) rest) all))
-        (afters_read w b es (with_after e (m ∷ [])) rest (and_right (is_of_orders m.what) (list_all (λ n. is_of_orders n.what) rest) all)
-         ∙ ap (λ l. Some (entries w b es (event (record e { after = l })))) (append_assoc e.after (m ∷ []) rest))
+    (after_taken w b es e m (and_left (is_of_orders m.what) (list_all (λ n. is_of_orders n.what) rest) all))
+    (afters_read w b es (with_after e (m ∷ [])) rest (and_right (is_of_orders m.what) (list_all (λ n. is_of_orders n.what) rest) all)
+    ∙ ap (λ l. Some (entries w b es (event (record e { after = l })))) (append_assoc e.after (m ∷ []) rest))
 
 -- an event without what follows it
 abbrev start_of : EventTold → EventTold
@@ -141,8 +141,8 @@ event_behind : (w : WholeTold) (b : BegunTold) (es : List EntryTold) (l : LastTo
     → takes (entries w b es l) (behind e) ≡ Some (entries w b (all_entries es l) (event e))
 event_behind w b es l e is after =
     takes_then (entries w b es l) (entries w b (all_entries es l) (event (start_of e))) (entries w b (all_entries es l) (event e)) (frame.Event (event_part e)) (feed_list e.after)
-        (event_taken w b es l e is)
-        (afters_read w b (all_entries es l) (start_of e) e.after after)
+    (event_taken w b es l e is)
+    (afters_read w b (all_entries es l) (start_of e) e.after after)
 
 event_from : (w : WholeTold) (b : BegunTold) (es : List EntryTold) (l : LastTold) (e : EventTold) (before : List Feed) → e.before ≡ before → IsFree l [] → IsFree l before
     → list_all (λ m. is_trading m.what) before ≡ true → list_all (λ m. is_of_orders m.what) e.after ≡ true
@@ -151,13 +151,13 @@ event_from w b es l e [] is none free all after = event_behind w b es l e (none_
 event_from w b es l e (m ∷ rest) is none free all after =
     let now = all_entries es l in
     let first : taken (entries w b es l) (frame.Message m) ≡ Some (entries w b now (apart (m ∷ []))) =
-        trading_taken w b es l m (and_left (is_trading m.what) (list_all (λ n. is_trading n.what) rest) all) ∙ ap Some (first_trading w b es l m rest free) in
+    trading_taken w b es l m (and_left (is_trading m.what) (list_all (λ n. is_trading n.what) rest) all) ∙ ap Some (first_trading w b es l m rest free) in
     let others = tradings_read w b now (m ∷ []) rest (and_right (is_trading m.what) (list_all (λ n. is_trading n.what) rest) all) in
     takes_then (entries w b es l) (entries w b now (apart (m ∷ []))) (entries w b now (event e)) (frame.Message m) (feed_list rest ++ behind e)
-        first
-        (takes_both (entries w b now (apart (m ∷ []))) (entries w b now (apart (m ∷ rest))) (entries w b now (event e)) (feed_list rest) (behind e)
-            others
-            (event_behind w b now (apart (m ∷ rest)) e (sym is) after))
+    first
+    (takes_both (entries w b now (apart (m ∷ []))) (entries w b now (apart (m ∷ rest))) (entries w b now (event e)) (feed_list rest) (behind e)
+    others
+    (event_behind w b now (apart (m ∷ rest)) e (sym is) after))
 
 -- an event and its feed
 event_read : (w : WholeTold) (b : BegunTold) (es : List EntryTold) (l : LastTold) (e : EventTold) → IsFree l [] → IsFree l e.before → HasFeed (told.event e)
@@ -189,8 +189,8 @@ edit_from w b es l d (m ∷ []) none own =
     let now = all_entries es l in
     let last = entries w b now (edit (edit_having d (m ∷ []))) in
     takes_then (entries w b es l) (entries w b now (edit (edit_having d []))) last (frame.Edit (edit_part d)) (frame.Message m ∷ []) (edit_taken w b es l d none)
-        (takes_then (entries w b now (edit (edit_having d []))) last last (frame.Message m) []
-            (own_taken w b now d m (and_left (is_trading m.what) (belongs (edit_having d []) m) own) (and_right (is_trading m.what) (belongs (edit_having d []) m) own)) refl)
+    (takes_then (entries w b now (edit (edit_having d []))) last last (frame.Message m) []
+    (own_taken w b now d m (and_left (is_trading m.what) (belongs (edit_having d []) m) own) (and_right (is_trading m.what) (belongs (edit_having d []) m) own)) refl)
 edit_from w b es l d (m ∷ n ∷ rest) none own = absurd cc
 
 edit_read : (w : WholeTold) (b : BegunTold) (es : List EntryTold) (l : LastTold) (d : EditTold) → IsFree l [] → HasFeed (told.edit d)
@@ -244,12 +244,12 @@ entries_read w b es l [] none free split = record {
 entries_read w b es l (told.event e ∷ rest) none free split =
     let now = all_entries es l in
     entries_then w b (entries w b es l) (entries w b now (event e)) (entry_list (told.event e)) (flat_map entry_list rest) ((now ++ told.event e ∷ []) ++ rest) (now ++ told.event e ∷ rest)
-        (event_read w b es l e none free split.0)
-        (append_assoc now (told.event e ∷ []) rest)
-        (entries_read w b now (event e) rest tt (free_of_event e rest) split.2)
+    (event_read w b es l e none free split.0)
+    (append_assoc now (told.event e ∷ []) rest)
+    (entries_read w b now (event e) rest tt (free_of_event e rest) split.2)
 entries_read w b es l (told.edit d ∷ rest) none free split =
     let now = all_entries es l in
     entries_then w b (entries w b es l) (entries w b now (edit d)) (entry_list (told.edit d)) (flat_map entry_list rest) ((now ++ told.edit d ∷ []) ++ rest) (now ++ told.edit d ∷ rest)
-        (edit_read w b es l d none split.0)
-        (append_assoc now (told.edit d ∷ []) rest)
-        (entries_read w b now (edit d) rest refl (free_of_edit d rest split.1) split.2)
+    (edit_read w b es l d none split.0)
+    (append_assoc now (told.edit d ∷ []) rest)
+    (entries_read w b now (edit d) rest refl (free_of_edit d rest split.1) split.2)

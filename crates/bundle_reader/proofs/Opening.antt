@@ -45,8 +45,8 @@ opening_read w b m [] count order =
     let len : length next.opening ≡ 1 + 2 * w.header.stocks = length-append b.opening (m ∷ []) ∙ count in
     let last : opened w next ≡ entries w next [] (apart []) = opened_at w next true (same_true (length next.opening) (1 + 2 * w.header.stocks) len) in
     takes_then (opening w b) (opened w next) (entries w next [] (apart [])) (frame.Message m) []
-        (take_first_of w b m (and_left (opens w.header.stocks (length b.opening) m.what) true order))
-        (ap Some last)
+    (take_first_of w b m (and_left (opens w.header.stocks (length b.opening) m.what) true order))
+    (ap Some last)
 opening_read w b m (n ∷ more) count order =
     let stocks = w.header.stocks in
     let next = with_feed b (m ∷ []) in
@@ -57,7 +57,7 @@ opening_read w b m (n ∷ more) count order =
     let after_next : stand stocks (length next.opening) (n ∷ more) ≡ true = ap (λ k. stand stocks k (n ∷ more)) len ∙ after in
     let rest = opening_read w next n more (omega (arith, len, count)) after_next in
     let all : with_feed next (n ∷ more) ≡ with_feed b (m ∷ n ∷ more) =
-        ap (λ feed. record { name = b.name; parent = b.parent; stop = b.stop; opening = feed }) (append_assoc b.opening (m ∷ []) (n ∷ more)) in
+    ap (λ feed. record { name = b.name; parent = b.parent; stop = b.stop; opening = feed }) (append_assoc b.opening (m ∷ []) (n ∷ more)) in
     takes_then (opening w b) (opening w next) (entries w (with_feed b (m ∷ n ∷ more)) [] (apart [])) (frame.Message m) (feed_list (n ∷ more))
-        (take_first_of w b m (and_left (opens stocks (length b.opening) m.what) (stand stocks (length b.opening + 1) (n ∷ more)) order) ∙ ap Some not_last)
-        (rest ∙ ap (λ k. Some (entries w k [] (apart []))) all)
+    (take_first_of w b m (and_left (opens stocks (length b.opening) m.what) (stand stocks (length b.opening + 1) (n ∷ more)) order) ∙ ap Some not_last)
+    (rest ∙ ap (λ k. Some (entries w k [] (apart []))) all)

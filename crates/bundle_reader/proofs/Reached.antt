@@ -111,13 +111,14 @@ found_from bytes b (f ∷ fs) reads =
     let P : ℕ → Type 0 = λ n. All (HasRanges (Some n)) fs in
     let ranges = All-cons (HasRanges (Some b.stocks)) f fs first.0 (subst P same others.0) in
     let Q : List Frame → Type 0 = λ l. All (HasRanges (Some b.stocks)) l in
-    let S : List Frame → Type 0 = λ l. All (λ x. length (payload x) ≤ 65535) l in
-    (reads_bytes start (end b) bytes [] (f ∷ fs) reads ∙ append-nil (all_bytes (f ∷ fs)) ∙ ap all_bytes (sym list.0) ∙ bundle_are b,
-     record {
-       branches = list.1;
-       ranges = subst Q (sym list.0) ranges;
-       short = subst S (sym list.0) (reads_short start (end b) bytes [] (f ∷ fs) reads);
-     })
+    let S : List Frame → Type 0 = λ l. All (λ x. length (payload x) ≤ 65535) l in (
+      reads_bytes start (end b) bytes [] (f ∷ fs) reads ∙ append-nil (all_bytes (f ∷ fs)) ∙ ap all_bytes (sym list.0) ∙ bundle_are b,
+      record {
+        branches = list.1;
+        ranges = subst Q (sym list.0) ranges;
+        short = subst S (sym list.0) (reads_short start (end b) bytes [] (f ∷ fs) reads);
+      },
+    )
 
 pub found : (bytes : List ℕ) (b : BundleTold) → Reached bytes (end b) [] → (bytes ≡ bundle_bytes b) × IsBundle b
 found bytes b reached = found_from bytes b reached.frames reached.reads

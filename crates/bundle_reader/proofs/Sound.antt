@@ -161,7 +161,7 @@ step_opening w b (frame.Message m) next e so =
     let test = passed (opens w.header.stocks (length b.opening) m.what) (opened w (with_message b m)) next e in
     let order = stand_more w.header.stocks 0 b.opening m so.1 test.0 in
     moved (opening w b) next (opened w (with_message b m)) (frame.Message m) test.1
-        (opened_by w b m (length (with_message b m).opening == 1 + 2 * w.header.stocks) refl so.0 order)
+    (opened_by w b m (length (with_message b m).opening == 1 + 2 * w.header.stocks) refl so.0 order)
 step_opening w b f next e so = absurd (none_some next e)
 
 -- ---- one step of the entries
@@ -207,7 +207,7 @@ step_edit : (w : WholeTold) (b : BegunTold) (es : List EntryTold) (l : LastTold)
     → IsStep (entries w b es l) (frame.Edit x) (entries w b (all_entries es l) (edit (edit_with x [])))
 step_edit w b es l x none so =
     let none_waits : flat_map entry_list (all_entries es l) ++ [] ≡ flat_map entry_list es ++ last_list l =
-        ap (λ feed. flat_map entry_list (all_entries es l) ++ feed_list feed) (sym none) ∙ all_list es l in
+    ap (λ feed. flat_map entry_list (all_entries es l) ++ feed_list feed) (sym none) ∙ all_list es l in
     record {
       list = list_behind (begun_list w b) (flat_map entry_list (all_entries es l)) [] (flat_map entry_list es ++ last_list l) (frame.Edit x ∷ []) none_waits;
       so = (so.0, so.1, with_edit (all_entries es l) (edit_with x []) (all_split es l so.2) refl);
@@ -227,7 +227,7 @@ own_step w b es d m is own so =
     let bare : belongs (record d { feed = [] }) m ≡ true = ap (λ feed. belongs (record d { feed = feed }) m) (sym none) ∙ own in
     let feed : is_own (record d { feed = m ∷ [] }) (m ∷ []) ≡ true = ap (λ t. t && belongs (record d { feed = [] }) m) is ∙ bare in
     let last : entry_list (told.edit (record d { feed = m ∷ [] })) ≡ entry_list (told.edit d) ++ frame.Message m ∷ [] =
-        ap (λ l. (frame.Edit (edit_part d) ∷ feed_list l) ++ frame.Message m ∷ []) (sym none) in
+    ap (λ l. (frame.Edit (edit_part d) ∷ feed_list l) ++ frame.Message m ∷ []) (sym none) in
     record {
       list = ap (λ (l : List Frame). begun_list w b ++ l) (behind (flat_map entry_list es) (entry_list (told.edit d)) (entry_list (told.edit (record d { feed = m ∷ [] }))) (frame.Message m ∷ []) last)
           ∙ sym (append_assoc (begun_list w b) (flat_map entry_list es ++ entry_list (told.edit d)) (frame.Message m ∷ []));
@@ -271,8 +271,8 @@ step_of_orders w b es (event x) m next is e so =
     let grown : EventTold = record x { after = x.after ++ m ∷ [] } in
     let feed = last_feed es x so.2 in
     let last : entry_list (told.event grown) ≡ entry_list (told.event x) ++ frame.Message m ∷ [] =
-        behind (feed_list x.before) (frame.Event (event_part x) ∷ feed_list x.after) (frame.Event (event_part x) ∷ feed_list (x.after ++ m ∷ [])) (frame.Message m ∷ [])
-            (ap (λ (k : List Frame). frame.Event (event_part x) ∷ k) (feed_more x.after m)) in
+    behind (feed_list x.before) (frame.Event (event_part x) ∷ feed_list x.after) (frame.Event (event_part x) ∷ feed_list (x.after ++ m ∷ [])) (frame.Message m ∷ [])
+    (ap (λ (k : List Frame). frame.Event (event_part x) ∷ k) (feed_more x.after m)) in
     moved (entries w b es (event x)) next (entries w b es (event grown)) (frame.Message m) (some_same (entries w b es (event grown)) next e) (record {
       list = ap (λ (k : List Frame). begun_list w b ++ k) (behind (flat_map entry_list es) (entry_list (told.event x)) (entry_list (told.event grown)) (frame.Message m ∷ []) last)
           ∙ sym (append_assoc (begun_list w b) (flat_map entry_list es ++ entry_list (told.event x)) (frame.Message m ∷ []));
@@ -283,7 +283,7 @@ step_system : (w : WholeTold) (b : BegunTold) (es : List EntryTold) (l : LastTol
     → IsStep (entries w b es l) (frame.Message m) (ended w b (all_entries es l) m)
 step_system w b es l m is none so =
     let none_waits : flat_map entry_list (all_entries es l) ++ [] ≡ flat_map entry_list es ++ last_list l =
-        ap (λ feed. flat_map entry_list (all_entries es l) ++ feed_list feed) (sym none) ∙ all_list es l in
+    ap (λ feed. flat_map entry_list (all_entries es l) ++ feed_list feed) (sym none) ∙ all_list es l in
     record {
       list = list_behind (begun_list w b) (flat_map entry_list (all_entries es l)) [] (flat_map entry_list es ++ last_list l) (frame.Message m ∷ []) none_waits;
       so = record { branches = so.0; opening = so.1; split = all_split es l so.2; ended = is };
@@ -299,7 +299,7 @@ step_message w b es l m next false false trading orders e so =
     let test = passed (is_system m.what && is_none (before_next l)) (ended w b (all_entries es l) m) next e in
     let none = empty (before_next l) (second (is_system m.what) (is_none (before_next l)) test.0) in
     moved (entries w b es l) next (ended w b (all_entries es l) m) (frame.Message m) test.1
-        (step_system w b es l m (first (is_system m.what) (is_none (before_next l)) test.0) none so)
+    (step_system w b es l m (first (is_system m.what) (is_none (before_next l)) test.0) none so)
 
 step_entries : (w : WholeTold) (b : BegunTold) (es : List EntryTold) (l : LastTold) (f : Frame) (next : ReadingTold) → taken (entries w b es l) f ≡ Some next → IsSo (entries w b es l) → IsStep (entries w b es l) f next
 unfolding taken
@@ -331,7 +331,7 @@ closing_behind : (w : WholeTold) (b : BegunTold) (es : List EntryTold) (m : Feed
     → read_list (closing w b es m d) ≡ read_list (closing w b es m c) ++ f ∷ []
 closing_behind w b es m c d f e =
     behind (begun_list w b) (flat_map entry_list es ++ (frame.Message m ∷ closing_list c)) (flat_map entry_list es ++ (frame.Message m ∷ closing_list d)) (f ∷ [])
-        (behind (flat_map entry_list es) (frame.Message m ∷ closing_list c) (frame.Message m ∷ closing_list d) (f ∷ []) (ap (λ (l : List Frame). frame.Message m ∷ l) e))
+    (behind (flat_map entry_list es) (frame.Message m ∷ closing_list c) (frame.Message m ∷ closing_list d) (f ∷ []) (ap (λ (l : List Frame). frame.Message m ∷ l) e))
 
 stocks_push : (n : ℕ) (ss : List ClosingStock) (s : ClosingStock) → AreStocks n ss → s.stock ≡ n + length ss → AreStocks n (ss ++ s ∷ [])
 stocks_push n [] s are is = (is, tt)
@@ -365,9 +365,9 @@ step_stock w b es m c s few number so =
     let at : List ClosingOrder → List ClosingAgent → List Frame = λ os xs. frame.Counts c.counts ∷ (stock_list (c.stocks ++ s ∷ []) ++ order_list os ++ agent_list xs) in
     let old : List ClosingOrder → List ClosingAgent → List Frame = λ os xs. (frame.Counts c.counts ∷ (stock_list c.stocks ++ order_list os ++ agent_list xs)) ++ frame.Stock s ∷ [] in
     let bare : at [] [] ≡ old [] [] =
-        ap (λ (l : List Frame). frame.Counts c.counts ∷ l)
-            (append-nil (stock_list (c.stocks ++ s ∷ []) ++ []) ∙ append-nil (stock_list (c.stocks ++ s ∷ [])) ∙ map-append frame.Stock c.stocks (s ∷ [])
-             ∙ ap (λ (l : List Frame). l ++ frame.Stock s ∷ []) (sym (append-nil (stock_list c.stocks)) ∙ sym (append-nil (stock_list c.stocks ++ [])))) in
+    ap (λ (l : List Frame). frame.Counts c.counts ∷ l)
+    (append-nil (stock_list (c.stocks ++ s ∷ []) ++ []) ∙ append-nil (stock_list (c.stocks ++ s ∷ [])) ∙ map-append frame.Stock c.stocks (s ∷ [])
+    ∙ ap (λ (l : List Frame). l ++ frame.Stock s ∷ []) (sym (append-nil (stock_list c.stocks)) ∙ sym (append-nil (stock_list c.stocks ++ [])))) in
     record {
       list = closing_behind w b es m c grown (frame.Stock s)
           (ap (λ os. at os c.agents) none.0 ∙ ap (at []) none.1 ∙ bare ∙ ap (old []) (sym none.1) ∙ ap (λ os. old os c.agents) (sym none.0));
@@ -381,10 +381,10 @@ step_order w b es m c o all none so =
     let at : List ClosingAgent → List Frame = λ xs. frame.Counts c.counts ∷ (stock_list c.stocks ++ order_list (c.orders ++ o ∷ []) ++ agent_list xs) in
     let old : List ClosingAgent → List Frame = λ xs. (frame.Counts c.counts ∷ (stock_list c.stocks ++ order_list c.orders ++ agent_list xs)) ++ frame.Order o ∷ [] in
     let bare : at [] ≡ old [] =
-        ap (λ (l : List Frame). frame.Counts c.counts ∷ l)
-            (append-nil (stock_list c.stocks ++ order_list (c.orders ++ o ∷ []))
-             ∙ behind (stock_list c.stocks) (order_list c.orders) (order_list (c.orders ++ o ∷ [])) (frame.Order o ∷ []) (map-append frame.Order c.orders (o ∷ []))
-             ∙ ap (λ (l : List Frame). l ++ frame.Order o ∷ []) (sym (append-nil (stock_list c.stocks ++ order_list c.orders)))) in
+    ap (λ (l : List Frame). frame.Counts c.counts ∷ l)
+    (append-nil (stock_list c.stocks ++ order_list (c.orders ++ o ∷ []))
+    ∙ behind (stock_list c.stocks) (order_list c.orders) (order_list (c.orders ++ o ∷ [])) (frame.Order o ∷ []) (map-append frame.Order c.orders (o ∷ []))
+    ∙ ap (λ (l : List Frame). l ++ frame.Order o ∷ []) (sym (append-nil (stock_list c.stocks ++ order_list c.orders)))) in
     record {
       list = closing_behind w b es m c grown (frame.Order o) (ap at none ∙ bare ∙ ap old (sym none));
       so = (so.0, record { stocks = so.1.stocks; agents = so.1.agents; late = λ few. absurd (omega (arith, few, all)) });
@@ -395,7 +395,7 @@ step_agent : (w : WholeTold) (b : BegunTold) (es : List EntryTold) (m : Feed) (c
 step_agent w b es m c a all number so = record {
   list = closing_behind w b es m c (record c { agents = c.agents ++ a ∷ [] }) (frame.Agent a)
       (ap (λ (l : List Frame). frame.Counts c.counts ∷ l)
-          (behind (stock_list c.stocks ++ order_list c.orders) (agent_list c.agents) (agent_list (c.agents ++ a ∷ [])) (frame.Agent a ∷ []) (map-append frame.Agent c.agents (a ∷ []))));
+      (behind (stock_list c.stocks ++ order_list c.orders) (agent_list c.agents) (agent_list (c.agents ++ a ∷ [])) (frame.Agent a ∷ []) (map-append frame.Agent c.agents (a ∷ []))));
   so = (so.0, record { stocks = so.1.stocks; agents = agents_push 0 c.agents a so.1.agents (number ∙ omega arith); late = λ few. absurd (omega (arith, few, all)) });
 }
 
@@ -406,7 +406,7 @@ branches_push n [] b = append-nil (branch_list n b) ∙ ap (λ k. branch_list k 
 branches_push n (x ∷ bs) b =
     let there : n + 1 + length bs ≡ n + length (x ∷ bs) = omega arith in
     behind (branch_list n x) (branches_list (n + 1) bs) (branches_list (n + 1) (bs ++ b ∷ [])) (branch_list (n + length (x ∷ bs)) b)
-        (branches_push (n + 1) bs b ∙ ap (λ k. branches_list (n + 1) bs ++ branch_list k b) there)
+    (branches_push (n + 1) bs b ∙ ap (λ k. branches_list (n + 1) bs ++ branch_list k b) there)
 
 -- what was read behind whole branches is these branches
 pub record IsNext (w : WholeTold) (f : Frame) (next : ReadingTold) : Type 0 where
@@ -422,14 +422,14 @@ next_of w (frame.Branch x) next e whole =
     let number = equal x.branch (length w.branches) (second (nat_lt (length w.branches) w.header.branches) (x.branch == length w.branches) test.0) in
     let at : ℕ → Frame = λ n. frame.Branch (record { branch = n; parent = x.parent; stop = x.stop; name = x.name }) in
     next_moved w next (opening w (begun x)) (frame.Branch x) test.1
-        (record { list = ap (λ n. header_list w ++ at n ∷ []) (sym number); so = (whole, refl) })
+    (record { list = ap (λ n. header_list w ++ at n ∷ []) (sym number); so = (whole, refl) })
 next_of w (frame.End n) next e whole =
     let tests = passed ((length w.branches == w.header.branches) && (n == w.header.branches)) (end (bundle_of w)) next e in
     let count = equal (length w.branches) w.header.branches (first (length w.branches == w.header.branches) (n == w.header.branches) tests.0) in
     let last = equal n w.header.branches (second (length w.branches == w.header.branches) (n == w.header.branches) tests.0) in
     let at : ℕ → ℕ → List Frame = λ k j. frame.Header (record { agents = w.header.agents; stocks = w.header.stocks; branches = k }) ∷ (branches_list 0 w.branches ++ frame.End j ∷ []) in
     next_moved w next (end (bundle_of w)) (frame.End n) tests.1
-        (record { list = ap (λ k. at k (length w.branches)) count ∙ ap (at w.header.branches) (count ∙ sym last); so = whole })
+    (record { list = ap (λ k. at k (length w.branches)) count ∙ ap (at w.header.branches) (count ∙ sym last); so = whole })
 next_of w f next e whole = absurd (none_some next e)
 
 -- a whole branch is read as the last of the branches
@@ -466,19 +466,19 @@ step_closing w b es m c (frame.Stock s) next e so =
     let few = nat_lt (length c.stocks) w.header.stocks in
     let is = put w b es m (few && (s.stock == length c.stocks)) (record c { stocks = c.stocks ++ s ∷ [] }) next e in
     moved (closing w b es m c) next (closing w b es m (record c { stocks = c.stocks ++ s ∷ [] })) (frame.Stock s) is.1
-        (step_stock w b es m c s (less (length c.stocks) w.header.stocks (first few (s.stock == length c.stocks) is.0)) (equal s.stock (length c.stocks) (second few (s.stock == length c.stocks) is.0)) so)
+    (step_stock w b es m c s (less (length c.stocks) w.header.stocks (first few (s.stock == length c.stocks) is.0)) (equal s.stock (length c.stocks) (second few (s.stock == length c.stocks) is.0)) so)
 step_closing w b es m c (frame.Order o) next e so =
     let all = length c.stocks == w.header.stocks in
     let is = put w b es m (all && is_none c.agents) (record c { orders = c.orders ++ o ∷ [] }) next e in
     moved (closing w b es m c) next (closing w b es m (record c { orders = c.orders ++ o ∷ [] })) (frame.Order o) is.1
-        (step_order w b es m c o (equal (length c.stocks) w.header.stocks (first all (is_none c.agents) is.0)) (empty c.agents (second all (is_none c.agents) is.0)) so)
+    (step_order w b es m c o (equal (length c.stocks) w.header.stocks (first all (is_none c.agents) is.0)) (empty c.agents (second all (is_none c.agents) is.0)) so)
 step_closing w b es m c (frame.Agent a) next e so =
     let all = length c.stocks == w.header.stocks in
     let few = nat_lt (length c.agents) w.header.agents in
     let number = a.agent == length c.agents in
     let is = put w b es m (all && (few && number)) (record c { agents = c.agents ++ a ∷ [] }) next e in
     moved (closing w b es m c) next (closing w b es m (record c { agents = c.agents ++ a ∷ [] })) (frame.Agent a) is.1
-        (step_agent w b es m c a (equal (length c.stocks) w.header.stocks (first all (few && number) is.0)) (equal a.agent (length c.agents) (second few number (second all (few && number) is.0))) so)
+    (step_agent w b es m c a (equal (length c.stocks) w.header.stocks (first all (few && number) is.0)) (equal a.agent (length c.agents) (second few number (second all (few && number) is.0))) so)
 step_closing w b es m c f next e so = step_behind w b es m c f next (is_closed w.header c) refl e so
 
 -- ---- one step

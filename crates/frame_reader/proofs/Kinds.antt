@@ -96,10 +96,11 @@ pub branch_only : (stocks : Option ℕ) (h : BranchHead) (rest : List ℕ) (f : 
     → (length rest ≡ h.name_length) × IsNameLength (length rest) × (f ≡ branch_frame_of h rest)
 branch_only stocks h rest (Branch x) is =
     let e = branch_same (branch_part x) h is.first in
-    let P : List ℕ → Type 0 = λ n. IsNameLength (length n) in
-    (ap length (sym is.after) ∙ ap (λ (y : BranchHead). y.name_length) e,
-     subst P is.after is.ranges.1,
-     ap (λ y. branch_frame_of y x.name) e ∙ ap (branch_frame_of h) is.after)
+    let P : List ℕ → Type 0 = λ n. IsNameLength (length n) in (
+      ap length (sym is.after) ∙ ap (λ (y : BranchHead). y.name_length) e,
+      subst P is.after is.ranges.1,
+      ap (λ y. branch_frame_of y x.name) e ∙ ap (branch_frame_of h) is.after,
+    )
 branch_only stocks h rest f is = absurd (omega (arith, ap kind is.first))
 
 -- ---- letters
@@ -153,9 +154,9 @@ pub event_is : (stocks : Option ℕ) (h : EventHead) (rest : List ℕ) (b : Body
 event_is stocks h rest b is fee delivery range =
     let letter : letter_of_body b ≡ h.body = ap (λ (l : List ℕ). get_or l 0 0) (sym is.same) in
     let same : event_part (event_frame_of h b) ≡ h =
-        ap (λ d. event_with_fields h d (cast_unsigned w64 (cast_signed w64 h.fee)) (letter_of_body b)) delivery
-        ∙ ap (λ n. event_with_fields h h.delivery n (letter_of_body b)) (of_z-to_z w64 h.fee fee)
-        ∙ ap (event_with_fields h h.delivery h.fee) letter in
+    ap (λ d. event_with_fields h d (cast_unsigned w64 (cast_signed w64 h.fee)) (letter_of_body b)) delivery
+    ∙ ap (λ n. event_with_fields h h.delivery n (letter_of_body b)) (of_z-to_z w64 h.fee fee)
+    ∙ ap (event_with_fields h h.delivery h.fee) letter in
     let P : EventHead → Type 0 = λ k. IsInRange (head_wire (head.Event k)) in
     record {
       first = ap (λ k. Some (head.Event k)) same;
@@ -169,10 +170,10 @@ pub event_only : (stocks : Option ℕ) (h : EventHead) (rest : List ℕ) (f : Fr
 event_only stocks h rest (Event x) is =
     let e = event_same (event_part x) h is.first in
     let bytes : h.body ∷ rest ≡ letter_of_body x.body ∷ body_bytes x.body =
-        ap (λ (l : ℕ). l ∷ rest) (sym (ap (λ (y : EventHead). y.body) e)) ∙ ap (λ (r : List ℕ). letter_of_body x.body ∷ r) (sym is.after) in
+    ap (λ (l : ℕ). l ∷ rest) (sym (ap (λ (y : EventHead). y.body) e)) ∙ ap (λ (r : List ℕ). letter_of_body x.body ∷ r) (sym is.after) in
     let back : event_frame_of (event_part x) x.body ≡ x =
-        ap (λ p. record (event_frame_of (event_part x) x.body) { put_back = p }) (delivery_back x.put_back)
-        ∙ ap (λ z. record x { fee = z }) (to_z-of_z w64 x.fee is.ranges.1) in
+    ap (λ p. record (event_frame_of (event_part x) x.body) { put_back = p }) (delivery_back x.put_back)
+    ∙ ap (λ z. record x { fee = z }) (to_z-of_z w64 x.fee is.ranges.1) in
     (x.body, record { same = bytes; in_range = is.ranges.2 }, ap Event (sym back ∙ ap (λ y. event_frame_of y x.body) e))
 event_only stocks h rest f is = absurd (omega (arith, ap kind is.first))
 
@@ -197,7 +198,7 @@ pub waiting_only : (stocks : Option ℕ) (h : WaitingHead) (rest : List ℕ) (f 
 waiting_only stocks h rest (Waiting x) is =
     let e = waiting_same (waiting_part x) h is.first in
     let bytes : h.body ∷ rest ≡ letter_of_body x.body ∷ body_bytes x.body =
-        ap (λ (l : ℕ). l ∷ rest) (sym (ap (λ (y : WaitingHead). y.body) e)) ∙ ap (λ (r : List ℕ). letter_of_body x.body ∷ r) (sym is.after) in
+    ap (λ (l : ℕ). l ∷ rest) (sym (ap (λ (y : WaitingHead). y.body) e)) ∙ ap (λ (r : List ℕ). letter_of_body x.body ∷ r) (sym is.after) in
     (x.body, record { same = bytes; in_range = is.ranges.1 }, ap (λ y. Waiting (waiting_frame_of y x.body)) e)
 waiting_only stocks h rest f is = absurd (omega (arith, ap kind is.first))
 
@@ -243,9 +244,9 @@ pub stock_is : (stocks : Option ℕ) (h : StockHead) (rest : List ℕ) (fees : �
 stock_is stocks h rest fees none halves offset range =
     let back = cast_unsigned w64 (cast_signed w64 h.offset) in
     let same : stock_part (stock_frame_of h fees) ≡ h =
-        ap (λ n. stock_with h n (cast_unsigned w128 fees % 2 ^ 64) back) halves.high_is
-        ∙ ap (λ n. stock_with h h.fees_high n back) halves.low_is
-        ∙ ap (stock_with h h.fees_high h.fees_low) (of_z-to_z w64 h.offset offset) in
+    ap (λ n. stock_with h n (cast_unsigned w128 fees % 2 ^ 64) back) halves.high_is
+    ∙ ap (λ n. stock_with h h.fees_high n back) halves.low_is
+    ∙ ap (stock_with h h.fees_high h.fees_low) (of_z-to_z w64 h.offset offset) in
     let P : StockHead → Type 0 = λ k. IsInRange (head_wire (head.Stock k)) in
     record {
       first = ap (λ k. Some (head.Stock k)) same;
@@ -258,10 +259,11 @@ pub stock_only : (stocks : Option ℕ) (h : StockHead) (rest : List ℕ) (f : Fr
 stock_only stocks h rest (Stock x) fees halves is =
     let e = stock_same (stock_part x) h is.first in
     let own : HasHalves h.fees_high h.fees_low x.fees =
-        record { high_is = ap (λ (y : StockHead). y.fees_high) e; low_is = ap (λ (y : StockHead). y.fees_low) e; fits = is.ranges.1 } in
-    let back : stock_frame_of (stock_part x) x.fees ≡ x = ap (λ z. record x { offset = z }) (to_z-of_z w64 x.offset is.ranges.2) in
-    (sym is.after,
-     ap Stock (sym back ∙ ap (λ y. stock_frame_of y x.fees) e ∙ ap (stock_frame_of h) (same_halves h.fees_high h.fees_low x.fees fees own halves)))
+    record { high_is = ap (λ (y : StockHead). y.fees_high) e; low_is = ap (λ (y : StockHead). y.fees_low) e; fits = is.ranges.1 } in
+    let back : stock_frame_of (stock_part x) x.fees ≡ x = ap (λ z. record x { offset = z }) (to_z-of_z w64 x.offset is.ranges.2) in (
+      sym is.after,
+      ap Stock (sym back ∙ ap (λ y. stock_frame_of y x.fees) e ∙ ap (stock_frame_of h) (same_halves h.fees_high h.fees_low x.fees fees own halves)),
+    )
 stock_only stocks h rest f fees halves is = absurd (omega (arith, ap kind is.first))
 
 -- ---- agents
@@ -313,12 +315,12 @@ agent_is stocks h rest cash own_cash ps halves own_halves position silence posit
     let own_high = cast_unsigned w128 own_cash / 2 ^ 64 in
     let own_low = cast_unsigned w128 own_cash % 2 ^ 64 in
     let same : agent_part (agent_frame_of h cash own_cash ps) ≡ h =
-        ap (λ n. agent_with h n (cast_unsigned w128 cash / 2 ^ 64) (cast_unsigned w128 cash % 2 ^ 64) own_high own_low back) silence
-        ∙ ap (λ n. agent_with h h.silenced n (cast_unsigned w128 cash % 2 ^ 64) own_high own_low back) halves.high_is
-        ∙ ap (λ n. agent_with h h.silenced h.cash_high n own_high own_low back) halves.low_is
-        ∙ ap (λ n. agent_with h h.silenced h.cash_high h.cash_low n own_low back) own_halves.high_is
-        ∙ ap (λ n. agent_with h h.silenced h.cash_high h.cash_low h.own_cash_high n back) own_halves.low_is
-        ∙ ap (agent_with h h.silenced h.cash_high h.cash_low h.own_cash_high h.own_cash_low) (of_z-to_z w64 h.own_position position) in
+    ap (λ n. agent_with h n (cast_unsigned w128 cash / 2 ^ 64) (cast_unsigned w128 cash % 2 ^ 64) own_high own_low back) silence
+    ∙ ap (λ n. agent_with h h.silenced n (cast_unsigned w128 cash % 2 ^ 64) own_high own_low back) halves.high_is
+    ∙ ap (λ n. agent_with h h.silenced h.cash_high n own_high own_low back) halves.low_is
+    ∙ ap (λ n. agent_with h h.silenced h.cash_high h.cash_low n own_low back) own_halves.high_is
+    ∙ ap (λ n. agent_with h h.silenced h.cash_high h.cash_low h.own_cash_high n back) own_halves.low_is
+    ∙ ap (agent_with h h.silenced h.cash_high h.cash_low h.own_cash_high h.own_cash_low) (of_z-to_z w64 h.own_position position) in
     let P : AgentHead → Type 0 = λ k. IsInRange (head_wire (head.Agent k)) in
     record {
       first = ap (λ k. Some (head.Agent k)) same;
@@ -332,18 +334,19 @@ pub agent_only : (stocks : Option ℕ) (h : AgentHead) (rest : List ℕ) (f : Fr
 agent_only stocks h rest (Agent x) cash own_cash halves own_halves is =
     let e = agent_same (agent_part x) h is.first in
     let cash_is : HasHalves h.cash_high h.cash_low x.cash =
-        record { high_is = ap (λ (y : AgentHead). y.cash_high) e; low_is = ap (λ (y : AgentHead). y.cash_low) e; fits = is.ranges.1 } in
+    record { high_is = ap (λ (y : AgentHead). y.cash_high) e; low_is = ap (λ (y : AgentHead). y.cash_low) e; fits = is.ranges.1 } in
     let own_is : HasHalves h.own_cash_high h.own_cash_low x.own_cash =
-        record { high_is = ap (λ (y : AgentHead). y.own_cash_high) e; low_is = ap (λ (y : AgentHead). y.own_cash_low) e; fits = is.ranges.2 } in
+    record { high_is = ap (λ (y : AgentHead). y.own_cash_high) e; low_is = ap (λ (y : AgentHead). y.own_cash_low) e; fits = is.ranges.2 } in
     let back : agent_frame_of (agent_part x) x.cash x.own_cash x.positions ≡ x =
-        ap (λ p. record (agent_frame_of (agent_part x) x.cash x.own_cash x.positions) { silenced = p }) (silence_back x.silenced)
-        ∙ ap (λ z. record x { own_position = z }) (to_z-of_z w64 x.own_position is.ranges.3) in
-    (x.positions,
-     record { bytes_are = is.after; fit = is.ranges.4; count = is.ranges.5 },
-     ap Agent (sym back
-        ∙ ap (λ y. agent_frame_of y x.cash x.own_cash x.positions) e
-        ∙ ap (λ z. agent_frame_of h z x.own_cash x.positions) (same_halves h.cash_high h.cash_low x.cash cash cash_is halves)
-        ∙ ap (λ z. agent_frame_of h cash z x.positions) (same_halves h.own_cash_high h.own_cash_low x.own_cash own_cash own_is own_halves)))
+    ap (λ p. record (agent_frame_of (agent_part x) x.cash x.own_cash x.positions) { silenced = p }) (silence_back x.silenced)
+    ∙ ap (λ z. record x { own_position = z }) (to_z-of_z w64 x.own_position is.ranges.3) in (
+      x.positions,
+      record { bytes_are = is.after; fit = is.ranges.4; count = is.ranges.5 },
+      ap Agent (sym back
+          ∙ ap (λ y. agent_frame_of y x.cash x.own_cash x.positions) e
+          ∙ ap (λ z. agent_frame_of h z x.own_cash x.positions) (same_halves h.cash_high h.cash_low x.cash cash cash_is halves)
+          ∙ ap (λ z. agent_frame_of h cash z x.positions) (same_halves h.own_cash_high h.own_cash_low x.own_cash own_cash own_is own_halves)),
+    )
 agent_only stocks h rest f cash own_cash halves own_halves is = absurd (omega (arith, ap kind is.first))
 
 pub one_list : (stocks : Option ℕ) (bytes : List ℕ) (ps qs : List ℤ) → ArePositions stocks bytes ps → ArePositions stocks bytes qs → ps ≡ qs

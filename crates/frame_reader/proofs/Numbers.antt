@@ -46,8 +46,8 @@ same_position p q fits_p fits_q e =
     let lt_p : cast_unsigned w64 p < 256 ^ 8 = Fits-lt-pow (Fits-of_z fits_p) in
     let lt_q : cast_unsigned w64 q < 256 ^ 8 = Fits-lt-pow (Fits-of_z fits_q) in
     let bits : cast_unsigned w64 p ≡ cast_unsigned w64 q =
-        sym (number_of-number_bytes 8 (cast_unsigned w64 p) lt_p) ∙ sym (position_of p) ∙ ap number_of e ∙ position_of q
-        ∙ number_of-number_bytes 8 (cast_unsigned w64 q) lt_q in
+    sym (number_of-number_bytes 8 (cast_unsigned w64 p) lt_p) ∙ sym (position_of p) ∙ ap number_of e ∙ position_of q
+    ∙ number_of-number_bytes 8 (cast_unsigned w64 q) lt_q in
     sym (to_z-of_z w64 p fits_p) ∙ ap (cast_signed w64) bits ∙ to_z-of_z w64 q fits_q
 
 pub same_positions : (ps qs : List ℤ) → All (FitsSigned w64) ps → All (FitsSigned w64) qs → positions_bytes ps ≡ positions_bytes qs → ps ≡ qs
@@ -56,9 +56,9 @@ same_positions [] (q ∷ qs) fits_p fits_q e = absurd (omega (arith, ap length e
 same_positions (p ∷ ps) [] fits_p fits_q e = absurd (omega (arith, ap length e, length-append (position_bytes p) (positions_bytes ps), length-position p))
 same_positions (p ∷ ps) (q ∷ qs) fits_p fits_q e =
     let first : position_bytes p ≡ position_bytes q =
-        sym (take_at (position_bytes p) (positions_bytes ps) 8 (length-position p)) ∙ ap (take 8) e ∙ take_at (position_bytes q) (positions_bytes qs) 8 (length-position q) in
+    sym (take_at (position_bytes p) (positions_bytes ps) 8 (length-position p)) ∙ ap (take 8) e ∙ take_at (position_bytes q) (positions_bytes qs) 8 (length-position q) in
     let rest : positions_bytes ps ≡ positions_bytes qs =
-        sym (drop_at (position_bytes p) (positions_bytes ps) 8 (length-position p)) ∙ ap (drop 8) e ∙ drop_at (position_bytes q) (positions_bytes qs) 8 (length-position q) in
+    sym (drop_at (position_bytes p) (positions_bytes ps) 8 (length-position p)) ∙ ap (drop 8) e ∙ drop_at (position_bytes q) (positions_bytes qs) 8 (length-position q) in
     let one = same_position p q (All-head (FitsSigned w64) p ps fits_p) (All-head (FitsSigned w64) q qs fits_q) first in
     let others = same_positions ps qs (All-tail (FitsSigned w64) p ps fits_p) (All-tail (FitsSigned w64) q qs fits_q) rest in
     ap (λ z. z ∷ ps) one ∙ ap (λ zs. q ∷ zs) others

@@ -6,8 +6,7 @@ use std::alloc::Global;
 use std::test::*;
 
 // An agent that owes cash and shares.
-fn agent(alloc: Global) -> Result<ClosingAgent, Memory>
-{
+fn agent(alloc: Global) -> Result<ClosingAgent, Memory> {
     let mut positions = Sequence::empty(alloc);
     positions.push(-3)?;
     positions.push(5)?;
@@ -74,14 +73,20 @@ fn an_agent_is_read_back(rt: HostRuntime) -> Result<(), Fail> {
 #[test]
 fn bodies_and_messages(rt: HostRuntime) -> Result<(), Fail> {
     let alloc = rt.alloc();
-    let event = b"e\x00\x00\x00\x01\x00\x00\x00\x00\x00\x00\x03\xe8\x00\x00\x00\x00\x00\x00\x00\x07\x00\x01\x00\x00P\x00\x00\x00\x00\x00\x00\x03\xe9\xff\xff\xff\xff\xff\xff\xff\xfea\x00\x02";
+    let event =
+        b"e\x00\x00\x00\x01\x00\x00\x00\x00\x00\x00\x03\xe8\x00\x00\x00\x00\x00\x00\x00\x07\x00\x01\x00\x00P\x00\x00\x00\x00\x00\x00\x03\xe9\xff\xff\xff\xff\xff\xff\xff\xfea\x00\x02";
     assert!(rt;
         matches!(
             read_payload(alloc, None, event),
             Ok(Some(Frame::Event(e))) if e.put_back && e.fee == -2 && e.seq == 7 && e.body == Body::Ask(2)
         )
     );
-    let start = Feed { locate: 0, tracking: 0, time: 1000, what: What::System { code: b'O' } };
+    let start = Feed {
+        locate: 0,
+        tracking: 0,
+        time: 1000,
+        what: What::System { code: b'O' },
+    };
     let mut bytes = Vec::new(alloc);
     start.put(&mut bytes)?;
     assert!(rt;

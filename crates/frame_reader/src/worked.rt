@@ -17,18 +17,7 @@ ghost use Rattle.frame_reader.specs.declared.frame.Frame.TheVariants as frame;
 ghost use Rattle.frame_reader.specs.Frames.{payload, event_with, edit_with};
 
 /// What is read as a frame is what is written as one.
-#[tactic(auto, unfolding(
-    bundle_frames::specs::Frames::header_frame,
-    bundle_frames::specs::Frames::branch_frame,
-    bundle_frames::specs::Frames::message_frame,
-    bundle_frames::specs::Frames::event_frame,
-    bundle_frames::specs::Frames::edit_frame,
-    bundle_frames::specs::Frames::counts_frame,
-    bundle_frames::specs::Frames::stock_frame,
-    bundle_frames::specs::Frames::order_frame,
-    bundle_frames::specs::Frames::agent_frame,
-    bundle_frames::specs::Frames::end_frame
-))]
+#[tactic(auto, unfolding(bundle_frames::specs::Frames::header_frame, bundle_frames::specs::Frames::branch_frame, bundle_frames::specs::Frames::message_frame, bundle_frames::specs::Frames::event_frame, bundle_frames::specs::Frames::edit_frame, bundle_frames::specs::Frames::counts_frame, bundle_frames::specs::Frames::stock_frame, bundle_frames::specs::Frames::order_frame, bundle_frames::specs::Frames::agent_frame, bundle_frames::specs::Frames::end_frame))]
 pub fn frames_are_those_that_are_written()
     ensures header { (h : HeaderFrame) → framed (payload (frame.Header h)) ≡ header_frame h.agents h.stocks h.branches }
     ensures branch { (b : BranchFrame) → framed (payload (frame.Branch b)) ≡ branch_frame b.branch b.parent b.stop b.name }
