@@ -4,6 +4,7 @@ ghost use Rattle.std.specs.Prelude.{◌≡◌, IfOk};
 ghost use Rattle.kernel_copy.specs.Courses.{IsKeyOf, state_at};
 
 use crate::course::Course;
+use checkpoint_shelf::Kept;
 use kernel_core::Kernel;
 use market_types::Memory;
 use shelf_core::Key;
@@ -86,5 +87,21 @@ impl Checkpoint {
         ensures state { IfOk result (λ k. k ≡ state_at self.now.course self.now.key) }
     {
         self.kernel.copy(alloc)
+    }
+}
+
+impl Kept for Checkpoint {
+    type Course = Course;
+
+    ghost key_of = { λ c. c.key };
+
+    ghost course_of = { λ c. c.course };
+
+    fn key(&self) -> Key {
+        self.key
+    }
+
+    fn course(&self) -> &Course {
+        &self.course
     }
 }

@@ -40,11 +40,13 @@ pub struct Outcome {
     pub closing: Closing,
 }
 
-// A segment's run: its own entries, and the kernel at its end.
+/// A segment's run.
 #[derive(Drop)]
-struct Ran {
-    entries: Trace,
-    kernel: Kernel,
+pub struct Ran {
+    /// Its own entries.
+    pub entries: Trace,
+    /// The kernel at its end.
+    pub kernel: Kernel,
 }
 
 // A branch's edits in order.
@@ -79,8 +81,11 @@ fn goes_on(plan: &BranchPlan, segment: u32) -> bool
     segment < numbers[numbers.len() - 1]
 }
 
-// A checkpoint of a segment's end, unless the segment is its branch's last.
-fn kept_end(
+/// A checkpoint of a segment's end, unless the segment is its branch's last.
+///
+/// # Errors
+/// Want of memory alone.
+pub fn kept_end(
     alloc: Global,
     course: &Arc<Course>,
     segment: u32,
@@ -117,6 +122,34 @@ fn resumed(
     }
 }
 
+/// Lets a kernel at a segment's end go on as this branch, whose edits are made and entered where it is another branch than
+/// the segment's.
+///
+/// # Errors
+/// Want of memory alone.
+pub fn go_on(
+    alloc: Global,
+    course: &Course,
+    branch: u16,
+    parent: u32,
+    kernel: &mut Kernel,
+    trace: &mut Trace,
+) -> Result<(), Memory>
+    requires segment { parent < length (segments_in course.now.plan) }
+    requires branch { branch < length course.now.plan.branches }
+    requires end { kernel.old ≡ (segment_end course.now.opening course.now.plan (segment_at course.now.plan parent)).state }
+    requires empty { trace.old.list ≡ [] }
+    ensures state { OnOk result (record { state = kernel.new; entries = trace.new.list } ≡ started_from course.now.opening course.now.plan branch (Some parent)) }
+    ensures fits { Fits course.now.opening kernel.new }
+{
+    courses_stay_in_range();
+    if course.segment(parent).branch == branch {
+        return Ok(());
+    }
+    let edits = course.edits(branch);
+    apply_all(alloc, course.opening(), branch, edits, kernel, trace)
+}
+
 // The run of a segment of this branch at its beginning, where it goes on from this parent's end: the kernel, and the
 // entries of the branch's edits where the parent is of another branch.
 fn gone_on(
@@ -138,11 +171,7 @@ fn gone_on(
 {
     courses_stay_in_range();
     let mut kernel = resumed(alloc, course, kept, parent)?;
-    if course.segment(parent).branch == branch {
-        return Ok(kernel);
-    }
-    let edits = course.edits(branch);
-    apply_all(alloc, course.opening(), branch, edits, &mut kernel, trace)?;
+    go_on(alloc, course, branch, parent, &mut kernel, trace)?;
     Ok(kernel)
 }
 
@@ -174,6 +203,32 @@ fn begun(
     }
 }
 
+/// Runs a segment from its beginning to its stop.
+///
+/// # Errors
+/// Want of memory alone. The counter then rose by no more than the segment's own events.
+pub fn run_on<L: Ledger>(
+    alloc: Global,
+    course: &Course,
+    segment: u32,
+    mut kernel: Kernel,
+    mut entries: Trace,
+    steps: &mut Steps<L>,
+) -> Result<Ran, Memory>
+    requires segment { segment < length (segments_in course.now.plan) }
+    requires state { record { state = kernel; entries = entries.list } ≡ started_at course.now.opening course.now.plan (segment_at course.now.plan segment) }
+    requires fits { Fits course.now.opening kernel }
+    requires count { steps.old + course.now.opening.limit < 2 ^ 64 }
+    ensures ran { IfOk result (λ x. record { state = x.kernel; entries = x.entries.list } ≡ segment_run course.now.opening course.now.plan (segment_at course.now.plan segment)) }
+    ensures fits { IfOk result (λ x. Fits course.now.opening x.kernel) }
+    ensures rose { OnOk result (steps.new ≡ steps.old + own_count course.now.opening course.now.plan (segment_at course.now.plan segment)) }
+    ensures most { steps.new ≤ steps.old + own_count course.now.opening course.now.plan (segment_at course.now.plan segment) }
+{
+    let stop = course.segment(segment).stop;
+    kernel.run_until(alloc, course.opening(), stop, &mut entries, steps)?;
+    Ok(Ran { entries, kernel })
+}
+
 // Runs a segment, from a copy of its parent's end.
 fn run_segment<L: Ledger>(
     alloc: Global,
@@ -192,14 +247,15 @@ fn run_segment<L: Ledger>(
     ensures most { steps.new ≤ steps.old + own_count course.now.opening course.now.plan (segment_at course.now.plan segment) }
 {
     let mut entries = Trace::new(alloc);
-    let mut kernel = begun(alloc, course, kept, segment, &mut entries)?;
-    let stop = course.segment(segment).stop;
-    kernel.run_until(alloc, course.opening(), stop, &mut entries, steps)?;
-    Ok(Ran { entries, kernel })
+    let kernel = begun(alloc, course, kept, segment, &mut entries)?;
+    run_on(alloc, course, segment, kernel, entries, steps)
 }
 
-// What a segment's run tells.
-fn told(alloc: Global, o: &Opening, segment: u32, ran: Ran) -> Result<Outcome, Memory>
+/// What a segment's run tells.
+///
+/// # Errors
+/// Want of memory alone.
+pub fn outcome_at(alloc: Global, o: &Opening, segment: u32, ran: Ran) -> Result<Outcome, Memory>
     requires { Fits o.now ran.kernel }
     ensures segment { IfOk result (λ x. x.segment ≡ segment) }
     ensures entries { IfOk result (λ x. x.entries.list ≡ ran.entries.list) }
@@ -232,7 +288,7 @@ pub fn run_segments<L: Ledger>(
     course: &Arc<Course>,
     steps: &mut Steps<L>,
 ) -> Result<Vec<Outcome>, Memory>
-    requires { steps.old < 2 ^ 63 }
+    requires { steps.old ≤ 2 ^ 63 }
     ensures outcomes { IfOk result (λ v. map outcome_told v.items ≡ outcomes_before course.now.value (length (segments_in course.now.value.plan))) }
     ensures rose { OnOk result (steps.new ≡ steps.old + distinct course.now.value.opening course.now.value.plan) }
     ensures most { steps.new ≤ steps.old + distinct course.now.value.opening course.now.value.plan }
@@ -243,7 +299,7 @@ pub fn run_segments<L: Ledger>(
     'segments: for i in 0..count {
         let ran = run_segment(alloc, course, kept.as_slice(), i as u32, steps)?;
         let end = kept_end(alloc, course, i as u32, &ran.kernel)?;
-        let outcome = told(alloc, course.opening(), i as u32, ran)?;
+        let outcome = outcome_at(alloc, course.opening(), i as u32, ran)?;
         add(&mut kept, end)?;
         add(&mut outcomes, outcome)?;
     }

@@ -7,54 +7,54 @@ use Rattle.kernel_copy.specs.Segmentwise.{segment_run}
 use Rattle.kernel_copy.specs.Courses.{CourseTold}
 use Rattle.kernel_copy.proofs.Walks.{own-is}
 use Rattle.kernel_copy.proofs.Trees.{course-tree}
-use Rattle.kernel_copy.proofs.run.run_segment.Goals as goal
+use Rattle.kernel_copy.proofs.run.run_on.Goals as goal
 
 pub returns-in_err-run_until-clause-most : goal.returns-in_err-run_until-clause-most
 returns-in_err-run_until-clause-most g c =
     let k : CourseTold = c.args.course.now in
     let s = c.args.segment in
-    let first : Run = record { state = c.in_ok-kernel.kernel; entries = c.begun.new.trace.list } in
+    let first : Run = record { state = c.args.kernel; entries = c.args.entries.list } in
     let whole : until c.opening.result.now c.segment-stop.result.stop first ≡ segment_run k.opening k.plan (segment_at k.plan s) =
     ap (λ (o : Opening). until o c.segment-stop.result.stop first) c.opening.ensures.value
     ∙ ap (λ (x : Segment). until k.opening x.stop first) c.segment-stop.ensures.value
-    ∙ ap (λ (r : Run). until k.opening (segment_at k.plan s).stop r) c.in_ok-kernel.ensures.state in
+    ∙ ap (λ (r : Run). until k.opening (segment_at k.plan s).stop r) c.requires.state in
     let events = ap (λ (r : Run). r.state.events) whole in
-    let begins = ap (λ (r : Run). r.state.events) c.in_ok-kernel.ensures.state in
+    let begins = ap (λ (r : Run). r.state.events) c.requires.state in
     omega (arith, own-is k.opening k.plan s (course-tree k c.segment-stop.ensures.course) c.requires.segment, c.run_until.ensures.ticks, c.run_until.ensures.within)
 
 pub returns-clause-ran : goal.returns-clause-ran
 returns-clause-ran g c =
     let k : CourseTold = c.args.course.now in
     let s = c.args.segment in
-    let first : Run = record { state = c.in_ok-kernel.kernel; entries = c.begun.new.trace.list } in
+    let first : Run = record { state = c.args.kernel; entries = c.args.entries.list } in
     let whole : until c.opening.result.now c.segment-stop.result.stop first ≡ segment_run k.opening k.plan (segment_at k.plan s) =
     ap (λ (o : Opening). until o c.segment-stop.result.stop first) c.opening.ensures.value
     ∙ ap (λ (x : Segment). until k.opening x.stop first) c.segment-stop.ensures.value
-    ∙ ap (λ (r : Run). until k.opening (segment_at k.plan s).stop r) c.in_ok-kernel.ensures.state in
+    ∙ ap (λ (r : Run). until k.opening (segment_at k.plan s).stop r) c.requires.state in
     c.in_ok-run_until.ensures.ran ∙ whole
 
 pub returns-clause-rose : goal.returns-clause-rose
 returns-clause-rose g c =
     let k : CourseTold = c.args.course.now in
     let s = c.args.segment in
-    let first : Run = record { state = c.in_ok-kernel.kernel; entries = c.begun.new.trace.list } in
+    let first : Run = record { state = c.args.kernel; entries = c.args.entries.list } in
     let whole : until c.opening.result.now c.segment-stop.result.stop first ≡ segment_run k.opening k.plan (segment_at k.plan s) =
     ap (λ (o : Opening). until o c.segment-stop.result.stop first) c.opening.ensures.value
     ∙ ap (λ (x : Segment). until k.opening x.stop first) c.segment-stop.ensures.value
-    ∙ ap (λ (r : Run). until k.opening (segment_at k.plan s).stop r) c.in_ok-kernel.ensures.state in
+    ∙ ap (λ (r : Run). until k.opening (segment_at k.plan s).stop r) c.requires.state in
     let events = ap (λ (r : Run). r.state.events) (c.in_ok-run_until.ensures.ran ∙ whole) in
-    let begins = ap (λ (r : Run). r.state.events) c.in_ok-kernel.ensures.state in
+    let begins = ap (λ (r : Run). r.state.events) c.requires.state in
     omega (arith, own-is k.opening k.plan s (course-tree k c.segment-stop.ensures.course) c.requires.segment, c.run_until.ensures.ticks)
 
 pub returns-clause-most : goal.returns-clause-most
 returns-clause-most g c =
     let k : CourseTold = c.args.course.now in
     let s = c.args.segment in
-    let first : Run = record { state = c.in_ok-kernel.kernel; entries = c.begun.new.trace.list } in
+    let first : Run = record { state = c.args.kernel; entries = c.args.entries.list } in
     let whole : until c.opening.result.now c.segment-stop.result.stop first ≡ segment_run k.opening k.plan (segment_at k.plan s) =
     ap (λ (o : Opening). until o c.segment-stop.result.stop first) c.opening.ensures.value
     ∙ ap (λ (x : Segment). until k.opening x.stop first) c.segment-stop.ensures.value
-    ∙ ap (λ (r : Run). until k.opening (segment_at k.plan s).stop r) c.in_ok-kernel.ensures.state in
+    ∙ ap (λ (r : Run). until k.opening (segment_at k.plan s).stop r) c.requires.state in
     let events = ap (λ (r : Run). r.state.events) whole in
-    let begins = ap (λ (r : Run). r.state.events) c.in_ok-kernel.ensures.state in
+    let begins = ap (λ (r : Run). r.state.events) c.requires.state in
     omega (arith, own-is k.opening k.plan s (course-tree k c.segment-stop.ensures.course) c.requires.segment, c.run_until.ensures.ticks, c.run_until.ensures.within)

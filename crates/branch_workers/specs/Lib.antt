@@ -1,0 +1,5 @@
+pub mod Layout
+pub mod Runs
+pub mod Workers
+pub mod Order
+pub mod Example
