@@ -51,7 +51,8 @@ pub record IsAtWork (c : CourseTold) (shelf : ShelfTold CourseTold) (number : �
   pub claims : AreClaims c.plan seat.view.claims
   pub counts : seat.view.counts ≡ length seat.view.claims
   pub ends : HasAllEnds c.plan seat.view
-  pub outcomes : map outcome_told outcomes ≡ map (λ s. outcome_of c s) seat.view.claims
+  pub segments : map (λ o. o.segment) outcomes ≡ seat.view.claims
+  pub outcomes : All (λ o. outcome_told o ≡ outcome_of c o.segment) outcomes
   pub steps : steps ≡ sum_by (own_of c) seat.view.claims
   pub pushed : HasPushed c.plan seat.view.claims pushed
 
@@ -63,12 +64,20 @@ pub record HasEnded (c : CourseTold) (shelf : ShelfTold CourseTold) (number : �
   pub steps : steps ≤ sum_by (own_of c) seat.view.claims
   pub few : steps < 2 ^ 52
 
--- When a worker ended since all segments are done.
-pub record HasFinished (c : CourseTold) (seat : SeatTold CourseTold) (steps : ℕ) (outcomes : List Outcome) : Type 0 where
-  pub ends : HasAllEnds c.plan seat.view
-  pub outcomes : map outcome_told outcomes ≡ map (λ s. outcome_of c s) seat.view.claims
-  pub steps : steps ≡ sum_by (own_of c) seat.view.claims
-  pub done : length (segments_in c.plan) ≤ seat.view.done_seen
+-- When a worker with this view and these outcomes ended since all segments are done.
+pub record HasFinished (c : CourseTold) (view : SeatView) (outcomes : List Outcome) : Type 0 where
+  pub below : All (λ s. s < length (segments_in c.plan)) view.claims
+  pub ends : HasAllEnds c.plan view
+  pub segments : map (λ o. o.segment) outcomes ≡ view.claims
+  pub outcomes : All (λ o. outcome_told o ≡ outcome_of c o.segment) outcomes
+  pub done : length (segments_in c.plan) ≤ view.done_seen
+
+-- so of all workers, with their seats and their outcomes in order
+abbrev pub HaveFinished : CourseTold → List (SeatTold CourseTold) → List (List Outcome) → Type 0
+HaveFinished c [] [] = Unit {0}
+HaveFinished c [] (os ∷ lists) = ⊥
+HaveFinished c (seat ∷ seats) [] = ⊥
+HaveFinished c (seat ∷ seats) (os ∷ lists) = HasFinished c seat.view os × HaveFinished c seats lists
 
 -- A closed system in which so many workers ran each segment once: the segment's word names one of them, the view that took in
 -- all of theirs has it once among its claims with the ends that its run found and left, and each fork's place has its value.

@@ -1,12 +1,12 @@
 //! All segments of a course by workers.
 
-ghost use Rattle.std.specs.Prelude.{◌≡◌, ℕ, ◌+◌, ◌<◌, ◌≤◌, ◌^◌, All, Some, true, false, IfOk, OnOk, length, map, sum_by, slice_index_or};
+ghost use Rattle.std.specs.Prelude.{◌≡◌, ℕ, ◌+◌, ◌<◌, ◌≤◌, ◌^◌, All, None, true, false, IfOk, OnOk, length, map, replicate, sum_by, slice_index_or};
 ghost use Rattle.branch_tree.specs.Segments.{segments_in};
 ghost use Rattle.checkpoint_shelf.specs.Seats.{AllBack};
 ghost use Rattle.kernel_copy.specs.Outcomes.{outcome_told, outcomes_before};
 ghost use Rattle.kernel_copy.specs.Segmentwise.{distinct};
 ghost use Rattle.branch_workers.specs.Layout.{IsShelfOf, layout};
-ghost use Rattle.branch_workers.specs.Workers.{IsAtWork, HasEnded, HasFinished, RanOnce, own_of};
+ghost use Rattle.branch_workers.specs.Workers.{IsAtWork, HasEnded, HasFinished, HaveFinished, RanOnce, own_of};
 
 use crate::gather::{Back, gather};
 use crate::layout::open_shelf;
@@ -50,7 +50,8 @@ fn run_all<R: Threads + Wait + Sync, G: Gate + Sync, L: Ledger + Send, B: Room +
     requires finished { All (λ w. w.finished ≡ false) workers.old }
     ensures numbers { (i : ℕ) (d : _) → i < length workers.old → (slice_index_or workers.new i d).number ≡ (slice_index_or workers.old i d).number }
     ensures ended { All (λ w. HasEnded course.now.value shelf.now w.number w.seat w.steps) workers.new }
-    ensures finished { All (λ w. w.finished ≡ true → HasFinished course.now.value w.seat w.steps w.outcomes.items) workers.new }
+    ensures finished { All (λ w. w.finished ≡ true → HasFinished course.now.value w.seat.view w.outcomes.items) workers.new }
+    ensures counted { All (λ w. w.finished ≡ true → w.steps ≡ sum_by (own_of course.now.value) w.seat.view.claims) workers.new }
 {
     let count = workers.len();
     thread::for_each_mut(
@@ -64,11 +65,24 @@ fn run_all<R: Threads + Wait + Sync, G: Gate + Sync, L: Ledger + Send, B: Room +
 // Closes the shelf of workers that handed all back, and puts their outcomes in order, if all finished.
 fn finish(
     alloc: Global,
+    course: &Course,
     shelf: Shelf<Checkpoint>,
     back: Back,
     mut slots: Vec<Option<Outcome>>,
 ) -> Result<Worked, Memory>
+    requires some { 0 < length back.seats.items }
+    requires shelf { (shelf.plan ≡ layout course.now.plan) × (shelf.course ≡ course.now) }
+    requires back { AllBack shelf back.seats.items }
+    requires slots { slots.items ≡ replicate (length (segments_in course.now.plan)) None }
+    requires finished { back.finished ≡ true → HaveFinished course.now back.seats.items (map (λ v. v.items) back.outcomes.items) }
+    ensures outcomes { IfOk result (λ w. map outcome_told w.outcomes.items ≡ outcomes_before course.now (length (segments_in course.now.plan))) }
+    ensures finished { OnOk result (back.finished ≡ true) }
+    ensures all { OnOk result (sum_by (λ s. sum_by (own_of course.now) s.view.claims) back.seats.items ≡ distinct course.now.opening course.now.plan) }
+    ensures most { sum_by (λ s. sum_by (own_of course.now) s.view.claims) back.seats.items ≤ distinct course.now.opening course.now.plan }
+    ensures shelf { IfOk result (λ w. (w.shelf.plan ≡ layout course.now.plan) × (w.shelf.course ≡ course.now)) }
+    ensures once { IfOk result (λ w. RanOnce course.now.plan (length back.seats.items) w.shelf.system) }
 {
+    let _ = course.plan();
     let Back {
         seats,
         outcomes,
@@ -110,7 +124,7 @@ fn work_in<R: Threads + Wait + Sync, G: Gate + Sync, L: Ledger + Send, B: Room +
     let mut workers = staff::<L, B>(alloc, seats, lanes)?;
     run_all(rt, alloc, course, &shelf, gate, workers.as_mut_slice());
     gather(&mut back, workers, steps);
-    finish(alloc, shelf, back, slots)
+    finish(alloc, course, shelf, back, slots)
 }
 
 /// Runs each segment of a course once, by so many workers, 1 to 64, each in a thread of its own where one can be made: the

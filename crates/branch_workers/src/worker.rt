@@ -1,9 +1,9 @@
 //! A worker, which takes segments from lanes until all are done.
 
-ghost use Rattle.std.specs.Prelude.{◌≡◌, ℕ, ◌+◌, ◌<◌, ◌≤◌, ◌^◌, ◌++◌, ◌∷◌, [], All, Some, true, false, IfSome, IsTrue, IsFalse, length};
+ghost use Rattle.std.specs.Prelude.{◌≡◌, ℕ, ◌+◌, ◌<◌, ◌≤◌, ◌^◌, ◌++◌, ◌∷◌, [], All, Some, true, false, IfSome, IsTrue, IsFalse, length, sum_by};
 ghost use Rattle.branch_tree.specs.Segments.{segments_in, children_of};
 ghost use Rattle.branch_workers.specs.Layout.{IsShelfOf};
-ghost use Rattle.branch_workers.specs.Workers.{IsAtWork, HasEnded, HasFinished};
+ghost use Rattle.branch_workers.specs.Workers.{IsAtWork, HasEnded, HasFinished, own_of};
 
 use crate::segment::run_segment;
 use branch_deques::{Lane, Room};
@@ -146,7 +146,8 @@ pub(crate) fn run_worker<R: Wait, G: Gate, L: Ledger, B: Room>(
     requires finished { worker.old.finished ≡ false }
     ensures number { worker.new.number ≡ worker.old.number }
     ensures ended { HasEnded course.now.value shelf.now worker.new.number worker.new.seat worker.new.steps }
-    ensures finished { worker.new.finished ≡ true → HasFinished course.now.value worker.new.seat worker.new.steps worker.new.outcomes.items }
+    ensures finished { worker.new.finished ≡ true → HasFinished course.now.value worker.new.seat.view worker.new.outcomes.items }
+    ensures counted { worker.new.finished ≡ true → worker.new.steps ≡ sum_by (own_of course.now.value) worker.new.seat.view.claims }
 {
     for _ in rt.forever() {
         match next(rt, &mut worker.lane) {

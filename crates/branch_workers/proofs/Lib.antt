@@ -1,0 +1,7 @@
+pub mod Sums
+pub mod Joined
+pub mod Forks
+pub mod Children
+pub mod Standing
+pub mod Closing
+pub mod Gathering
