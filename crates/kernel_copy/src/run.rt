@@ -222,6 +222,7 @@ pub fn run_on<L: Ledger>(
     ensures ran { IfOk result (λ x. record { state = x.kernel; entries = x.entries.list } ≡ segment_run course.now.opening course.now.plan (segment_at course.now.plan segment)) }
     ensures fits { IfOk result (λ x. Fits course.now.opening x.kernel) }
     ensures rose { OnOk result (steps.new ≡ steps.old + own_count course.now.opening course.now.plan (segment_at course.now.plan segment)) }
+    ensures least { steps.old ≤ steps.new }
     ensures most { steps.new ≤ steps.old + own_count course.now.opening course.now.plan (segment_at course.now.plan segment) }
 {
     let stop = course.segment(segment).stop;
@@ -244,6 +245,7 @@ fn run_segment<L: Ledger>(
     ensures ran { IfOk result (λ x. record { state = x.kernel; entries = x.entries.list } ≡ segment_run course.now.opening course.now.plan (segment_at course.now.plan segment)) }
     ensures fits { IfOk result (λ x. Fits course.now.opening x.kernel) }
     ensures rose { OnOk result (steps.new ≡ steps.old + own_count course.now.opening course.now.plan (segment_at course.now.plan segment)) }
+    ensures least { steps.old ≤ steps.new }
     ensures most { steps.new ≤ steps.old + own_count course.now.opening course.now.plan (segment_at course.now.plan segment) }
 {
     let mut entries = Trace::new(alloc);
@@ -291,6 +293,7 @@ pub fn run_segments<L: Ledger>(
     requires { steps.old ≤ 2 ^ 63 }
     ensures outcomes { IfOk result (λ v. map outcome_told v.items ≡ outcomes_before course.now.value (length (segments_in course.now.value.plan))) }
     ensures rose { OnOk result (steps.new ≡ steps.old + distinct course.now.value.opening course.now.value.plan) }
+    ensures least { steps.old ≤ steps.new }
     ensures most { steps.new ≤ steps.old + distinct course.now.value.opening course.now.value.plan }
 {
     let mut outcomes = Vec::new(alloc);
