@@ -8,7 +8,7 @@ use Rattle.branch_tree.specs.Plan.{Plan}
 use Rattle.branch_tree.specs.Segments.{segments_in, segment_at, no_segment, is_child, children_from, children_of}
 use Rattle.shelf_core.specs.Views.{times}
 use Rattle.shelf_core.proofs.Lists.{times_here, times_else, times_append, bool_cases}
-use Rattle.branch_workers.specs.Workers.{AreClaims, HasPushed, pushes}
+use Rattle.branch_workers.specs.Claims.{AreClaims, HasPushed, pushes}
 use Rattle.branch_workers.proofs.Sums.{at_most}
 
 abbrev with_number : Bool → ℕ → List ℕ → List ℕ

@@ -1,7 +1,7 @@
 -- What holds once all workers handed back what they have.
 use Rattle.std.proofs.Common.{◌≡◌, ◌≢◌, ℕ, zero, suc, ◌+◌, ◌-◌, ◌<◌, ◌≤◌, max, All, Bool, true, false, true≢false, List, [], ◌∷◌, ◌++◌, Option, None, Some, IsSome, length, map, replicate, set, sum_by, slice_get, take, ◌||◌, sym, refl, ap, ◌∙◌, subst, ⊎_elim, arith, length-append, add-one}
 use Rattle.std.proofs.lemmas.List.{length-map, length-replicate, take_all, take_more}
-use Rattle.std.proofs.lemmas.List.Sums.{sum_by-append}
+use Rattle.std.proofs.lemmas.List.Sums.{sum_by-append, sum_by-cons}
 use Rattle.std.proofs.lemmas.List.Elements.{All-nil, All-cons, All-head, All-tail}
 use mathlib.Core.Logic.{dite}
 use native.Mathlib.Decide.{ℕ_discrete}
@@ -47,7 +47,7 @@ events_of c v = sum_by (own_of c) v.claims
 
 sum_map : (f : SeatView → ℕ) (seats : List (SeatTold CourseTold)) → sum_by f (views_of seats) ≡ sum_by (λ (s : SeatTold CourseTold). f s.view) seats
 sum_map f [] = refl
-sum_map f (s ∷ seats) = let r = sum_map f seats in omega arith
+sum_map f (s ∷ seats) = let r = sum_map f seats in let a = sum_by-cons f s.view (views_of seats) in let b = sum_by-cons (λ (x : SeatTold CourseTold). f x.view) s seats in omega arith
 
 -- Keys in a list of two parts.
 in_left : (key : Key) (xs ys : List Key) → is_in key xs ≡ true → is_in key (xs ++ ys) ≡ true
@@ -187,11 +187,11 @@ good_all : (c : CourseTold) (slots : List (Option Outcome)) (done : List ℕ) (o
     → Good c slots done → Good c (placed slots os) (done ++ segments_of os)
 good_all c slots done [] below told good = λ g pos. good g (let t = times_append g done [] in omega arith)
 good_all c slots done (o ∷ os) below told good =
-    let one = good_more c slots done o (All-head _ o os below) (All-head _ o os told) good in
+    let one = good_more c slots done o (All-head (λ (x : Outcome). x.segment < length slots) o os below) (All-head (λ (x : Outcome). outcome_told x ≡ outcome_of c x.segment) o os told) good in
     let long = Rattle.std.proofs.lemmas.List.length-set slots o.segment (Some o) in
     let rest = good_all c (set slots o.segment (Some o)) (done ++ o.segment ∷ []) os
-          (Rattle.std.proofs.lemmas.List.Elements.All-weaker (λ (x : Outcome). x.segment < length slots) (λ (x : Outcome). x.segment < length (set slots o.segment (Some o))) (λ x l. omega arith) os (All-tail _ o os below))
-          (All-tail _ o os told) one in
+          (Rattle.std.proofs.lemmas.List.Elements.All-weaker (λ (x : Outcome). x.segment < length slots) (λ (x : Outcome). x.segment < length (set slots o.segment (Some o))) (λ x l. omega arith) os (All-tail (λ (x : Outcome). x.segment < length slots) o os below))
+          (All-tail (λ (x : Outcome). outcome_told x ≡ outcome_of c x.segment) o os told) one in
     λ g pos. rest g (
       let a = times_append g (done ++ o.segment ∷ []) (segments_of os) in let b = times_append g done (o.segment ∷ []) in
       let d = times_append g done (segments_of (o ∷ os)) in let e = times_append g (o.segment ∷ []) (segments_of os) in omega arith)
@@ -206,11 +206,11 @@ good_lists c slots done [] [] h below good = λ g pos. good g (let t = times_app
 good_lists c slots done [] (os ∷ lists) h below good = absurd h
 good_lists c slots done (s ∷ seats) [] h below good = absurd h
 good_lists c slots done (s ∷ seats) (os ∷ lists) h below good =
-    let one = good_all c slots done os (All-head _ os lists below) h.0.outcomes good in
+    let one = good_all c slots done os (All-head (λ (xs : List Outcome). All (λ (o : Outcome). o.segment < length slots) xs) os lists below) h.0.outcomes good in
     let long = length_placed slots os in
     let rest = good_lists c (placed slots os) (done ++ segments_of os) seats lists h.1
           (Rattle.std.proofs.lemmas.List.Elements.All-weaker (λ (xs : List Outcome). All (λ (o : Outcome). o.segment < length slots) xs) (λ (xs : List Outcome). All (λ (o : Outcome). o.segment < length (placed slots os)) xs)
-            (λ xs a. Rattle.std.proofs.lemmas.List.Elements.All-weaker (λ (x : Outcome). x.segment < length slots) (λ (x : Outcome). x.segment < length (placed slots os)) (λ x l. omega arith) xs a) lists (All-tail _ os lists below)) one in
+            (λ xs a. Rattle.std.proofs.lemmas.List.Elements.All-weaker (λ (x : Outcome). x.segment < length slots) (λ (x : Outcome). x.segment < length (placed slots os)) (λ x l. omega arith) xs a) lists (All-tail (λ (xs : List Outcome). All (λ (o : Outcome). o.segment < length slots) xs) os lists below)) one in
     λ g pos. rest g (
       let a = times_append g (done ++ segments_of os) (flat lists) in let b = times_append g done (segments_of os) in
       let d = times_append g done (flat (os ∷ lists)) in let e = times_append g (segments_of os) (flat lists) in omega arith)
@@ -221,29 +221,29 @@ flat_times c g [] (os ∷ lists) h = absurd h
 flat_times c g (s ∷ seats) [] h = absurd h
 flat_times c g (s ∷ seats) (os ∷ lists) h =
     let r = flat_times c g seats lists h.1 in let a = times_append g (segments_of os) (flat lists) in
-    let e = ap (λ (xs : List ℕ). times g xs) h.0.segments in omega arith
+    let e = ap (λ (xs : List ℕ). times g xs) h.0.segments in let b = sum_by-cons (λ (v : SeatView). times g v.claims) s.view (views_of seats) in omega arith
 
 -- Each worker's outcomes are of segments of the plan.
 pub lists_below : (c : CourseTold) (n : ℕ) (seats : List (SeatTold CourseTold)) (lists : List (List Outcome)) → HaveFinished c seats lists
     → n ≡ length (segments_in c.plan) → All (λ (os : List Outcome). All (λ (o : Outcome). o.segment < n) os) lists
-lists_below c n [] [] h is = All-nil _
+lists_below c n [] [] h is = All-nil (λ (xs : List Outcome). All (λ (o : Outcome). o.segment < n) xs)
 lists_below c n [] (os ∷ lists) h is = absurd h
 lists_below c n (s ∷ seats) [] h is = absurd h
-lists_below c n (s ∷ seats) (os ∷ lists) h is = All-cons _ os lists
+lists_below c n (s ∷ seats) (os ∷ lists) h is = All-cons (λ (xs : List Outcome). All (λ (o : Outcome). o.segment < n) xs) os lists
     (unmapped os (subst (λ (xs : List ℕ). All (λ g. g < n) xs) (sym h.0.segments) (subst (λ (m : ℕ). All (λ g. g < m) s.view.claims) (sym is) h.0.below)))
     (lists_below c n seats lists h.1 is)
   where
     unmapped : (xs : List Outcome) → All (λ g. g < n) (segments_of xs) → All (λ (o : Outcome). o.segment < n) xs
-    unmapped [] a = All-nil _
-    unmapped (x ∷ xs) a = All-cons _ x xs (All-head _ x.segment (segments_of xs) a) (unmapped xs (All-tail _ x.segment (segments_of xs) a))
+    unmapped [] a = All-nil (λ (o : Outcome). o.segment < n)
+    unmapped (x ∷ xs) a = All-cons (λ (o : Outcome). o.segment < n) x xs (All-head (λ (g : ℕ). g < n) x.segment (segments_of xs) a) (unmapped xs (All-tail (λ (g : ℕ). g < n) x.segment (segments_of xs) a))
 
 pub length_placed_all : (slots : List (Option Outcome)) (lists : List (List Outcome)) → length (placed_all slots lists) ≡ length slots
 length_placed_all slots [] = refl
 length_placed_all slots (os ∷ lists) = length_placed_all (placed slots os) lists ∙ length_placed slots os
 
 some_slots : (slots : List (Option Outcome)) → ((g : ℕ) → g < length slots → (o : Outcome) × (slice_get slots g ≡ Some (Some o))) → All (λ (x : Option Outcome). IsSome x) slots
-some_slots [] h = All-nil _
-some_slots (x ∷ slots) h = let a = h 0 (omega arith) in All-cons _ x slots (is x a.0 (some_same x (Some a.0) a.1)) (some_slots slots (λ g l. h (suc g) (omega arith)))
+some_slots [] h = All-nil (λ (y : Option Outcome). IsSome y)
+some_slots (x ∷ slots) h = let a = h 0 (omega arith) in All-cons (λ (y : Option Outcome). IsSome y) x slots (is x a.0 (some_same x (Some a.0) a.1)) (some_slots slots (λ g l. h (suc g) (omega arith)))
   where
     is : (y : Option Outcome) (o : Outcome) → y ≡ Some o → IsSome y
     is y o e = subst (λ (z : Option Outcome). IsSome z) (sym e) (o, refl)

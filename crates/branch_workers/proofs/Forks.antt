@@ -100,11 +100,11 @@ forks_distinct p k (g ∷ gs) = more (nat_lt k (last_of p.branches g.branch)) (f
 
 pub forks_below : (p : Plan) (n k : ℕ) (gs : List Segment) → k + length gs ≤ n → All (λ (g : Segment). g.stop < 16777216) gs → All (KeyBelow n) (forks_from p k gs)
 forks_below p n k [] h stops = All-nil (KeyBelow n)
-forks_below p n k (g ∷ gs) h stops = more (nat_lt k (last_of p.branches g.branch)) (forks_below p n (k + 1) gs (omega arith) (All-tail _ g gs stops))
+forks_below p n k (g ∷ gs) h stops = more (nat_lt k (last_of p.branches g.branch)) (forks_below p n (k + 1) gs (omega arith) (All-tail (λ (x : Segment). x.stop < 16777216) g gs stops))
   where
     more : (b : Bool) → All (KeyBelow n) (forks_from p (k + 1) gs) → All (KeyBelow n) (with_key b (record { segment = k; event = g.stop }) (forks_from p (k + 1) gs))
     more false e = e
-    more true e = All-cons (KeyBelow n) (record { segment = k; event = g.stop }) (forks_from p (k + 1) gs) (omega arith, All-head _ g gs stops) e
+    more true e = All-cons (KeyBelow n) (record { segment = k; event = g.stop }) (forks_from p (k + 1) gs) (omega arith, All-head (λ (x : Segment). x.stop < 16777216) g gs stops) e
 
 pub forks_few : (p : Plan) (k : ℕ) (gs : List Segment) → length (forks_from p k gs) ≤ length gs
 forks_few p k [] = omega arith

@@ -1,7 +1,7 @@
 -- A worker between two segments.
 use Rattle.std.proofs.Common.{◌≡◌, ◌≢◌, ℕ, zero, suc, ◌+◌, ◌^◌, ◌<◌, ◌≤◌, All, true, List, [], ◌∷◌, ◌++◌, Option, None, Some, length, map, sum_by, sym, refl, ap, ◌∙◌, subst, arith, length-append, add-one}
 use Rattle.std.proofs.lemmas.List.{map-append}
-use Rattle.std.proofs.lemmas.List.Sums.{sum_by-append}
+use Rattle.std.proofs.lemmas.List.Sums.{sum_by-append, sum_by-cons}
 use Rattle.std.proofs.lemmas.List.Elements.{All-push}
 use mathlib.Core.Logic.{dite}
 use native.Mathlib.Decide.{ℕ_discrete}
@@ -21,7 +21,8 @@ use Rattle.kernel_copy.proofs.Adding.{own-more, own-all, distinct-bound}
 use Rattle.kernel_copy.proofs.Trees.{course-few}
 use Rattle.branch_workers.specs.Layout.{end_key}
 use Rattle.branch_workers.specs.Runs.{HasEnds, HasAllEnds, Remains}
-use Rattle.branch_workers.specs.Workers.{own_of, AreClaims, HasPushed, IsAtWork, HasEnded, HasFinished}
+use Rattle.branch_workers.specs.Claims.{AreClaims, HasPushed}
+use Rattle.branch_workers.specs.Workers.{own_of, IsAtWork, HasEnded, HasFinished}
 use Rattle.branch_workers.proofs.Sums.{upto, weighs_most}
 use Rattle.branch_workers.proofs.Children.{pushed_more}
 use Rattle.branch_workers.proofs.Forks.{segments_few}
@@ -57,7 +58,7 @@ claims_more c claims g a below new = record {
 }
 
 pub sum_more : (f : ℕ → ℕ) (xs : List ℕ) (g : ℕ) → sum_by f (xs ++ g ∷ []) ≡ sum_by f xs + f g
-sum_more f xs g = let a = sum_by-append f xs (g ∷ []) in omega arith
+sum_more f xs g = let a = sum_by-append f xs (g ∷ []) in let b = sum_by-cons f g [] in omega arith
 
 module _ (c : CourseTold) (shelf : ShelfTold CourseTold) (number : ℕ) (seat : SeatTold CourseTold) (steps : ℕ) (outcomes : List Outcome) (pushed : List ℕ)
     (h : IsAtWork c shelf number seat steps outcomes pushed) where

@@ -2,18 +2,19 @@
 use Rattle.std.proofs.Common.{◌≡◌, ◌≢◌, ℕ, zero, suc, ◌+◌, ◌*◌, ◌<◌, ◌≤◌, All, List, [], ◌∷◌, ◌++◌, length, sum_by, sym, refl, ap, ◌∙◌, subst, ⊎_elim, arith}
 use Rattle.std.proofs.Math.Nat.{mul-suc, mul-zero, mul-one}
 use Rattle.std.proofs.lemmas.List.Elements.{All-head, All-tail}
+use Rattle.std.proofs.lemmas.List.Sums.{sum_by-cons}
 use mathlib.Core.Logic.{dite}
 use native.Mathlib.Decide.{ℕ_discrete}
 use Rattle.shelf_core.specs.Views.{times}
 use Rattle.shelf_core.proofs.Lists.{times_here, times_else, times_append, times_one}
 
 -- f of each number below n, added up
-pub upto : ℕ → (ℕ → ℕ) → ℕ
+abbrev pub upto : ℕ → (ℕ → ℕ) → ℕ
 upto zero f = 0
 upto (suc n) f = upto n f + f n
 
 -- what the numbers below n weigh that stand in a list
-pub weight : (ℕ → ℕ) → ℕ → List ℕ → ℕ
+abbrev pub weight : (ℕ → ℕ) → ℕ → List ℕ → ℕ
 weight f n xs = upto n (λ s. f s * times s xs)
 
 weight_nil : (f : ℕ → ℕ) (n : ℕ) → weight f n [] ≡ 0
@@ -36,7 +37,7 @@ weight_in f (suc n) x xs h = dite (ℕ_discrete x n)
 -- a list of numbers below n weighs what they weigh
 pub weighed : (f : ℕ → ℕ) (n : ℕ) (xs : List ℕ) → All (λ s. s < n) xs → sum_by f xs ≡ weight f n xs
 weighed f n [] h = sym (weight_nil f n)
-weighed f n (x ∷ xs) h = let r = weighed f n xs (All-tail _ x xs h) in let e = weight_in f n x xs (All-head _ x xs h) in omega arith
+weighed f n (x ∷ xs) h = let a = sum_by-cons f x xs in let r = weighed f n xs (All-tail (λ (s : ℕ). s < n) x xs h) in let e = weight_in f n x xs (All-head (λ (s : ℕ). s < n) x xs h) in omega arith
 
 upto_le : (n : ℕ) (f g : ℕ → ℕ) → ((s : ℕ) → s < n → f s ≤ g s) → upto n f ≤ upto n g
 upto_le zero f g h = omega arith
@@ -65,7 +66,7 @@ upto_ones (suc n) = let r = upto_ones n in omega arith
 
 count_all : (xs : List ℕ) → sum_by (λ s. 1) xs ≡ length xs
 count_all [] = refl
-count_all (x ∷ xs) = let r = count_all xs in omega arith
+count_all (x ∷ xs) = let a = sum_by-cons (λ (s : ℕ). 1) x xs in let r = count_all xs in omega arith
 
 -- so they are at most n
 pub at_most : (n : ℕ) (xs : List ℕ) → All (λ s. s < n) xs → ((s : ℕ) → s < n → times s xs ≤ 1) → length xs ≤ n

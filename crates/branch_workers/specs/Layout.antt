@@ -1,12 +1,10 @@
 -- The shelf on which the segments of a course meet.
-use Rattle.std.specs.Prelude.{◌≡◌, ℕ, ◌+◌, nat_lt, if◌then◌else◌, List, [], ◌∷◌, Some, length}
+use Rattle.std.specs.Prelude.{ℕ, ◌+◌, nat_lt, if◌then◌else◌, List, [], ◌∷◌, length}
 use Rattle.branch_tree.specs.declared.segment.Segment.{Segment}
 use Rattle.branch_tree.specs.Plan.{Plan}
 use Rattle.branch_tree.specs.Segments.{segments_in, segment_at, last_of}
 use Rattle.shelf_core.specs.declared.plan.Key.{Key}
 use Rattle.shelf_core.specs.declared.plan.ShelfPlan.{ShelfPlan}
-use Rattle.checkpoint_shelf.specs.Told.{ShelfTold}
-use Rattle.kernel_copy.specs.Courses.{CourseTold}
 
 -- the key of a segment's end
 abbrev pub end_key : Plan → ℕ → Key
@@ -26,9 +24,3 @@ fork_keys p = forks_from p 0 (segments_in p)
 -- what a shelf is laid out for: a word for each segment and a place for each fork
 abbrev pub layout : Plan → ShelfPlan
 layout p = record { segments = length (segments_in p); forks = fork_keys p; grid = []; places = 0 }
-
--- The shelf is of this course, with its segments and its forks.
-pub record IsShelfOf (c : CourseTold) (shelf : ShelfTold CourseTold) : Type 0 where
-  pub course : shelf.course ≡ c
-  pub segments : shelf.plan.segments ≡ length (segments_in c.plan)
-  pub forks : shelf.plan.forks ≡ fork_keys c.plan

@@ -1,12 +1,20 @@
 -- What a seat has once it ran segments.
-use Rattle.std.specs.Prelude.{◌≡◌, ℕ, ◌+◌, ◌<◌, true, Some}
+use Rattle.std.specs.Prelude.{◌≡◌, ℕ, ◌+◌, ◌<◌, true, Some, length}
 use Rattle.branch_tree.specs.Plan.{Plan}
-use Rattle.branch_tree.specs.Segments.{segment_at, last_of}
+use Rattle.branch_tree.specs.Segments.{segments_in, segment_at, last_of}
 use Rattle.shelf_core.specs.Plan.{is_in}
 use Rattle.shelf_core.specs.Views.{times}
 use Rattle.shelf_core.specs.declared.plan.Key.{Key}
 use Rattle.shelf_core.specs.declared.seat.SeatView.{SeatView}
-use Rattle.branch_workers.specs.Layout.{end_key}
+use Rattle.checkpoint_shelf.specs.Told.{ShelfTold}
+use Rattle.kernel_copy.specs.Courses.{CourseTold}
+use Rattle.branch_workers.specs.Layout.{end_key, fork_keys}
+
+-- The shelf is of this course, with its segments and its forks.
+pub record IsShelfOf (c : CourseTold) (shelf : ShelfTold CourseTold) : Type 0 where
+  pub course : shelf.course ≡ c
+  pub segments : shelf.plan.segments ≡ length (segments_in c.plan)
+  pub forks : shelf.plan.forks ≡ fork_keys c.plan
 
 -- The seat found the end of a segment's parent, if it has one, and knows the segment's own end, if others go on from it.
 pub record HasEnds (p : Plan) (s : ℕ) (v : SeatView) : Type 0 where

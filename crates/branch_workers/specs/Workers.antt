@@ -15,6 +15,7 @@ use Rattle.kernel_copy.specs.Segmentwise.{own_count}
 use Rattle.kernel_copy.specs.Courses.{CourseTold}
 use Rattle.kernel_copy.specs.Outcomes.{outcome_told, outcome_of}
 use Rattle.branch_workers.specs.Layout.{end_key}
+use Rattle.branch_workers.specs.Claims.{AreClaims, HasPushed}
 use Rattle.branch_workers.specs.Runs.{HasEnds, HasAllEnds}
 
 -- numbers that rise by one from 0
@@ -24,22 +25,6 @@ AreNumbered numbers = (i n : ℕ) → slice_get numbers i ≡ Some n → n ≡ i
 -- how many events a segment has of its own
 abbrev pub own_of : CourseTold → ℕ → ℕ
 own_of c s = own_count c.opening c.plan (segment_at c.plan s)
-
--- Segments of a plan, each at most once.
-pub record AreClaims (p : Plan) (claims : List ℕ) : Type 0 where
-  pub below : All (λ s. s < length (segments_in p)) claims
-  pub once : (s : ℕ) → times s claims ≤ 1
-
--- how often a segment may stand on the lane of a worker with these claims: the root's first once, any other as often as
--- its parent was claimed
-abbrev pub pushes : Option ℕ → List ℕ → ℕ
-pushes None claims = 1
-pushes (Some q) claims = times q claims
-
--- What a worker with these claims pushed on its lane: segments of the plan that go on from what it claimed.
-pub record HasPushed (p : Plan) (claims pushed : List ℕ) : Type 0 where
-  pub below : All (λ s. s < length (segments_in p)) pushed
-  pub few : (s : ℕ) → s < length (segments_in p) → times s pushed ≤ pushes (segment_at p s).parent claims
 
 -- Between two segments: the worker's seat is of this shelf and has its own number alone and no turn, and each segment that it
 -- claimed was run by it, counted and told.

@@ -5,7 +5,8 @@ ghost use Rattle.branch_tree.specs.Planned.{IsTree};
 ghost use Rattle.branch_tree.specs.Segments.{segments_in, segment_at, last_of};
 ghost use Rattle.checkpoint_shelf.specs.Plans.{PlanFits};
 ghost use Rattle.checkpoint_shelf.specs.Seats.{NewFrom};
-ghost use Rattle.branch_workers.specs.Layout.{IsShelfOf, fork_keys, layout};
+ghost use Rattle.branch_workers.specs.Layout.{fork_keys, layout};
+ghost use Rattle.branch_workers.specs.Runs.{IsShelfOf};
 
 use branch_tree::BranchPlan;
 use checkpoint_shelf::{Key, Shelf, ShelfPlan, ShelfSeat};

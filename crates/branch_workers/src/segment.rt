@@ -8,8 +8,8 @@ ghost use Rattle.shelf_core.specs.Plan.{place_of, is_in, is_sole};
 ghost use Rattle.shelf_core.specs.Views.{times};
 ghost use Rattle.kernel_copy.specs.Outcomes.{outcome_told, outcome_of};
 ghost use Rattle.kernel_copy.specs.Segmentwise.{segment_end, segment_run, started_at, own_count};
-ghost use Rattle.branch_workers.specs.Layout.{IsShelfOf, end_key};
-ghost use Rattle.branch_workers.specs.Runs.{HasEnds, Remains};
+ghost use Rattle.branch_workers.specs.Layout.{end_key};
+ghost use Rattle.branch_workers.specs.Runs.{IsShelfOf, HasEnds, Remains};
 
 use crate::found::wait_for;
 use checkpoint_shelf::{Begun, Key, Shelf, ShelfSeat};

@@ -2,7 +2,8 @@
 
 ghost use Rattle.std.specs.Prelude.{◌≡◌, ℕ, ◌+◌, ◌<◌, ◌≤◌, ◌∷◌, [], All, IfOk, OnOk, Some, false, length, map};
 ghost use Rattle.branch_tree.specs.Segments.{segments_in};
-ghost use Rattle.branch_workers.specs.Workers.{HasPushed, AreNumbered};
+ghost use Rattle.branch_workers.specs.Claims.{HasPushed};
+ghost use Rattle.branch_workers.specs.Workers.{AreNumbered};
 
 use crate::worker::Worker;
 use branch_deques::{Lane, Room, open_lanes};

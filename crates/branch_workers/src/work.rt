@@ -5,7 +5,8 @@ ghost use Rattle.branch_tree.specs.Segments.{segments_in};
 ghost use Rattle.checkpoint_shelf.specs.Seats.{AllBack};
 ghost use Rattle.kernel_copy.specs.Outcomes.{outcome_told, outcomes_before};
 ghost use Rattle.kernel_copy.specs.Segmentwise.{distinct};
-ghost use Rattle.branch_workers.specs.Layout.{IsShelfOf, layout};
+ghost use Rattle.branch_workers.specs.Layout.{layout};
+ghost use Rattle.branch_workers.specs.Runs.{IsShelfOf};
 ghost use Rattle.branch_workers.specs.Workers.{IsAtWork, HasEnded, HasFinished, HaveFinished, RanOnce, own_of};
 
 use crate::gather::{Back, gather};

@@ -3,7 +3,7 @@
 ghost use Rattle.std.specs.Prelude.{◌≡◌, [], ◌∷◌, Some, None};
 ghost use Rattle.branch_workers.specs.Example.{forked_once};
 ghost use Rattle.branch_workers.specs.Layout.{end_key, fork_keys, layout};
-ghost use Rattle.branch_workers.specs.Workers.{pushes};
+ghost use Rattle.branch_workers.specs.Claims.{pushes};
 
 /// A root that one branch leaves at event 2 has two segments, and the branch has a third: others go on from the end of the first
 /// alone, so the shelf has a place for that.

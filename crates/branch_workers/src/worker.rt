@@ -2,7 +2,7 @@
 
 ghost use Rattle.std.specs.Prelude.{◌≡◌, ℕ, ◌+◌, ◌<◌, ◌≤◌, ◌^◌, ◌++◌, ◌∷◌, [], All, Some, true, false, IfSome, IsTrue, IsFalse, length, sum_by};
 ghost use Rattle.branch_tree.specs.Segments.{segments_in, children_of};
-ghost use Rattle.branch_workers.specs.Layout.{IsShelfOf};
+ghost use Rattle.branch_workers.specs.Runs.{IsShelfOf};
 ghost use Rattle.branch_workers.specs.Workers.{IsAtWork, HasEnded, HasFinished, own_of};
 
 use crate::segment::run_segment;

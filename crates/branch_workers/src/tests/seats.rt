@@ -2,7 +2,7 @@
 
 ghost use Rattle.std.specs.Prelude.{◌≡◌, ◌<◌, [], Some, length};
 ghost use Rattle.branch_tree.specs.Segments.{segments_in};
-ghost use Rattle.branch_workers.specs.Layout.{IsShelfOf};
+ghost use Rattle.branch_workers.specs.Runs.{IsShelfOf};
 
 use super::market::course;
 use crate::layout::open_shelf;
