@@ -3,5 +3,5 @@ use Rattle.branch_tree.specs.Segments.{segments_in}
 use Rattle.branch_workers.specs.Layout.{forks_from, fork_keys}
 use Rattle.branch_workers.proofs.layout.forks.Given as goal
 
-abbrev pub invariant-loop-segment : goal.invariant-loop-segment
-invariant-loop-segment l = l.keys ++ forks_from l.plan l.number (drop l.number (segments_in l.plan)) ≡ fork_keys l.plan
+abbrev pub invariant-loop-number : goal.invariant-loop-number
+invariant-loop-number l = l.keys ++ forks_from l.plan l.number (drop l.number (segments_in l.plan)) ≡ fork_keys l.plan
