@@ -69,12 +69,12 @@ pushed_more p claims pushed s new h = record {
     at (Some q) old more all sum child few =
         let a = times_append q claims (s ∷ []) in
         dite (ℕ_discrete q s)
-          (λ (one : q ≡ s).
-            let z : times q claims ≡ 0 = ap (λ (y : ℕ). times y claims) one ∙ new in
-            let y : times q (s ∷ []) ≡ 1 = ap (λ (w : ℕ). times w (s ∷ [])) one ∙ times_here s [] in
-            let m = count_most (is_child s (Some q)) in omega arith)
-          (λ (ne : q ≢ s).
-            let z : more ≡ 0 = child ∙ ap as_count (Rattle.std.proofs.Common.ne_eqb q s ne) in omega arith)
+        (λ (one : q ≡ s).
+        let z : times q claims ≡ 0 = ap (λ (y : ℕ). times y claims) one ∙ new in
+        let y : times q (s ∷ []) ≡ 1 = ap (λ (w : ℕ). times w (s ∷ [])) one ∙ times_here s [] in
+        let m = count_most (is_child s (Some q)) in omega arith)
+        (λ (ne : q ≢ s).
+        let z : more ≡ 0 = child ∙ ap as_count (Rattle.std.proofs.Common.ne_eqb q s ne) in omega arith)
 
 -- There are at most as many as segments.
 pub pushed_few : (p : Plan) (claims pushed : List ℕ) → AreClaims p claims → HasPushed p claims pushed → length pushed ≤ length (segments_in p)

@@ -69,16 +69,16 @@ in_right key (x ∷ xs) ys e = at (same_key x key) (in_right key xs ys e)
 ends_join : (p : Plan) (v w : SeatView) → HasAllEnds p v → HasAllEnds p w → HasAllEnds p (joined_with w v)
 ends_join p v w hv hw s pos = dite (ℕ_discrete (times s v.claims) 0)
     (λ (z : times s v.claims ≡ 0).
-      let t = times_append s v.claims w.claims in
-      let e = hw s (omega arith) in record {
-        parent = λ q is. in_right (end_key p q) v.found w.found (e.parent q is);
-        fork = λ l. in_right (end_key p s) v.known w.known (e.fork l);
-      })
+    let t = times_append s v.claims w.claims in
+    let e = hw s (omega arith) in record {
+      parent = λ q is. in_right (end_key p q) v.found w.found (e.parent q is);
+      fork = λ l. in_right (end_key p s) v.known w.known (e.fork l);
+    })
     (λ (nz : times s v.claims ≢ 0).
-      let e = hv s (omega arith) in record {
-        parent = λ q is. in_left (end_key p q) v.found w.found (e.parent q is);
-        fork = λ l. in_left (end_key p s) v.known w.known (e.fork l);
-      })
+    let e = hv s (omega arith) in record {
+      parent = λ q is. in_left (end_key p q) v.found w.found (e.parent q is);
+      fork = λ l. in_left (end_key p s) v.known w.known (e.fork l);
+    })
 
 -- Facts of each finished worker's view.
 each_view : (c : CourseTold) (Fact : SeatView → Type 0) (of : (v : SeatView) (os : List Outcome) → HasFinished c v os → Fact v) (seats : List (SeatTold CourseTold)) (lists : List (List Outcome))
@@ -104,8 +104,8 @@ all_of_times n [] h = All-nil (λ g. g < n)
 all_of_times n (x ∷ xs) h = All-cons (λ g. g < n) x xs
     (h x (let t = times_here x xs in omega arith))
     (all_of_times n xs (λ g pos. h g (dite (ℕ_discrete x g)
-      (λ (one : x ≡ g). let t = ap (λ (y : ℕ). times g (y ∷ xs)) one ∙ times_here g xs in omega arith)
-      (λ (ne : x ≢ g). let t = times_else g x xs ne in omega arith))))
+    (λ (one : x ≡ g). let t = ap (λ (y : ℕ). times g (y ∷ xs)) one ∙ times_here g xs in omega arith)
+    (λ (ne : x ≢ g). let t = times_else g x xs ne in omega arith))))
 
 module _ (c : CourseTold) (s : System) (v : SeatView) (h : Orderly s) (settled : IsSettled s v) (at : slice_get s.views 0 ≡ Some v) (laid : s.plan ≡ Some (layout c.plan)) where
   as_many : length s.claims ≡ length (segments_in c.plan)
@@ -175,13 +175,13 @@ good_more : (c : CourseTold) (slots : List (Option Outcome)) (done : List ℕ) (
     → Good c (set slots o.segment (Some o)) (done ++ o.segment ∷ [])
 good_more c slots done o l told good g pos = dite (ℕ_discrete g o.segment)
     (λ (one : g ≡ o.segment).
-      let was = there slots o.segment l in
-      (o, (ap (λ (i : ℕ). slice_get (set slots o.segment (Some o)) i) one ∙ set_here slots o.segment (Some o) was.0 was.1, told ∙ ap (λ (i : ℕ). outcome_of c i) (sym one))))
+    let was = there slots o.segment l in
+    (o, (ap (λ (i : ℕ). slice_get (set slots o.segment (Some o)) i) one ∙ set_here slots o.segment (Some o) was.0 was.1, told ∙ ap (λ (i : ℕ). outcome_of c i) (sym one))))
     (λ (ne : g ≢ o.segment).
-      let t = times_append g done (o.segment ∷ []) in
-      let z = times_else g o.segment [] (λ e. ne (sym e)) in
-      let was = good g (omega arith) in
-      (was.0, (set_else slots o.segment g (Some o) ne ∙ was.1, was.2)))
+    let t = times_append g done (o.segment ∷ []) in
+    let z = times_else g o.segment [] (λ e. ne (sym e)) in
+    let was = good g (omega arith) in
+    (was.0, (set_else slots o.segment g (Some o) ne ∙ was.1, was.2)))
 
 good_all : (c : CourseTold) (slots : List (Option Outcome)) (done : List ℕ) (os : List Outcome) → All (λ (o : Outcome). o.segment < length slots) os → All (λ (o : Outcome). outcome_told o ≡ outcome_of c o.segment) os
     → Good c slots done → Good c (placed slots os) (done ++ segments_of os)
@@ -190,11 +190,11 @@ good_all c slots done (o ∷ os) below told good =
     let one = good_more c slots done o (All-head (λ (x : Outcome). x.segment < length slots) o os below) (All-head (λ (x : Outcome). outcome_told x ≡ outcome_of c x.segment) o os told) good in
     let long = Rattle.std.proofs.lemmas.List.length-set slots o.segment (Some o) in
     let rest = good_all c (set slots o.segment (Some o)) (done ++ o.segment ∷ []) os
-          (Rattle.std.proofs.lemmas.List.Elements.All-weaker (λ (x : Outcome). x.segment < length slots) (λ (x : Outcome). x.segment < length (set slots o.segment (Some o))) (λ x l. omega arith) os (All-tail (λ (x : Outcome). x.segment < length slots) o os below))
-          (All-tail (λ (x : Outcome). outcome_told x ≡ outcome_of c x.segment) o os told) one in
+    (Rattle.std.proofs.lemmas.List.Elements.All-weaker (λ (x : Outcome). x.segment < length slots) (λ (x : Outcome). x.segment < length (set slots o.segment (Some o))) (λ x l. omega arith) os (All-tail (λ (x : Outcome). x.segment < length slots) o os below))
+    (All-tail (λ (x : Outcome). outcome_told x ≡ outcome_of c x.segment) o os told) one in
     λ g pos. rest g (
-      let a = times_append g (done ++ o.segment ∷ []) (segments_of os) in let b = times_append g done (o.segment ∷ []) in
-      let d = times_append g done (segments_of (o ∷ os)) in let e = times_append g (o.segment ∷ []) (segments_of os) in omega arith)
+    let a = times_append g (done ++ o.segment ∷ []) (segments_of os) in let b = times_append g done (o.segment ∷ []) in
+    let d = times_append g done (segments_of (o ∷ os)) in let e = times_append g (o.segment ∷ []) (segments_of os) in omega arith)
 
 flat : List (List Outcome) → List ℕ
 flat [] = []
@@ -209,11 +209,11 @@ good_lists c slots done (s ∷ seats) (os ∷ lists) h below good =
     let one = good_all c slots done os (All-head (λ (xs : List Outcome). All (λ (o : Outcome). o.segment < length slots) xs) os lists below) h.0.outcomes good in
     let long = length_placed slots os in
     let rest = good_lists c (placed slots os) (done ++ segments_of os) seats lists h.1
-          (Rattle.std.proofs.lemmas.List.Elements.All-weaker (λ (xs : List Outcome). All (λ (o : Outcome). o.segment < length slots) xs) (λ (xs : List Outcome). All (λ (o : Outcome). o.segment < length (placed slots os)) xs)
-            (λ xs a. Rattle.std.proofs.lemmas.List.Elements.All-weaker (λ (x : Outcome). x.segment < length slots) (λ (x : Outcome). x.segment < length (placed slots os)) (λ x l. omega arith) xs a) lists (All-tail (λ (xs : List Outcome). All (λ (o : Outcome). o.segment < length slots) xs) os lists below)) one in
+    (Rattle.std.proofs.lemmas.List.Elements.All-weaker (λ (xs : List Outcome). All (λ (o : Outcome). o.segment < length slots) xs) (λ (xs : List Outcome). All (λ (o : Outcome). o.segment < length (placed slots os)) xs)
+    (λ xs a. Rattle.std.proofs.lemmas.List.Elements.All-weaker (λ (x : Outcome). x.segment < length slots) (λ (x : Outcome). x.segment < length (placed slots os)) (λ x l. omega arith) xs a) lists (All-tail (λ (xs : List Outcome). All (λ (o : Outcome). o.segment < length slots) xs) os lists below)) one in
     λ g pos. rest g (
-      let a = times_append g (done ++ segments_of os) (flat lists) in let b = times_append g done (segments_of os) in
-      let d = times_append g done (flat (os ∷ lists)) in let e = times_append g (segments_of os) (flat lists) in omega arith)
+    let a = times_append g (done ++ segments_of os) (flat lists) in let b = times_append g done (segments_of os) in
+    let d = times_append g done (flat (os ∷ lists)) in let e = times_append g (segments_of os) (flat lists) in omega arith)
 
 flat_times : (c : CourseTold) (g : ℕ) (seats : List (SeatTold CourseTold)) (lists : List (List Outcome)) → HaveFinished c seats lists → times g (flat lists) ≡ sum_by (λ (v : SeatView). times g v.claims) (views_of seats)
 flat_times c g [] [] h = refl
@@ -266,6 +266,7 @@ told_in_order c list each = ap (λ (xs : List Outcome). map outcome_told xs) (sy
         ∙ Rattle.std.proofs.lemmas.List.map-append outcome_told (take k list) (here.0 ∷ [])
         ∙ ap (λ (xs : List OutcomeTold). xs ++ outcome_told here.0 ∷ []) (upto_here k (omega arith))
         ∙ ap (λ (x : OutcomeTold). outcomes_before c k ++ x ∷ []) here.2
+
     take_one : (xs : List Outcome) (k : ℕ) (o : Outcome) → slice_get xs k ≡ Some o → take (k + 1) xs ≡ take k xs ++ o ∷ []
     take_one [] k o e = absurd (not_some o e)
     take_one (x ∷ xs) zero o e = ap (λ (y : Outcome). y ∷ []) (some_same x o e)

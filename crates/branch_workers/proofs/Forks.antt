@@ -44,10 +44,10 @@ forks_have p k [] i s at l t = absurd (omega arith)
 forks_have p k (g ∷ gs) zero s at l t =
     let e : k ≡ s = omega arith in
     subst (λ (n : ℕ). is_in (record { segment = s; event = g.stop }) (forks_from p n (g ∷ gs)) ≡ true) (sym e)
-      (here_in (nat_lt s (last_of p.branches g.branch)) (record { segment = s; event = g.stop }) (forks_from p (s + 1) gs) t)
+    (here_in (nat_lt s (last_of p.branches g.branch)) (record { segment = s; event = g.stop }) (forks_from p (s + 1) gs) t)
 forks_have p k (g ∷ gs) (suc i) s at l t =
     later_in (nat_lt k (last_of p.branches g.branch)) (record { segment = k; event = g.stop }) (record { segment = s; event = (get_or gs i no_segment).stop }) (forks_from p (k + 1) gs)
-      (forks_have p (k + 1) gs i s (omega arith) (omega arith) t)
+    (forks_have p (k + 1) gs i s (omega arith) (omega arith) t)
 
 pub end_is_fork : (p : Plan) (s : ℕ) → s < length (segments_in p) → s < last_of p.branches (segment_at p s).branch → is_in (end_key p s) (fork_keys p) ≡ true
 end_is_fork p s l u = forks_have p 0 (segments_in p) s s (omega arith) l (lt_true s (last_of p.branches (segment_at p s).branch) u)
@@ -86,6 +86,7 @@ none_before p x k (g ∷ gs) h = more (nat_lt k (last_of p.branches g.branch)) (
   where
     apart : same_key (record { segment = k; event = g.stop }) x ≡ false
     apart = let n : k ≢ x.segment = (λ e. omega arith) in rw (Rattle.std.proofs.Common.ne_eqb k x.segment n) refl
+
     more : (b : Bool) → is_in x (forks_from p (k + 1) gs) ≡ false → is_in x (with_key b (record { segment = k; event = g.stop }) (forks_from p (k + 1) gs)) ≡ false
     more false e = e
     more true e = rw apart e
@@ -120,9 +121,9 @@ joined_few x [] = omega arith
 joined_few x (y ∷ ys) = ⊎_elim
     (λ (t : nat_lt x y ≡ true). rw t (omega arith))
     (λ (f : nat_lt x y ≡ false). ⊎_elim
-      (λ (t : Rattle.std.proofs.Common.◌==◌ x y ≡ true). rw f (rw t (omega arith)))
-      (λ (n : Rattle.std.proofs.Common.◌==◌ x y ≡ false). let r = joined_few x ys in rw f (rw n (omega arith)))
-      (bool_cases (Rattle.std.proofs.Common.◌==◌ x y)))
+    (λ (t : Rattle.std.proofs.Common.◌==◌ x y ≡ true). rw f (rw t (omega arith)))
+    (λ (n : Rattle.std.proofs.Common.◌==◌ x y ≡ false). let r = joined_few x ys in rw f (rw n (omega arith)))
+    (bool_cases (Rattle.std.proofs.Common.◌==◌ x y)))
     (bool_cases (nat_lt x y))
 
 abbrev cuts : ℕ → List Branch → ℕ
@@ -139,13 +140,13 @@ cuts_more : (n : ℕ) (c : Branch) (cs : List Branch) → cuts n (c ∷ cs) ≤ 
 cuts_more zero c cs = omega arith
 cuts_more (suc n) c cs = dite (ℕ_discrete c.parent n)
     (λ (one : c.parent ≡ n).
-      let r = cuts_else n c cs (omega arith) in
-      let t : length (stops_among n (c ∷ cs)) ≤ suc (length (stops_among n cs)) = rw (Rattle.std.proofs.Common.eq-eqb c.parent n one) (joined_few c.stop (stops_among n cs)) in
-      omega arith)
+    let r = cuts_else n c cs (omega arith) in
+    let t : length (stops_among n (c ∷ cs)) ≤ suc (length (stops_among n cs)) = rw (Rattle.std.proofs.Common.eq-eqb c.parent n one) (joined_few c.stop (stops_among n cs)) in
+    omega arith)
     (λ (ne : c.parent ≢ n).
-      let r = cuts_more n c cs in
-      let t : length (stops_among n (c ∷ cs)) ≡ length (stops_among n cs) = rw (Rattle.std.proofs.Common.ne_eqb c.parent n ne) refl in
-      omega arith)
+    let r = cuts_more n c cs in
+    let t : length (stops_among n (c ∷ cs)) ≡ length (stops_among n cs) = rw (Rattle.std.proofs.Common.ne_eqb c.parent n ne) refl in
+    omega arith)
 
 cuts_few : (n : ℕ) (cs : List Branch) → cuts n cs ≤ length cs
 cuts_few n [] = none n

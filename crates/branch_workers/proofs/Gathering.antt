@@ -22,17 +22,17 @@ pub made_ready : (c : CourseTold) (shelf : ShelfTold CourseTold) (number : ℕ) 
     → IsAtWork c shelf number seat 0 [] pushed
 made_ready c shelf number seat pushed at new h =
     let ready : IsAtWork c shelf number (record { shelf = seat.shelf; view = new_view number }) 0 [] pushed = record {
-          shelf = at;
-          numbers = refl;
-          turns = refl;
-          claims = record { below = All-nil (λ (s : ℕ). s < length (segments_in c.plan)); once = λ s. omega arith };
-          counts = refl;
-          ends = λ s pos. absurd (none s pos);
-          segments = refl;
-          outcomes = All-nil (λ (o : Outcome). outcome_told o ≡ outcome_of c o.segment);
-          steps = refl;
-          pushed = h;
-        } in
+      shelf = at;
+      numbers = refl;
+      turns = refl;
+      claims = record { below = All-nil (λ (s : ℕ). s < length (segments_in c.plan)); once = λ s. omega arith };
+      counts = refl;
+      ends = λ s pos. absurd (none s pos);
+      segments = refl;
+      outcomes = All-nil (λ (o : Outcome). outcome_told o ≡ outcome_of c o.segment);
+      steps = refl;
+      pushed = h;
+    } in
     subst (λ (v : SeatView). IsAtWork c shelf number (record { shelf = seat.shelf; view = v }) 0 [] pushed) (sym new) ready
   where
     none : (s : ℕ) → 0 < times s [] → ⊥
@@ -51,12 +51,12 @@ module _ {X : Type 0} (c : CourseTold) (shelf : ShelfTold CourseTold) (seat : X 
       let view : (seat w).view ≡ new_view (number w) = s.1 ∙ ap (λ (m : ℕ). new_view m) (sym n) in
       let ready = made_ready c shelf (number w) (seat w) (lane w).own.view.pushed s.0 view l in
       All-cons (λ (w : X). IsAtWork c shelf (number w) (seat w) (steps w) (outcomes w).items (lane w).own.view.pushed) w ws
-        (subst (λ (m : ℕ). IsAtWork c shelf (number w) (seat w) m (outcomes w).items (lane w).own.view.pushed) (sym i.0)
-          (subst (λ (os : List Outcome). IsAtWork c shelf (number w) (seat w) 0 os (lane w).own.view.pushed) (sym i.1) ready))
-        (all_ready (suc k) ws
-          (λ j t e. let a = seats (suc j) t e in let m : k + suc j ≡ suc k + j = omega arith in (a.0, a.1 ∙ ap (λ (x : ℕ). new_view x) m))
-          (λ j t e. let a = numbers (suc j) t e in omega arith)
-          (All-tail (λ (l : LaneTold). HasPushed c.plan [] l.own.view.pushed) (lane w) (map lane ws) lanes) (All-tail (λ (w : X). (steps w ≡ 0) × ((outcomes w).items ≡ []) × (finished w ≡ false)) w ws idle))
+      (subst (λ (m : ℕ). IsAtWork c shelf (number w) (seat w) m (outcomes w).items (lane w).own.view.pushed) (sym i.0)
+      (subst (λ (os : List Outcome). IsAtWork c shelf (number w) (seat w) 0 os (lane w).own.view.pushed) (sym i.1) ready))
+      (all_ready (suc k) ws
+      (λ j t e. let a = seats (suc j) t e in let m : k + suc j ≡ suc k + j = omega arith in (a.0, a.1 ∙ ap (λ (x : ℕ). new_view x) m))
+      (λ j t e. let a = numbers (suc j) t e in omega arith)
+      (All-tail (λ (l : LaneTold). HasPushed c.plan [] l.own.view.pushed) (lane w) (map lane ws) lanes) (All-tail (λ (w : X). (steps w ≡ 0) × ((outcomes w).items ≡ []) × (finished w ≡ false)) w ws idle))
 
   -- All that ended handed their seats back.
   pub all_handed : (ws : List X) → length ws ≡ shelf.seats → AreNumbered (map number ws) → All (λ w. HasEnded c shelf (number w) (seat w) (steps w)) ws → AllBack shelf (map seat ws)
@@ -71,11 +71,12 @@ module _ {X : Type 0} (c : CourseTold) (shelf : ShelfTold CourseTold) (seat : X 
       at_number (x ∷ xs) k nums ends zero s e =
           let h = All-head (λ (w : X). HasEnded c shelf (number w) (seat w) (steps w)) x xs ends in let n : number x ≡ k + 0 = nums 0 (number x) refl in
           subst (λ (t : SeatTold CourseTold). (t.shelf ≡ Some shelf) × ((rest : List ℕ) × (t.view.numbers ≡ (k + 0) ∷ rest)) × (t.view.turns ≡ [])) (some_same (seat x) s e)
-            (h.shelf, (([], h.numbers ∙ ap (λ (m : ℕ). m ∷ []) n), h.turns))
+          (h.shelf, (([], h.numbers ∙ ap (λ (m : ℕ). m ∷ []) n), h.turns))
       at_number (x ∷ xs) k nums ends (suc i) s e =
           let r = at_number xs (suc k) (λ j n q. let a = nums (suc j) n q in omega arith) (All-tail (λ (w : X). HasEnded c shelf (number w) (seat w) (steps w)) x xs ends) i s e in
           let m : suc k + i ≡ k + suc i = omega arith in
           (r.0, ((r.1.0, r.1.1 ∙ ap (λ (y : ℕ). y ∷ r.1.0) m), r.2))
+
       each : (xs : List X) → AreNumbered (map number xs) → All (λ w. HasEnded c shelf (number w) (seat w) (steps w)) xs → (i : ℕ) (s : SeatTold CourseTold) → slice_get (map seat xs) i ≡ Some s
           → (s.shelf ≡ Some shelf) × ((rest : List ℕ) × (s.view.numbers ≡ i ∷ rest)) × (s.view.turns ≡ [])
       each xs nums ends i s e =

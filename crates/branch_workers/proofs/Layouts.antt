@@ -26,8 +26,8 @@ layout_fits c h =
     let few = segments_few c.plan (course-few c h) in
     let keys = forks_few c.plan 0 (segments_in c.plan) in
     let stops : All (λ (g : Segment). g.stop < 16777216) (segments_in c.plan) =
-          All-from_get_or (λ (g : Segment). g.stop < 16777216) (segments_in c.plan) no_segment
-            (λ i l. let w = (planned-at c.plan i (course-tree c h) l).within in let a = h.limit in let b = h.opening.limit in omega arith) in
+    All-from_get_or (λ (g : Segment). g.stop < 16777216) (segments_in c.plan) no_segment
+    (λ i l. let w = (planned-at c.plan i (course-tree c h) l).within in let a = h.limit in let b = h.opening.limit in omega arith) in
     record {
       segments = omega arith;
       places = omega arith;
@@ -54,8 +54,8 @@ pub pushed_first : (c : CourseTold) → IsCourse c → HasPushed c.plan [] (0 �
 pushed_first c h = record {
   below = All-cons (λ s. s < length (segments_in c.plan)) 0 [] (some_segment c h) (All-nil (λ s. s < length (segments_in c.plan)));
   few = λ s l. dite (ℕ_discrete s 0)
-    (λ (one : s ≡ 0). subst (λ (t : ℕ). times t (0 ∷ []) ≤ pushes (segment_at c.plan t).parent []) (sym one) (first (segment_at c.plan 0).parent refl))
-    (λ (ne : s ≢ 0). let z = times_else s 0 [] (λ e. ne (sym e)) in omega arith);
+      (λ (one : s ≡ 0). subst (λ (t : ℕ). times t (0 ∷ []) ≤ pushes (segment_at c.plan t).parent []) (sym one) (first (segment_at c.plan 0).parent refl))
+      (λ (ne : s ≢ 0). let z = times_else s 0 [] (λ e. ne (sym e)) in omega arith);
 }
   where
     first : (parent : Option ℕ) → (segment_at c.plan 0).parent ≡ parent → times 0 (0 ∷ []) ≤ pushes parent []

@@ -51,10 +51,10 @@ pub claims_more : (c : CourseTold) (claims : List ℕ) (g : ℕ) → AreClaims c
 claims_more c claims g a below new = record {
   below = All-push (λ s. s < length (segments_in c.plan)) claims g a.below below;
   once = λ s. let t = times_append s claims (g ∷ []) in let o = a.once s in dite (ℕ_discrete s g)
-    (λ (one : s ≡ g).
+      (λ (one : s ≡ g).
       let z : times s claims ≡ 0 = ap (λ (y : ℕ). times y claims) one ∙ new in
       let y : times s (g ∷ []) ≡ 1 = ap (λ (w : ℕ). times w (g ∷ [])) one ∙ times_here g [] in omega arith)
-    (λ (ne : s ≢ g). let y : times s (g ∷ []) ≡ 0 = times_else s g [] (λ z. ne (sym z)) in omega arith);
+      (λ (ne : s ≢ g). let y : times s (g ∷ []) ≡ 0 = times_else s g [] (λ z. ne (sym z)) in omega arith);
 }
 
 pub sum_more : (f : ℕ → ℕ) (xs : List ℕ) (g : ℕ) → sum_by f (xs ++ g ∷ []) ≡ sum_by f xs + f g
@@ -130,8 +130,8 @@ module _ (c : CourseTold) (shelf : ShelfTold CourseTold) (number : ℕ) (seat : 
           claims = subst (λ (xs : List ℕ). AreClaims c.plan xs) (sym claims_are) more;
           counts = (let old : claimed.counts ≡ seat.view.counts = ap (λ (v : SeatView). v.counts) is in let l = ap (λ (xs : List ℕ). length xs) claims_are in let a = length-append seat.view.claims (g ∷ []) in let e = h.counts in omega arith);
           ends = λ t pos. dite (ℕ_discrete t g)
-            (λ (one : t ≡ g). subst (λ (x : ℕ). HasEnds c.plan x w.view) (sym one) ends)
-            (λ (ne : t ≢ g).
+              (λ (one : t ≡ g). subst (λ (x : ℕ). HasEnds c.plan x w.view) (sym one) ends)
+              (λ (ne : t ≢ g).
               let a = times_append t seat.view.claims (g ∷ []) in
               let z : times t (g ∷ []) ≡ 0 = times_else t g [] (λ e. ne (sym e)) in
               let p : times t w.view.claims ≡ times t (seat.view.claims ++ g ∷ []) = ap (λ (xs : List ℕ). times t xs) claims_are in
@@ -140,9 +140,9 @@ module _ (c : CourseTold) (shelf : ShelfTold CourseTold) (number : ℕ) (seat : 
                 fork = λ l. remains.known (end_key c.plan t) (ap (λ (v : SeatView). is_in (end_key c.plan t) v.known) is ∙ old.fork l);
               });
           segments = map-append (λ (x : Outcome). x.segment) outcomes (o ∷ []) ∙ ap (λ (xs : List ℕ). xs ++ o.segment ∷ []) h.segments
-            ∙ ap (λ (x : ℕ). seat.view.claims ++ x ∷ []) (ap (λ (x : OutcomeTold). x.segment) told) ∙ sym claims_are;
+              ∙ ap (λ (x : ℕ). seat.view.claims ++ x ∷ []) (ap (λ (x : OutcomeTold). x.segment) told) ∙ sym claims_are;
           outcomes = All-push (λ (x : Outcome). outcome_told x ≡ outcome_of c x.segment) outcomes o h.outcomes
-            (told ∙ ap (λ (x : ℕ). outcome_of c x) (sym (ap (λ (x : OutcomeTold). x.segment) told)));
+              (told ∙ ap (λ (x : ℕ). outcome_of c x) (sym (ap (λ (x : OutcomeTold). x.segment) told)));
           steps = (let e = h.steps in let sums : sum_by (own_of c) w.view.claims ≡ sum_by (own_of c) (seat.view.claims ++ g ∷ []) = ap (λ (xs : List ℕ). sum_by (own_of c) xs) claims_are in omega arith);
           pushed = subst (λ (xs : List ℕ). HasPushed c.plan xs (pushed ++ children_of c.plan g)) (sym claims_are) (pushed_more c.plan seat.view.claims pushed g new h.pushed);
         }

@@ -30,8 +30,8 @@ weight_in : (f : ℕ → ℕ) (n x : ℕ) (xs : List ℕ) → x < n → weight f
 weight_in f zero x xs h = absurd (omega arith)
 weight_in f (suc n) x xs h = dite (ℕ_discrete x n)
     (λ (one : x ≡ n). subst (λ (y : ℕ). weight f (suc n) (y ∷ xs) ≡ weight f (suc n) xs + f y) (sym one)
-      (let r = weight_out f n n xs (omega arith) in
-      let e = ap (λ (t : ℕ). f n * t) (times_here n xs) ∙ mul-suc (f n) (times n xs) in omega arith))
+    (let r = weight_out f n n xs (omega arith) in
+    let e = ap (λ (t : ℕ). f n * t) (times_here n xs) ∙ mul-suc (f n) (times n xs) in omega arith))
     (λ (ne : x ≢ n). let r = weight_in f n x xs (omega arith) in let e = ap (λ (t : ℕ). f n * t) (times_else n x xs ne) in omega arith)
 
 -- a list of numbers below n weighs what they weigh
@@ -78,8 +78,8 @@ full_upto (suc n) g h all s l =
     let top = h n (omega arith) in
     let few : upto n g ≤ n = (let u = upto_le n g (λ t. 1) (λ t m. h t (omega arith)) in let o = upto_ones n in omega arith) in
     dite (ℕ_discrete s n)
-      (λ (one : s ≡ n). subst (λ (t : ℕ). g t ≡ 1) (sym one) (omega arith))
-      (λ (ne : s ≢ n). full_upto n g (λ t m. h t (omega arith)) (omega arith) s (omega arith))
+    (λ (one : s ≡ n). subst (λ (t : ℕ). g t ≡ 1) (sym one) (omega arith))
+    (λ (ne : s ≢ n). full_upto n g (λ t m. h t (omega arith)) (omega arith) s (omega arith))
 
 one_times : (t : ℕ) → 1 * t ≡ t
 one_times t = omega arith

@@ -7,8 +7,7 @@ ghost use Rattle.shelf_core.specs.Made.{Stays};
 use checkpoint_shelf::{Found, Key, Shelf, ShelfSeat};
 use kernel_copy::Checkpoint;
 use market_types::Memory;
-use std::sync::Arc;
-use std::sync::Wait;
+use std::sync::{Arc, Wait};
 use std::thread;
 
 // The value of a key, if it is there.

@@ -8,8 +8,8 @@ mod order;
 mod segment;
 mod staff;
 mod work;
-mod worker;
 pub mod worked;
+mod worker;
 
 pub use segment::run_segment;
 pub use work::{Worked, work};

@@ -18,8 +18,7 @@ use kernel_core::Kernel;
 use market_types::{Memory, Trace};
 use outside::{Gate, Ledger, Steps};
 use std::alloc::Global;
-use std::sync::Arc;
-use std::sync::Wait;
+use std::sync::{Arc, Wait};
 
 // A kernel as it is at the end of a segment that isn't its branch's last.
 fn end_of<R: Wait>(

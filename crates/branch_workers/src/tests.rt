@@ -3,7 +3,6 @@
 mod market;
 mod seats;
 
-
 use self::market::course;
 use crate::work;
 use hold_gate::HoldGate;
@@ -11,8 +10,7 @@ use kernel_copy::{Course, Outcome, run_segments};
 use market_types::Memory;
 use outside::{Counted, Gate, OpenGate, Steps};
 use std::alloc::Global;
-use std::sync::Arc;
-use std::sync::Wait;
+use std::sync::{Arc, Wait};
 use std::test::Fail;
 use std::thread::Threads;
 

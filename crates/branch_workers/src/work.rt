@@ -21,8 +21,7 @@ use market_types::Memory;
 use outside::{Gate, Ledger, Steps};
 use std::alloc::Global;
 use std::marker::Brand;
-use std::sync::Arc;
-use std::sync::Wait;
+use std::sync::{Arc, Wait};
 use std::thread;
 use std::thread::Threads;
 

@@ -11,8 +11,7 @@ use checkpoint_shelf::{Shelf, ShelfSeat};
 use kernel_copy::{Checkpoint, Course, Outcome};
 use outside::{Gate, Ledger, Steps};
 use std::alloc::Global;
-use std::sync::Arc;
-use std::sync::Wait;
+use std::sync::{Arc, Wait};
 use std::thread;
 
 // What one worker has.

@@ -12,8 +12,7 @@ use kernel_copy::{Checkpoint, Course, Outcome};
 use market_types::{Entry, Memory};
 use outside::{Counted, OpenGate, Steps};
 use std::alloc::Global;
-use std::sync::Arc;
-use std::sync::Wait;
+use std::sync::{Arc, Wait};
 use std::test::Fail;
 
 // A seat claims a segment and runs it: what came of it, and how many steps it counted.
@@ -36,7 +35,9 @@ fn claim_and_run<R: Wait>(
         return (None, 0);
     }
     let mut steps: Steps<Counted> = Steps::new();
-    let ran = run_segment(rt, alloc, course, shelf, seat, 0, segment, &OpenGate, &mut steps);
+    let ran = run_segment(
+        rt, alloc, course, shelf, seat, 0, segment, &OpenGate, &mut steps,
+    );
     let outcome = ran.ok();
     (outcome, steps.close())
 }
@@ -51,11 +52,7 @@ struct Told {
 }
 
 // One seat runs a course's first segment, and another, which ran nothing before, the segment 2.
-fn two_seats<R: Wait>(
-    rt: &R,
-    alloc: Global,
-    course: &Arc<Course>,
-) -> Result<Option<Told>, Memory> {
+fn two_seats<R: Wait>(rt: &R, alloc: Global, course: &Arc<Course>) -> Result<Option<Told>, Memory> {
     let (shelf, mut seats) = open_shelf(alloc, course, 2)?;
     if course.plan().segments().len() < 3 {
         return Ok(None);
@@ -83,7 +80,10 @@ fn a_child_by_a_seat_without_the_parents_state(rt: HostRuntime) -> Result<(), Fa
         return Err(Fail::from("a segment was claimed, or there was no memory"));
     };
     assert_eq!(rt; (first.events, told.first_ticks), (2, 2));
-    assert_eq!(rt; (child.events, told.child_ticks, child.entries.len()), (6, 4, 5));
+    assert_eq!(rt;
+        (child.events, told.child_ticks, child.entries.len()),
+        (6, 4, 5)
+    );
     assert!(rt; matches!(child.entries.get(0), Some(Entry::Edit(_))));
     Ok(())
 }
