@@ -1,14 +1,14 @@
 -- Lists that grow by one.
-use Rattle.std.proofs.Common.{◌≡◌, ℕ, ◌+◌, ◌-◌, ◌*◌, ◌<◌, ◌≤◌, inl, inr, true, false, cond, Bool, List, [], ◌∷◌, ◌++◌, Option, Some, None, length, get_or, take, drop, refl, sym, ap, ◌∙◌, arith, suc, zero, subst, add-one, append_assoc}
+use Rattle.std.proofs.Common.{◌≡◌, ℕ, ◌+◌, ◌-◌, ◌<◌, inl, inr, true, false, cond, Bool, List, [], ◌∷◌, ◌++◌, Option, Some, length, get_or, take, drop, refl, sym, ap, ◌∙◌, arith, suc, zero, add-one, append_assoc}
 use Rattle.std.specs.List.{list_any}
 use Rattle.std.proofs.lemmas.Bool.{cases_lt, ne_eqb}
 use Rattle.std.proofs.lemmas.List.{get_or_append_left, get_or_push, at_drop_more, take_more, get_or_default}
 use Rattle.branch_tree.specs.declared.branch.Branch.{Branch}
 use Rattle.branch_tree.specs.declared.segment.Segment.{Segment}
-use Rattle.branch_tree.specs.Plan.{Plan, no_branch, branch_at, parent_at, stop_at}
+use Rattle.branch_tree.specs.Plan.{no_branch, parent_at, stop_at}
 use Rattle.branch_tree.specs.Tree.{same_name, repeated_from}
 use Rattle.branch_tree.specs.Planned.{IsTree}
-use Rattle.branch_tree.specs.Segments.{cuts_of, count_before, place_among, fork_of, origin_of, parts, segments_of, segments_before, counted, numbers_of}
+use Rattle.branch_tree.specs.Segments.{cuts_of, count_before, place_among, origin_of, parts, segments_before, counted, numbers_of}
 use Rattle.branch_tree.proofs.CutLemmas.{place-at, cuts-have}
 
 -- one item more of a list that a function gives

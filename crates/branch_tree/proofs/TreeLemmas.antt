@@ -1,10 +1,9 @@
 -- What a plan that isn't refused says of its branches.
-use Rattle.std.proofs.Common.{◌≡◌, ℕ, ◌+◌, ◌<◌, ◌≤◌, true, false, cond, ltb, leb, Bool, List, [], ◌∷◌, Option, Some, None, option_map, length, get_or, refl, sym, ap, ◌∙◌, arith, suc, zero, subst, ◌&&◌}
-use Rattle.std.proofs.lemmas.Bool.{lt-ltb, le-ltb, cases_lt}
+use Rattle.std.proofs.Common.{◌≡◌, ℕ, ◌+◌, ◌<◌, ◌≤◌, true, false, cond, ltb, leb, Bool, List, [], ◌∷◌, Option, Some, None, option_map, length, get_or, refl, arith, suc, zero, ◌&&◌}
 use Rattle.std.proofs.lemmas.Bool.Decides.{nat_tests}
 use Rattle.branch_tree.specs.declared.branch.Branch.{Branch}
 use Rattle.branch_tree.specs.declared.error.PlanError.{PlanError}
-use Rattle.branch_tree.specs.declared.error.PlanError.TheVariants.{ParentNotBefore, StopOutOfRange, TooManyBranches, NameTwice, TooMuchWork}
+use Rattle.branch_tree.specs.declared.error.PlanError.TheVariants.{ParentNotBefore, StopOutOfRange, TooManyBranches, NameTwice}
 use Rattle.branch_tree.specs.Plan.{no_branch, branch_at, parent_at, stop_at}
 use Rattle.branch_tree.specs.Tree.{IsRooted, late_from, late_parent, is_in_range, out_from, out_of_range, first_of, too_many, too_much, repeated_name, plan_refusal}
 use Rattle.branch_tree.specs.Planned.{IsTree}

@@ -1,14 +1,13 @@
 -- The market of the worked examples is an opening.
-use Rattle.std.proofs.Common.{◌≡◌, ◌≤◌, ◌<◌, ℕ, zero, suc, List, [], ◌∷◌, length, All, arith, refl}
+use Rattle.std.proofs.Common.{◌≤◌, ◌<◌, ℕ, zero, suc, List, [], ◌∷◌, length, All, arith, refl}
 use Rattle.std.specs.Prelude.{slice_index_or}
 use Rattle.std.proofs.lemmas.List.Elements.{All-cons, All-nil, All-weaker}
 use Rattle.market_types.specs.Limits.{longest_delay, most_events, most_traders}
 use Rattle.market_rules.specs.declared.changes.Dated.{Dated}
 use Rattle.market_rules.specs.Worked.{halt_at}
-use Rattle.fundamental_series.specs.Made.{RuleMade}
 use Rattle.agent_shell.specs.declared.setting.TraderSetting.{TraderSetting}
 use Rattle.market_opening.specs.declared.opening.Opening.{Opening}
-use Rattle.market_opening.specs.Opening.{AreDated, IsDated, IsOpening, IsRuleFor, IsSeriesFor, IsTraderOf, no_series}
+use Rattle.market_opening.specs.Opening.{IsDated, IsOpening, IsSeriesFor, IsTraderOf, no_series}
 use Rattle.market_opening.specs.Worked.{market_of, ten_dollars, watcher}
 use Rattle.market_floor.specs.Worked.{halting}
 

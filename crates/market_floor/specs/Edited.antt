@@ -1,6 +1,5 @@
 -- What an edit changes of the floor.
 use Rattle.std.specs.Prelude.{◌≡◌, ◌≤◌, ◌<◌, ◌^◌, ℕ, ◌+ℤ◌, true, [], length, ⊤}
-use Rattle.market_rules.specs.declared.changes.Change.{Change}
 use Rattle.market_rules.specs.declared.changes.Change.TheVariants as change
 use Rattle.market_rules.specs.declared.edit.Edit.{Edit}
 use Rattle.market_rules.specs.declared.edit.Edit.TheVariants.{Tick, Fee, Halt, Resume, Latency, Agent, Silence, Inject, Series}

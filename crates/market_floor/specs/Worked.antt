@@ -1,8 +1,7 @@
 -- A market for worked examples.
-use Rattle.std.specs.Prelude.{ℕ, negsuc, pos, List, [], ◌∷◌}
+use Rattle.std.specs.Prelude.{ℕ, negsuc, pos, [], ◌∷◌}
 use Rattle.market_types.specs.declared.message.Body.{Body}
 use Rattle.market_types.specs.declared.message.Message.{Message}
-use Rattle.market_rules.specs.declared.changes.Dated.{Dated}
 use Rattle.market_rules.specs.declared.edit.Edit.{Edit}
 use Rattle.market_rules.specs.declared.edit.Edit.TheVariants.{Series, Silence}
 use Rattle.market_rules.specs.Worked.{halt_at}

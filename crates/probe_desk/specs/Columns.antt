@@ -1,5 +1,5 @@
 -- The columns that the four probes of every table give.
-use Rattle.std.specs.Prelude.{ℕ, ℤ, ◌==◌, ◌&&◌, ◌+ℤ◌, ◌-ℤ◌, pos, negsuc, Bool, true, false, if◌then◌else◌, List, [], ◌∷◌, Option, None, Some, min, max}
+use Rattle.std.specs.Prelude.{ℕ, ℤ, ◌==◌, ◌+ℤ◌, ◌-ℤ◌, pos, negsuc, if◌then◌else◌, List, [], ◌∷◌, Option, None, Some, min, max}
 use Rattle.std.specs.Int.{w128, saturate_signed}
 use Rattle.market_types.specs.Told.{EventTold}
 use Rattle.market_types.specs.declared.message.Body.{Body}

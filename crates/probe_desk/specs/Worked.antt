@@ -1,8 +1,8 @@
 -- A small trace.
 use Rattle.std.specs.Prelude.{ℕ, ℤ, pos, negsuc, Bool, true, false, List, [], ◌∷◌, codes}
-use Rattle.market_types.specs.Told.{EventTold, EntryTold, event, edit}
+use Rattle.market_types.specs.Told.{EntryTold, event, edit}
 use Rattle.market_types.specs.declared.message.Body.{Body}
-use Rattle.market_types.specs.declared.message.Body.TheVariants.{Wake, Order, Answer, Ask, Quote}
+use Rattle.market_types.specs.declared.message.Body.TheVariants.{Answer, Quote}
 use Rattle.market_types.specs.declared.reply.Reply.TheVariants.{Executed}
 
 abbrev pub told : Bool → ℤ → Body → EntryTold

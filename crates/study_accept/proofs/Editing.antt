@@ -4,7 +4,7 @@ use Rattle.std.specs.Prelude.{◌||◌, replicate, slice_index_or}
 use Rattle.std.specs.List.{flat_map, range_with_len}
 use Rattle.std.proofs.lemmas.Bool.{and_parts}
 use Rattle.std.proofs.lemmas.List.{length-map, map-append}
-use Rattle.std.proofs.lemmas.List.Elements.{All-nil, All-head, All-tail, All-weaker}
+use Rattle.std.proofs.lemmas.List.Elements.{All-head, All-tail, All-weaker}
 use Rattle.toml.specs.Data.{Data, Members}
 use Rattle.market_rules.specs.declared.edit.Edit.{Edit}
 use Rattle.market_rules.specs.declared.edit.Edit.TheVariants.{Tick, Fee, Halt, Resume, Latency, Agent, Silence, Inject, Series}
@@ -36,7 +36,7 @@ use Rattle.study_parts.specs.Market.{numbers_in}
 use Rattle.study_parts.specs.Stocks.{stock_of}
 use Rattle.study_parts.specs.Traders.{value_kind_of, momentum_kind_of, maker_kind_of, kind_of, trader_of, traders_in, traders_of, size_of as shares_of}
 use Rattle.study_parts.specs.Opening.{opening_of, IsAccepted}
-use Rattle.study_parts.proofs.Held.{AreHeld, are-held}
+use Rattle.study_parts.proofs.Held.{are-held}
 use Rattle.study_parts.proofs.Lists.{each-kept}
 use Rattle.study_branches.specs.Scope.{kinds_of}
 use Rattle.study_branches.specs.Fitting.{word_of, IsParamAmong, IsEditAmong, AreEditsAmong}

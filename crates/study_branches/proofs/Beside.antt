@@ -1,14 +1,14 @@
 -- The first branch that doesn't pass a test beside those before it.
 use Rattle.std.proofs.Math.Path.{fun_ext}
-use Rattle.std.proofs.Common.{◌≡◌, ◌<◌, ◌+◌, ◌++◌, ◌≤◌, ℕ, Bool, true, false, List, [], ◌∷◌, map, take, length, Option, None, Some, IfSome, refl, ap, sym, ◌∙◌, arith, subst, cond}
-use Rattle.std.specs.Prelude.{position, not, ◌||◌}
+use Rattle.std.proofs.Common.{◌≡◌, ◌+◌, ◌++◌, ℕ, Bool, true, false, List, [], ◌∷◌, map, take, length, Option, None, Some, refl, ap, sym, ◌∙◌, arith, subst, cond}
+use Rattle.std.specs.Prelude.{position, not}
 use Rattle.std.specs.List.{enumerate_from, take-map, position_from}
 use Rattle.std.proofs.lemmas.Iterator.Adapters.{position_from-zero}
 use Rattle.toml.specs.Data.{Data}
 use Rattle.toml.specs.View.{view}
 use Rattle.toml.specs.declared.value.Value.{Value}
 use Rattle.study_file.proofs.KeyLists.{position-map}
-use Rattle.study_tables.proofs.Repeats.{enumerate-map, place-within}
+use Rattle.study_tables.proofs.Repeats.{enumerate-map}
 use Rattle.study_branches.specs.BranchRules.{first_failing_beside}
 
 position-same : {X : Type 0} (p q : X → Bool) (same : (x : X) → p x ≡ q x) (xs : List X) → position p xs ≡ position q xs

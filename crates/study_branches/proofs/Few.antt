@@ -1,5 +1,5 @@
 -- How many branches and traders there are, where the rules hold.
-use Rattle.std.proofs.Common.{◌≡◌, ◌≤◌, ◌+◌, ◌-◌, ◌++◌, ◌==◌, ℕ, suc, ℤ, pos, negsuc, nat_le, unsigned_abs, Bool, true, false, List, [], ◌∷◌, length, replicate, Option, None, Some, refl, ap, sym, ◌∙◌, arith, if◌then◌else◌, codes, length-append}
+use Rattle.std.proofs.Common.{◌≡◌, ◌≤◌, ◌+◌, ◌-◌, ◌==◌, ℕ, suc, ℤ, pos, negsuc, nat_le, unsigned_abs, Bool, true, false, List, [], ◌∷◌, length, replicate, Option, None, Some, refl, ap, ◌∙◌, arith, if◌then◌else◌, codes, length-append}
 use Rattle.std.specs.Prelude.{◌||◌, not, unwrap_or, option_and_then}
 use Rattle.std.proofs.lemmas.Bool.{and_parts}
 use Rattle.std.proofs.lemmas.Bool.Decides.{nat_tests}

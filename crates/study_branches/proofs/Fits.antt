@@ -1,18 +1,17 @@
 -- The edits that a study says can be made where there are its stocks, its traders by kind and its latency groups.
-use Rattle.std.proofs.Common.{◌≡◌, ◌≤◌, ◌<◌, ◌+◌, ◌-◌, ℕ, zero, suc, ℤ, pos, negsuc, unsigned_abs, nat_le, nat_lt, Bool, true, false, List, [], ◌∷◌, map, length, get_or, Option, None, Some, IfSome, refl, ap, sym, ◌∙◌, arith, subst, codes, bytes_eq, if◌then◌else◌}
-use Rattle.std.specs.Prelude.{◌&&◌, ◌||◌, ⊤, All, int_le, int_lt, position, option_map, is_none, slice_index_or}
-use Rattle.std.specs.List.{list_all, filter_map}
+use Rattle.std.proofs.Common.{◌≡◌, ◌≤◌, ◌<◌, ◌+◌, ◌-◌, ℕ, zero, suc, ℤ, pos, negsuc, unsigned_abs, nat_le, nat_lt, Bool, true, false, List, [], ◌∷◌, map, length, Option, None, Some, IfSome, refl, ap, sym, ◌∙◌, arith, subst, codes, bytes_eq, if◌then◌else◌}
+use Rattle.std.specs.Prelude.{◌&&◌, int_le, int_lt, position, option_map, is_none, slice_index_or}
+use Rattle.std.specs.List.{list_all}
 use Rattle.std.proofs.lemmas.Bool.{and_parts, and_from}
 use Rattle.std.proofs.lemmas.Bool.Decides.{nat_tests}
 use Rattle.std.proofs.lemmas.Option.{same_Some}
 use Rattle.toml.specs.Data.{Data, Members}
-use Rattle.market_types.specs.declared.order.Inbound.{Inbound}
 use Rattle.market_rules.specs.declared.bands.Band.{Band}
 use Rattle.market_rules.specs.declared.edit.Edit.{Edit}
-use Rattle.market_rules.specs.declared.edit.Edit.TheVariants.{Tick, Fee, Halt, Resume, Latency, Agent, Silence, Inject, Series}
+use Rattle.market_rules.specs.declared.edit.Edit.TheVariants.{Tick, Fee, Halt, Resume, Agent, Silence, Inject, Series}
 use Rattle.market_rules.specs.declared.edit.Param.{Param}
 use Rattle.market_rules.specs.declared.edit.Param.TheVariants as parameter
-use Rattle.market_rules.specs.EditRanges.{is_within, is_near_zero, is_modest_table, is_modest_fee, is_value_of, is_in_range, is_among}
+use Rattle.market_rules.specs.EditRanges.{is_within, is_near_zero, is_modest_table, is_modest_fee, is_value_of}
 use Rattle.market_rules.specs.Refusals.{table_refusal}
 use Rattle.agent_shell.specs.declared.setting.Kind.{Kind}
 use Rattle.agent_shell.specs.declared.setting.Kind.TheVariants.{Watcher, Noise, Value, Momentum, Maker}
@@ -22,10 +21,9 @@ use Rattle.study_file.proofs.KeyLists.{position-below}
 use Rattle.study_tables.specs.StockRules.{band_in, is_band, are_in_range, are_bands, has_bands, is_fee, has_fees, first_in, second_in}
 use Rattle.study_file.specs.Values.{list_in}
 use Rattle.study_refusals.specs.ChangeRules.{is_kind}
-use Rattle.study_branches.specs.Entries.{entry_of}
 use Rattle.study_branches.specs.Scope.{Scope}
 use Rattle.study_branches.specs.EditRules.{◌>>=◌, natural_in, stock_in, trader_in, group_in, tick_in, fee_in, latency_in, param_named, has_param, is_param_value, kind_of_trader, agent_in, silence_in, message_in, inject_in, series_in, edit_in}
-use Rattle.study_branches.specs.Fitting.{word_of, IsParamAmong, IsEditAmong}
+use Rattle.study_branches.specs.Fitting.{word_of, IsEditAmong}
 
 -- steps that give a value
 

@@ -1,6 +1,6 @@
 -- Where no rule is broken, none of their parts is.
-use Rattle.std.proofs.Common.{◌≡◌, ◌≤◌, ℕ, ℤ, pos, negsuc, List, [], ◌∷◌, Option, None, Some, refl, ap, sym, ◌∙◌, arith, true, unsigned_abs, nat_le, is_none, IfOk, codes}
-use Rattle.std.specs.Prelude.{Bool, false}
+use Rattle.std.proofs.Common.{◌≡◌, ◌≤◌, ℕ, ℤ, pos, negsuc, List, [], ◌∷◌, Option, None, Some, refl, ap, sym, ◌∙◌, arith, true, unsigned_abs, nat_le, is_none, codes}
+use Rattle.std.specs.Prelude.{Bool}
 use Rattle.std.specs.Option.{option_or}
 use Rattle.std.proofs.lemmas.Bool.{and_parts}
 use Rattle.std.proofs.lemmas.Bool.Decides.{nat_tests}

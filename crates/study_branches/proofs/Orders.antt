@@ -1,5 +1,5 @@
 -- Orders that are read from their bytes.
-use Rattle.std.proofs.Common.{◌≡◌, ℕ, List, [], ◌∷◌, Option, None, Some, refl, ap, sym, ◌∙◌, if◌then◌else◌}
+use Rattle.std.proofs.Common.{◌≡◌, ℕ, List, [], Option, None, Some, refl, ap, sym, ◌∙◌, if◌then◌else◌}
 use Rattle.std.specs.Prelude.{is_none, unwrap_or, slice_index}
 use Rattle.market_types.specs.declared.order.Inbound.{Inbound}
 use Rattle.market_types.specs.declared.error.CodecError.{CodecError}

@@ -1,9 +1,8 @@
 -- The branches of a study that keeps the rules make a tree.
-use Rattle.std.proofs.Common.{◌≡◌, ◌≤◌, ◌<◌, ◌+◌, ◌*◌, ◌++◌, ◌==◌, ℕ, zero, suc, ℤ, pos, negsuc, unsigned_abs, nat_le, nat_lt, nat_eq, Bool, true, false, List, [], ◌∷◌, map, length, Option, None, Some, IfSome, refl, ap, sym, ◌∙◌, arith, subst, cond, codes, bytes_eq, if◌then◌else◌, add-one, inl, inr, ◌⊎◌}
-use Rattle.std.specs.Prelude.{◌&&◌, ◌||◌, not, int_le, position, slice_index_or, option_map}
-use Rattle.std.specs.Cmp.Lexicographic.{pointwise}
+use Rattle.std.proofs.Common.{◌≡◌, ◌≤◌, ◌<◌, ◌+◌, ◌*◌, ◌++◌, ℕ, zero, suc, ℤ, pos, negsuc, unsigned_abs, nat_le, nat_lt, Bool, true, false, List, [], ◌∷◌, map, length, Option, None, Some, IfSome, refl, ap, sym, ◌∙◌, arith, subst, cond, codes, bytes_eq, if◌then◌else◌, add-one, inl, inr, ◌⊎◌}
+use Rattle.std.specs.Prelude.{◌||◌, not, int_le, slice_index_or, option_map}
 use Rattle.std.specs.List.{list_any, position_from}
-use Rattle.std.proofs.lemmas.Bool.{and_parts, and_from, cases_Bool, false≢true}
+use Rattle.std.proofs.lemmas.Bool.{and_parts, and_from}
 use Rattle.std.proofs.lemmas.Bool.Decides.{nat_tests}
 use Rattle.std.proofs.lemmas.List.{map-append}
 use Rattle.std.proofs.lemmas.Iterator.Adapters.{position_from-zero}
@@ -20,7 +19,7 @@ use Rattle.study_branches.specs.Entries.{branch_entries, name_in, parent_in, sto
 use Rattle.study_branches.specs.BranchRules.{names_of, is_name, has_new_name, has_parent, place_named, stop_named, has_stop, events_of}
 use Rattle.study_branches.specs.Scope.{Scope, scope_of}
 use Rattle.study_branches.specs.Branches.{root_branch, number_named, branch_of, branches_of}
-use Rattle.study_branches.proofs.Beside.{AllBeside, Each, all-beside, each-passes, not-false, append-one, length-one}
+use Rattle.study_branches.proofs.Beside.{AllBeside, Each, all-beside, each-passes, append-one, length-one}
 use Rattle.study_branches.proofs.Few.{few-branches}
 use Rattle.study_branches.proofs.Held.{AreHeld, held-unless}
 use Rattle.study_branches.proofs.Texts.{same-bytes, other-bytes}

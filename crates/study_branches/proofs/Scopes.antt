@@ -1,8 +1,8 @@
 -- Lemmas on what edits may speak of.
-use Rattle.std.proofs.Common.{◌≡◌, ◌≤◌, ◌<◌, ◌+◌, ◌-◌, ◌++◌, ℕ, suc, List, [], ◌∷◌, map, length, replicate, get_or, None, refl, ap, sym, ◌∙◌, arith, codes, subst}
-use Rattle.std.proofs.lemmas.List.{get_or_append_left, get_or-replicate, length-replicate, get_or-append-add}
+use Rattle.std.proofs.Common.{◌≡◌, ◌≤◌, ◌<◌, ◌+◌, ◌-◌, ◌++◌, ℕ, suc, List, [], ◌∷◌, map, length, replicate, get_or, None, ap, sym, ◌∙◌, arith, codes, subst}
+use Rattle.std.proofs.lemmas.List.{get_or_append_left, get_or-replicate, length-replicate}
 use Rattle.toml.specs.Data.{Data, Members}
-use Rattle.toml.specs.View.{view, table_view}
+use Rattle.toml.specs.View.{view}
 use Rattle.toml.specs.declared.value.Value.{Value}
 use Rattle.study_file.proofs.KeyLists.{length-mapped}
 use Rattle.study_file.specs.Values.{string_at}

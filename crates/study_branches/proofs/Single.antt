@@ -1,6 +1,6 @@
 -- What holds of each branch where the rules of branches hold.
-use Rattle.std.proofs.Common.{◌≡◌, ◌≤◌, ◌<◌, ◌++◌, ℕ, zero, suc, ℤ, pos, negsuc, nat_le, Bool, true, List, [], ◌∷◌, map, length, get_or, refl, ap, sym, ◌∙◌, arith, subst, Ok, Err}
-use Rattle.std.specs.Prelude.{◌&&◌, not, int_le, Result, IfOk}
+use Rattle.std.proofs.Common.{◌≡◌, ◌≤◌, ◌<◌, ◌++◌, ℕ, zero, suc, ℤ, pos, negsuc, nat_le, true, List, [], ◌∷◌, map, length, get_or, sym, arith, subst, Ok, Err}
+use Rattle.std.specs.Prelude.{not, int_le, Result, IfOk}
 use Rattle.std.proofs.lemmas.Bool.{and_parts, and_from}
 use Rattle.std.proofs.lemmas.Bool.Decides.{nat_tests}
 use Rattle.toml.specs.Data.{Data, Members}

@@ -1,8 +1,8 @@
 -- Edits as a study's entries say them, and the rule that each is one.
-use Rattle.std.specs.Prelude.{ℕ, ◌-◌, unsigned_abs, ℤ, pos, negsuc, int_le, int_lt, Bool, ◌&&◌, true, List, [], Option, None, Some, Result, Ok, Err, is_none, is_some, option_map, if◌then◌else◌, length, map, position, slice_index, slice_index_or, unwrap_or, codes}
+use Rattle.std.specs.Prelude.{ℕ, ◌-◌, unsigned_abs, ℤ, pos, negsuc, int_le, int_lt, Bool, ◌&&◌, true, List, [], Option, None, Some, Ok, Err, is_none, is_some, option_map, if◌then◌else◌, length, map, position, slice_index, slice_index_or, unwrap_or, codes}
 use Rattle.std.specs.Option.{option_or}
 use Rattle.std.specs.Str.{bytes_eq}
-use Rattle.toml.specs.Data.{Data, Members}
+use Rattle.toml.specs.Data.{Members}
 use Rattle.hex.specs.Hex.{decode_of}
 use Rattle.market_types.specs.declared.order.Inbound.{Inbound}
 use Rattle.market_rules.specs.declared.edit.Edit.{Edit}

@@ -1,11 +1,11 @@
 -- The dated changes of an accepted study are those of an opening.
-use Rattle.std.proofs.Common.{◌≡◌, ◌∙◌, ◌<◌, ◌≤◌, ◌+◌, ◌&&◌, nat_le, Bool, true, false, not, ℕ, ℤ, pos, unsigned_abs, List, [], ◌∷◌, length, get_or, map, Option, None, Some, All, refl, sym, ap, inl, inr, arith, codes, bytes_eq, if◌then◌else◌}
+use Rattle.std.proofs.Common.{◌≡◌, ◌<◌, ◌≤◌, ◌+◌, nat_le, Bool, true, false, not, ℕ, ℤ, pos, unsigned_abs, List, [], ◌∷◌, length, get_or, map, None, Some, All, refl, ap, arith, codes, bytes_eq, if◌then◌else◌}
 use Rattle.std.specs.Prelude.{◌||◌, option_map}
-use Rattle.std.proofs.lemmas.Bool.{and_parts, cases_Bool, le-leb}
+use Rattle.std.proofs.lemmas.Bool.{and_parts, le-leb}
 use Rattle.std.proofs.lemmas.List.{length-map}
 use Rattle.std.proofs.lemmas.List.Elements.{All-nil, All-cons, All-map, All-weaker}
 use Rattle.toml.specs.Data.{Data, Members}
-use Rattle.market_rules.specs.Breaks.{break_after, first_break}
+use Rattle.market_rules.specs.Breaks.{break_after}
 use Rattle.market_rules.specs.Changes.{dates_refusal}
 use Rattle.market_rules.specs.EditRanges.{is_modest_fee}
 use Rattle.market_rules.specs.declared.changes.Change.TheVariants.{Tick, Fee, Halt, Resume}
@@ -19,9 +19,9 @@ use Rattle.study_tables.specs.MarketRules.{start_of, close_of}
 use Rattle.study_tables.specs.StockRules.{stocks, symbols, symbol_in, band_in, has_bands, has_fees}
 use Rattle.study_refusals.specs.ChangeRules.{changes, is_kind, names_stock, time_in, first_before, has_new_rules, change_keys_broken, dates_broken, change_stock_broken, change_rules_broken}
 use Rattle.study_refusals.proofs.Few.{few-changes}
-use Rattle.study_parts.specs.Entries.{entry_of, natural_at, place_of}
+use Rattle.study_parts.specs.Entries.{entry_of, place_of}
 use Rattle.study_parts.specs.Stocks.{fees_of, stock_of}
-use Rattle.study_parts.specs.Changes.{change_of, dated_of, changes_of}
+use Rattle.study_parts.specs.Changes.{change_of, dated_of}
 use Rattle.study_parts.specs.Opening.{opening_of}
 use Rattle.study_parts.proofs.Lists.{each-kept, found-place}
 use Rattle.study_parts.proofs.Numbers.{Within, natural-between}

@@ -1,7 +1,6 @@
 -- The latencies of an accepted study are in their ranges.
-use Rattle.std.proofs.Common.{◌≡◌, ◌∙◌, ◌≤◌, ◌<◌, ◌+◌, ◌==◌, ◌&&◌, Bool, true, false, not, ℕ, ℤ, pos, unsigned_abs, List, [], ◌∷◌, length, get_or, map, Option, None, Some, All, refl, sym, ap, subst, arith}
+use Rattle.std.proofs.Common.{◌≡◌, ◌∙◌, ◌≤◌, ◌<◌, ◌+◌, ◌==◌, ◌&&◌, true, false, not, ℕ, ℤ, pos, unsigned_abs, List, [], ◌∷◌, length, get_or, map, Option, None, Some, All, refl, subst, arith}
 use Rattle.std.specs.Prelude.{position, option_map}
-use Rattle.std.specs.Option.{option_or}
 use Rattle.std.specs.Int.{is_in_range}
 use Rattle.std.specs.List.{list_all}
 use Rattle.std.proofs.lemmas.Bool.{and_parts, eqb-true, not-false}
@@ -14,7 +13,6 @@ use Rattle.market_types.specs.Limits.{longest_delay}
 use Rattle.latency_model.specs.Ranges.{IsSquare, IsInRange}
 use Rattle.study_file.specs.Values.{number_in, list_in, is_between}
 use Rattle.study_tables.specs.MarketRules.{bases, jitters, size_of, is_square, squares_broken, cells_broken, cell_outside}
-use Rattle.study_tables.proofs.Squares.{none-unless}
 use Rattle.study_parts.specs.Market.{numbers_in, latencies_of}
 use Rattle.study_parts.proofs.Held.{both-none, held-unless}
 use Rattle.study_parts.proofs.Lists.{position-none, all-pass}

@@ -1,13 +1,12 @@
 -- Lists of entries, each of which keeps a rule.
-use Rattle.std.proofs.Common.{◌≡◌, ◌∙◌, ◌<◌, ◌≤◌, ◌+◌, ◌&&◌, nat_lt, Bool, true, false, cond, not, ℕ, suc, List, [], ◌∷◌, ◌++◌, length, get_or, map, take, Option, Some, None, All, unwrap_or, refl, sym, ap, subst, inl, inr, arith}
+use Rattle.std.proofs.Common.{◌≡◌, ◌∙◌, ◌<◌, ◌+◌, nat_lt, Bool, true, false, cond, not, ℕ, suc, List, [], ◌∷◌, ◌++◌, length, get_or, map, take, Option, Some, None, All, unwrap_or, refl, sym, ap, subst, inl, inr, arith}
 use Rattle.std.specs.Prelude.{position, ◌||◌, is_some}
-use Rattle.std.specs.List.{list_all, list_any, flat_map, position_or_len, prefix_len, enumerate_from, range_with_len}
+use Rattle.std.specs.List.{list_all, list_any, flat_map, position_or_len, enumerate_from, range_with_len}
 use Rattle.std.proofs.lemmas.Bool.{and_parts, or_parts, cases_Bool, cases_lt, cond-true, cond-false, lt-ltb, le-ltb, not-false, not_from_true, false≢true}
-use Rattle.std.proofs.lemmas.Bool.Decides.{nat_tests}
 use Rattle.std.proofs.lemmas.List.{get_or-map, length-map, take_more, map-append, append-nil}
 use Rattle.std.proofs.lemmas.List.Concat.{flat_map-append}
 use Rattle.std.proofs.lemmas.List.Sums.{fails_before_first, passes_at_first}
-use Rattle.std.proofs.lemmas.List.Elements.{All-nil, All-cons, All-append, All-weaker, All-map}
+use Rattle.std.proofs.lemmas.List.Elements.{All-nil, All-cons, All-append, All-map}
 use Rattle.std.proofs.lemmas.List.FromFn.{length-range_with_len, get_or-range_with_len, get_or-enumerate_from}
 use Rattle.toml.specs.Data.{Data, Members, no_members, as_table}
 use Rattle.toml.specs.View.{view}

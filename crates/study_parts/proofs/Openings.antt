@@ -1,5 +1,5 @@
 -- What an accepted study says is an opening.
-use Rattle.std.proofs.Common.{◌≡◌, ◌∙◌, ◌<◌, ◌≤◌, ◌&&◌, Bool, true, ℕ, ℤ, pos, List, length, map, Option, None, refl, sym, ap, arith, codes}
+use Rattle.std.proofs.Common.{◌≡◌, ◌<◌, ◌≤◌, ◌&&◌, Bool, pos, List, length, map, None, arith, codes}
 use Rattle.std.specs.Prelude.{int_le}
 use Rattle.std.specs.Int.{is_in_range}
 use Rattle.std.proofs.lemmas.Bool.{and_parts}
@@ -9,7 +9,7 @@ use Rattle.agent_shell.specs.declared.setting.TraderSetting.{TraderSetting}
 use Rattle.fundamental_series.specs.declared.rule.SeriesRow.{SeriesRow}
 use Rattle.market_opening.specs.Opening.{IsOpening}
 use Rattle.study_file.specs.Values.{number_at, number_or, is_between, has_between, broken_unless}
-use Rattle.study_tables.specs.MarketRules.{opens_at, closes_at, start_of, close_of, size_of, bases, exchange_of, is_group, is_exchange, day_broken, limits_broken, exchange_broken}
+use Rattle.study_tables.specs.MarketRules.{opens_at, closes_at, start_of, close_of, size_of, bases, exchange_of, is_group, day_broken, limits_broken, exchange_broken}
 use Rattle.study_tables.specs.StockRules.{stocks, stock_count_broken}
 use Rattle.study_parts.specs.Entries.{entry_of, natural_at}
 use Rattle.study_parts.specs.Market.{numbers_in}

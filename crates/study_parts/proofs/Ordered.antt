@@ -1,9 +1,9 @@
 -- The rows of each stock that a series file says are in order.
-use Rattle.std.proofs.Common.{◌≡◌, ◌∙◌, ◌<◌, ◌≤◌, ◌+◌, ◌-◌, ◌&&◌, ◌==◌, nat_lt, nat_le, Bool, true, false, ℕ, suc, List, [], ◌∷◌, ◌++◌, length, get_or, set, replicate, Option, Some, None, Result, Ok, Err, All, if◌then◌else◌, refl, sym, ap, subst, inl, inr, arith}
+use Rattle.std.proofs.Common.{◌≡◌, ◌∙◌, ◌<◌, ◌+◌, ◌-◌, ◌&&◌, ◌==◌, nat_lt, nat_le, Bool, true, false, ℕ, suc, List, [], ◌∷◌, ◌++◌, length, get_or, set, replicate, Option, Some, None, Result, Ok, Err, All, if◌then◌else◌, refl, sym, ap, subst, inl, inr, arith}
 use Rattle.std.specs.Prelude.{position}
 use Rattle.std.specs.List.{AllByRecursion}
 use Rattle.std.specs.Int.{is_in_range}
-use Rattle.std.proofs.lemmas.Bool.{and_parts, cases_Bool, cases_eq, cases_lt, ltb-true}
+use Rattle.std.proofs.lemmas.Bool.{and_parts, cases_eq, cases_lt, ltb-true}
 use Rattle.std.proofs.lemmas.Bool.Decides.{nat_tests}
 use Rattle.std.proofs.lemmas.List.{get_or-set_same, get_or-set_other, set_past, get_or-replicate, get_or_past, length-replicate}
 use Rattle.std.proofs.lemmas.List.Elements.{All-nil, All-push}
@@ -15,7 +15,7 @@ use Rattle.fundamental_series.specs.declared.rule.SeriesRow.{SeriesRow}
 use Rattle.fundamental_series.specs.Ranges.{IsPrice, IsRising}
 use Rattle.series_file.specs.declared.row.FileRow.{FileRow}
 use Rattle.series_file.specs.Records.{is_header, is_stock_of, is_time, is_value, number_of, timed_row, row_of, row_in, field_of, records_of}
-use Rattle.series_file.specs.Rows.{last_row, is_later, rows_of, with_row, with_record, after_record, at_end, rows_from, no_rows, read_rows}
+use Rattle.series_file.specs.Rows.{last_row, is_later, rows_of, with_row, with_record, after_record, rows_from, no_rows, read_rows}
 
 -- the values are prices, and the times rise
 pub record AreOrdered (rows : List SeriesRow) : Type 0 where

@@ -1,11 +1,10 @@
 -- The values of an accepted study's stocks.
-use Rattle.std.proofs.Common.{◌≡◌, ◌∙◌, ◌<◌, ◌≤◌, ◌+◌, ◌-◌, ◌/◌, ◌&&◌, nat_le, Bool, true, false, not, ℕ, ℤ, pos, unsigned_abs, List, [], ◌∷◌, ◌++◌, take, length, get_or, map, replicate, Option, None, Some, Ok, All, unwrap_or, refl, sym, ap, subst, inl, inr, arith, codes, bytes_eq, if◌then◌else◌}
+use Rattle.std.proofs.Common.{◌≡◌, ◌∙◌, ◌<◌, ◌≤◌, ◌+◌, ◌-◌, ◌/◌, ◌&&◌, nat_le, Bool, true, false, not, ℕ, pos, unsigned_abs, List, [], ◌∷◌, ◌++◌, take, length, get_or, map, Option, None, Some, Ok, All, unwrap_or, refl, sym, ap, subst, inl, inr, arith, codes, bytes_eq, if◌then◌else◌}
 use Rattle.std.specs.Prelude.{◌||◌, is_some, position, int_le}
 use Rattle.std.specs.Cmp.Lexicographic.{bytes_decides}
 use Rattle.std.specs.List.{list_any, enumerate_from, AllByRecursion}
-use Rattle.std.proofs.lemmas.Bool.{and_parts, or_cases, cases_Bool, cases_lt, false≢true, leb-true, not-false}
+use Rattle.std.proofs.lemmas.Bool.{and_parts, or_cases, false≢true, leb-true, not-false}
 use Rattle.std.proofs.lemmas.List.{get_or-map, length-map, take_more, take_all}
-use Rattle.std.proofs.lemmas.List.Elements.{All-nil}
 use Rattle.std.proofs.lemmas.List.FromFn.{length-enumerate_from}
 use Rattle.toml.specs.View.{view}
 use Rattle.toml.specs.declared.value.Value.{Value}
@@ -13,7 +12,6 @@ use Rattle.toml.specs.Data.{Data, Members, no_members, as_table, table}
 use Rattle.fundamental_series.specs.Made.{Made, by_rule, by_rows, first_time}
 use Rattle.fundamental_series.specs.Ranges.{AreRows, IsPrice, IsRising, IsInRange}
 use Rattle.fundamental_series.specs.declared.rule.SeriesRow.{SeriesRow}
-use Rattle.market_opening.specs.declared.opening.Opening.{Opening}
 use Rattle.market_opening.specs.Opening.{IsSeriesFor, AreSeries, no_series}
 use Rattle.study_file.specs.Keys.{passes, has_form, has_keys}
 use Rattle.study_file.specs.Tables.{is_named, text_at}
@@ -25,7 +23,7 @@ use Rattle.series_file.specs.Late.{is_late, first_late}
 use Rattle.series_file.specs.Rows.{rows_of}
 use Rattle.study_refusals.specs.FirstBroken.{tables_of}
 use Rattle.study_parts.specs.Entries.{entry_of, natural_at}
-use Rattle.study_parts.specs.Stocks.{series_rule_of, rule_made_of, series_in, series_of, stock_of, stock_rules_of, HaveRows}
+use Rattle.study_parts.specs.Stocks.{series_rule_of, rule_made_of, series_in, series_of, stock_of, HaveRows}
 use Rattle.study_parts.specs.Opening.{opening_of}
 use Rattle.study_parts.proofs.Ordered.{AreOrdered, are-ordered}
 use Rattle.study_parts.proofs.Lists.{position-none, each-passes, each-kept, is-entry, numbered}

@@ -1,31 +1,29 @@
 -- The stocks of an accepted study are those of an opening.
-use Rattle.std.proofs.Common.{◌≡◌, ◌∙◌, ◌≤◌, ◌&&◌, nat_le, Bool, true, false, ℕ, List, [], ◌∷◌, length, get_or, map, Option, None, Some, Ok, Err, All, refl, sym, ap, arith, if◌then◌else◌, codes}
+use Rattle.std.proofs.Common.{◌≡◌, ◌∙◌, ◌&&◌, nat_le, Bool, true, false, ℕ, List, [], ◌∷◌, length, get_or, map, Option, None, Some, Ok, Err, All, refl, ap, if◌then◌else◌, codes}
 use Rattle.std.specs.Prelude.{is_none, Result}
 use Rattle.std.specs.Int.{is_in_range}
 use Rattle.std.specs.List.{list_all}
 use Rattle.std.proofs.lemmas.Bool.{and_parts, and_from, le-leb}
-use Rattle.std.proofs.lemmas.List.{length-map}
 use Rattle.std.proofs.lemmas.List.Elements.{All-map}
 use Rattle.toml.specs.Data.{Data, Members}
 use Rattle.market_types.specs.Limits.{highest_price}
-use Rattle.market_types.specs.Readers.{is_symbol, symbol_of, padded}
+use Rattle.market_types.specs.Readers.{is_symbol, padded}
 use Rattle.market_types.specs.declared.error.TypeError.{TypeError}
 use Rattle.market_types.specs.declared.error.TypeError.TheVariants.{BadSymbol}
 use Rattle.market_types.specs.declared.order.Symbol.{Symbol}
 use Rattle.market_rules.specs.declared.bands.Band.{Band}
 use Rattle.market_rules.specs.declared.error.RuleError.{RuleError}
-use Rattle.market_rules.specs.EditRanges.{is_modest_table, is_modest_fee, is_near_zero, is_within}
+use Rattle.market_rules.specs.EditRanges.{is_modest_fee, is_near_zero, is_within}
 use Rattle.market_rules.specs.Refusals.{table_refusal}
-use Rattle.exchange_agent.specs.declared.told.StockRules.{StockRules}
 use Rattle.market_opening.specs.Opening.{IsStock, IsTickTable}
-use Rattle.study_file.proofs.KeyLists.{all-map, length-mapped}
+use Rattle.study_file.proofs.KeyLists.{length-mapped}
 use Rattle.study_file.specs.Values.{number_at, string_at, list_at, list_in, is_between}
 use Rattle.study_tables.specs.StockRules.{stocks, has_symbol, has_bands, has_fees, are_bands, are_in_range, is_band, band_in, is_fee, first_in, second_in, symbol_broken, bands_broken, fees_broken}
 use Rattle.study_parts.specs.Entries.{entry_of}
 use Rattle.study_parts.specs.Stocks.{fees_of, stock_of, stock_rules_of}
 use Rattle.study_parts.proofs.Lists.{each-kept}
 use Rattle.study_parts.proofs.Numbers.{Within, natural-between, fee-near, is-within}
-use Rattle.std.specs.Prelude.{ℤ, pos, unsigned_abs}
+use Rattle.std.specs.Prelude.{pos, unsigned_abs}
 
 symbol-if : (b : Bool) (text : List ℕ) → b ≡ true
     → ◌≡◌ {A = Result Symbol TypeError} (if b then Ok (record { 0 = padded 8 text }) else Err BadSymbol) (Ok (record { 0 = padded 8 text }))

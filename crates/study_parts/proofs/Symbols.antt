@@ -1,10 +1,10 @@
 -- The symbols of an accepted study's stocks are distinct.
-use Rattle.std.proofs.Common.{◌≡◌, ◌≢◌, ◌∙◌, ◌<◌, ◌≤◌, ◌+◌, ◌-◌, ◌&&◌, Bool, true, false, cond, ℕ, zero, suc, List, [], ◌∷◌, ◌++◌, length, get_or, map, take, replicate, append-nil, Option, None, refl, sym, ap, subst, arith, codes, bytes_eq}
+use Rattle.std.proofs.Common.{◌≡◌, ◌≢◌, ◌∙◌, ◌<◌, ◌+◌, ◌-◌, Bool, true, false, cond, ℕ, zero, suc, List, [], ◌∷◌, ◌++◌, length, get_or, map, take, replicate, append-nil, None, refl, sym, ap, arith, bytes_eq}
 use Rattle.std.specs.Prelude.{AllPairs, filter, position}
 use Rattle.std.specs.Cmp.Lexicographic.{bytes_decides}
 use Rattle.std.specs.Char.{is_ascii_graphic}
 use Rattle.std.specs.Int.{is_in_range}
-use Rattle.std.specs.List.{list_all, list_any, enumerate_from}
+use Rattle.std.specs.List.{list_all, enumerate_from}
 use Rattle.std.proofs.lemmas.Bool.{and_parts, false≢true}
 use Rattle.std.proofs.lemmas.List.{get_or-map, get_or-take, length-map, length-take-le}
 use Rattle.std.proofs.lemmas.List.Elements.{filter-append}
@@ -14,7 +14,6 @@ use Rattle.market_types.specs.Readers.{is_symbol, padded}
 use Rattle.market_types.specs.declared.order.Symbol.{Symbol}
 use Rattle.exchange_agent.specs.declared.told.StockRules.{StockRules}
 use Rattle.study_file.specs.Tables.{is_named}
-use Rattle.study_file.specs.Values.{string_at}
 use Rattle.study_tables.specs.StockRules.{stocks, symbols, symbol_in, has_symbol, symbol_broken, repeat_broken}
 use Rattle.study_parts.specs.Entries.{entry_of}
 use Rattle.study_parts.specs.Stocks.{stock_of, stock_rules_of}

@@ -1,5 +1,5 @@
 -- The traders of an accepted study are those of an opening.
-use Rattle.std.proofs.Common.{◌≡◌, ◌∙◌, ◌<◌, ◌≤◌, ◌+◌, ◌-◌, ◌*◌, ◌==◌, ◌&&◌, nat_le, nat_lt, Bool, true, false, not, ℕ, suc, ℤ, pos, negsuc, unsigned_abs, List, [], ◌∷◌, ◌++◌, length, get_or, map, Option, None, Some, All, unwrap_or, refl, sym, ap, subst, inl, inr, arith, codes, if◌then◌else◌}
+use Rattle.std.proofs.Common.{◌≡◌, ◌∙◌, ◌<◌, ◌≤◌, ◌+◌, ◌-◌, ◌*◌, ◌==◌, ◌&&◌, nat_le, nat_lt, Bool, true, false, not, ℕ, ℤ, pos, negsuc, unsigned_abs, List, [], ◌∷◌, ◌++◌, length, get_or, map, Option, None, Some, All, unwrap_or, refl, sym, ap, subst, arith, codes, if◌then◌else◌}
 use Rattle.std.specs.Prelude.{◌||◌, int_le, int_lt, option_and_then}
 use Rattle.std.specs.List.{flat_map, range_with_len}
 use Rattle.std.proofs.lemmas.Bool.{and_parts, and_from, leb-true, le-leb, ltb-true, lt-ltb}
@@ -12,16 +12,15 @@ use Rattle.std.proofs.lemmas.Option.{same_Some}
 use Rattle.toml.specs.View.{view}
 use Rattle.toml.specs.declared.value.Value.{Value as TomlValue}
 use Rattle.toml.specs.Data.{Data, Members, no_members, as_table, as_integer, get_member}
-use Rattle.market_types.specs.Limits.{longest_delay, last_time}
-use Rattle.agent_shell.specs.Parameters.{IsBetween, IsSize, IsKind, IsSetting}
+use Rattle.agent_shell.specs.Parameters.{IsSize, IsKind}
 use Rattle.agent_shell.specs.declared.setting.Kind.{Kind}
-use Rattle.agent_shell.specs.declared.setting.Kind.TheVariants.{Watcher, Noise, Value, Momentum, Maker}
+use Rattle.agent_shell.specs.declared.setting.Kind.TheVariants.{Watcher, Noise}
 use Rattle.agent_shell.specs.declared.setting.TraderSetting.{TraderSetting}
 use Rattle.fundamental_series.specs.declared.rule.SeriesRow.{SeriesRow}
 use Rattle.market_opening.specs.Opening.{IsTraderOf}
-use Rattle.study_file.specs.Values.{number_at, number_or, string_at, is_between, has_between, first_failing}
+use Rattle.study_file.specs.Values.{number_at, number_or, is_between, has_between, first_failing}
 use Rattle.study_tables.specs.MarketRules.{size_of, bases, start_of, is_group, squares_broken}
-use Rattle.study_tables.specs.StockRules.{symbols, stocks}
+use Rattle.study_tables.specs.StockRules.{symbols}
 use Rattle.study_refusals.specs.ChangeRules.{is_kind, names_stock}
 use Rattle.study_refusals.specs.AgentRules.{agents, count_found, count_in, left_after, first_too_many, counts_broken, count_of, first_of, has_timing, timing_broken, agent_stock_broken, has_size, has_distance, has_guess, has_spans, has_levels, has_own, own_broken}
 use Rattle.study_parts.specs.Entries.{entry_of, natural_at}

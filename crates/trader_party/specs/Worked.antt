@@ -1,5 +1,5 @@
 -- A party for worked examples.
-use Rattle.std.specs.Prelude.{Bool, codes}
+use Rattle.std.specs.Prelude.{Bool}
 use Rattle.market_types.specs.declared.message.Body.{Body}
 use Rattle.agent_shell.specs.declared.setting.Kind.TheVariants.{Maker}
 use Rattle.agent_shell.specs.Decide.{Decided}

@@ -1,10 +1,9 @@
-use Rattle.std.proofs.Common.{◌≡◌, ◌<◌, ◌≤◌, ◌+◌, ◌*◌, ◌++◌, ◌∷◌, ℕ, List, [], length, get_or, sym, ap, ◌∙◌, arith, subst}
+use Rattle.std.proofs.Common.{◌≡◌, ◌+◌, ℕ, List, [], length, get_or, sym, ap, ◌∙◌, arith}
 use Rattle.std.proofs.lemmas.List.{get_or_read, length_push}
-use Rattle.plain_lists.specs.declared.sequence.Sequence.{Sequence}
 use Rattle.branch_tree.specs.declared.branch.Branch.{Branch}
 use Rattle.branch_tree.specs.declared.segment.Segment.{Segment}
 use Rattle.branch_tree.specs.Plan.{Plan, no_branch, branch_at, stop_at}
-use Rattle.branch_tree.specs.Segments.{cuts_of, count_before, counted, numbers_of, segments_before}
+use Rattle.branch_tree.specs.Segments.{cuts_of, count_before, counted, numbers_of}
 use Rattle.branch_tree.proofs.CutLemmas.{count-few, cuts-length}
 use Rattle.branch_tree.proofs.PartLemmas.{length-before}
 use Rattle.branch_tree.proofs.LayLemmas.{each_push, segments-more}

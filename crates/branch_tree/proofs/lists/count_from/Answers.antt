@@ -1,4 +1,4 @@
-use Rattle.std.proofs.Common.{◌≡◌, ◌+◌, ◌-◌, ◌++◌, ℕ, List, ap, ◌∙◌}
+use Rattle.std.proofs.Common.{◌+◌, ◌-◌, ◌++◌, ℕ, List, ap, ◌∙◌}
 use Rattle.branch_tree.specs.Segments.{counted}
 use Rattle.branch_tree.proofs.LayLemmas.{counted-more}
 use Rattle.branch_tree.proofs.lists.count_from.Goals as goal

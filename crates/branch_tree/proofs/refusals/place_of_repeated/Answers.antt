@@ -1,4 +1,4 @@
-use Rattle.std.proofs.Common.{◌≡◌, take, sym, ap, ◌∙◌, arith, rules, refl}
+use Rattle.std.proofs.Common.{take, sym, ◌∙◌, refl}
 use Rattle.branch_tree.proofs.LayLemmas.{repeated-here, repeated-next}
 use Rattle.branch_tree.proofs.refusals.place_of_repeated.Goals as goal
 

@@ -1,4 +1,4 @@
-use Rattle.std.proofs.Common.{◌≡◌, ◌∙◌, ◌∷◌, [], sym}
+use Rattle.std.proofs.Common.{◌∙◌, ◌∷◌, [], sym}
 use Rattle.market_types.specs.Told.{entry_told}
 use Rattle.probe_desk.specs.Probe.{seen}
 use Rattle.probe_desk.proofs.Seen.{seen-more}

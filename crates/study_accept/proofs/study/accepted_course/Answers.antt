@@ -1,4 +1,4 @@
-use Rattle.std.proofs.Common.{◌≡◌, ◌∙◌, All, ap, sym, subst}
+use Rattle.std.proofs.Common.{◌∙◌, All, ap, sym, subst}
 use Rattle.branch_tree.specs.declared.branch.Branch.{Branch}
 use Rattle.branch_tree.specs.Plan.{Plan}
 use Rattle.market_opening.specs.declared.opening.Opening.{Opening}

@@ -1,4 +1,4 @@
-use Rattle.std.proofs.Common.{◌≡◌, All, map, sym, subst}
+use Rattle.std.proofs.Common.{All, map, sym, subst}
 use Rattle.toml.specs.View.{table_view}
 use Rattle.branch_tree.specs.declared.branch.Branch.{Branch}
 use Rattle.branch_tree.specs.Plan.{Plan}

@@ -1,6 +1,5 @@
-use Rattle.std.proofs.Common.{◌≡◌, ◌≤◌, ◌∙◌, sym, ap, nat_le, length, map, arith, Some, if◌then◌else◌}
+use Rattle.std.proofs.Common.{◌∙◌, sym, length, map, arith}
 use Rattle.std.specs.Prelude.{not}
-use Rattle.std.proofs.lemmas.Bool.Decides.{nat_tests}
 use Rattle.toml.specs.Data.{Data, as_table}
 use Rattle.toml.specs.View.{view}
 use Rattle.study_file.specs.Keys.{has_form, passes}

@@ -1,4 +1,4 @@
-use Rattle.std.proofs.Common.{sym, ap, ◌∙◌, map, take, bytes_eq, codes}
+use Rattle.std.proofs.Common.{sym, ap, ◌∙◌, map, take, bytes_eq}
 use Rattle.std.specs.Prelude.{◌||◌}
 use Rattle.std.specs.List.{list_any}
 use Rattle.toml.specs.Data.{Data}

@@ -1,11 +1,6 @@
-use Rattle.std.proofs.Common.{◌∙◌, ap, map, List}
-use Rattle.toml.specs.Data.{Data}
-use Rattle.toml.specs.View.{view, table_view}
+use Rattle.std.proofs.Common.{◌∙◌, ap}
 use Rattle.study_file.specs.Values.{first_failing}
-use Rattle.study_tables.specs.StockRules.{symbols, symbol_in}
 use Rattle.study_refusals.specs.ChangeRules.{has_new_rules}
-use Rattle.study_parts.specs.Entries.{entry_of}
-use Rattle.study_parts.specs.Changes.{dated_of}
 use Rattle.study_parts.proofs.changes.changes.Goals as goal
 
 pub entry_changes-requires : goal.entry_changes-requires

@@ -1,10 +1,9 @@
 use Rattle.std.proofs.Common.{◌∙◌, ap, sym, subst, map, List, ℕ, Vec, Global}
 use Rattle.toml.specs.View.{table_view}
 use Rattle.latency_model.specs.Ranges.{IsInRange}
-use Rattle.latency_model.specs.Tables.{Tables}
 use Rattle.study_tables.specs.MarketRules.{cell_outside}
 use Rattle.std.proofs.Common.{pos}
-use Rattle.study_parts.specs.Market.{numbers_in, latencies_of}
+use Rattle.study_parts.specs.Market.{numbers_in}
 use Rattle.study_parts.proofs.Held.{both-none}
 use Rattle.study_tables.specs.MarketRules.{bases, jitters}
 use Rattle.study_parts.proofs.LatencyRanges.{are-latencies}

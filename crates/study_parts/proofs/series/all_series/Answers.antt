@@ -1,7 +1,7 @@
 use Rattle.std.proofs.Common.{◌∙◌, ap, sym, subst, List, map, ℕ}
 use Rattle.std.specs.List.{enumerate_from}
 use Rattle.toml.specs.Data.{Data}
-use Rattle.toml.specs.View.{view, table_view}
+use Rattle.toml.specs.View.{table_view}
 use Rattle.study_file.specs.Values.{first_failing}
 use Rattle.study_tables.specs.MarketRules.{span_of}
 use Rattle.study_tables.specs.StockRules.{has_prices, has_pace}

@@ -1,4 +1,4 @@
-use Rattle.std.proofs.Common.{◌≡◌, ◌≤◌, ◌+◌, ◌++◌, ℕ, ℤ, [], List, length, All, arith, ap, ◌∙◌, subst, sym}
+use Rattle.std.proofs.Common.{◌≡◌, ◌≤◌, ◌+◌, ◌++◌, ℕ, ℤ, List, length, All, arith, ap, ◌∙◌, subst, sym}
 use Rattle.std.specs.Prelude.{IfOk}
 use Rattle.market_types.specs.declared.feed.Feed.{Feed}
 use Rattle.market_types.specs.Room.{Room}
