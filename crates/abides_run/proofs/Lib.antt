@@ -3,3 +3,4 @@ pub mod Bundles
 pub mod Come
 pub mod Fetching
 pub mod Performing
+pub mod Speaking

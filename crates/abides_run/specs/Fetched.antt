@@ -29,6 +29,11 @@ fetched_for files (Some request) = request.study ∷ series_behind (content (hel
 abbrev pub fetched : Files → List (List ℕ) → List (List ℕ)
 fetched files words = fetched_for files (asked_of words)
 
+-- the study that is asked for, and the series file that it names where these are its bytes
+abbrev pub files_of : Option Request → List ℕ → List (List ℕ)
+files_of None bytes = []
+files_of (Some request) bytes = request.study ∷ series_after (table_of bytes)
+
 -- the name is one of these
 abbrev pub IsAmong : List ℕ → List (List ℕ) → Type 0
 IsAmong name [] = ⊥

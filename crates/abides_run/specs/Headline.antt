@@ -4,7 +4,8 @@ use Rattle.outside.specs.Rose.{Rose}
 use Rattle.outside.specs.Taken.{appended, TookPrefix}
 use Rattle.abides_run.specs.Words.{asked_of}
 use Rattle.abides_run.specs.Verdict.{Verdict, Files, verdict, IsStudy, output, distinct}
-use Rattle.abides_run.specs.Statuses.{Cause, Counts, IsRefusal, status_of}
+use Rattle.abides_run.specs.Fetched.{fetched}
+use Rattle.abides_run.specs.Statuses.{Cause, Counts, IsRefusal, Names, SpeaksFor, status_of}
 use Rattle.abides_run.specs.Notes.{note}
 use Rattle.abides_run.specs.declared.status.Status.{Status}
 use Rattle.abides_run.specs.declared.status.Status.TheVariants.{Ok, Usage, ReadFault, WriteFault, Memory}
@@ -50,6 +51,13 @@ pub record Answered (files : Option Files) (words : List (List ℕ)) (before aft
   pub out_still : IsRefusal status → after.writes ≡ before.writes
   pub reads_never_fall : before.reads ≤ after.reads
   pub writes_never_fall : before.writes ≤ after.writes
+
+-- The file that the note's line names.
+pub record Named (files : Option Files) (words : List (List ℕ)) (status : Status) (name : List ℕ) : Type 0 where
+  -- where the library tells its files, the one that is missing or too long, or one that was fetched
+  pub told : IfSome files (λ held. Names (verdict held words) (fetched held words) status name)
+  -- in any case the study's, or the series file's that a study names
+  pub always : SpeaksFor words status name
 
 -- What holds of the note, where the status speaks of a file with this name: the counts of failed writes to the notes, and
 -- what the notes have taken, before and after.

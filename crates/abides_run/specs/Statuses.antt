@@ -1,7 +1,8 @@
 -- What each status of a run says.
 use Rattle.std.specs.Prelude.{◌≡◌, ℕ, ◌+◌, ◌≤◌, List, Option}
 use Rattle.abides_run.specs.Verdict.{Verdict, usage, no_file, file_too_long, refused, accepted, IsStudy, IsAsked}
-use Rattle.abides_run.specs.Fetched.{IsAmong}
+use Rattle.abides_run.specs.Words.{asked_of}
+use Rattle.abides_run.specs.Fetched.{IsAmong, files_of}
 use Rattle.abides_run.specs.declared.status.Status.{Status}
 use Rattle.abides_run.specs.declared.status.Status.TheVariants.{Ok, Usage, NoStudy, TooLong, Refused, ReadFault, WriteFault, Memory}
 
@@ -35,6 +36,22 @@ Names come fetched (Refused rule place) name = Unit {0}
 Names come fetched ReadFault name = IsAmong name fetched
 Names come fetched WriteFault name = Unit {0}
 Names come fetched Memory name = Unit {0}
+
+-- A status whose line names a file names one of these.
+abbrev pub Speaks : List (List ℕ) → Status → List ℕ → Type 0
+Speaks files Ok name = Unit {0}
+Speaks files Usage name = Unit {0}
+Speaks files NoStudy name = IsAmong name files
+Speaks files TooLong name = IsAmong name files
+Speaks files (Refused rule place) name = Unit {0}
+Speaks files ReadFault name = IsAmong name files
+Speaks files WriteFault name = Unit {0}
+Speaks files Memory name = Unit {0}
+
+-- The file is the study that the words ask for, or the series file that a study of some bytes names: so it is for each
+-- library, whether it tells its files or not.
+abbrev pub SpeaksFor : List (List ℕ) → Status → List ℕ → Type 0
+SpeaksFor words status name = (bytes : List ℕ) × Speaks (files_of (asked_of words) bytes) status name
 
 -- The rise of the counter at each status, where so many steps are to be counted, and out had taken this before and has
 -- taken this now. No byte goes out before all steps are made.

@@ -1,6 +1,6 @@
 //! From words and a library to a study.
 
-ghost use Rattle.std.specs.Prelude.{◌≡◌, ◌⊎◌, ◌≤◌, ℕ, List, None, Some, IfOk, IfErr, IfSome, OnOk, option_map, string_bytes};
+ghost use Rattle.std.specs.Prelude.{◌≡◌, ◌⊎◌, ◌≤◌, ◌∷◌, [], ℕ, List, None, Some, IfOk, IfErr, IfSome, OnOk, option_map, string_bytes};
 ghost use Rattle.toml.specs.View.{table_view};
 ghost use Rattle.outside.specs.Rose.{Rose};
 ghost use Rattle.outside.specs.Files.{whole, held, content};
@@ -10,6 +10,7 @@ ghost use Rattle.abides_run.specs.declared.request.Task.{Task as TaskTold};
 ghost use Rattle.abides_run.specs.Words.{texts, asked_of};
 ghost use Rattle.abides_run.specs.Verdict.{verdict, verdict_on_bytes, verdict_on_table, accepted, judged, most_bytes, series_of};
 ghost use Rattle.abides_run.specs.Fetched.{fetched as fetched_names, series_after, named as named_file};
+ghost use Rattle.abides_run.specs.Statuses.{Speaks, SpeaksFor};
 ghost use Rattle.abides_run.specs.Ends.{Ends, Fetches, IsSought};
 
 use crate::ending::Ending;
@@ -50,6 +51,7 @@ fn fetch_file<L: Library>(alloc: Global, name: &str, library: &mut L) -> Result<
     ensures bytes { IfOk result (λ bytes. IfSome (L.files library.old) (λ files. content (held files name.now) most_bytes ≡ whole bytes.items)) }
     ensures ended { IfErr result (λ e. IfSome (L.files library.old) (λ files.
         Fetches (content (held files name.now) most_bytes) name.now e.status (string_bytes e.name))) }
+    ensures speaks { IfErr result (λ e. Speaks (name.now ∷ []) e.status (string_bytes e.name)) }
     ensures sought { IfErr result (λ e. IsSought e.status) }
     ensures fault { IfErr result (λ e. e.status ≡ Status.ReadFault → Rose (L.faults library.old) (L.faults library.new)) }
     ensures steady { OnOk result (L.faults library.new ≡ L.faults library.old) }
@@ -77,6 +79,7 @@ fn fetch_series<L: Library>(
     ensures ended { IfErr result (λ e. IfSome (L.files library.old) (λ files. (task : TaskTold) →
         Ends (verdict_on_table files task (table_view raw.now.table) (series_of (table_view raw.now.table)))
         (named_file (series_of (table_view raw.now.table))) e.status (string_bytes e.name))) }
+    ensures speaks { IfErr result (λ e. Speaks (named_file (series_of (table_view raw.now.table))) e.status (string_bytes e.name)) }
     ensures sought { IfErr result (λ e. IsSought e.status) }
     ensures fault { IfErr result (λ e. e.status ≡ Status.ReadFault → Rose (L.faults library.old) (L.faults library.new)) }
     ensures steady { OnOk result (L.faults library.new ≡ L.faults library.old) }
@@ -98,6 +101,7 @@ fn accept_study(alloc: Global, raw: &RawStudy, series: Option<&[u8]>) -> Result<
         judged task (study_of (table_view raw.now.table) (option_map (λ text. text.now) series.entry)) ≡ accepted task (study_told s)) }
     ensures ended { IfErr result (λ e. (task : TaskTold) (fetched : List (List ℕ)) (name : List ℕ) →
         Ends (judged task (study_of (table_view raw.now.table) (option_map (λ text. text.now) series.entry))) fetched e.status name) }
+    ensures speaks { IfErr result (λ e. (files : List (List ℕ)) (name : List ℕ) → Speaks files e.status name) }
     ensures sought { IfErr result (λ e. IsSought e.status) }
     ensures silent { IfErr result (λ e. ¬ (e.status ≡ Status.ReadFault)) }
 {
@@ -132,6 +136,7 @@ fn read_study<L: Library>(alloc: Global, bytes: &[u8], library: &mut L) -> Resul
         verdict_on_bytes files task (table_of bytes.now) ≡ accepted task (study_told s))) }
     ensures ended { IfErr result (λ e. IfSome (L.files library.old) (λ files. (task : TaskTold) →
         Ends (verdict_on_bytes files task (table_of bytes.now)) (series_after (table_of bytes.now)) e.status (string_bytes e.name))) }
+    ensures speaks { IfErr result (λ e. Speaks (series_after (table_of bytes.now)) e.status (string_bytes e.name)) }
     ensures sought { IfErr result (λ e. IsSought e.status) }
     ensures fault { IfErr result (λ e. e.status ≡ Status.ReadFault → Rose (L.faults library.old) (L.faults library.new)) }
     ensures steady { OnOk result (L.faults library.new ≡ L.faults library.old) }
@@ -153,6 +158,7 @@ pub fn find_study<L: Library>(
     ensures asked { OnOk result (¬ (asked_of (texts words.now) ≡ None)) }
     ensures ended { IfErr result (λ e. IfSome (L.files library.old) (λ files.
         Ends (verdict files (texts words.now)) (fetched_names files (texts words.now)) e.status (string_bytes e.name))) }
+    ensures speaks { IfErr result (λ e. SpeaksFor (texts words.now) e.status (string_bytes e.name)) }
     ensures sought { IfErr result (λ e. (e.status ≡ Status.Usage) ⊎ IsSought e.status) }
     ensures usage { IfErr result (λ e. e.status ≡ Status.Usage → asked_of (texts words.now) ≡ None) }
     ensures not_asked { IfErr result (λ e. asked_of (texts words.now) ≡ None → (e.status ≡ Status.Usage) ⊎ (e.status ≡ Status.Memory)) }

@@ -1,11 +1,8 @@
 //! The one call that the program makes.
 
-ghost use Rattle.std.specs.Prelude.{◌≡◌, ◌≤◌, ◌^◌, ℕ, List, IfSome, string_bytes};
+ghost use Rattle.std.specs.Prelude.{◌≡◌, ◌≤◌, ◌^◌, ℕ, List, string_bytes};
 ghost use Rattle.abides_run.specs.Words.{texts};
-ghost use Rattle.abides_run.specs.Verdict.{verdict};
-ghost use Rattle.abides_run.specs.Fetched.{fetched};
-ghost use Rattle.abides_run.specs.Statuses.{Names};
-ghost use Rattle.abides_run.specs.Headline.{Answered, Noted};
+ghost use Rattle.abides_run.specs.Headline.{Answered, Named, Noted};
 
 use crate::ending::Ending;
 use crate::find::find_study;
@@ -28,8 +25,7 @@ fn answer<L: Library, O: Sink, D: Ledger>(
         (record { reads = L.faults library.old; writes = O.faults out.old; taken = O.taken out.old; steps = steps.old })
         (record { reads = L.faults library.new; writes = O.faults out.new; taken = O.taken out.new; steps = steps.new })
         result.status }
-    ensures named { IfSome (L.files library.old) (λ files.
-        Names (verdict files (texts words.now)) (fetched files (texts words.now)) result.status (string_bytes result.name)) }
+    ensures named { Named (L.files library.old) (texts words.now) result.status (string_bytes result.name) }
     ensures files { L.files library.new ≡ L.files library.old }
 {
     match find_study(alloc, words, library) {
@@ -47,7 +43,7 @@ fn answer<L: Library, O: Sink, D: Ledger>(
 ///
 /// What is promised of it are the fields of two records. `Answered` has the output, the rise of the counter, the cause of
 /// each status and the status of each cause, what stands at a refusal, and that want of memory is the only other end.
-/// `Noted` has the line of the status, with the name of the file that the status speaks of.
+/// `Noted` has the line of the status, with the name of the file that the status speaks of, and `Named` whose name that is.
 pub fn run<L: Library, O: Sink, N: Sink, G: Gate, D: Ledger>(
     alloc: Global,
     words: &[String],
@@ -62,8 +58,7 @@ pub fn run<L: Library, O: Sink, N: Sink, G: Gate, D: Ledger>(
         (record { reads = L.faults library.old; writes = O.faults out.old; taken = O.taken out.old; steps = steps.old })
         (record { reads = L.faults library.new; writes = O.faults out.new; taken = O.taken out.new; steps = steps.new })
         result }
-    ensures noted { (name : List ℕ)
-        × IfSome (L.files library.old) (λ files. Names (verdict files (texts words.now)) (fetched files (texts words.now)) result name)
+    ensures noted { (name : List ℕ) × Named (L.files library.old) (texts words.now) result name
         × Noted name (N.faults notes.old) (N.faults notes.new) (N.taken notes.old) (N.taken notes.new) result }
     ensures files { L.files library.new ≡ L.files library.old }
 {

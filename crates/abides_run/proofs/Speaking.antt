@@ -1,0 +1,118 @@
+-- Which files the line of an end may name.
+use Rattle.std.proofs.Common.{◌≡◌, ◌⊎◌, ℕ, List, [], ◌∷◌, Option, Some, None, IfSome, Result, Ok, Err, IfErr, string_bytes, refl, sym, subst, inl, inr}
+use Rattle.toml.specs.Data.{Members}
+use Rattle.study_file.specs.Tables.{table_of}
+use Rattle.abides_run.specs.declared.ending.Ending.{Ending}
+use Rattle.abides_run.specs.declared.request.Request.{Request}
+use Rattle.abides_run.specs.Words.{asked_of}
+use Rattle.abides_run.specs.Verdict.{Files, verdict, series_of}
+use Rattle.abides_run.specs.Fetched.{named, series_after, fetched, files_of}
+use Rattle.abides_run.specs.Statuses.{Names, Speaks, SpeaksFor}
+use Rattle.abides_run.specs.Ends.{Ends}
+use Rattle.abides_run.specs.Headline.{Named}
+use Rattle.abides_run.specs.Performed.{IsUnsent}
+use Rattle.abides_run.specs.declared.status.Status.{Status}
+use Rattle.abides_run.specs.declared.status.Status.TheVariants as status
+use Rattle.abides_run.proofs.Fetching.{IsNamedEnd}
+use Rattle.abides_run.proofs.Answered.{noted_named}
+
+-- a status names the one file that there is
+speaks_itself : (want : Status) (name : List ℕ) → Speaks (name ∷ []) want name
+speaks_itself status.Ok name = tt
+speaks_itself status.Usage name = tt
+speaks_itself status.NoStudy name = inl refl
+speaks_itself status.TooLong name = inl refl
+speaks_itself (status.Refused rule place) name = tt
+speaks_itself status.ReadFault name = inl refl
+speaks_itself status.WriteFault name = tt
+speaks_itself status.Memory name = tt
+
+pub named_speaks : (want st : Status) (name told : List ℕ) → IsNamedEnd want name st told → Speaks (name ∷ []) st told
+named_speaks want st name told (inl wanting) = subst (λ (x : Status). Speaks (name ∷ []) x told) (sym wanting) tt
+named_speaks want st name told (inr is) =
+    subst (λ (x : Status). Speaks (name ∷ []) x told) (sym is.0) (subst (λ (t : List ℕ). Speaks (name ∷ []) want t) (sym is.1) (speaks_itself want name))
+
+pub wanting_speaks : (files : List (List ℕ)) (st : Status) (name : List ℕ) → st ≡ status.Memory → Speaks files st name
+wanting_speaks files st name is = subst (λ (x : Status). Speaks files x name) (sym is) tt
+
+pub refused_speaks : (rule place : ℕ) (st : Status) → st ≡ status.Refused rule place → (files : List (List ℕ)) (name : List ℕ) → Speaks files st name
+refused_speaks rule place st is files name = subst (λ (x : Status). Speaks files x name) (sym is) tt
+
+pub table_speaks : (bytes : List ℕ) (files : List (List ℕ)) (st : Status) (name : List ℕ)
+    → (st ≡ status.Memory) ⊎ ((st ≡ status.Refused 0 0) × (table_of bytes ≡ None)) → Speaks files st name
+table_speaks bytes files st name (inl wanting) = wanting_speaks files st name wanting
+table_speaks bytes files st name (inr why) = refused_speaks 0 0 st why.0 files name
+
+-- the series file that a table names
+pub series_speaks : (table : Members) (name : List ℕ) (st : Status) (told : List ℕ) → Some name ≡ series_of table
+    → Speaks (name ∷ []) st told → Speaks (named (series_of table)) st told
+series_speaks table name st told is s = subst (λ (series : Option (List ℕ)). Speaks (named series) st told) is s
+
+pub series_of_bytes : (bytes : List ℕ) (table : Members) (st : Status) (name : List ℕ) → table_of bytes ≡ Some table
+    → Speaks (named (series_of table)) st name → Speaks (series_after (table_of bytes)) st name
+series_of_bytes bytes table st name has s = subst (λ (t : Option Members). Speaks (series_after t) st name) (sym has) s
+
+-- a further file
+speaks_more : (other : List ℕ) (files : List (List ℕ)) (st : Status) (name : List ℕ) → Speaks files st name → Speaks (other ∷ files) st name
+speaks_more other files status.Ok name s = tt
+speaks_more other files status.Usage name s = tt
+speaks_more other files status.NoStudy name s = inr s
+speaks_more other files status.TooLong name s = inr s
+speaks_more other files (status.Refused rule place) name s = tt
+speaks_more other files status.ReadFault name s = inr s
+speaks_more other files status.WriteFault name s = tt
+speaks_more other files status.Memory name s = tt
+
+-- further files behind the one
+speaks_first : (first : List ℕ) (files : List (List ℕ)) (st : Status) (name : List ℕ) → Speaks (first ∷ []) st name → Speaks (first ∷ files) st name
+speaks_first first files status.Ok name s = tt
+speaks_first first files status.Usage name s = tt
+speaks_first first files status.NoStudy name (inl is) = inl is
+speaks_first first files status.NoStudy name (inr none) = absurd none
+speaks_first first files status.TooLong name (inl is) = inl is
+speaks_first first files status.TooLong name (inr none) = absurd none
+speaks_first first files (status.Refused rule place) name s = tt
+speaks_first first files status.ReadFault name (inl is) = inl is
+speaks_first first files status.ReadFault name (inr none) = absurd none
+speaks_first first files status.WriteFault name s = tt
+speaks_first first files status.Memory name s = tt
+
+-- the study's fetch gave no bytes
+pub study_speaks : (words : List (List ℕ)) (request : Request) (st : Status) (name : List ℕ) → Some request ≡ asked_of words
+    → Speaks (request.study ∷ []) st name → SpeaksFor words st name
+study_speaks words request st name asks s =
+    ([], subst (λ (o : Option Request). Speaks (files_of o []) st name) asks (speaks_first request.study (series_after (table_of [])) st name s))
+
+-- the study of these bytes was not found in them
+pub bytes_speak : (words : List (List ℕ)) (request : Request) (bytes : List ℕ) (st : Status) (name : List ℕ) → Some request ≡ asked_of words
+    → Speaks (series_after (table_of bytes)) st name → SpeaksFor words st name
+bytes_speak words request bytes st name asks s =
+    (bytes, subst (λ (o : Option Request). Speaks (files_of o bytes) st name) asks (speaks_more request.study (series_after (table_of bytes)) st name s))
+
+pub words_speak : (words : List (List ℕ)) (st : Status) (name : List ℕ) → (st ≡ status.Memory) ⊎ ((st ≡ status.Usage) × (None ≡ asked_of words)) → SpeaksFor words st name
+words_speak words st name (inl wanting) = ([], wanting_speaks (files_of (asked_of words) []) st name wanting)
+words_speak words st name (inr why) = ([], subst (λ (x : Status). Speaks (files_of (asked_of words) []) x name) (sym why.0) tt)
+
+-- what is done with a study ends with a status that speaks of no file
+unsent_speaks : (files : List (List ℕ)) (st : Status) (name : List ℕ) → IsUnsent st → Speaks files st name
+unsent_speaks files status.Ok name u = tt
+unsent_speaks files status.Usage name u = tt
+unsent_speaks files status.NoStudy name u = absurd u
+unsent_speaks files status.TooLong name u = absurd u
+unsent_speaks files (status.Refused rule place) name u = tt
+unsent_speaks files status.ReadFault name u = absurd u
+unsent_speaks files status.WriteFault name u = tt
+unsent_speaks files status.Memory name u = tt
+
+pub performed_speaks : (words : List (List ℕ)) (st : Status) (name : List ℕ) → (st ≡ status.Ok) ⊎ IsUnsent st → SpeaksFor words st name
+performed_speaks words st name (inl ok) = ([], subst (λ (x : Status). Speaks (files_of (asked_of words) []) x name) (sym ok) tt)
+performed_speaks words st name (inr u) = ([], unsent_speaks (files_of (asked_of words) []) st name u)
+
+-- the status stays, or memory was wanting for its line
+pub noted_stays : (files : Option Files) (words : List (List ℕ)) (name : List ℕ) (now st : Status)
+    → (now ≡ st) ⊎ ((now ≡ status.Memory) × ¬ (st ≡ status.Ok)) → Named files words st name → Named files words now name
+noted_stays files words name now st (inl same) n = subst (λ (x : Status). Named files words x name) (sym same) n
+noted_stays files words name now st (inr (wanting, other)) n = record {
+  told = noted_named files words name now st (inr (wanting, other)) n.told;
+  always = ([], wanting_speaks (files_of (asked_of words) []) now name wanting);
+}
