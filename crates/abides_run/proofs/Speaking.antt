@@ -1,14 +1,12 @@
 -- Which files the line of an end may name.
-use Rattle.std.proofs.Common.{◌≡◌, ◌⊎◌, ℕ, List, [], ◌∷◌, Option, Some, None, IfSome, Result, Ok, Err, IfErr, string_bytes, refl, sym, subst, inl, inr}
+use Rattle.std.proofs.Common.{◌≡◌, ◌⊎◌, ℕ, List, [], ◌∷◌, Option, Some, None, Ok, refl, sym, subst, inl, inr}
 use Rattle.toml.specs.Data.{Members}
 use Rattle.study_file.specs.Tables.{table_of}
-use Rattle.abides_run.specs.declared.ending.Ending.{Ending}
 use Rattle.abides_run.specs.declared.request.Request.{Request}
 use Rattle.abides_run.specs.Words.{asked_of}
-use Rattle.abides_run.specs.Verdict.{Files, verdict, series_of}
-use Rattle.abides_run.specs.Fetched.{named, series_after, fetched, files_of}
-use Rattle.abides_run.specs.Statuses.{Names, Speaks, SpeaksFor}
-use Rattle.abides_run.specs.Ends.{Ends}
+use Rattle.abides_run.specs.Verdict.{Files, series_of}
+use Rattle.abides_run.specs.Fetched.{named, series_after, files_of}
+use Rattle.abides_run.specs.Statuses.{Speaks, SpeaksFor}
 use Rattle.abides_run.specs.Headline.{Named}
 use Rattle.abides_run.specs.Performed.{IsUnsent}
 use Rattle.abides_run.specs.declared.status.Status.{Status}
