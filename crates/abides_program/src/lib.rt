@@ -3,7 +3,9 @@
 #![tactic(auto)]
 
 use abides_run::{Status, run, write_note};
+use probe_desk::{Fees, Probe, Range, SpreadSum, Volume};
 use outside::{Counted, FileLibrary, OpenGate, Sink, Steps};
+use std::alloc::{AllocError, Global};
 use std::env;
 use std::io::ErrorKind;
 use std::process::ExitCode;
@@ -18,13 +20,14 @@ pub fn run_command_line<R: Env + Files + AllocGlobal, O: Sink, N: Sink>(
 ) -> ExitCode {
     let mut library = FileLibrary::new(rt);
     let mut steps: Steps<Counted> = Steps::new();
-    let status = match command_words(rt) {
-        Ok(words) => run(
+    let status = match words_and_probes(rt) {
+        Ok((words, probes)) => run(
             rt.alloc(),
             &words,
             &mut library,
             out,
             notes,
+            probes,
             &OpenGate,
             &mut steps,
         ),
@@ -32,6 +35,17 @@ pub fn run_command_line<R: Env + Files + AllocGlobal, O: Sink, N: Sink>(
     };
     steps.close();
     ExitCode::from(status.code())
+}
+
+// The command line, and the probes of a table.
+fn words_and_probes<R: Env + AllocGlobal>(
+    rt: &R,
+) -> Result<(Vec<String>, Vec<Box<dyn Probe>>), Status> {
+    let words = command_words(rt)?;
+    match probes(rt.alloc()) {
+        Ok(probes) => Ok((words, probes)),
+        Err(_) => Err(Status::Memory),
+    }
 }
 
 // The command line without the program's name. Words that are no text are faulty words.
@@ -53,4 +67,14 @@ fn command_words<R: Env + AllocGlobal>(rt: &R) -> Result<Vec<String>, Status> {
         }
     }
     Ok(words)
+}
+
+// The probes of a table, in the order of their columns.
+fn probes(alloc: Global) -> Result<Vec<Box<dyn Probe>>, AllocError> {
+    let mut probes: Vec<Box<dyn Probe>> = Vec::new(alloc);
+    probes.push(Box::new(alloc, Volume::new())?)?;
+    probes.push(Box::new(alloc, SpreadSum::new())?)?;
+    probes.push(Box::new(alloc, Range::new())?)?;
+    probes.push(Box::new(alloc, Fees::new())?)?;
+    Ok(probes)
 }

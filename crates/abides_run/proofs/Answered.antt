@@ -6,7 +6,7 @@ use Rattle.study_accept.specs.Accepted.{StudyTold}
 use Rattle.abides_run.specs.declared.request.Task.{Task}
 use Rattle.abides_run.specs.Words.{asked_of}
 use Rattle.abides_run.specs.Verdict.{Verdict, Files, usage, no_file, file_too_long, refused, accepted, verdict, IsStudy, output, distinct}
-use Rattle.abides_run.specs.Output.{written, simulated}
+use Rattle.abides_run.specs.Output.{Probes, written, simulated}
 use Rattle.abides_run.specs.Fetched.{fetched}
 use Rattle.abides_run.specs.Statuses.{Cause, Counts, IsRefusal, Names, status_of}
 use Rattle.abides_run.specs.Ends.{Ends, IsSought}
@@ -81,12 +81,12 @@ fulfilled come bytes events old new writes steps taken status.Memory early cause
   complete = λ s r w. inr refl;
 }
 
-early_told : (files : Option Files) (words : List (List ℕ)) (name : List ℕ) (old new writes steps : ℕ) (taken : Option (List ℕ)) (st : Status)
+early_told : (files : Option Files) (words : List (List ℕ)) (probes : Probes) (name : List ℕ) (old new writes steps : ℕ) (taken : Option (List ℕ)) (st : Status)
     → IsEarly st → IfSome files (λ library. Ends (verdict library words) (fetched library words) st name) → (st ≡ status.ReadFault → Rose old new)
-    → IfSome files (λ library. Fulfilled (verdict library words) (output (verdict library words)) (distinct (verdict library words)) (record { reads = old; writes = writes; taken = taken; steps = steps }) (record { reads = new; writes = writes; taken = taken; steps = steps }) st)
-early_told None words name old new writes steps taken st early ends fault = tt
-early_told (Some library) words name old new writes steps taken st early ends fault =
-    fulfilled (verdict library words) (output (verdict library words)) (distinct (verdict library words)) old new writes steps taken st early ends.cause fault
+    → IfSome files (λ library. Fulfilled (verdict library words) (output probes (verdict library words)) (distinct (verdict library words)) (record { reads = old; writes = writes; taken = taken; steps = steps }) (record { reads = new; writes = writes; taken = taken; steps = steps }) st)
+early_told None words probes name old new writes steps taken st early ends fault = tt
+early_told (Some library) words probes name old new writes steps taken st early ends fault =
+    fulfilled (verdict library words) (output probes (verdict library words)) (distinct (verdict library words)) old new writes steps taken st early ends.cause fault
 
 early_write : (st : Status) → IsEarly st → ¬ (st ≡ status.WriteFault)
 early_write st (inl e) w = let other : status.Usage ≡ status.WriteFault = sym e ∙ w in cc
@@ -97,13 +97,13 @@ early_ok st (inl e) w = let other : status.Usage ≡ status.Ok = sym e ∙ w in 
 early_ok st (inr e) w = subst IsSought w e
 
 -- the search ended without a study
-pub ended_early : (files : Option Files) (words : List (List ℕ)) (name : List ℕ) (old new writes steps : ℕ) (taken : Option (List ℕ)) (st : Status)
+pub ended_early : (files : Option Files) (words : List (List ℕ)) (probes : Probes) (name : List ℕ) (old new writes steps : ℕ) (taken : Option (List ℕ)) (st : Status)
     → IsEarly st → IfSome files (λ library. Ends (verdict library words) (fetched library words) st name)
     → (st ≡ status.Usage → asked_of words ≡ None) → (asked_of words ≡ None → (st ≡ status.Usage) ⊎ (st ≡ status.Memory))
     → (st ≡ status.Usage → new ≡ old) → (st ≡ status.ReadFault → Rose old new) → old ≤ new
-    → Answered files words (record { reads = old; writes = writes; taken = taken; steps = steps }) (record { reads = new; writes = writes; taken = taken; steps = steps }) st
-ended_early files words name old new writes steps taken st early ends faulty not_asked still fault rises = record {
-  told = early_told files words name old new writes steps taken st early ends fault;
+    → Answered files words probes (record { reads = old; writes = writes; taken = taken; steps = steps }) (record { reads = new; writes = writes; taken = taken; steps = steps }) st
+ended_early files words probes name old new writes steps taken st early ends faulty not_asked still fault rises = record {
+  told = early_told files words probes name old new writes steps taken st early ends fault;
   usage = faulty;
   not_asked = not_asked;
   unasked = still;
@@ -147,9 +147,9 @@ performed_complete : (st : Status) (old new : ℕ) → (st ≡ status.Ok) ⊎ Is
 performed_complete st old new (inl ok) fault r = inl ok
 performed_complete st old new (inr u) fault r = inr (unsent_wanting st old new u fault r)
 
-performed_fulfils : (task : Task) (s : StudyTold) (before after : Seen) (st : Status) → Performed (written task s) (simulated task s) before after st
-    → Fulfilled (accepted task s) (written task s) (simulated task s) before after st
-performed_fulfils task s before after st p = record {
+performed_fulfils : (probes : Probes) (task : Task) (s : StudyTold) (before after : Seen) (st : Status) → Performed (written probes task s) (simulated task s) before after st
+    → Fulfilled (accepted task s) (written probes task s) (simulated task s) before after st
+performed_fulfils probes task s before after st p = record {
   output = p.whole;
   counter = p.counter;
   cause = performed_cause (accepted task s) st tt p.ended;
@@ -158,12 +158,12 @@ performed_fulfils task s before after st p = record {
   complete = λ n r w. performed_complete st before.writes after.writes p.ended p.fault w;
 }
 
-performed_told : (files : Option Files) (words : List (List ℕ)) (task : Task) (s : StudyTold) (before after : Seen) (st : Status)
-    → IfSome files (λ library. verdict library words ≡ accepted task s) → Performed (written task s) (simulated task s) before after st
-    → IfSome files (λ library. Fulfilled (verdict library words) (output (verdict library words)) (distinct (verdict library words)) before after st)
-performed_told None words task s before after st is p = tt
-performed_told (Some library) words task s before after st is p =
-    subst (λ (v : Verdict). Fulfilled v (output v) (distinct v) before after st) (sym is) (performed_fulfils task s before after st p)
+performed_told : (files : Option Files) (words : List (List ℕ)) (probes : Probes) (task : Task) (s : StudyTold) (before after : Seen) (st : Status)
+    → IfSome files (λ library. verdict library words ≡ accepted task s) → Performed (written probes task s) (simulated task s) before after st
+    → IfSome files (λ library. Fulfilled (verdict library words) (output probes (verdict library words)) (distinct (verdict library words)) before after st)
+performed_told None words probes task s before after st is p = tt
+performed_told (Some library) words probes task s before after st is p =
+    subst (λ (v : Verdict). Fulfilled v (output probes v) (distinct v) before after st) (sym is) (performed_fulfils probes task s before after st p)
 
 unsent_read : (st : Status) → IsUnsent st → ¬ (st ≡ status.ReadFault)
 unsent_read st u e = subst IsUnsent e u
@@ -194,11 +194,11 @@ performed_refusal st (inl ok) r = subst IsRefusal ok r
 performed_refusal st (inr u) r = unsent_refusal st u r
 
 -- something was done with the study
-pub performed_answers : (files : Option Files) (words : List (List ℕ)) (task : Task) (s : StudyTold) (before after : Seen) (st : Status)
+pub performed_answers : (files : Option Files) (words : List (List ℕ)) (probes : Probes) (task : Task) (s : StudyTold) (before after : Seen) (st : Status)
     → IfSome files (λ library. verdict library words ≡ accepted task s) → ¬ (asked_of words ≡ None) → after.reads ≡ before.reads
-    → Performed (written task s) (simulated task s) before after st → Answered files words before after st
-performed_answers files words task s before after st is asked reads p = record {
-  told = performed_told files words task s before after st is p;
+    → Performed (written probes task s) (simulated task s) before after st → Answered files words probes before after st
+performed_answers files words probes task s before after st is asked reads p = record {
+  told = performed_told files words probes task s before after st is p;
   usage = λ e. absurd (performed_usage st p.ended e);
   not_asked = λ n. absurd (asked n);
   unasked = λ e. reads;
@@ -249,11 +249,11 @@ turned_counter events old new before after status.ReadFault other still h = (ome
 turned_counter events old new before after status.WriteFault other still h = (omega (arith, h), omega (arith, h), λ n. h)
 turned_counter events old new before after status.Memory other still h = h
 
-turned_told : (files : Option Files) (words : List (List ℕ)) (before after : Seen) (st : Status) → ¬ (st ≡ status.Ok) → (IsRefusal st → after.taken ≡ before.taken)
-    → IfSome files (λ library. Fulfilled (verdict library words) (output (verdict library words)) (distinct (verdict library words)) before after st)
-    → IfSome files (λ library. Fulfilled (verdict library words) (output (verdict library words)) (distinct (verdict library words)) before after status.Memory)
-turned_told None words before after st other still f = tt
-turned_told (Some library) words before after st other still f = record {
+turned_told : (files : Option Files) (words : List (List ℕ)) (probes : Probes) (before after : Seen) (st : Status) → ¬ (st ≡ status.Ok) → (IsRefusal st → after.taken ≡ before.taken)
+    → IfSome files (λ library. Fulfilled (verdict library words) (output probes (verdict library words)) (distinct (verdict library words)) before after st)
+    → IfSome files (λ library. Fulfilled (verdict library words) (output probes (verdict library words)) (distinct (verdict library words)) before after status.Memory)
+turned_told None words probes before after st other still f = tt
+turned_told (Some library) words probes before after st other still f = record {
   output = λ e. cc;
   counter = turned_counter (distinct (verdict library words)) before.steps after.steps before.taken after.taken st other still f.counter;
   cause = tt;
@@ -263,10 +263,10 @@ turned_told (Some library) words before after st other still f = record {
 }
 
 -- where memory was wanting for the line, that is the status
-turned : (files : Option Files) (words : List (List ℕ)) (before after : Seen) (st : Status) → ¬ (st ≡ status.Ok)
-    → Answered files words before after st → Answered files words before after status.Memory
-turned files words before after st other a = record {
-  told = turned_told files words before after st other a.refused a.told;
+turned : (files : Option Files) (words : List (List ℕ)) (probes : Probes) (before after : Seen) (st : Status) → ¬ (st ≡ status.Ok)
+    → Answered files words probes before after st → Answered files words probes before after status.Memory
+turned files words probes before after st other a = record {
+  told = turned_told files words probes before after st other a.refused a.told;
   usage = λ e. cc;
   not_asked = λ n. inr refl;
   unasked = λ e. cc;
@@ -281,11 +281,11 @@ turned files words before after st other a = record {
 }
 
 -- the status stays, or memory was wanting for its line
-pub noted_answered : (files : Option Files) (words : List (List ℕ)) (before after : Seen) (now st : Status)
+pub noted_answered : (files : Option Files) (words : List (List ℕ)) (probes : Probes) (before after : Seen) (now st : Status)
     → (now ≡ st) ⊎ ((now ≡ status.Memory) × ¬ (st ≡ status.Ok))
-    → Answered files words before after st → Answered files words before after now
-noted_answered files words before after now st (inl same) a = subst (λ (x : Status). Answered files words before after x) (sym same) a
-noted_answered files words before after now st (inr (wanting, other)) a = subst (λ (x : Status). Answered files words before after x) (sym wanting) (turned files words before after st other a)
+    → Answered files words probes before after st → Answered files words probes before after now
+noted_answered files words probes before after now st (inl same) a = subst (λ (x : Status). Answered files words probes before after x) (sym same) a
+noted_answered files words probes before after now st (inr (wanting, other)) a = subst (λ (x : Status). Answered files words probes before after x) (sym wanting) (turned files words probes before after st other a)
 
 pub noted_named : (files : Option Files) (words : List (List ℕ)) (name : List ℕ) (now st : Status)
     → (now ≡ st) ⊎ ((now ≡ status.Memory) × ¬ (st ≡ status.Ok))

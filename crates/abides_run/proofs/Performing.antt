@@ -3,8 +3,8 @@ use Rattle.std.proofs.Common.{◌≡◌, ◌≤◌, ◌+◌, ℕ, List, Option, 
 use Rattle.outside.specs.Taken.{appended, TookPrefix}
 use Rattle.study_accept.specs.Accepted.{StudyTold}
 use Rattle.abides_run.specs.declared.request.Task.{Task}
-use Rattle.abides_run.specs.declared.request.Task.TheVariants.{Run, Check}
-use Rattle.abides_run.specs.Output.{counts_line, study_bundle, study_events, written, simulated}
+use Rattle.abides_run.specs.declared.request.Task.TheVariants.{Run, Check, Table}
+use Rattle.abides_run.specs.Output.{counts_line, study_bundle, study_events, study_table, Probes, written, simulated}
 use Rattle.abides_run.specs.Statuses.{Counts}
 use Rattle.abides_run.specs.Performed.{Performed, Sent, IsUnsent}
 use Rattle.abides_run.specs.declared.status.Status.{Status}
@@ -72,15 +72,22 @@ wanting bytes events reads writes old new taken least most = record {
 }
 
 -- a run was asked for
-pub run_performed : (t : Task) (s : StudyTold) (writes now old new : ℕ) (before after : Option (List ℕ)) (st : Status) → t ≡ Run
+pub run_performed : (probes : Probes) (t : Task) (s : StudyTold) (writes now old new : ℕ) (before after : Option (List ℕ)) (st : Status) → t ≡ Run
     → ((reads : ℕ) → Performed (study_bundle s.course) (study_events s.course) (record { reads = reads; writes = writes; taken = before; steps = old }) (record { reads = reads; writes = now; taken = after; steps = new }) st)
-    → (reads : ℕ) → Performed (written t s) (simulated t s) (record { reads = reads; writes = writes; taken = before; steps = old }) (record { reads = reads; writes = now; taken = after; steps = new }) st
-run_performed t s writes now old new before after st is p =
-    subst (λ (x : Task). (reads : ℕ) → Performed (written x s) (simulated x s) (record { reads = reads; writes = writes; taken = before; steps = old }) (record { reads = reads; writes = now; taken = after; steps = new }) st) (sym is) p
+    → (reads : ℕ) → Performed (written probes t s) (simulated t s) (record { reads = reads; writes = writes; taken = before; steps = old }) (record { reads = reads; writes = now; taken = after; steps = new }) st
+run_performed probes t s writes now old new before after st is p =
+    subst (λ (x : Task). (reads : ℕ) → Performed (written probes x s) (simulated x s) (record { reads = reads; writes = writes; taken = before; steps = old }) (record { reads = reads; writes = now; taken = after; steps = new }) st) (sym is) p
 
 -- a check was asked for
-pub check_performed : (t : Task) (s : StudyTold) (writes now old new : ℕ) (before after : Option (List ℕ)) (st : Status) → t ≡ Check
+pub check_performed : (probes : Probes) (t : Task) (s : StudyTold) (writes now old new : ℕ) (before after : Option (List ℕ)) (st : Status) → t ≡ Check
     → ((reads : ℕ) → Performed (counts_line s.course) 0 (record { reads = reads; writes = writes; taken = before; steps = old }) (record { reads = reads; writes = now; taken = after; steps = new }) st)
-    → (reads : ℕ) → Performed (written t s) (simulated t s) (record { reads = reads; writes = writes; taken = before; steps = old }) (record { reads = reads; writes = now; taken = after; steps = new }) st
-check_performed t s writes now old new before after st is p =
-    subst (λ (x : Task). (reads : ℕ) → Performed (written x s) (simulated x s) (record { reads = reads; writes = writes; taken = before; steps = old }) (record { reads = reads; writes = now; taken = after; steps = new }) st) (sym is) p
+    → (reads : ℕ) → Performed (written probes t s) (simulated t s) (record { reads = reads; writes = writes; taken = before; steps = old }) (record { reads = reads; writes = now; taken = after; steps = new }) st
+check_performed probes t s writes now old new before after st is p =
+    subst (λ (x : Task). (reads : ℕ) → Performed (written probes x s) (simulated x s) (record { reads = reads; writes = writes; taken = before; steps = old }) (record { reads = reads; writes = now; taken = after; steps = new }) st) (sym is) p
+
+-- a table was asked for
+pub table_performed : (probes : Probes) (t : Task) (s : StudyTold) (writes now old new : ℕ) (before after : Option (List ℕ)) (st : Status) → t ≡ Table
+    → ((reads : ℕ) → Performed (study_table probes s.course) (study_events s.course) (record { reads = reads; writes = writes; taken = before; steps = old }) (record { reads = reads; writes = now; taken = after; steps = new }) st)
+    → (reads : ℕ) → Performed (written probes t s) (simulated t s) (record { reads = reads; writes = writes; taken = before; steps = old }) (record { reads = reads; writes = now; taken = after; steps = new }) st
+table_performed probes t s writes now old new before after st is p =
+    subst (λ (x : Task). (reads : ℕ) → Performed (written probes x s) (simulated x s) (record { reads = reads; writes = writes; taken = before; steps = old }) (record { reads = reads; writes = now; taken = after; steps = new }) st) (sym is) p

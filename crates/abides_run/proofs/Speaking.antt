@@ -1,18 +1,19 @@
 -- Which files the line of an end may name.
-use Rattle.std.proofs.Common.{◌≡◌, ◌⊎◌, ℕ, List, [], ◌∷◌, Option, Some, None, Ok, refl, sym, subst, inl, inr}
+use Rattle.std.proofs.Common.{◌≡◌, ◌⊎◌, ℕ, List, [], ◌∷◌, Option, Some, None, IfSome, refl, sym, subst, inl, inr}
 use Rattle.toml.specs.Data.{Members}
 use Rattle.study_file.specs.Tables.{table_of}
 use Rattle.abides_run.specs.declared.request.Request.{Request}
 use Rattle.abides_run.specs.Words.{asked_of}
-use Rattle.abides_run.specs.Verdict.{Files, series_of}
-use Rattle.abides_run.specs.Fetched.{named, series_after, files_of}
+use Rattle.abides_run.specs.Verdict.{Files, series_of, verdict}
+use Rattle.abides_run.specs.Fetched.{named, series_after, fetched, files_of}
 use Rattle.abides_run.specs.Statuses.{Speaks, SpeaksFor}
+use Rattle.abides_run.specs.Ends.{Ends}
 use Rattle.abides_run.specs.Headline.{Named}
 use Rattle.abides_run.specs.Performed.{IsUnsent}
 use Rattle.abides_run.specs.declared.status.Status.{Status}
 use Rattle.abides_run.specs.declared.status.Status.TheVariants as status
 use Rattle.abides_run.proofs.Fetching.{IsNamedEnd}
-use Rattle.abides_run.proofs.Answered.{noted_named}
+use Rattle.abides_run.proofs.Answered.{ended_named, noted_named, performed_named}
 
 -- a status names the one file that there is
 speaks_itself : (want : Status) (name : List ℕ) → Speaks (name ∷ []) want name
@@ -105,6 +106,17 @@ unsent_speaks files status.Memory name u = tt
 pub performed_speaks : (words : List (List ℕ)) (st : Status) (name : List ℕ) → (st ≡ status.Ok) ⊎ IsUnsent st → SpeaksFor words st name
 performed_speaks words st name (inl ok) = ([], subst (λ (x : Status). Speaks (files_of (asked_of words) []) x name) (sym ok) tt)
 performed_speaks words st name (inr u) = ([], unsent_speaks (files_of (asked_of words) []) st name u)
+
+pub performed_is_named : (files : Option Files) (words : List (List ℕ)) (st : Status) (name : List ℕ) → (st ≡ status.Ok) ⊎ IsUnsent st → Named files words st name
+performed_is_named files words st name ended = record {
+  told = performed_named files words st name ended;
+  always = performed_speaks words st name ended;
+}
+
+-- the search ended without a study
+pub ended_is_named : (files : Option Files) (words : List (List ℕ)) (st : Status) (name : List ℕ)
+    → IfSome files (λ library. Ends (verdict library words) (fetched library words) st name) → SpeaksFor words st name → Named files words st name
+ended_is_named files words st name ends speaks = record { told = ended_named files words st name ends; always = speaks }
 
 -- the status stays, or memory was wanting for its line
 pub noted_stays : (files : Option Files) (words : List (List ℕ)) (name : List ℕ) (now st : Status)

@@ -4,6 +4,7 @@ use Rattle.outside.specs.Rose.{Rose}
 use Rattle.outside.specs.Taken.{appended, TookPrefix}
 use Rattle.abides_run.specs.Words.{asked_of}
 use Rattle.abides_run.specs.Verdict.{Verdict, Files, verdict, IsStudy, output, distinct}
+use Rattle.abides_run.specs.Output.{Probes}
 use Rattle.abides_run.specs.Fetched.{fetched}
 use Rattle.abides_run.specs.Statuses.{Cause, Counts, IsRefusal, Names, SpeaksFor, status_of}
 use Rattle.abides_run.specs.Notes.{note}
@@ -35,8 +36,8 @@ pub record Fulfilled (come : Verdict) (bytes : List ℕ) (events : ℕ) (before 
       (status ≡ Ok) ⊎ (status ≡ Memory)
 
 -- What holds of all but the note. The files are there where the library tells them.
-pub record Answered (files : Option Files) (words : List (List ℕ)) (before after : Seen) (status : Status) : Type 0 where
-  pub told : IfSome files (λ held. Fulfilled (verdict held words) (output (verdict held words)) (distinct (verdict held words)) before after status)
+pub record Answered (files : Option Files) (words : List (List ℕ)) (probes : Probes) (before after : Seen) (status : Status) : Type 0 where
+  pub told : IfSome files (λ held. Fulfilled (verdict held words) (output probes (verdict held words)) (distinct (verdict held words)) before after status)
   -- Faulty words are told as such, and the library is not asked: its count stands.
   pub usage : status ≡ Usage → asked_of words ≡ None
   pub not_asked : asked_of words ≡ None → (status ≡ Usage) ⊎ (status ≡ Memory)

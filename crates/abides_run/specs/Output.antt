@@ -6,8 +6,10 @@ use Rattle.kernel_copy.specs.Segmentwise as segmentwise
 use Rattle.kernel_copy.specs.Courses.{CourseTold}
 use Rattle.branch_bundle.specs.Bundle.{bundle_of}
 use Rattle.study_accept.specs.Accepted.{StudyTold}
+use Rattle.probe_desk.specs.Probe.{Meaning}
+use Rattle.branch_tables.specs.Table as tables
 use Rattle.abides_run.specs.declared.request.Task.{Task}
-use Rattle.abides_run.specs.declared.request.Task.TheVariants.{Run, Check}
+use Rattle.abides_run.specs.declared.request.Task.TheVariants.{Run, Check, Table}
 
 -- the bundle of a study: the trace of each branch
 unfoldable pub study_bundle : CourseTold → List ℕ
@@ -21,15 +23,26 @@ counts_line c =
     ++ codes ", branches " ++ decimal (length c.plan.branches)
     ++ codes ", segments " ++ decimal (length (segments_in c.plan)) ++ 10 ∷ []
 
+-- The probes that watch a run: what each of them keeps and says, and the head of its column.
+pub record Probes : Type 0 where
+  pub meanings : List Meaning
+  pub titles : List (List ℕ)
+
+-- the table that compares a study's branches, with a column for each probe
+unfoldable pub study_table : Probes → CourseTold → List ℕ
+study_table probes c = tables.study_table c probes.meanings probes.titles
+
 -- each segment's own events, once
 unfoldable pub study_events : CourseTold → ℕ
 study_events c = segmentwise.distinct c.opening c.plan
 
-abbrev pub written : Task → StudyTold → List ℕ
-written Run s = study_bundle s.course
-written Check s = counts_line s.course
+abbrev pub written : Probes → Task → StudyTold → List ℕ
+written probes Run s = study_bundle s.course
+written probes Check s = counts_line s.course
+written probes Table s = study_table probes s.course
 
 -- a check simulates nothing
 abbrev pub simulated : Task → StudyTold → ℕ
 simulated Run s = study_events s.course
 simulated Check s = 0
+simulated Table s = study_events s.course

@@ -8,7 +8,7 @@ use Rattle.study_accept.specs.Accepted.{StudyTold, study_of}
 use Rattle.abides_run.specs.declared.request.Request.{Request}
 use Rattle.abides_run.specs.declared.request.Task.{Task}
 use Rattle.abides_run.specs.Words.{asked_of}
-use Rattle.abides_run.specs.Output.{written, simulated}
+use Rattle.abides_run.specs.Output.{Probes, written, simulated}
 
 pub data Verdict : Type 0 where
   usage : Verdict
@@ -80,12 +80,12 @@ IsAsked (refused rule place) = Unit {0}
 IsAsked (accepted task study) = Unit {0}
 
 -- what is to be written, which is nothing where there is no study
-abbrev pub output : Verdict → List ℕ
-output usage = []
-output (no_file name) = []
-output (file_too_long name) = []
-output (refused rule place) = []
-output (accepted task study) = written task study
+abbrev pub output : Probes → Verdict → List ℕ
+output probes usage = []
+output probes (no_file name) = []
+output probes (file_too_long name) = []
+output probes (refused rule place) = []
+output probes (accepted task study) = written probes task study
 
 -- how many steps are to be counted
 abbrev pub distinct : Verdict → ℕ

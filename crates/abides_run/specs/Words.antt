@@ -17,7 +17,7 @@ texts words = map string_bytes words
 abbrev pub request_of : Command → Option Request
 request_of (Run study) = Some (record { task = task.Run; study = study })
 request_of (Check study) = Some (record { task = task.Check; study = study })
-request_of (Table study) = None
+request_of (Table study) = Some (record { task = task.Table; study = study })
 request_of (Rewind study marks) = None
 request_of (Big number) = None
 

@@ -1,8 +1,8 @@
 //! What is done with a study.
 
-ghost use Rattle.std.specs.Prelude.{◌≡◌, ◌+◌, ◌++◌, ◌∷◌, ◌≤◌, ◌^◌, [], ℕ, IfOk, codes, length, string_bytes};
+ghost use Rattle.std.specs.Prelude.{◌≡◌, ◌+◌, ◌++◌, ◌∷◌, ◌≤◌, ◌^◌, [], ℕ, IfOk, codes, length, map, string_bytes};
 ghost use Rattle.std.specs.Fmt.{decimal};
-ghost use Rattle.abides_run.specs.Output.{counts_line, simulated, study_bundle, study_events, written};
+ghost use Rattle.abides_run.specs.Output.{counts_line, simulated, study_bundle, study_events, study_table, written};
 ghost use Rattle.abides_run.specs.Performed.{Performed};
 ghost use Rattle.study_accept.specs.Accepted.{study_told};
 
@@ -10,10 +10,12 @@ use crate::found::Found;
 use crate::request::Task;
 use crate::send::{send, send_bundle};
 use crate::status::Status;
+use branch_tables::study_table;
 use branch_bundle::laws::outcomes_are_a_run;
 use kernel_copy::{Course, run_segments};
 use outside::{Ledger, Sink, Steps};
 use plain_lists::Memory;
+use probe_desk::Probe;
 use std::alloc::{AllocError, Global};
 use std::sync::Arc;
 
@@ -36,6 +38,36 @@ fn run_study<O: Sink, D: Ledger>(
         Err(Memory) => return Status::Memory,
     };
     match send_bundle(alloc, course, &outcomes, out) {
+        Ok(()) => Status::Ok,
+        Err(status) => status,
+    }
+}
+
+// Simulates each segment of a study once, and then writes the table that compares the branches.
+fn table_study<O: Sink, D: Ledger>(
+    alloc: Global,
+    course: &Arc<Course>,
+    probes: &mut [Box<dyn Probe>],
+    out: &mut O,
+    steps: &mut Steps<D>,
+) -> Status
+    requires { steps.old ≤ 2 ^ 63 }
+    ensures { (reads : ℕ) → Performed (study_table (record { meanings = map (λ p. meaning p) probes.old; titles = map (λ p. title p) probes.old }) course.now.value)
+        (study_events course.now.value)
+        (record { reads = reads; writes = O.faults out.old; taken = O.taken out.old; steps = steps.old })
+        (record { reads = reads; writes = O.faults out.new; taken = O.taken out.new; steps = steps.new })
+        result }
+{
+    outcomes_are_a_run();
+    let outcomes = match run_segments(alloc, course, steps) {
+        Ok(outcomes) => outcomes,
+        Err(Memory) => return Status::Memory,
+    };
+    let text = match study_table(alloc, course, &outcomes, probes) {
+        Ok(text) => text,
+        Err(_) => return Status::Memory,
+    };
+    match send(out, &text) {
         Ok(()) => Status::Ok,
         Err(status) => status,
     }
@@ -94,11 +126,14 @@ fn check_study<O: Sink>(alloc: Global, course: &Course, out: &mut O) -> Status
 pub fn perform<O: Sink, D: Ledger>(
     alloc: Global,
     found: &Found,
+    probes: &mut [Box<dyn Probe>],
     out: &mut O,
     steps: &mut Steps<D>,
 ) -> Status
     requires { steps.old ≤ 2 ^ 63 }
-    ensures { (reads : ℕ) → Performed (written found.now.task (study_told found.now.study)) (simulated found.now.task (study_told found.now.study))
+    ensures { (reads : ℕ) → Performed
+        (written (record { meanings = map (λ p. meaning p) probes.old; titles = map (λ p. title p) probes.old }) found.now.task (study_told found.now.study))
+        (simulated found.now.task (study_told found.now.study))
         (record { reads = reads; writes = O.faults out.old; taken = O.taken out.old; steps = steps.old })
         (record { reads = reads; writes = O.faults out.new; taken = O.taken out.new; steps = steps.new })
         result }
@@ -106,5 +141,6 @@ pub fn perform<O: Sink, D: Ledger>(
     match found.task {
         Task::Run => run_study(alloc, &found.study.course, out, steps),
         Task::Check => check_study(alloc, &found.study.course, out),
+        Task::Table => table_study(alloc, &found.study.course, probes, out, steps),
     }
 }

@@ -9,6 +9,8 @@ pub enum Task {
     Run,
     /// Its counts are written, and nothing is simulated.
     Check,
+    /// The table that compares its branches is written.
+    Table,
 }
 
 /// A task, and the name of the study's file.

@@ -1,6 +1,6 @@
 //! The one call that the program makes.
 
-ghost use Rattle.std.specs.Prelude.{◌≡◌, ◌≤◌, ◌^◌, ℕ, List, string_bytes};
+ghost use Rattle.std.specs.Prelude.{◌≡◌, ◌≤◌, ◌^◌, ℕ, List, map, string_bytes};
 ghost use Rattle.abides_run.specs.Words.{texts};
 ghost use Rattle.abides_run.specs.Headline.{Answered, Named, Noted};
 
@@ -9,6 +9,7 @@ use crate::find::find_study;
 use crate::notes::write_note;
 use crate::perform::perform;
 use crate::status::Status;
+use probe_desk::Probe;
 use outside::{Gate, Ledger, Library, Sink, Steps};
 use std::alloc::Global;
 
@@ -18,10 +19,12 @@ fn answer<L: Library, O: Sink, D: Ledger>(
     words: &[String],
     library: &mut L,
     out: &mut O,
+    probes: &mut [Box<dyn Probe>],
     steps: &mut Steps<D>,
 ) -> Ending
     requires { steps.old ≤ 2 ^ 63 }
     ensures answered { Answered (L.files library.old) (texts words.now)
+        (record { meanings = map (λ p. meaning p) probes.old; titles = map (λ p. title p) probes.old })
         (record { reads = L.faults library.old; writes = O.faults out.old; taken = O.taken out.old; steps = steps.old })
         (record { reads = L.faults library.new; writes = O.faults out.new; taken = O.taken out.new; steps = steps.new })
         result.status }
@@ -30,7 +33,7 @@ fn answer<L: Library, O: Sink, D: Ledger>(
 {
     match find_study(alloc, words, library) {
         Ok(found) => Ending {
-            status: perform(alloc, &found, out, steps),
+            status: perform(alloc, &found, probes, out, steps),
             name: String::new(alloc),
         },
         Err(ending) => ending,
@@ -38,7 +41,7 @@ fn answer<L: Library, O: Sink, D: Ledger>(
 }
 
 /// Does what the words ask for: the study's file and the series file that it names come from the library, the bundle or the
-/// line of counts goes to `out`, and the line for the status to `notes`. The words are the command line without the
+/// line of counts or the table goes to `out`, and the line for the status to `notes`. The words are the command line without the
 /// program's name; each simulated event ticks `steps` once. The gate is where workers will pass; one thread needs none.
 ///
 /// What is promised of it are the fields of two records. `Answered` has the output, the rise of the counter, the cause of
@@ -50,11 +53,13 @@ pub fn run<L: Library, O: Sink, N: Sink, G: Gate, D: Ledger>(
     library: &mut L,
     out: &mut O,
     notes: &mut N,
+    probes: Vec<Box<dyn Probe>>,
     _gate: &G,
     steps: &mut Steps<D>,
 ) -> Status
     requires { steps.old ≤ 2 ^ 63 }
     ensures answered { Answered (L.files library.old) (texts words.now)
+        (record { meanings = map (λ p. meaning p) probes.items; titles = map (λ p. title p) probes.items })
         (record { reads = L.faults library.old; writes = O.faults out.old; taken = O.taken out.old; steps = steps.old })
         (record { reads = L.faults library.new; writes = O.faults out.new; taken = O.taken out.new; steps = steps.new })
         result }
@@ -62,6 +67,7 @@ pub fn run<L: Library, O: Sink, N: Sink, G: Gate, D: Ledger>(
         × Noted name (N.faults notes.old) (N.faults notes.new) (N.taken notes.old) (N.taken notes.new) result }
     ensures files { L.files library.new ≡ L.files library.old }
 {
-    let ending = answer(alloc, words, library, out, steps);
+    let mut probes = probes;
+    let ending = answer(alloc, words, library, out, &mut probes, steps);
     write_note(alloc, ending.name.as_str(), ending.status, notes)
 }

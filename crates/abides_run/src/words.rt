@@ -20,7 +20,10 @@ fn request<'a>(command: Command<'a>) -> Option<Request<'a>>
             task: Task::Check,
             study,
         }),
-        Command::Table(_study) => None,
+        Command::Table(study) => Some(Request {
+            task: Task::Table,
+            study,
+        }),
         Command::Rewind(_study, _marks) => None,
         Command::Big(_number) => None,
     }

@@ -27,7 +27,7 @@ pub fn shared_events_are_counted_once()
     ensures counts { counts_line three_branches ≡ codes "accepted: agents 3, stocks 1, branches 4, segments 5\n" }
 {}
 
-/// The words `run s` and `check s` ask for the study `s`; with no name, an empty one, a further word, or a command that the
+/// The words `run s`, `check s` and `table s` ask for the study `s`; with no name, an empty one, a further word, or a command that the
 /// program does not have they ask for nothing.
 pub fn asked_words()
     ensures run { asked_of (codes "run" ∷ codes "s" ∷ []) ≡ Some (record { task = task.Run; study = codes "s" }) }
@@ -36,7 +36,7 @@ pub fn asked_words()
     ensures empty { asked_of (codes "run" ∷ [] ∷ []) ≡ None }
     ensures further { asked_of (codes "run" ∷ codes "s" ∷ codes "t" ∷ []) ≡ None }
     ensures other { asked_of (codes "ran" ∷ codes "s" ∷ []) ≡ None }
-    ensures table { asked_of (codes "table" ∷ codes "s" ∷ []) ≡ None }
+    ensures table { asked_of (codes "table" ∷ codes "s" ∷ []) ≡ Some (record { task = task.Table; study = codes "s" }) }
     ensures rewind { asked_of (codes "rewind" ∷ codes "s" ∷ codes "root:1" ∷ []) ≡ None }
     ensures big { asked_of (codes "big" ∷ codes "7" ∷ []) ≡ None }
     ensures many_workers { asked_of (codes "run" ∷ codes "s" ∷ codes "--workers=65" ∷ []) ≡ None }

@@ -1,7 +1,8 @@
 use Rattle.std.proofs.Common.{refl, string_bytes}
 use Rattle.study_accept.specs.Accepted.{study_told}
 use Rattle.abides_run.specs.Words.{texts}
-use Rattle.abides_run.proofs.Answered.{ended_early, performed_answers, performed_named}
+use Rattle.abides_run.proofs.Answered.{ended_early, performed_answers}
+use Rattle.abides_run.proofs.Speaking.{performed_is_named}
 use Rattle.abides_run.proofs.top.answer.Goals as goal
 
 pub returns-in-Ok-clause-answered : goal.returns-in-Ok-clause-answered
@@ -9,18 +10,18 @@ returns-in-Ok-clause-answered g c =
     let reads = g.L.Library.faults c.args.library.now in
     let f = c.in-Ok.found in
     rw c.in-Ok.ensures.steady
-    (performed_answers (g.L.Library.files c.args.library.now) (texts c.args.words.now) f.task (study_told f.study)
+    (performed_answers (g.L.Library.files c.args.library.now) (texts c.args.words.now) _ f.task (study_told f.study)
     (record { reads = reads; writes = g.O.Sink.faults c.args.out.now; taken = g.O.Sink.taken c.args.out.now; steps = c.args.steps.now })
     (record { reads = reads; writes = g.O.Sink.faults c.perform.new.out; taken = g.O.Sink.taken c.perform.new.out; steps = c.perform.new.steps })
     c.perform.result c.in-Ok.ensures.study c.in-Ok.ensures.asked refl (c.perform.ensures reads))
 
 pub returns-in-Ok-clause-named : goal.returns-in-Ok-clause-named
 returns-in-Ok-clause-named g c =
-    performed_named (g.L.Library.files c.args.library.now) (texts c.args.words.now) c.perform.result (string_bytes c.new.result) (c.perform.ensures 0).ended
+    performed_is_named (g.L.Library.files c.args.library.now) (texts c.args.words.now) c.perform.result (string_bytes c.new.result) (c.perform.ensures 0).ended
 
 pub returns-in-Err-clause-answered : goal.returns-in-Err-clause-answered
 returns-in-Err-clause-answered g c =
     let e = c.in-Err.ending in
     let says = c.in-Err.ensures in
-    ended_early (g.L.Library.files c.args.library.now) (texts c.args.words.now) (string_bytes e.name) (g.L.Library.faults c.args.library.now) (g.L.Library.faults c.find_study.new.library) (g.O.Sink.faults c.args.out.now) c.args.steps.now (g.O.Sink.taken c.args.out.now) e.status
+    ended_early (g.L.Library.files c.args.library.now) (texts c.args.words.now) _ (string_bytes e.name) (g.L.Library.faults c.args.library.now) (g.L.Library.faults c.find_study.new.library) (g.O.Sink.faults c.args.out.now) c.args.steps.now (g.O.Sink.taken c.args.out.now) e.status
     says.sought says.ended says.usage says.not_asked says.unasked says.fault c.find_study.ensures.rises
