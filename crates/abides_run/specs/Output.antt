@@ -7,7 +7,7 @@ use Rattle.kernel_copy.specs.Courses.{CourseTold}
 use Rattle.branch_bundle.specs.Bundle.{bundle_of}
 use Rattle.study_accept.specs.Accepted.{StudyTold}
 use Rattle.probe_desk.specs.Probe.{Meaning}
-use Rattle.branch_tables.specs.Table as tables
+use Rattle.branch_tables.specs.Tables as tables
 use Rattle.abides_run.specs.declared.request.Task.{Task}
 use Rattle.abides_run.specs.declared.request.Task.TheVariants.{Run, Check, Table}
 
