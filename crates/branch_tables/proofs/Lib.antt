@@ -1,5 +1,5 @@
 pub mod Numbering
 pub mod Ending
 pub mod Watching
-pub mod Parts
+pub mod Traces
 pub mod Rows

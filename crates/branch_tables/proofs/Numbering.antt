@@ -1,5 +1,5 @@
 -- The records of a run are numbered from 1 on, and its state counts them.
-use Rattle.std.proofs.Common.{◌≡◌, ℕ, ◌+◌, ◌∙◌, true, false, Bool, List, [], ◌∷◌, ◌++◌, Option, Some, None, option_map, is_some, cond, length, refl, ap, sym, subst, arith, suc, zero}
+use Rattle.std.proofs.Common.{◌≡◌, ℕ, ◌+◌, ◌-◌, ◌∙◌, true, false, Bool, List, [], ◌∷◌, ◌++◌, Option, Some, None, option_map, is_some, cond, length, refl, ap, sym, subst, arith, suc, zero}
 use Rattle.std.specs.Prelude.{nat_le, if◌then◌else◌}
 use Rattle.std.proofs.lemmas.List.{length-append}
 use Rattle.market_types.specs.declared.message.Message.{Message}
@@ -59,7 +59,7 @@ counted-by zero o r c = c
 counted-by (suc n) o r c = counted-by n o (advanced o r) (counted-advanced o r c)
 
 counted-until : (o : Opening) (stop : ℕ) (r : Run) → IsCounted r → IsCounted (until o stop r)
-counted-until o stop r c = counted-by _ o r c
+counted-until o stop r c = counted-by (stop - r.state.events) o r c
 
 -- edits are no records
 counted-edit : (b i : ℕ) (e : Edit) (r : Run) → IsCounted r → IsCounted (edited_one b i e r)

@@ -10,11 +10,11 @@ seen-append m s [] ys = refl
 seen-append m s (event r ∷ xs) ys = seen-append m (m.after s r) xs ys
 seen-append m s (edit x ∷ xs) ys = seen-append m s xs ys
 
-head_same : {Y : Type 0} (a b : Y) (as bs : List Y) → ◌≡◌ {A = List Y} (a ∷ as) (b ∷ bs) → a ≡ b
-head_same a b as bs h = cc
+head_same : {Y : Type 0} (a b : Y) (xs ys : List Y) → ◌≡◌ {A = List Y} (a ∷ xs) (b ∷ ys) → a ≡ b
+head_same a b xs ys h = cc
 
-tail_same : {Y : Type 0} (a b : Y) (as bs : List Y) → ◌≡◌ {A = List Y} (a ∷ as) (b ∷ bs) → as ≡ bs
-tail_same a b as bs h = cc
+tail_same : {Y : Type 0} (a b : Y) (xs ys : List Y) → ◌≡◌ {A = List Y} (a ∷ xs) (b ∷ ys) → xs ≡ ys
+tail_same a b xs ys h = cc
 
 -- what is made from two lists of as many items is the same wherever they are
 both_same : {X M N Y : Type 0} (mean : X → M) (num : X → N) (want : X → N) (f : M → N → Y) (ps qs : List X) → map mean ps ≡ map mean qs → map num ps ≡ map want qs

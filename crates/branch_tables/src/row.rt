@@ -1,8 +1,6 @@
 //! Rows of a table.
 
 ghost use Rattle.std.specs.Prelude.{◌≡◌, ◌<◌, IfOk, length, map};
-ghost use Rattle.std.specs.List.{flat_map};
-ghost use Rattle.probe_desk.specs.Probe.{column_of, seen};
 ghost use Rattle.branch_tree.specs.Plan.{parent_at};
 ghost use Rattle.kernel_core.specs.Step.{end_of};
 ghost use Rattle.branch_bundle.specs.Ran.{IsRunOf};
@@ -13,34 +11,30 @@ use crate::parts::{last_segment, parts_of};
 use branch_bundle::Ran;
 use branch_tree::Name;
 use kernel_copy::Course;
-use market_types::{End, Memory, Sequence, Trace};
+use market_types::{End, Memory, Sequence};
 use probe_desk::{Probe, restart_all, values, watch};
 use std::alloc::Global;
 use study_report::{TableRow, first_difference_of_parts};
 
-// Each probe opens anew and sees the records of traces one after another.
-fn watch_anew(probes: &mut [Box<dyn Probe>], parts: &[&Trace])
-    ensures numbers { map (λ p. numbers p) probes.new ≡ map (λ p. seen (meaning p) (meaning p).opening (flat_map (λ t. t.now.list) parts.now)) probes.old }
+// What each probe says of the full run of a branch, which it sees in order from its opening on.
+fn columns<W: Ran>(
+    alloc: Global,
+    course: &Course,
+    ran: &W,
+    branch: u16,
+    probes: &mut [Box<dyn Probe>],
+) -> Result<Vec<i128>, Memory>
+    requires branch { branch < length course.now.plan.branches }
+    requires ran { IsRunOf course.now (W.count ran.now) (W.entries_of ran.now) (W.closing_of ran.now) }
+    ensures values { IfOk result (λ v. v.items ≡ map (column course.now branch) (map (λ p. meaning p) probes.old)) }
     ensures meanings { map (λ p. meaning p) probes.new ≡ map (λ p. meaning p) probes.old }
     ensures titles { map (λ p. title p) probes.new ≡ map (λ p. title p) probes.old }
 {
+    let parts = parts_of(alloc, course, ran, branch)?;
     restart_all(probes);
-    for part in parts {
+    for part in &parts {
         watch(probes, part);
     }
-}
-
-// What each probe says of a run.
-fn columns(
-    alloc: Global,
-    probes: &mut [Box<dyn Probe>],
-    parts: &[&Trace],
-) -> Result<Vec<i128>, Memory>
-    ensures values { IfOk result (λ v. v.items ≡ map (λ m. column_of m (flat_map (λ t. t.now.list) parts.now)) (map (λ p. meaning p) probes.old)) }
-    ensures meanings { map (λ p. meaning p) probes.new ≡ map (λ p. meaning p) probes.old }
-    ensures titles { map (λ p. title p) probes.new ≡ map (λ p. title p) probes.old }
-{
-    watch_anew(probes, parts);
     values(alloc, probes)
 }
 
@@ -65,25 +59,24 @@ fn left_name(course: &Course, branch: u16) -> Option<Name>
     Some(course.plan().branches()[usize::from(parent)].name.copy())
 }
 
-// Where the full run of a branch, which is given, first differs from its parent's.
+// Where the full run of a branch first differs from its parent's.
 fn first_difference<W: Ran>(
     alloc: Global,
     course: &Course,
     ran: &W,
     branch: u16,
-    parts: &[&Trace],
 ) -> Result<u32, Memory>
     requires branch { branch < length course.now.plan.branches }
     requires ran { IsRunOf course.now (W.count ran.now) (W.entries_of ran.now) (W.closing_of ran.now) }
-    requires parts { flat_map (λ t. t.now.list) parts.now ≡ (run_of course.now branch).entries }
     ensures { IfOk result (λ d. d ≡ difference course.now branch) }
 {
     if branch == 0 {
         return Ok(0);
     }
     runs_are_numbered();
+    let own = parts_of(alloc, course, ran, branch)?;
     let others = parts_of(alloc, course, ran, parent_of(course, branch))?;
-    Ok(first_difference_of_parts(parts, others.as_slice()))
+    Ok(first_difference_of_parts(own.as_slice(), others.as_slice()))
 }
 
 // What a letter of a closing says ended its run.
@@ -127,9 +120,8 @@ pub fn row<W: Ran>(
     ensures meanings { map (λ p. meaning p) probes.new ≡ map (λ p. meaning p) probes.old }
     ensures titles { map (λ p. title p) probes.new ≡ map (λ p. title p) probes.old }
 {
-    let parts = parts_of(alloc, course, ran, branch)?;
-    let difference = first_difference(alloc, course, ran, branch, parts.as_slice())?;
-    let values = columns(alloc, probes, parts.as_slice())?;
+    let difference = first_difference(alloc, course, ran, branch)?;
+    let values = columns(alloc, course, ran, branch, probes)?;
     let (events, end) = ended(course, ran, branch);
     let b = &course.plan().branches()[usize::from(branch)];
     Ok(TableRow {

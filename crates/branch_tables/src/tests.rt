@@ -187,29 +187,14 @@ fn course(alloc: Global, opening: Opening, branches: Vec<Branch>) -> Result<Arc<
     Ok(Arc::new(alloc, Course::new(opening, plan))?)
 }
 
-// The table of what a course gave.
-fn table_of(
-    alloc: Global,
-    course: &Course,
-    ran: &Vec<Outcome>,
-    probes: &mut [Box<dyn Probe>],
-) -> Result<Vec<u8>, Memory>
-    requires { map outcome_told ran.now.items ≡ outcomes_before course.now (length (segments_in course.now.plan)) }
+// What the segments of a course give.
+fn ran(alloc: Global, course: &Arc<Course>) -> Result<Vec<Outcome>, Fail>
+    ensures { IfOk result (λ v. map outcome_told v.items ≡ outcomes_before course.now.value (length (segments_in course.now.value.plan))) }
 {
-    outcomes_are_a_run();
-    study_table(alloc, course, ran, probes)
-}
-
-// Runs a course and gives its table.
-fn table(
-    alloc: Global,
-    course: &Arc<Course>,
-    probes: &mut [Box<dyn Probe>],
-) -> Result<Vec<u8>, Fail> {
     let mut steps: Steps<Counted> = Steps::new();
     let ran = run_segments(alloc, course, &mut steps);
     let _ = steps.close();
-    Ok(table_of(alloc, course, &ran?, probes)?)
+    Ok(ran?)
 }
 
 // The course of a branch that makes the latency 50, one that makes it 7, and one that changes nothing.
@@ -230,7 +215,10 @@ fn four_probes_on_three_branches(rt: HostRuntime) -> Result<(), Fail> {
         Box::new(alloc, Range::new())?,
         Box::new(alloc, Fees::new())?,
     ];
-    let text = table(alloc, &three_branches(alloc)?, &mut probes)?;
+    let course = three_branches(alloc)?;
+    let ran = ran(alloc, &course)?;
+    outcomes_are_a_run();
+    let text = study_table(alloc, &course, &ran, &mut probes)?;
     let wanted =
         b"branch,parent,stop,events,end,first_difference,volume,spread_sum,range,fees\nroot,,0,6,Closed,0,0,0,0,0\nx,root,2,6,Closed,5,0,0,0,0\ny,root,2,6,Closed,5,0,0,0,0\nz,root,2,6,Closed,0,0,0,0,0\n";
     assert!(rt; text.as_slice() == wanted.as_slice());
@@ -240,7 +228,10 @@ fn four_probes_on_three_branches(rt: HostRuntime) -> Result<(), Fail> {
 #[test]
 fn no_probe_on_three_branches(rt: HostRuntime) -> Result<(), Fail> {
     let alloc = rt.alloc();
-    let text = table(alloc, &three_branches(alloc)?, &mut [])?;
+    let course = three_branches(alloc)?;
+    let ran = ran(alloc, &course)?;
+    outcomes_are_a_run();
+    let text = study_table(alloc, &course, &ran, &mut [])?;
     let wanted =
         b"branch,parent,stop,events,end,first_difference\nroot,,0,6,Closed,0\nx,root,2,6,Closed,5\ny,root,2,6,Closed,5\nz,root,2,6,Closed,0\n";
     assert!(rt; text.as_slice() == wanted.as_slice());
@@ -253,9 +244,12 @@ fn a_probe_of_what_was_put_back(rt: HostRuntime) -> Result<(), Fail> {
     let alloc = rt.alloc();
     let course = course(alloc, busy_market(alloc)?, root(alloc)?)?;
     let mut probes: [Box<dyn Probe>; 1] = [Box::new(alloc, PutBacks { count: 0 })?];
-    let text = table(alloc, &course, &mut probes)?;
-    let again = table(alloc, &course, &mut probes)?;
-    let wanted = b"branch,parent,stop,events,end,first_difference,put_backs\nroot,,0,11,Closed,0,2\n";
+    let ran = ran(alloc, &course)?;
+    outcomes_are_a_run();
+    let text = study_table(alloc, &course, &ran, &mut probes)?;
+    let again = study_table(alloc, &course, &ran, &mut probes)?;
+    let wanted =
+        b"branch,parent,stop,events,end,first_difference,put_backs\nroot,,0,11,Closed,0,2\n";
     assert!(rt; text.as_slice() == wanted.as_slice());
     assert!(rt; again.as_slice() == wanted.as_slice());
     Ok(())
