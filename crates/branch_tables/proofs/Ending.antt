@@ -1,6 +1,6 @@
 -- A run up to the limit of events has ended.
-use Rattle.std.proofs.Common.{◌≡◌, ◌≤◌, ℕ, ◌-◌, refl, inl, inr, true, false, List, [], ◌∷◌, Option, Some, None, ap, subst, sym, arith}
-use Rattle.std.specs.Prelude.{nat_le, nat_eq, IsSome, if◌then◌else◌}
+use Rattle.std.proofs.Common.{◌≡◌, ◌≤◌, ℕ, ◌-◌, refl, inl, inr, List, [], ◌∷◌, Option, Some, None, arith}
+use Rattle.std.specs.Prelude.{IsSome}
 use Rattle.std.proofs.lemmas.Bool.{cases_lt, le-leb, lt-leb}
 use Rattle.market_types.specs.declared.entry.End.{End}
 use Rattle.market_types.specs.declared.entry.End.TheVariants.{Quiet, Closed, EventLimit, QueueFull}

@@ -1,5 +1,5 @@
 -- The records of a run are numbered from 1 on, and its state counts them.
-use Rattle.std.proofs.Common.{◌≡◌, ℕ, ◌+◌, ◌-◌, ◌∙◌, true, false, Bool, List, [], ◌∷◌, ◌++◌, Option, Some, None, option_map, is_some, cond, length, refl, ap, sym, subst, arith, suc, zero}
+use Rattle.std.proofs.Common.{◌≡◌, ℕ, ◌+◌, ◌-◌, ◌∙◌, true, false, List, [], ◌∷◌, ◌++◌, Option, Some, None, option_map, is_some, cond, length, refl, ap, sym, subst, arith, suc, zero}
 use Rattle.std.specs.Prelude.{nat_le, if◌then◌else◌}
 use Rattle.std.proofs.lemmas.List.{length-append}
 use Rattle.market_types.specs.declared.message.Message.{Message}
@@ -16,15 +16,11 @@ use Rattle.kernel_core.specs.Edited.{edited_one, edited_from}
 use Rattle.kernel_core.proofs.Runs.{event-number, event-events}
 use Rattle.kernel_copy.specs.Full.{opening_run, edited_by, forks_of, full_along, full}
 use Rattle.study_report.specs.Difference.{events_in, AreNumbered}
+use Rattle.study_report.proofs.Parts.{events_in-append}
 
 pub record IsCounted (r : Run) : Type 0 where
   pub numbered : AreNumbered 1 (events_in r.entries)
   pub count : length (events_in r.entries) ≡ r.state.events
-
-events_in-append : (es fs : List EntryTold) → events_in (es ++ fs) ≡ events_in es ++ events_in fs
-events_in-append [] fs = refl
-events_in-append (event r ∷ es) fs = ap (λ rs. r ∷ rs) (events_in-append es fs)
-events_in-append (edit m ∷ es) fs = events_in-append es fs
 
 events_in-edit : (es : List EntryTold) (m : EditTold) → events_in (es ++ edit m ∷ []) ≡ events_in es
 events_in-edit [] m = refl

@@ -1,7 +1,5 @@
 -- Probes that see traces one after another.
-use Rattle.std.proofs.Common.{◌≡◌, ◌∙◌, ℕ, ℤ, ◌+◌, ◌<◌, List, [], ◌∷◌, ◌++◌, length, get_or, take, map, refl, ap, ap₂, sym}
-use Rattle.std.specs.List.{flat_map}
-use Rattle.std.proofs.lemmas.List.{take_more}
+use Rattle.std.proofs.Common.{◌≡◌, ◌∙◌, ℤ, ◌+◌, List, [], ◌∷◌, ◌++◌, map, refl, ap, ap₂, sym}
 use Rattle.market_types.specs.Told.{EntryTold, event, edit}
 use Rattle.probe_desk.specs.Probe.{Meaning, seen, column_of}
 

@@ -1,4 +1,4 @@
-use Rattle.std.proofs.Common.{◌≡◌, ◌∙◌, ◌<◌, ℕ, inl, inr, List, length, get_or, ap, ap₂, sym, subst, arith}
+use Rattle.std.proofs.Common.{◌∙◌, ◌<◌, ℕ, inl, inr, List, length, get_or, ap, ap₂, sym, subst, arith}
 use Rattle.std.proofs.lemmas.Bool.{cases_eq}
 use Rattle.std.proofs.lemmas.List.{get_or_default}
 use Rattle.branch_tree.specs.declared.branch.Branch.{Branch}

@@ -1,4 +1,4 @@
-use Rattle.std.proofs.Common.{◌≡◌, ◌∙◌, ◌++◌, ◌+◌, List, map, drop, sym, ap}
+use Rattle.std.proofs.Common.{◌∙◌, ◌++◌, ◌+◌, List, map, drop, sym, ap}
 use Rattle.std.specs.List.{flat_map}
 use Rattle.market_types.specs.Told.{EntryTold, event_told, entry_told}
 use Rattle.study_report.specs.Difference.{events_in, parted}
