@@ -9,8 +9,8 @@ use crate::find::find_study;
 use crate::notes::write_note;
 use crate::perform::perform;
 use crate::status::Status;
-use probe_desk::Probe;
 use outside::{Gate, Ledger, Library, Sink, Steps};
+use probe_desk::Probe;
 use std::alloc::Global;
 
 // All but the note.

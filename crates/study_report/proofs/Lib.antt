@@ -1,3 +1,4 @@
 pub mod OneMore
 pub mod Walks
 pub mod Numbered
+pub mod Parts

@@ -3,11 +3,7 @@ use Rattle.std.proofs.Common.{◌≡◌, ◌∙◌, ℕ, ◌+◌, List, [], ◌�
 use Rattle.std.proofs.lemmas.List.{length-append}
 use Rattle.market_types.specs.Told.{EventTold, EditTold, EntryTold, event, edit}
 use Rattle.study_report.specs.Difference.{events_in, AreNumbered}
-
-events_in-append : (es fs : List EntryTold) → events_in (es ++ fs) ≡ events_in es ++ events_in fs
-events_in-append [] fs = refl
-events_in-append (event r ∷ es) fs = ap (λ rs. r ∷ rs) (events_in-append es fs)
-events_in-append (edit m ∷ es) fs = events_in-append es fs
+use Rattle.study_report.proofs.Parts.{events_in-append}
 
 numbered_push : (n : ℕ) (rs : List EventTold) (r : EventTold) → r.number ≡ n + length rs → AreNumbered n rs → AreNumbered n (rs ++ r ∷ [])
 numbered_push n [] r is all = (omega arith, tt)

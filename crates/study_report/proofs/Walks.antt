@@ -1,27 +1,19 @@
--- Two traces that are walked side by side.
-use Rattle.std.proofs.Common.{◌≡◌, ◌∙◌, ℕ, ◌+◌, ◌<◌, Bool, List, [], ◌∷◌, Option, Some, None, Result, Ok, Err, length, get_or, drop, map, ap, sym, subst, inl, inr}
+-- Two runs that are walked side by side.
+use Rattle.std.proofs.Common.{◌≡◌, ◌∙◌, ℕ, ◌+◌, ◌≤◌, Bool, true, false, List, [], ◌∷◌, ◌++◌, Option, Some, None, Result, Ok, Err, length, drop, ap, sym, refl}
 use Rattle.std.specs.Prelude.{if◌then◌else◌}
-use Rattle.std.proofs.lemmas.Bool.{cases_Bool}
-use Rattle.std.proofs.lemmas.List.{drop_more}
+use Rattle.std.specs.List.{flat_map}
+use Rattle.std.proofs.lemmas.List.{drop_all}
 use Rattle.market_types.specs.declared.entry.Record.{Record}
 use Rattle.market_types.specs.declared.entry.Entry.{Entry}
 use Rattle.market_types.specs.declared.entry.Entry.TheVariants.{Event}
 use Rattle.market_types.specs.Told.{EventTold, EntryTold, event, edit, entry_told, event_told}
 use Rattle.study_report.specs.Same.{same_event}
-use Rattle.study_report.specs.Difference.{events_in, AreNumbered, difference_from, parted, compared}
+use Rattle.study_report.specs.Difference.{events_in, AreNumbered, difference_from, parted, compared, gone_on, all_compared, first_number}
 
--- the records from an entry on
-pub from_here : (es : List Entry) (i : ℕ) (x : Entry) → i < length es → x ≡ get_or es i x
-    → events_in (map entry_told (drop i es)) ≡ events_in (entry_told x ∷ map entry_told (drop (i + 1) es))
-from_here es i x within at =
-    ap (λ ys. events_in (map entry_told ys)) (drop_more es i x within)
-    ∙ ap (λ y. events_in (entry_told y ∷ map entry_told (drop (i + 1) es))) (sym at)
-
--- two lists of records are numbered from k on, and their difference is d
-pub record AreWalked (k d : ℕ) (xs ys : List EventTold) : Type 0 where
-  pub numbered : AreNumbered k xs
-  pub others : AreNumbered k ys
-  pub difference : difference_from k xs ys ≡ d
+-- the number at which a comparison ended, or that of the first record that it left
+abbrev pub answer_of : Result (List EventTold) ℕ → ℕ
+answer_of (Ok rest) = first_number rest
+answer_of (Err number) = number
 
 -- what comparing two records leaves
 abbrev left : Bool → List EventTold → ℕ → Result (List EventTold) ℕ
@@ -57,34 +49,38 @@ compared_next x r (y ∷ ys) ss s b is next same =
     ∙ ap (λ zs. left (same_event (event_told r) y) zs r.number) both.1
     ∙ sym (ap (λ e. compared (entry_told e) (y ∷ ys)) is)
 
--- an entry that leaves records to compare
-pub walks_on : (x : EntryTold) (es : List EntryTold) (ys zs : List EventTold) (k d : ℕ) → compared x ys ≡ Ok zs → AreWalked k d (events_in (x ∷ es)) ys
-    → (j : ℕ) × AreWalked j d (events_in es) zs
-walks_on (edit m) es ys zs k d is h = (k, subst (λ rest. AreWalked k d (events_in es) rest) (same_Ok ys zs is) h)
-walks_on (event r) es [] zs k d is h = absurd (no_Err zs r.number is)
-walks_on (event r) es (s ∷ ss) zs k d is h =
-    elim (cases_Bool (same_event r s)) [
-      | inl same ↦ (
-        k + 1,
-        subst (λ rest. AreWalked (k + 1) d (events_in es) rest) (same_Ok ss zs (sym (ap (λ b. left b ss r.number) same) ∙ is)) (record {
-          numbered = h.numbered.1;
-          others = h.others.1;
-          difference = sym (ap (λ b. part b (difference_from (k + 1) (events_in es) ss) k) same) ∙ h.difference;
-        }),
-      )
-      | inr differ ↦ absurd (no_Err zs r.number (sym (ap (λ b. left b ss r.number) differ) ∙ is))
-    ]
+-- entries and those after them
+gone-append : (x : Result (List EventTold) ℕ) (f g h : List EventTold → Result (List EventTold) ℕ) → ((ys : List EventTold) → f ys ≡ gone_on (g ys) h) → gone_on x f ≡ gone_on (gone_on x g) h
+gone-append (Ok ys) f g h each = each ys
+gone-append (Err n) f g h each = refl
 
--- an entry whose record is the first difference
-pub walk_ends : (x : EntryTold) (es : List EntryTold) (ys : List EventTold) (n k d : ℕ) → compared x ys ≡ Err n → AreWalked k d (events_in (x ∷ es)) ys → n ≡ d
-walk_ends (edit m) es ys n k d is h = absurd (no_Err ys n (sym is))
-walk_ends (event r) es [] n k d is h = sym (same_Err r.number n is) ∙ h.numbered.0 ∙ h.difference
-walk_ends (event r) es (s ∷ ss) n k d is h =
-    elim (cases_Bool (same_event r s)) [
-      | inl same ↦ absurd (no_Err ss n (sym (sym (ap (λ b. left b ss r.number) same) ∙ is)))
-      | inr differ ↦
-          sym (same_Err r.number n (sym (ap (λ b. left b ss r.number) differ) ∙ is))
-          ∙ h.numbered.0
-          ∙ sym (ap (λ b. part b (difference_from (k + 1) (events_in es) ss) k) differ)
-          ∙ h.difference
-    ]
+all-append : (es fs : List EntryTold) (ys : List EventTold) → all_compared (es ++ fs) ys ≡ gone_on (all_compared es ys) (λ rest. all_compared fs rest)
+all-append [] fs ys = refl
+all-append (e ∷ es) fs ys =
+    gone-append (compared e ys) (λ rest. all_compared (es ++ fs) rest) (λ rest. all_compared es rest) (λ rest. all_compared fs rest) (λ zs. all-append es fs zs)
+
+-- a part that leaves records to compare
+pub part_done : (es fs : List EntryTold) (ys rest : List EventTold) → ◌≡◌ {A = Result (List EventTold) ℕ} (Ok rest) (all_compared es ys) → all_compared fs rest ≡ all_compared (es ++ fs) ys
+part_done es fs ys rest is = ap (λ (x : Result (List EventTold) ℕ). gone_on x (λ zs. all_compared fs zs)) is ∙ sym (all-append es fs ys)
+
+-- a part with the first difference
+pub part_ends : (es fs : List EntryTold) (ys : List EventTold) (n : ℕ) → ◌≡◌ {A = Result (List EventTold) ℕ} (Err n) (all_compared es ys) → n ≡ answer_of (all_compared (es ++ fs) ys)
+part_ends es fs ys n is = ap (λ (x : Result (List EventTold) ℕ). answer_of (gone_on x (λ zs. all_compared fs zs))) is ∙ ap answer_of (sym (all-append es fs ys))
+
+-- the answer of two records, and of those after them
+step : (r s : EventTold) (es : List EntryTold) (ss : List EventTold) (b : Bool) (k : ℕ) → b ≡ same_event r s → r.number ≡ k → answer_of (all_compared es ss) ≡ difference_from (k + 1) (events_in es) ss
+    → answer_of (gone_on (left b ss r.number) (λ rest. all_compared es rest)) ≡ part b (difference_from (k + 1) (events_in es) ss) k
+step r s es ss true k is here later = later
+step r s es ss false k is here later = here
+
+-- records that are numbered from k on: what comparing them answers
+pub answer-from : (es : List EntryTold) (ys : List EventTold) (k : ℕ) → AreNumbered k (events_in es) → AreNumbered k ys → answer_of (all_compared es ys) ≡ difference_from k (events_in es) ys
+answer-from [] [] k xs_are ys_are = refl
+answer-from [] (s ∷ ss) k xs_are ys_are = ys_are.0
+answer-from (edit m ∷ es) ys k xs_are ys_are = answer-from es ys k xs_are ys_are
+answer-from (event r ∷ es) [] k xs_are ys_are = xs_are.0
+answer-from (event r ∷ es) (s ∷ ss) k xs_are ys_are = step r s es ss (same_event r s) k refl xs_are.0 (answer-from es ss (k + 1) xs_are.1 ys_are.1)
+
+-- no part is left
+pub parts_end : {X : Type 0} (f : X → List EntryTold) (xs : List X) (i : ℕ) (ys : List EventTold) → length xs ≤ i → all_compared (flat_map f (drop i xs)) ys ≡ Ok ys
+parts_end f xs i ys past = ap (λ (zs : List _). all_compared (flat_map f zs) ys) (drop_all i xs past)

@@ -45,3 +45,13 @@ compared (event r) (s ∷ others) = if same_event r s then Ok others else Err r.
 abbrev pub first_number : List EventTold → ℕ
 first_number [] = 0
 first_number (r ∷ rs) = r.number
+
+-- what a comparison left is compared further; one that ended stays so
+abbrev pub gone_on : Result (List EventTold) ℕ → (List EventTold → Result (List EventTold) ℕ) → Result (List EventTold) ℕ
+gone_on (Ok rest) next = next rest
+gone_on (Err number) next = Err number
+
+-- the same after entries in order
+abbrev pub all_compared : List EntryTold → List EventTold → Result (List EventTold) ℕ
+all_compared [] others = Ok others
+all_compared (e ∷ entries) others = gone_on (compared e others) (λ rest. all_compared entries rest)

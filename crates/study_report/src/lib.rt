@@ -8,7 +8,7 @@ mod same;
 pub mod worked;
 mod writing;
 
-pub use difference::first_difference;
+pub use difference::{first_difference, first_difference_of_parts};
 pub use row::TableRow;
 pub use writing::table;
 

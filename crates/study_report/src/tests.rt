@@ -2,7 +2,7 @@ ghost use Rattle.std.specs.Prelude.{◌≡◌, All, IfOk, OnOk, length};
 ghost use Rattle.study_report.specs.Difference.{IsNumbered};
 ghost use Rattle.study_report.specs.declared.row.TableRow.{TableRow};
 
-use crate::{TableRow, first_difference, table};
+use crate::{TableRow, first_difference, first_difference_of_parts, table};
 use branch_tree::Name;
 use market_types::{Body, EditMark, End, Entry, FeedList, Memory, Record, Sequence, Trace};
 use probe_desk::{Fees, Probe, Range, SpreadSum, Volume};
@@ -140,5 +140,16 @@ fn runs_part_at_their_first_difference(rt: HostRuntime) -> Result<(), Fail> {
         first_difference(&short, &base),
     ];
     assert_eq!(rt; found.as_slice(), [0, 3, 3, 3].as_slice());
+    Ok(())
+}
+
+#[test]
+fn runs_part_in_parts_too(rt: HostRuntime) -> Result<(), Fail> {
+    let alloc = rt.alloc();
+    let nothing = Trace::new(alloc);
+    let base = run(alloc, 3, 1010)?;
+    let other = run(alloc, 3, 1055)?;
+    let found = first_difference_of_parts(&[&nothing, &other], &[&base, &nothing]);
+    assert_eq!(rt; found, 3);
     Ok(())
 }

@@ -7,7 +7,8 @@ pub returns-clause-answered : goal.returns-clause-answered
 returns-clause-answered g c = noted_answered _ _ _ _ _ _ _ c.write_note.ensures.kept c.answer-ending.ensures.answered
 
 pub returns-clause-noted : goal.returns-clause-noted
-returns-clause-noted g c =
-    (string_bytes c.answer-ending.result.name,
-    noted_stays _ _ _ _ _ c.write_note.ensures.kept c.answer-ending.ensures.named,
-    rw c.as_str.ensures.value at c.write_note.ensures.noted)
+returns-clause-noted g c = (
+  string_bytes c.answer-ending.result.name,
+  noted_stays _ _ _ _ _ c.write_note.ensures.kept c.answer-ending.ensures.named,
+  rw c.as_str.ensures.value at c.write_note.ensures.noted,
+)

@@ -1,0 +1,65 @@
+//! Full runs as the traces of their segments, one after another.
+
+ghost use Rattle.std.specs.Prelude.{◌≡◌, ◌<◌, IfOk, length};
+ghost use Rattle.std.specs.List.{flat_map};
+ghost use Rattle.branch_tree.specs.Segments.{last_of, segments_in, segment_at};
+ghost use Rattle.kernel_copy.specs.Segmentwise.{segment_end};
+ghost use Rattle.branch_bundle.specs.Ran.{IsRunOf};
+ghost use Rattle.branch_tables.specs.Tables.{run_of};
+
+use branch_bundle::Ran;
+use kernel_copy::Course;
+use market_types::{Memory, Trace};
+use std::alloc::Global;
+
+/// The number of a branch's last segment.
+pub fn last_segment(course: &Course, branch: u16) -> u32
+    requires { branch < length course.now.plan.branches }
+    ensures last { result ≡ last_of course.now.plan.branches branch }
+    ensures exists { result < length (segments_in course.now.plan) }
+{
+    let numbers = course.plan().segments_of(branch);
+    numbers[numbers.len() - 1]
+}
+
+// The traces of the segments from the root's first to this one, each of which goes on from the one before.
+fn parts_to<'a, W: Ran>(
+    alloc: Global,
+    course: &Course,
+    ran: &'a W,
+    segment: u32,
+) -> Result<Vec<&'a Trace>, Memory>
+    requires segment { segment < length (segments_in course.now.plan) }
+    requires ran { IsRunOf course.now (W.count ran.now) (W.entries_of ran.now) (W.closing_of ran.now) }
+    ensures { IfOk result (λ v. flat_map (λ t. t.now.list) v.items ≡ (segment_end course.now.opening course.now.plan (segment_at course.now.plan segment)).entries) }
+{
+    let own = ran.entries(segment);
+    match course.segment(segment).parent {
+        None => {
+            let mut parts = Vec::new(alloc);
+            parts.push(own)?;
+            Ok(parts)
+        }
+        Some(parent) => {
+            let mut parts = parts_to(alloc, course, ran, parent)?;
+            parts.push(own)?;
+            Ok(parts)
+        }
+    }
+}
+
+/// The traces of the segments that a branch's full run goes along, in order.
+pub fn parts_of<'a, W: Ran>(
+    alloc: Global,
+    course: &Course,
+    ran: &'a W,
+    branch: u16,
+) -> Result<Vec<&'a Trace>, Memory>
+    requires branch { branch < length course.now.plan.branches }
+    requires ran { IsRunOf course.now (W.count ran.now) (W.entries_of ran.now) (W.closing_of ran.now) }
+    ensures { IfOk result (λ v. flat_map (λ t. t.now.list) v.items ≡ (run_of course.now branch).entries) }
+{
+    let _ = course.opening();
+    let last = last_segment(course, branch);
+    parts_to(alloc, course, ran, last)
+}
