@@ -1,5 +1,9 @@
 //! Runs over the code whose events were computed by hand.
 
+mod copies;
+mod dates;
+mod steps;
+
 ghost use Rattle.std.specs.Prelude.{◌≡◌, ◌≤◌, ◌∷◌, [], ℕ, IfOk, max, map, length, All, true};
 ghost use Rattle.agent_shell.specs.Parameters.{IsKind};
 ghost use Rattle.market_types.specs.Limits.{longest_delay};
