@@ -6,4 +6,10 @@ mod bundles;
 pub use bundles::{EMPTY_RUN, TWO_WATCHERS};
 
 #[cfg(test)]
+mod broken;
+#[cfg(test)]
+mod refused;
+#[cfg(test)]
+mod runs;
+#[cfg(test)]
 mod tests;

@@ -1,6 +1,6 @@
+use crate::runs::{library, run_over, sink};
 use crate::{EMPTY_RUN, TWO_WATCHERS};
-use abides_run::{Status, run};
-use outside::{Counted, MemoryLibrary, MemorySink, OpenGate, Steps};
+use abides_run::Status;
 use std::alloc::Global;
 use std::test::Fail;
 
@@ -41,53 +41,6 @@ fn study(
     )?)
 }
 
-fn words_of(alloc: Global, words: &[&str]) -> Result<Vec<String>, Fail> {
-    let mut all = Vec::new(alloc);
-    for word in words {
-        all.push(String::from_str(alloc, word)?)?;
-    }
-    Ok(all)
-}
-
-// A library with the files `s` and `t`.
-fn library(
-    alloc: Global,
-    study: &[u8],
-    series: &[u8],
-    failing: &[u32],
-) -> Result<MemoryLibrary, Fail> {
-    let mut files = Vec::with_capacity(alloc, 2)?;
-    files.push((String::from_str(alloc, "s")?, study.to_vec(alloc)?))?;
-    files.push((String::from_str(alloc, "t")?, series.to_vec(alloc)?))?;
-    Ok(MemoryLibrary::new(files, failing.to_vec(alloc)?)?)
-}
-
-fn sink(alloc: Global, room: usize, most: usize, failing: &[u32]) -> Result<MemorySink, Fail> {
-    Ok(MemorySink::new(alloc, room, most, failing.to_vec(alloc)?)?)
-}
-
-// Runs words over the files `s` and `t`; answers the status and the counted steps.
-fn run_over(
-    alloc: Global,
-    words: &[&str],
-    mut library: MemoryLibrary,
-    out: &mut MemorySink,
-    notes: &mut MemorySink,
-) -> Result<(Status, u64), Fail> {
-    let words = words_of(alloc, words)?;
-    let mut steps: Steps<Counted> = Steps::new();
-    let status = run(
-        alloc,
-        &words,
-        &mut library,
-        out,
-        notes,
-        &OpenGate,
-        &mut steps,
-    );
-    Ok((status, steps.close()))
-}
-
 // Whether the bytes are these frames one after another.
 fn are_frames(bytes: &[u8], frames: &[&[u8]]) -> bool {
     let mut rest = bytes;
@@ -95,6 +48,18 @@ fn are_frames(bytes: &[u8], frames: &[&[u8]]) -> bool {
         match rest.strip_prefix(*frame) {
             Some(after) => rest = after,
             None => return false,
+        }
+    }
+    rest.is_empty()
+}
+
+// Whether the bytes are a first part of these frames one after another.
+fn is_first_part(bytes: &[u8], frames: &[&[u8]]) -> bool {
+    let mut rest = bytes;
+    for frame in frames {
+        match rest.strip_prefix(*frame) {
+            Some(after) => rest = after,
+            None => return frame.starts_with(rest),
         }
     }
     rest.is_empty()
@@ -215,6 +180,26 @@ fn failing_writes_leave_a_first_part(rt: HostRuntime) -> Result<(), Fail> {
         assert_eq!(rt; notes.taken(), b"write failed\n".as_slice());
     }
     Ok(())
+}
+
+#[test]
+fn each_write_fails_in_turn(rt: HostRuntime) -> Result<(), Fail> {
+    let alloc = rt.alloc();
+    let text = study(alloc, KEY, 1000, 30, LATE_WATCHER, "")?;
+    for failing in 1..403 {
+        let mut out = sink(alloc, 402, 64, &[failing])?;
+        let mut notes = sink(alloc, 100, 64, &[])?;
+        let held = library(alloc, text.as_bytes(), b"", &[])?;
+        let ended = run_over(alloc, &["run", "s"], held, &mut out, &mut notes)?;
+        if ended == (Status::Ok, 0) {
+            assert!(rt; failing > 7 && are_frames(out.taken(), &EMPTY_RUN));
+            return Ok(());
+        }
+        assert_eq!(rt; ended, (Status::WriteFault, 0));
+        assert!(rt; is_first_part(out.taken(), &EMPTY_RUN));
+        assert_eq!(rt; notes.taken(), b"write failed\n".as_slice());
+    }
+    Err(Fail::from("each write failed"))
 }
 
 const USAGE: &str = "usage: abides COMMAND STUDY [MORE...] [--workers N] [--places N]\n";

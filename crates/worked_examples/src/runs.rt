@@ -1,0 +1,54 @@
+//! One run over a library and sinks in memory.
+
+use abides_run::{Status, run};
+use outside::{Counted, MemoryLibrary, MemorySink, OpenGate, Steps};
+use std::alloc::Global;
+use std::test::Fail;
+
+fn words_of(alloc: Global, words: &[&str]) -> Result<Vec<String>, Fail> {
+    let mut all = Vec::new(alloc);
+    for word in words {
+        all.push(String::from_str(alloc, word)?)?;
+    }
+    Ok(all)
+}
+
+/// A library with the files `s` and `t`.
+pub fn library(
+    alloc: Global,
+    study: &[u8],
+    series: &[u8],
+    failing: &[u32],
+) -> Result<MemoryLibrary, Fail> {
+    let mut files = Vec::with_capacity(alloc, 2)?;
+    files.push((String::from_str(alloc, "s")?, study.to_vec(alloc)?))?;
+    files.push((String::from_str(alloc, "t")?, series.to_vec(alloc)?))?;
+    Ok(MemoryLibrary::new(files, failing.to_vec(alloc)?)?)
+}
+
+/// A sink with room for so many bytes that takes at most so many a call, and fails at the calls with these numbers.
+pub fn sink(alloc: Global, room: usize, most: usize, failing: &[u32]) -> Result<MemorySink, Fail> {
+    Ok(MemorySink::new(alloc, room, most, failing.to_vec(alloc)?)?)
+}
+
+/// Runs words over the files `s` and `t`; answers the status and the counted steps.
+pub fn run_over(
+    alloc: Global,
+    words: &[&str],
+    mut library: MemoryLibrary,
+    out: &mut MemorySink,
+    notes: &mut MemorySink,
+) -> Result<(Status, u64), Fail> {
+    let words = words_of(alloc, words)?;
+    let mut steps: Steps<Counted> = Steps::new();
+    let status = run(
+        alloc,
+        &words,
+        &mut library,
+        out,
+        notes,
+        &OpenGate,
+        &mut steps,
+    );
+    Ok((status, steps.close()))
+}
