@@ -3,8 +3,8 @@
 #![tactic(auto)]
 
 use abides_run::{Status, run, write_note};
-use probe_desk::{Fees, Probe, Range, SpreadSum, Volume};
 use outside::{Counted, FileLibrary, OpenGate, Sink, Steps};
+use probe_desk::{Fees, Probe, Range, SpreadSum, Volume};
 use std::alloc::{AllocError, Global};
 use std::env;
 use std::io::ErrorKind;

@@ -12,4 +12,6 @@ mod refused;
 #[cfg(test)]
 mod runs;
 #[cfg(test)]
+mod tables;
+#[cfg(test)]
 mod tests;

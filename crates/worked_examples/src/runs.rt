@@ -2,6 +2,7 @@
 
 use abides_run::{Status, run};
 use outside::{Counted, MemoryLibrary, MemorySink, OpenGate, Steps};
+use probe_desk::{Fees, Probe, Range, SpreadSum, Volume};
 use std::alloc::Global;
 use std::test::Fail;
 
@@ -31,11 +32,34 @@ pub fn sink(alloc: Global, room: usize, most: usize, failing: &[u32]) -> Result<
     Ok(MemorySink::new(alloc, room, most, failing.to_vec(alloc)?)?)
 }
 
-/// Runs words over the files `s` and `t`; answers the status and the counted steps.
+/// The probes of the program, in the order of their columns.
+pub fn four_probes(alloc: Global) -> Result<Vec<Box<dyn Probe>>, Fail> {
+    let mut probes: Vec<Box<dyn Probe>> = Vec::new(alloc);
+    probes.push(Box::new(alloc, Volume::new())?)?;
+    probes.push(Box::new(alloc, SpreadSum::new())?)?;
+    probes.push(Box::new(alloc, Range::new())?)?;
+    probes.push(Box::new(alloc, Fees::new())?)?;
+    Ok(probes)
+}
+
+/// Runs words over the files `s` and `t` with the program's probes; answers the status and the counted steps.
 pub fn run_over(
     alloc: Global,
     words: &[&str],
+    library: MemoryLibrary,
+    out: &mut MemorySink,
+    notes: &mut MemorySink,
+) -> Result<(Status, u64), Fail> {
+    let probes = four_probes(alloc)?;
+    run_with(alloc, words, library, probes, out, notes)
+}
+
+/// The same with these probes.
+pub fn run_with(
+    alloc: Global,
+    words: &[&str],
     mut library: MemoryLibrary,
+    probes: Vec<Box<dyn Probe>>,
     out: &mut MemorySink,
     notes: &mut MemorySink,
 ) -> Result<(Status, u64), Fail> {
@@ -47,6 +71,7 @@ pub fn run_over(
         &mut library,
         out,
         notes,
+        probes,
         &OpenGate,
         &mut steps,
     );

@@ -7,7 +7,7 @@ use std::test::Fail;
 // A study of one stock whose value stays at ten dollars, and what stands between its values that the tests change.
 const BEFORE_KEY: &str = "version = 1\nkey = \"";
 
-const KEY: &str = "0000000000000000000000000000000000000000000000000000000000000000";
+pub const KEY: &str = "0000000000000000000000000000000000000000000000000000000000000000";
 
 const BEFORE_CLOSE: &str = "\"\nopen = 1000\nclose = ";
 
@@ -20,15 +20,16 @@ const BEFORE_AGENT: &str =
 const MAKER: &str =
     "kind = \"maker\"\nfirst = 1000\nsize = 10\nhalf = 150\nstep = 100\nlevels = 1\npause = 0\n";
 
-const WATCHERS: &str = "kind = \"watcher\"\nfirst = 1000\ncount = 2\n";
+pub const WATCHERS: &str = "kind = \"watcher\"\nfirst = 1000\ncount = 2\n";
 
 const LATE_WATCHER: &str = "kind = \"watcher\"\nfirst = 2000\n";
 
 // Three branches that leave the root after two events.
-const BRANCHES: &str =
+pub const BRANCHES: &str =
     "\n[[branch]]\nname = \"x\"\nparent = \"root\"\nat = 2\nedit = [{ kind = \"latency\", from = 0, to = 0, base = 50, jitter = 0 }]\n\n[[branch]]\nname = \"y\"\nparent = \"root\"\nat = 2\nedit = [{ kind = \"latency\", from = 0, to = 0, base = 7, jitter = 0 }]\n\n[[branch]]\nname = \"z\"\nparent = \"root\"\nat = 2\n";
 
-fn study(
+/// The text of a study with these values.
+pub fn study(
     alloc: Global,
     key: &str,
     close: u32,
@@ -217,7 +218,7 @@ fn faulty_words_ask_for_nothing(rt: HostRuntime) -> Result<(), Fail> {
         &["run", "s", "--workers", "0"],
         &["run", "s", "--places", "129"],
         &["run", "s", "--help"],
-        &["table", "s"],
+        &["table", "s", "more"],
         &["rewind", "s", "root:0"],
         &["big", "7"],
         &["check", "s", "more"],

@@ -1,27 +1,33 @@
+use Rattle.std.proofs.Common.{List, ℕ, Ok, Err, subst, ◌∙◌}
 use Rattle.abides_run.specs.Output.{study_events, study_table}
+use Rattle.abides_run.specs.Performed.{Sent}
 use Rattle.abides_run.proofs.Performing.{sent_all, sent_some, wanting}
 use Rattle.abides_run.proofs.perform.table_study.Goals as goal
 
 pub returns-in-Err : goal.returns-in-Err
 unfolding study_events
 returns-in-Err g c =
-    let k = c.args.course.now.value in
-    let probes = record { meanings = map (λ p. meaning p) c.args.probes.now; titles = map (λ p. title p) c.args.probes.now } in
-    λ reads. wanting (study_table probes k) (study_events k) reads (g.O.Sink.faults c.args.out.now) c.args.steps.now c.run_segments.new.steps (g.O.Sink.taken c.args.out.now)
+    λ reads. wanting _ (study_events c.args.course.now.value) reads (g.O.Sink.faults c.args.out.now) c.args.steps.now c.run_segments.new.steps (g.O.Sink.taken c.args.out.now)
     c.run_segments.ensures.least c.run_segments.ensures.most
 
-pub returns-in-Ok-send_bundle : goal.returns-in-Ok-send_bundle
+pub returns-in-Err-study_table : goal.returns-in-Err-study_table
 unfolding study_events
-returns-in-Ok-send_bundle g c =
-    let k = c.args.course.now.value in
-    let probes = record { meanings = map (λ p. meaning p) c.args.probes.now; titles = map (λ p. title p) c.args.probes.now } in
-    λ reads. sent_all (study_table probes k) (study_events k) reads (g.O.Sink.faults c.args.out.now) (g.O.Sink.faults c.send_bundle.new.out) c.args.steps.now c.run_segments.new.steps (g.O.Sink.taken c.args.out.now) (g.O.Sink.taken c.send_bundle.new.out)
-    c.in-Ok.ensures.rose (rw c.deref.ensures at c.in-Ok-send_bundle.ensures)
+returns-in-Err-study_table g c =
+    λ reads. wanting _ (study_events c.args.course.now.value) reads (g.O.Sink.faults c.args.out.now) c.args.steps.now c.run_segments.new.steps (g.O.Sink.taken c.args.out.now)
+    c.run_segments.ensures.least c.run_segments.ensures.most
+
+pub returns-in-Ok-send : goal.returns-in-Ok-send
+unfolding study_events study_table
+returns-in-Ok-send g c =
+    λ reads. sent_all _ (study_events c.args.course.now.value) reads (g.O.Sink.faults c.args.out.now) (g.O.Sink.faults c.send.new.out) c.args.steps.now c.run_segments.new.steps (g.O.Sink.taken c.args.out.now) (g.O.Sink.taken c.send.new.out)
+    c.in-Ok.ensures.rose
+    (subst (λ (bytes : List ℕ). Sent bytes (g.O.Sink.faults c.args.out.now) (g.O.Sink.faults c.send.new.out) (g.O.Sink.taken c.args.out.now) (g.O.Sink.taken c.send.new.out) (Ok tt))
+    (c.deref-2.ensures.value ∙ (rw c.deref.ensures at c.in-Ok-study_table.ensures.table)) c.in-Ok-send.ensures)
 
 pub returns : goal.returns
-unfolding study_events
+unfolding study_events study_table
 returns g c =
-    let k = c.args.course.now.value in
-    let probes = record { meanings = map (λ p. meaning p) c.args.probes.now; titles = map (λ p. title p) c.args.probes.now } in
-    λ reads. sent_some (study_table probes k) (study_events k) reads (g.O.Sink.faults c.args.out.now) (g.O.Sink.faults c.send_bundle.new.out) c.args.steps.now c.run_segments.new.steps (g.O.Sink.taken c.args.out.now) (g.O.Sink.taken c.send_bundle.new.out) c.in-Err-send_bundle.status
-    c.in-Ok.ensures.rose (rw c.deref.ensures at c.in-Err-send_bundle.ensures)
+    λ reads. sent_some _ (study_events c.args.course.now.value) reads (g.O.Sink.faults c.args.out.now) (g.O.Sink.faults c.send.new.out) c.args.steps.now c.run_segments.new.steps (g.O.Sink.taken c.args.out.now) (g.O.Sink.taken c.send.new.out) c.in-Err-send.status
+    c.in-Ok.ensures.rose
+    (subst (λ (bytes : List ℕ). Sent bytes (g.O.Sink.faults c.args.out.now) (g.O.Sink.faults c.send.new.out) (g.O.Sink.taken c.args.out.now) (g.O.Sink.taken c.send.new.out) (Err c.in-Err-send.status))
+    (c.deref-2.ensures.value ∙ (rw c.deref.ensures at c.in-Ok-study_table.ensures.table)) c.in-Err-send.ensures)

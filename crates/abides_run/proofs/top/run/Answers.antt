@@ -4,7 +4,7 @@ use Rattle.abides_run.proofs.Speaking.{noted_stays}
 use Rattle.abides_run.proofs.top.run.Goals as goal
 
 pub returns-clause-answered : goal.returns-clause-answered
-returns-clause-answered g c = noted_answered _ _ _ _ _ _ _ c.write_note.ensures.kept c.answer-ending.ensures.answered
+returns-clause-answered g c = noted_answered _ _ _ _ _ _ _ c.write_note.ensures.kept (rw c.deref_mut.ensures.value at c.answer-ending.ensures.answered)
 
 pub returns-clause-noted : goal.returns-clause-noted
 returns-clause-noted g c = (
