@@ -1,6 +1,5 @@
 -- Lemmas on the worked runs of the tests.
-use Rattle.std.proofs.Common.{◌≡◌, ℕ, ◌+◌, ◌*◌, ◌<◌, ◌≤◌, ℤ, pos, negsuc, true, false, cond, ltb, List, [], ◌∷◌, length, map, replicate, refl, sym, ap, ◌∙◌, subst, arith, lit≤, lit<, All}
-use Rattle.std.specs.Prelude.{◌^◌}
+use Rattle.std.proofs.Common.{◌≡◌, ℕ, ◌+◌, ◌<◌, ◌≤◌, ℤ, pos, negsuc, true, false, cond, ltb, List, [], ◌∷◌, length, map, refl, sym, ap, subst, arith, lit≤, lit<, All}
 use Rattle.std.proofs.lemmas.Bool.{le-leb}
 use Rattle.std.proofs.lemmas.Bool.Decides.{nat_tests}
 use Rattle.std.proofs.lemmas.List.{length-map}

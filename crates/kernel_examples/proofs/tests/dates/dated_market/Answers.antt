@@ -1,4 +1,4 @@
-use Rattle.std.proofs.Common.{◌≡◌, ◌≤◌, ◌<◌, ℕ, List, length, ap, sym, subst, arith}
+use Rattle.std.proofs.Common.{◌≡◌, ◌≤◌, ◌<◌, List, length, ap, sym, subst, arith}
 use Rattle.market_rules.specs.declared.changes.Dated.{Dated}
 use Rattle.market_opening.specs.declared.opening.Opening.{Opening}
 use Rattle.market_opening.specs.Opening.{IsOpening}
