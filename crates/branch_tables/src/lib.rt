@@ -6,6 +6,7 @@ pub mod laws;
 mod parts;
 mod row;
 mod tables;
+pub mod worked;
 
 pub use tables::study_table;
 
