@@ -1,0 +1,4 @@
+pub mod Heads
+pub mod Back
+pub mod Bodies
+pub mod BodiesBack
