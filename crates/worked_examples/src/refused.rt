@@ -127,3 +127,35 @@ fn a_cut_study_runs_or_is_refused(rt: HostRuntime) -> Result<(), Fail> {
     assert_eq!(rt; found.as_slice(), CUTS.as_slice());
     Ok(())
 }
+
+// A series file of so many rows, a nanosecond apart.
+fn many_rows(alloc: Global, count: u32) -> Result<String, Fail> {
+    let mut text = String::from_str(alloc, "symbol,time,value\n")?;
+    for time in 0..count {
+        let row = format!(in alloc; "ABM,{time},1\n")?;
+        text.push_str(row.as_str())?;
+    }
+    Ok(text)
+}
+
+#[test]
+fn a_million_rows_are_taken_and_no_more(rt: HostRuntime) -> Result<(), Fail> {
+    let alloc = rt.alloc();
+    let by_rows = SMALL.replacen(
+        alloc,
+        "\"rule\"\nstart = 100000\nmean = 100000\npull = 0\nshock = 0\nevery = 1000000",
+        "\"rows\"",
+        1,
+    )?;
+    let study = format!(in alloc; "series = \"t\"\n{by_rows}")?;
+    let mut rows = many_rows(alloc, 1_000_000)?;
+    let line = checked(alloc, study.as_str(), rows.as_str())?;
+    let accepted = b"accepted: agents 3, stocks 1, branches 1, segments 1\n";
+    assert!(rt; line.as_slice() == accepted.as_slice());
+    rows.push_str("ABM,1000000,1\n")?;
+    assert_eq!(rt;
+        refusal_of(alloc, study.as_str(), rows.as_str())?,
+        (19, 1_000_001)
+    );
+    Ok(())
+}
