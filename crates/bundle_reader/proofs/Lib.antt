@@ -1,0 +1,11 @@
+pub mod Runs
+pub mod OpeningRuns
+pub mod EntryRuns
+pub mod Closings
+pub mod Complete
+pub mod Bytes
+pub mod Split
+pub mod Sound
+pub mod Reached
+pub mod Ends
+pub mod Behind

@@ -1,0 +1,4 @@
+pub mod Told
+pub mod Order
+pub mod Bundle
+pub mod Reads

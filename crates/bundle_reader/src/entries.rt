@@ -1,0 +1,193 @@
+//! The entries of a branch, and how their feed is split.
+
+ghost use Rattle.std.specs.Prelude.{◌≡◌, [], ◌∷◌, ◌++◌, IfOk};
+ghost use Rattle.market_types.specs.Told.{edit_told, event_told};
+ghost use Rattle.frame_reader.specs.Frames.{event_with, edit_with};
+ghost use Rattle.bundle_reader.specs.Told.{BegunTold, WholeTold, apart as apart_read, begun_told, edit as edit_read, entries as entries_read, last_told, whole_told};
+ghost use Rattle.bundle_reader.specs.Order.{all_entries, before_next, belongs, take_entry as take_entry_of, take_message as take_message_of, take_trading};
+ghost use Rattle.bundle_reader.specs.Reads.{Takes};
+
+use crate::reading::{Begun, Misplaced, Reading, Whole};
+use frame_parts::EditHead;
+use frame_reader::{EventFrame, Frame};
+use market_types::{EditMark, Entry, Feed, FeedList, Memory, Record, Trace, What};
+use std::alloc::Global;
+
+// What the next message of the feed may belong to.
+#[derive(Drop)]
+pub(crate) enum Last {
+    // The event that is still to come, of which these trading actions were read.
+    Apart(FeedList),
+    Event(Record),
+    Edit(EditMark),
+}
+
+// The entries with the last one, and the trading actions that are the next event's.
+fn closed(alloc: Global, mut entries: Trace, last: Last) -> Result<(Trace, FeedList), Memory>
+    ensures entries { IfOk result (λ p. p.0.list ≡ all_entries entries.list (last_told last)) }
+    ensures before { IfOk result (λ p. p.1.list ≡ before_next (last_told last)) }
+{
+    match last {
+        Last::Apart(before) => return Ok((entries, before)),
+        Last::Event(event) => entries.push(Entry::Event(event))?,
+        Last::Edit(edit) => entries.push(Entry::Edit(edit))?,
+    }
+    Ok((entries, FeedList::new(alloc)))
+}
+
+// An event with these trading actions before it.
+fn event_of(alloc: Global, e: &EventFrame, before: FeedList) -> Record
+    ensures { event_told result ≡ event_with e.now before.list [] }
+{
+    Record {
+        number: e.number,
+        time: e.time,
+        seq: e.seq,
+        from: e.from,
+        to: e.to,
+        put_back: e.put_back,
+        until: e.until,
+        fee: e.fee,
+        body: e.body,
+        before,
+        after: FeedList::new(alloc),
+    }
+}
+
+// An edit without a feed.
+fn edit_of(alloc: Global, d: &EditHead) -> EditMark
+    ensures { edit_told result ≡ edit_with d.now [] }
+{
+    EditMark {
+        events: d.events,
+        time: d.time,
+        branch: d.branch,
+        index: d.index,
+        letter: d.letter,
+        feed: FeedList::new(alloc),
+    }
+}
+
+// An event, an edit or a message among the entries.
+pub(crate) fn take_entry(
+    alloc: Global,
+    whole: Whole,
+    begun: Begun,
+    entries: Trace,
+    last: Last,
+    frame: Frame,
+) -> Result<Reading, Misplaced>
+    ensures { Takes (take_entry_of (whole_told whole) (begun_told begun) entries.list (last_told last) frame) result }
+{
+    match frame {
+        Frame::Event(event) => {
+            let (entries, before) = closed(alloc, entries, last)?;
+            let last = Last::Event(event_of(alloc, &event, before));
+            Ok(Reading::Entries(whole, begun, entries, last))
+        }
+        Frame::Edit(edit) => {
+            let (entries, before) = closed(alloc, entries, last)?;
+            if !before.is_empty() {
+                return Err(Misplaced::Order);
+            }
+            let last = Last::Edit(edit_of(alloc, &edit));
+            Ok(Reading::Entries(whole, begun, entries, last))
+        }
+        Frame::Message(message) => take_message(alloc, whole, begun, entries, last, message),
+        _ => Err(Misplaced::Order),
+    }
+}
+
+// A message of the feed among the entries, or the one that ends them.
+fn take_message(
+    alloc: Global,
+    whole: Whole,
+    begun: Begun,
+    entries: Trace,
+    last: Last,
+    message: Feed,
+) -> Result<Reading, Misplaced>
+    ensures { Takes (take_message_of (whole_told whole) (begun_told begun) entries.list (last_told last) message) result }
+{
+    match message.what {
+        What::Trading { .. } => {
+            let (entries, last) = with_trading(alloc, entries, last, message)?;
+            Ok(Reading::Entries(whole, begun, entries, last))
+        }
+        What::Add { .. }
+        | What::Executed { .. }
+        | What::Cancel { .. }
+        | What::Delete { .. }
+        | What::Trade { .. } => match last {
+            Last::Event(mut event) => {
+                event.after.push(message)?;
+                Ok(Reading::Entries(whole, begun, entries, Last::Event(event)))
+            }
+            _ => Err(Misplaced::Order),
+        },
+        What::System { .. } => {
+            let (entries, before) = closed(alloc, entries, last)?;
+            if before.is_empty() {
+                Ok(Reading::Ended(whole, begun, entries, message))
+            } else {
+                Err(Misplaced::Order)
+            }
+        }
+        What::Directory { .. } | What::Cross { .. } => Err(Misplaced::Order),
+    }
+}
+
+// Whether a trading action belongs to an edit: a halt or a resume that it follows at once and with its time.
+fn belongs(edit: &EditMark, message: &Feed) -> bool
+    ensures { result ≡ belongs (edit_told edit.now) message.now }
+{
+    matches!(edit.letter, b'h' | b'r') && edit.feed.is_empty() && message.time == edit.time
+}
+
+// A trading action more: that of the last edit, or of the next event.
+fn with_trading(
+    alloc: Global,
+    entries: Trace,
+    last: Last,
+    message: Feed,
+) -> Result<(Trace, Last), Memory>
+    ensures { IfOk result (λ p. (w : WholeTold) (b : BegunTold) → take_trading w b entries.list (last_told last) message ≡ entries_read w b p.0.list (last_told p.1)) }
+{
+    match last {
+        Last::Edit(edit) => edit_trading(alloc, entries, edit, message),
+        Last::Apart(before) => next_trading(alloc, entries, Last::Apart(before), message),
+        Last::Event(event) => next_trading(alloc, entries, Last::Event(event), message),
+    }
+}
+
+// A trading action behind an edit.
+fn edit_trading(
+    alloc: Global,
+    entries: Trace,
+    mut edit: EditMark,
+    message: Feed,
+) -> Result<(Trace, Last), Memory>
+    ensures { IfOk result (λ p. (w : WholeTold) (b : BegunTold) → take_trading w b entries.list (edit_read (edit_told edit)) message ≡ entries_read w b p.0.list (last_told p.1)) }
+{
+    if belongs(&edit, &message) {
+        edit.feed.push(message)?;
+        Ok((entries, Last::Edit(edit)))
+    } else {
+        next_trading(alloc, entries, Last::Edit(edit), message)
+    }
+}
+
+// A trading action that is the next event's.
+fn next_trading(
+    alloc: Global,
+    entries: Trace,
+    last: Last,
+    message: Feed,
+) -> Result<(Trace, Last), Memory>
+    ensures entries { IfOk result (λ p. p.0.list ≡ all_entries entries.list (last_told last)) }
+    ensures last { IfOk result (λ p. last_told p.1 ≡ apart_read (before_next (last_told last) ++ message ∷ [])) }
+{
+    let (entries, mut before) = closed(alloc, entries, last)?;
+    before.push(message)?;
+    Ok((entries, Last::Apart(before)))
+}
