@@ -1,6 +1,8 @@
 //! A study that breaks a rule is refused with the rule and its place, and one at the edge of what the rules allow is not.
 
-use crate::broken::{BRANCHES, CROWDS, CUTS, Change, EDGES, FULL, HOSTILE, ROWS, SMALL, TABLES};
+use crate::broken::{
+    BRANCHES, CROWDS, CUTS, Change, EDGES, Edge, FULL, HOSTILE, ROWS, SMALL, TABLES,
+};
 use crate::runs::{library, run_over, sink};
 use abides_run::Status;
 use std::alloc::Global;
@@ -86,18 +88,26 @@ fn checked(alloc: Global, study: &str, rows: &str) -> Result<Vec<u8>, Fail> {
     }
 }
 
-#[test]
-fn edges_are_accepted(rt: HostRuntime) -> Result<(), Fail> {
-    let alloc = rt.alloc();
-    for (old, new, [agents, stocks, branches, segments]) in EDGES {
-        let study = FULL.replacen(alloc, old, new, 1)?;
-        let rows = ROWS.replacen(alloc, old, new, 1)?;
+// The first change of the full study and its series file that `check` does not accept with the numbers that it says.
+fn first_refused(alloc: Global, changes: &[Edge]) -> Result<Option<&'static str>, Fail> {
+    for (old, new, counts) in changes {
+        let [agents, stocks, branches, segments] = *counts;
+        let study = FULL.replacen(alloc, *old, new, 1)?;
+        let rows = ROWS.replacen(alloc, *old, new, 1)?;
         let line = format!(in alloc;
             "accepted: agents {agents}, stocks {stocks}, branches {branches}, segments {segments}\n"
         )?;
         let written = checked(alloc, study.as_str(), rows.as_str())?;
-        assert!(rt; written.as_slice() == line.as_bytes(), "{new}");
+        if written.as_slice() != line.as_bytes() {
+            return Ok(Some(*new));
+        }
     }
+    Ok(None)
+}
+
+#[test]
+fn edges_are_accepted(rt: HostRuntime) -> Result<(), Fail> {
+    assert_eq!(rt; first_refused(rt.alloc(), &EDGES)?, None);
     Ok(())
 }
 
