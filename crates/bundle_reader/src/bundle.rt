@@ -54,7 +54,9 @@ pub enum BundleError {
     Memory,
 }
 
-/// The bundle that these bytes are, in one pass.
+/// The bundle that these bytes are, in one pass. What is written of a bundle is read back as it was, with one exception: the
+/// trading action (`H`) that stands first before an event is read as that of the edit with the letter `h` or `r` that it
+/// follows at once, where it has the edit's time and the edit has none.
 ///
 /// # Errors
 /// `Cut`, `BadFrame` and `BadOrder`, the first that applies in the order of the bytes, and `Memory`.

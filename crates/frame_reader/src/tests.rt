@@ -1,28 +1,71 @@
 use super::*;
 use branch_tree::Name;
-use bundle_frames::{ClosingAgent, Written, put_branch, put_header};
-use market_types::{Body, Feed, Memory, Sequence, What};
-use std::alloc::Global;
+use bundle_frames::{Written, put_branch, put_header};
+use market_types::{Body, Feed, Memory, What};
 use std::test::*;
 
+// What stands from a byte on.
+fn from(bytes: &[u8], at: usize) -> &[u8] {
+    bytes.get(at..).unwrap_or(&[])
+}
+
 // An agent that owes cash and shares.
-fn agent(alloc: Global) -> Result<ClosingAgent, Memory> {
-    let mut positions = Sequence::empty(alloc);
-    positions.push(-3)?;
-    positions.push(5)?;
-    Ok(ClosingAgent {
-        agent: 1,
-        silenced: true,
-        time: 2000,
-        tokens: 4,
-        draws: 5,
-        cash: -18_446_744_073_709_551_617,
-        own_cash: 7,
-        own_position: -8,
-        live: 9,
-        quotes: 10,
-        positions,
-    })
+const AGENT: &[u8] =
+    b"\x00\x56a\x00\x01Y\x00\x00\x00\x00\x00\x00\x07\xd0\x00\x00\x00\x04\x00\x00\x00\x00\x00\x00\x00\x05\xff\xff\xff\xff\xff\xff\xff\xfe\xff\xff\xff\xff\xff\xff\xff\xff\x00\x00\x00\x00\x00\x00\x00\x00\x00\x00\x00\x00\x00\x00\x00\x07\xff\xff\xff\xff\xff\xff\xff\xf8\x00\x09\x00\x00\x00\x0a\xff\xff\xff\xff\xff\xff\xff\xfd\x00\x00\x00\x00\x00\x00\x00\x05";
+
+// What was read of bytes.
+type Read<'a> = Result<(Frame, &'a [u8]), FrameError>;
+
+fn is_header(read: &Read) -> bool {
+    match read {
+        Ok((Frame::Header(h), rest)) => {
+            h.agents == 3 && h.stocks == 1 && h.branches == 2 && rest.len() == 16
+        }
+        _ => false,
+    }
+}
+
+fn is_root(read: &Read) -> bool {
+    match read {
+        Ok((Frame::Branch(b), rest)) => {
+            b.name.as_slice() == b"root".as_slice()
+                && b.stop == 100
+                && b.parent == 65_535
+                && rest.is_empty()
+        }
+        _ => false,
+    }
+}
+
+fn is_agent(read: &Read) -> bool {
+    match read {
+        Ok((Frame::Agent(a), rest)) => {
+            a.silenced
+                && a.own_position == -8
+                && a.cash == -18_446_744_073_709_551_617
+                && a.own_cash == 7
+                && a.quotes == 10
+                && a.positions.as_slice() == [-3, 5].as_slice()
+                && rest.is_empty()
+        }
+        _ => false,
+    }
+}
+
+fn is_message(read: &Read, message: Feed) -> bool {
+    match read {
+        Ok((Frame::Message(m), rest)) => *m == message && rest.is_empty(),
+        _ => false,
+    }
+}
+
+fn is_event(read: &Result<Option<Frame>, Memory>) -> bool {
+    match read {
+        Ok(Some(Frame::Event(e))) => {
+            e.put_back && e.fee == -2 && e.seq == 7 && e.body == Body::Ask(2)
+        }
+        _ => false,
+    }
 }
 
 #[test]
@@ -31,43 +74,19 @@ fn heads_are_read_back(rt: HostRuntime) -> Result<(), Fail> {
     let mut bytes = Vec::new(alloc);
     put_header(&mut bytes, 3, 1, 2)?;
     put_branch(&mut bytes, 0, 65_535, 100, b"root")?;
-    let read = next_frame(alloc, None, &bytes);
-    assert!(rt;
-        matches!(
-            read,
-            Ok((Frame::Header(HeaderFrame { agents: 3, stocks: 1, branches: 2 }), rest)) if rest.len() == 16
-        )
-    );
-    let read = next_frame(alloc, None, &bytes[11..]);
-    assert!(rt;
-        matches!(
-            read,
-            Ok((Frame::Branch(branch), rest)) if branch.name.as_slice() == b"root".as_slice()
-                && branch.stop == 100 && branch.parent == 65_535 && rest.is_empty()
-        )
-    );
-    assert!(rt; matches!(next_frame(alloc, None, b"\x00\x01?"), Err(FrameError::Bad)));
-    assert!(rt; matches!(next_frame(alloc, None, &bytes[26..]), Err(FrameError::Cut)));
+    assert!(rt; is_header(&next_frame(alloc, None, &bytes)));
+    assert!(rt; is_root(&next_frame(alloc, None, from(&bytes, 11))));
+    assert!(rt; next_frame(alloc, None, b"\x00\x01?").err() == Some(FrameError::Bad));
+    assert!(rt; next_frame(alloc, None, from(&bytes, 26)).err() == Some(FrameError::Cut));
     Ok(())
 }
 
 #[test]
-fn an_agent_is_read_back(rt: HostRuntime) -> Result<(), Fail> {
+fn an_agent_is_read_back(rt: HostRuntime) {
     let alloc = rt.alloc();
-    let mut bytes = Vec::new(alloc);
-    agent(alloc)?.put(&mut bytes)?;
-    let read = next_frame(alloc, Some(2), &bytes);
-    assert!(rt;
-        matches!(
-            read,
-            Ok((Frame::Agent(a), rest)) if rest.is_empty() && a.silenced && a.own_position == -8
-                && a.cash == -18_446_744_073_709_551_617 && a.own_cash == 7 && a.quotes == 10
-                && a.positions.as_slice() == [-3, 5].as_slice()
-        )
-    );
-    assert!(rt; matches!(next_frame(alloc, None, &bytes), Ok((Frame::Agent(_), _))));
-    assert!(rt; matches!(next_frame(alloc, Some(1), &bytes), Err(FrameError::Bad)));
-    Ok(())
+    assert!(rt; is_agent(&next_frame(alloc, Some(2), AGENT)));
+    assert!(rt; is_agent(&next_frame(alloc, None, AGENT)));
+    assert!(rt; next_frame(alloc, Some(1), AGENT).err() == Some(FrameError::Bad));
 }
 
 #[test]
@@ -75,12 +94,7 @@ fn bodies_and_messages(rt: HostRuntime) -> Result<(), Fail> {
     let alloc = rt.alloc();
     let event =
         b"e\x00\x00\x00\x01\x00\x00\x00\x00\x00\x00\x03\xe8\x00\x00\x00\x00\x00\x00\x00\x07\x00\x01\x00\x00P\x00\x00\x00\x00\x00\x00\x03\xe9\xff\xff\xff\xff\xff\xff\xff\xfea\x00\x02";
-    assert!(rt;
-        matches!(
-            read_payload(alloc, None, event),
-            Ok(Some(Frame::Event(e))) if e.put_back && e.fee == -2 && e.seq == 7 && e.body == Body::Ask(2)
-        )
-    );
+    assert!(rt; is_event(&read_payload(alloc, None, event)));
     let start = Feed {
         locate: 0,
         tracking: 0,
@@ -89,10 +103,8 @@ fn bodies_and_messages(rt: HostRuntime) -> Result<(), Fail> {
     };
     let mut bytes = Vec::new(alloc);
     start.put(&mut bytes)?;
-    assert!(rt;
-        matches!(next_frame(alloc, Some(1), &bytes), Ok((Frame::Message(m), rest)) if m == start && rest.is_empty())
-    );
-    assert!(rt; matches!(read_payload(alloc, None, b"q"), Ok(None)));
-    assert!(rt; matches!(Name::new(b""), None));
+    assert!(rt; is_message(&next_frame(alloc, Some(1), &bytes), start));
+    assert!(rt; !is_event(&read_payload(alloc, None, b"q")));
+    assert!(rt; Name::new(b"").is_none());
     Ok(())
 }
