@@ -1,0 +1,103 @@
+-- Workers as they are made and as they end.
+use Rattle.std.proofs.Common.{◌≡◌, ◌≢◌, ℕ, zero, suc, ◌+◌, ◌^◌, ◌<◌, ◌≤◌, All, Bool, true, false, List, [], ◌∷◌, ◌++◌, Option, None, Some, Vec, Global, length, map, sum_by, slice_get, sym, refl, ap, ◌∙◌, subst, arith}
+use Rattle.std.proofs.lemmas.List.{length-map}
+use Rattle.std.proofs.lemmas.List.Elements.{All-nil, All-cons, All-head, All-tail}
+use Rattle.std.proofs.lemmas.List.Sums.{sum_by-cons}
+use Rattle.branch_tree.specs.Plan.{Plan}
+use Rattle.branch_tree.specs.Segments.{segments_in, segment_at}
+use Rattle.shelf_core.specs.Views.{times, new_view}
+use Rattle.shelf_core.specs.declared.seat.SeatView.{SeatView}
+use Rattle.shelf_core.proofs.Lists.{not_some, some_same, times_here, times_else}
+use Rattle.branch_deques.specs.Told.{LaneTold}
+use Rattle.checkpoint_shelf.specs.Told.{ShelfTold, SeatTold}
+use Rattle.checkpoint_shelf.specs.Seats.{AllBack}
+use Rattle.kernel_copy.specs.declared.run.Outcome.{Outcome}
+use Rattle.kernel_copy.specs.Courses.{CourseTold}
+use Rattle.kernel_copy.specs.Outcomes.{outcome_told, outcome_of}
+use Rattle.branch_workers.specs.Claims.{AreClaims, HasPushed}
+use Rattle.branch_workers.specs.Workers.{own_of, AreNumbered, IsAtWork, HasEnded, HasFinished, HaveFinished}
+
+-- A worker that is made: its seat is new, and it has done nothing.
+pub made_ready : (c : CourseTold) (shelf : ShelfTold CourseTold) (number : ℕ) (seat : SeatTold CourseTold) (pushed : List ℕ) → seat.shelf ≡ Some shelf → seat.view ≡ new_view number → HasPushed c.plan [] pushed
+    → IsAtWork c shelf number seat 0 [] pushed
+made_ready c shelf number seat pushed at new h =
+    let ready : IsAtWork c shelf number (record { shelf = seat.shelf; view = new_view number }) 0 [] pushed = record {
+      shelf = at;
+      numbers = refl;
+      turns = refl;
+      claims = record { below = All-nil (λ (s : ℕ). s < length (segments_in c.plan)); once = λ s. omega arith };
+      counts = refl;
+      ends = λ s pos. absurd (none s pos);
+      segments = refl;
+      outcomes = All-nil (λ (o : Outcome). outcome_told o ≡ outcome_of c o.segment);
+      steps = refl;
+      pushed = h;
+    } in
+    subst (λ (v : SeatView). IsAtWork c shelf number (record { shelf = seat.shelf; view = v }) 0 [] pushed) (sym new) ready
+  where
+    none : (s : ℕ) → 0 < times s [] → ⊥
+    none s pos = absurd (omega arith)
+
+module _ {X : Type 0} (c : CourseTold) (shelf : ShelfTold CourseTold) (seat : X → SeatTold CourseTold) (steps : X → ℕ) (number : X → ℕ) (outcomes : X → Vec Outcome Global) (lane : X → LaneTold) (finished : X → Bool) where
+  -- All workers that are made are ready.
+  pub all_ready : (k : ℕ) (ws : List X) → ((i : ℕ) (s : SeatTold CourseTold) → slice_get (map seat ws) i ≡ Some s → (s.shelf ≡ Some shelf) × (s.view ≡ new_view (k + i)))
+      → ((i n : ℕ) → slice_get (map number ws) i ≡ Some n → n ≡ k + i) → All (λ (l : LaneTold). HasPushed c.plan [] l.own.view.pushed) (map lane ws)
+      → All (λ w. (steps w ≡ 0) × ((outcomes w).items ≡ []) × (finished w ≡ false)) ws
+      → All (λ w. IsAtWork c shelf (number w) (seat w) (steps w) (outcomes w).items (lane w).own.view.pushed) ws
+  all_ready k [] seats numbers lanes idle = All-nil (λ (w : X). IsAtWork c shelf (number w) (seat w) (steps w) (outcomes w).items (lane w).own.view.pushed)
+  all_ready k (w ∷ ws) seats numbers lanes idle =
+      let s = seats 0 (seat w) refl in let n : number w ≡ k + 0 = numbers 0 (number w) refl in let i = All-head (λ (w : X). (steps w ≡ 0) × ((outcomes w).items ≡ []) × (finished w ≡ false)) w ws idle in
+      let l = All-head (λ (l : LaneTold). HasPushed c.plan [] l.own.view.pushed) (lane w) (map lane ws) lanes in
+      let view : (seat w).view ≡ new_view (number w) = s.1 ∙ ap (λ (m : ℕ). new_view m) (sym n) in
+      let ready = made_ready c shelf (number w) (seat w) (lane w).own.view.pushed s.0 view l in
+      All-cons (λ (w : X). IsAtWork c shelf (number w) (seat w) (steps w) (outcomes w).items (lane w).own.view.pushed) w ws
+      (subst (λ (m : ℕ). IsAtWork c shelf (number w) (seat w) m (outcomes w).items (lane w).own.view.pushed) (sym i.0)
+      (subst (λ (os : List Outcome). IsAtWork c shelf (number w) (seat w) 0 os (lane w).own.view.pushed) (sym i.1) ready))
+      (all_ready (suc k) ws
+      (λ j t e. let a = seats (suc j) t e in let m : k + suc j ≡ suc k + j = omega arith in (a.0, a.1 ∙ ap (λ (x : ℕ). new_view x) m))
+      (λ j t e. let a = numbers (suc j) t e in omega arith)
+      (All-tail (λ (l : LaneTold). HasPushed c.plan [] l.own.view.pushed) (lane w) (map lane ws) lanes) (All-tail (λ (w : X). (steps w ≡ 0) × ((outcomes w).items ≡ []) × (finished w ≡ false)) w ws idle))
+
+  -- All that ended handed their seats back.
+  pub all_handed : (ws : List X) → length ws ≡ shelf.seats → AreNumbered (map number ws) → All (λ w. HasEnded c shelf (number w) (seat w) (steps w)) ws → AllBack shelf (map seat ws)
+  all_handed ws count numbers ended = record {
+    all = length-map seat ws ∙ count;
+    each = λ i s e. each ws numbers ended i s e;
+  }
+    where
+      at_number : (xs : List X) (k : ℕ) → ((i n : ℕ) → slice_get (map number xs) i ≡ Some n → n ≡ k + i) → All (λ w. HasEnded c shelf (number w) (seat w) (steps w)) xs → (i : ℕ) (s : SeatTold CourseTold) → slice_get (map seat xs) i ≡ Some s
+          → (s.shelf ≡ Some shelf) × ((rest : List ℕ) × (s.view.numbers ≡ (k + i) ∷ rest)) × (s.view.turns ≡ [])
+      at_number [] k nums ends i s e = absurd (not_some s e)
+      at_number (x ∷ xs) k nums ends zero s e =
+          let h = All-head (λ (w : X). HasEnded c shelf (number w) (seat w) (steps w)) x xs ends in let n : number x ≡ k + 0 = nums 0 (number x) refl in
+          subst (λ (t : SeatTold CourseTold). (t.shelf ≡ Some shelf) × ((rest : List ℕ) × (t.view.numbers ≡ (k + 0) ∷ rest)) × (t.view.turns ≡ [])) (some_same (seat x) s e)
+          (h.shelf, (([], h.numbers ∙ ap (λ (m : ℕ). m ∷ []) n), h.turns))
+      at_number (x ∷ xs) k nums ends (suc i) s e =
+          let r = at_number xs (suc k) (λ j n q. let a = nums (suc j) n q in omega arith) (All-tail (λ (w : X). HasEnded c shelf (number w) (seat w) (steps w)) x xs ends) i s e in
+          let m : suc k + i ≡ k + suc i = omega arith in
+          (r.0, ((r.1.0, r.1.1 ∙ ap (λ (y : ℕ). y ∷ r.1.0) m), r.2))
+
+      each : (xs : List X) → AreNumbered (map number xs) → All (λ w. HasEnded c shelf (number w) (seat w) (steps w)) xs → (i : ℕ) (s : SeatTold CourseTold) → slice_get (map seat xs) i ≡ Some s
+          → (s.shelf ≡ Some shelf) × ((rest : List ℕ) × (s.view.numbers ≡ i ∷ rest)) × (s.view.turns ≡ [])
+      each xs nums ends i s e =
+          let r = at_number xs 0 (λ j n q. let a = nums j n q in omega arith) ends i s e in let m : 0 + i ≡ i = omega arith in
+          (r.0, ((r.1.0, r.1.1 ∙ ap (λ (y : ℕ). y ∷ r.1.0) m), r.2))
+
+  pub all_finished : (ws : List X) → All (λ w. finished w ≡ true) ws → All (λ w. finished w ≡ true → HasFinished c (seat w).view (outcomes w).items) ws
+      → HaveFinished c (map seat ws) (map (λ (v : Vec Outcome Global). v.items) (map outcomes ws))
+  all_finished [] all each = tt
+  all_finished (w ∷ ws) all each = (All-head (λ (w : X). finished w ≡ true → HasFinished c (seat w).view (outcomes w).items) w ws each (All-head (λ (w : X). finished w ≡ true) w ws all), all_finished ws (All-tail (λ (w : X). finished w ≡ true) w ws all) (All-tail (λ (w : X). finished w ≡ true → HasFinished c (seat w).view (outcomes w).items) w ws each))
+
+  pub steps_most : (ws : List X) → All (λ w. HasEnded c shelf (number w) (seat w) (steps w)) ws
+      → sum_by steps ws ≤ sum_by (λ (s : SeatTold CourseTold). sum_by (own_of c) s.view.claims) (map seat ws)
+  steps_most [] ended = omega arith
+  steps_most (w ∷ ws) ended = let h = All-head (λ (w : X). HasEnded c shelf (number w) (seat w) (steps w)) w ws ended in let m = h.steps in let r = steps_most ws (All-tail (λ (w : X). HasEnded c shelf (number w) (seat w) (steps w)) w ws ended) in let a = sum_by-cons steps w ws in let b = sum_by-cons (λ (s : SeatTold CourseTold). sum_by (own_of c) s.view.claims) (seat w) (map seat ws) in omega arith
+
+  pub steps_all : (ws : List X) → All (λ w. finished w ≡ true) ws → All (λ w. finished w ≡ true → steps w ≡ sum_by (own_of c) (seat w).view.claims) ws
+      → sum_by steps ws ≡ sum_by (λ (s : SeatTold CourseTold). sum_by (own_of c) s.view.claims) (map seat ws)
+  steps_all [] all each = refl
+  steps_all (w ∷ ws) all each = let e = All-head (λ (w : X). finished w ≡ true → steps w ≡ sum_by (own_of c) (seat w).view.claims) w ws each (All-head (λ (w : X). finished w ≡ true) w ws all) in let r = steps_all ws (All-tail (λ (w : X). finished w ≡ true) w ws all) (All-tail (λ (w : X). finished w ≡ true → steps w ≡ sum_by (own_of c) (seat w).view.claims) w ws each) in let a = sum_by-cons steps w ws in let b = sum_by-cons (λ (s : SeatTold CourseTold). sum_by (own_of c) s.view.claims) (seat w) (map seat ws) in omega arith
+
+  pub steps_few : (ws : List X) → All (λ w. HasEnded c shelf (number w) (seat w) (steps w)) ws → All (λ w. steps w < 2 ^ 52) ws
+  steps_few [] ended = All-nil (λ (w : X). steps w < 2 ^ 52)
+  steps_few (w ∷ ws) ended = All-cons (λ (w : X). steps w < 2 ^ 52) w ws (All-head (λ (w : X). HasEnded c shelf (number w) (seat w) (steps w)) w ws ended).few (steps_few ws (All-tail (λ (w : X). HasEnded c shelf (number w) (seat w) (steps w)) w ws ended))
