@@ -1,5 +1,5 @@
 -- What holds once all workers handed back what they have.
-use Rattle.std.proofs.Common.{◌≡◌, ◌≢◌, ℕ, zero, suc, ◌+◌, ◌-◌, ◌<◌, ◌≤◌, max, All, Bool, true, false, true≢false, List, [], ◌∷◌, ◌++◌, Option, None, Some, IsSome, length, map, replicate, set, sum_by, slice_get, take, ◌||◌, sym, refl, ap, ◌∙◌, subst, ⊎_elim, arith, length-append, add-one}
+use Rattle.std.proofs.Common.{◌≡◌, ◌≢◌, ℕ, zero, suc, ◌+◌, ◌-◌, ◌<◌, ◌≤◌, max, All, Bool, true, false, true≢false, List, [], ◌∷◌, ◌++◌, Option, None, Some, IsSome, is_some, length, map, replicate, set, sum_by, slice_get, take, ◌||◌, sym, refl, ap, ◌∙◌, subst, ⊎_elim, arith, length-append, add-one}
 use Rattle.std.proofs.lemmas.List.{length-map, length-replicate, take_all, take_more}
 use Rattle.std.proofs.lemmas.List.Sums.{sum_by-append, sum_by-cons}
 use Rattle.std.proofs.lemmas.List.Elements.{All-nil, All-cons, All-head, All-tail}
@@ -49,22 +49,22 @@ sum_map : (f : SeatView → ℕ) (seats : List (SeatTold CourseTold)) → sum_by
 sum_map f [] = refl
 sum_map f (s ∷ seats) = let r = sum_map f seats in let a = sum_by-cons f s.view (views_of seats) in let b = sum_by-cons (λ (x : SeatTold CourseTold). f x.view) s seats in omega arith
 
+or_both : (b p q : Bool) → (p ≡ true → q ≡ true) → (b || p) ≡ true → (b || q) ≡ true
+or_both true p q f e = refl
+or_both false p q f e = f e
+
+or_right : (b p : Bool) → p ≡ true → (b || p) ≡ true
+or_right true p e = refl
+or_right false p e = e
+
 -- Keys in a list of two parts.
 in_left : (key : Key) (xs ys : List Key) → is_in key xs ≡ true → is_in key (xs ++ ys) ≡ true
 in_left key [] ys e = absurd (true≢false (sym e))
-in_left key (x ∷ xs) ys e = at (same_key x key) e
-  where
-    at : (b : Bool) → (b || is_in key xs) ≡ true → (b || is_in key (xs ++ ys)) ≡ true
-    at true e = refl
-    at false e = in_left key xs ys e
+in_left key (x ∷ xs) ys e = or_both (same_key x key) (is_in key xs) (is_in key (xs ++ ys)) (in_left key xs ys) e
 
 in_right : (key : Key) (xs ys : List Key) → is_in key ys ≡ true → is_in key (xs ++ ys) ≡ true
 in_right key [] ys e = e
-in_right key (x ∷ xs) ys e = at (same_key x key) (in_right key xs ys e)
-  where
-    at : (b : Bool) → is_in key (xs ++ ys) ≡ true → (b || is_in key (xs ++ ys)) ≡ true
-    at true e = refl
-    at false e = e
+in_right key (x ∷ xs) ys e = or_right (same_key x key) (is_in key (xs ++ ys)) (in_right key xs ys e)
 
 ends_join : (p : Plan) (v w : SeatView) → HasAllEnds p v → HasAllEnds p w → HasAllEnds p (joined_with w v)
 ends_join p v w hv hw s pos = dite (ℕ_discrete (times s v.claims) 0)
@@ -142,14 +142,14 @@ module _ (c : CourseTold) (s : System) (v : SeatView) (h : Orderly s) (settled :
 
     taker_of : (g : ℕ) (word : ClaimWord) → times g v.claims ≡ 1 → slice_get s.claims g ≡ Some word → (n : ℕ) × (slice_get s.claims g ≡ Some (Taken n)) × (n < length s.views)
     taker_of g Open one e = let t : times g v.claims ≡ 0 = h.sound.claims.claimed g Open e 0 v at in absurd (omega arith)
-    taker_of g (Taken n) one e = (n, (e, h.sound.claims.takers g (Taken n) e))
+    taker_of g (Taken n) one e = (n, e, h.sound.claims.takers g (Taken n) e)
 
     pub ran_once : (workers : ℕ) → length s.views ≡ workers → RanOnce c.plan workers s
     ran_once workers count = record {
       view = v;
       there = at;
       claimed = claimed_once;
-      takers = λ g l. let w = word_of g l in let t = taker_of g w.0 (claimed_once g l) w.1 in (t.0, (t.1, (let m = t.2 in omega arith)));
+      takers = λ g l. let w = word_of g l in let t = taker_of g w.0 (claimed_once g l) w.1 in (t.0, t.1, (let m = t.2 in omega arith));
       ends = ends;
       forks = λ g l u.
           let key = end_key c.plan g in
@@ -176,12 +176,12 @@ good_more : (c : CourseTold) (slots : List (Option Outcome)) (done : List ℕ) (
 good_more c slots done o l told good g pos = dite (ℕ_discrete g o.segment)
     (λ (one : g ≡ o.segment).
     let was = there slots o.segment l in
-    (o, (ap (λ (i : ℕ). slice_get (set slots o.segment (Some o)) i) one ∙ set_here slots o.segment (Some o) was.0 was.1, told ∙ ap (λ (i : ℕ). outcome_of c i) (sym one))))
+    (o, ap (λ (i : ℕ). slice_get (set slots o.segment (Some o)) i) one ∙ set_here slots o.segment (Some o) was.0 was.1, told ∙ ap (λ (i : ℕ). outcome_of c i) (sym one)))
     (λ (ne : g ≢ o.segment).
     let t = times_append g done (o.segment ∷ []) in
     let z = times_else g o.segment [] (λ e. ne (sym e)) in
     let was = good g (omega arith) in
-    (was.0, (set_else slots o.segment g (Some o) ne ∙ was.1, was.2)))
+    (was.0, set_else slots o.segment g (Some o) ne ∙ was.1, was.2))
 
 good_all : (c : CourseTold) (slots : List (Option Outcome)) (done : List ℕ) (os : List Outcome) → All (λ (o : Outcome). o.segment < length slots) os → All (λ (o : Outcome). outcome_told o ≡ outcome_of c o.segment) os
     → Good c slots done → Good c (placed slots os) (done ++ segments_of os)
@@ -196,7 +196,8 @@ good_all c slots done (o ∷ os) below told good =
     let a = times_append g (done ++ o.segment ∷ []) (segments_of os) in let b = times_append g done (o.segment ∷ []) in
     let d = times_append g done (segments_of (o ∷ os)) in let e = times_append g (o.segment ∷ []) (segments_of os) in omega arith)
 
-flat : List (List Outcome) → List ℕ
+-- the segments of all these outcomes
+abbrev flat : List (List Outcome) → List ℕ
 flat [] = []
 flat (os ∷ lists) = segments_of os ++ flat lists
 
@@ -206,7 +207,7 @@ good_lists c slots done [] [] h below good = λ g pos. good g (let t = times_app
 good_lists c slots done [] (os ∷ lists) h below good = absurd h
 good_lists c slots done (s ∷ seats) [] h below good = absurd h
 good_lists c slots done (s ∷ seats) (os ∷ lists) h below good =
-    let one = good_all c slots done os (All-head (λ (xs : List Outcome). All (λ (o : Outcome). o.segment < length slots) xs) os lists below) h.0.outcomes good in
+    let one = good_all c slots done os (All-head (λ (xs : List Outcome). All (λ (o : Outcome). o.segment < length slots) xs) os lists below) h.0.told good in
     let long = length_placed slots os in
     let rest = good_lists c (placed slots os) (done ++ segments_of os) seats lists h.1
     (Rattle.std.proofs.lemmas.List.Elements.All-weaker (λ (xs : List Outcome). All (λ (o : Outcome). o.segment < length slots) xs) (λ (xs : List Outcome). All (λ (o : Outcome). o.segment < length (placed slots os)) xs)
@@ -246,12 +247,17 @@ some_slots [] h = All-nil (λ (y : Option Outcome). IsSome y)
 some_slots (x ∷ slots) h = let a = h 0 (omega arith) in All-cons (λ (y : Option Outcome). IsSome y) x slots (is x a.0 (some_same x (Some a.0) a.1)) (some_slots slots (λ g l. h (suc g) (omega arith)))
   where
     is : (y : Option Outcome) (o : Outcome) → y ≡ Some o → IsSome y
-    is y o e = subst (λ (z : Option Outcome). IsSome z) (sym e) (o, refl)
+    is y o e = ap (λ (z : Option Outcome). is_some z) e
 
 some_at : (list : List Outcome) (g : ℕ) (o : Outcome) → slice_get (map (λ (x : Outcome). Some x) list) g ≡ Some (Some o) → slice_get list g ≡ Some o
 some_at [] g o e = absurd (not_some (Some o) e)
 some_at (x ∷ list) zero o e = some_same (Some x) (Some o) e
 some_at (x ∷ list) (suc g) o e = some_at list g o e
+
+take_one : (xs : List Outcome) (k : ℕ) (o : Outcome) → slice_get xs k ≡ Some o → take (suc k) xs ≡ take k xs ++ o ∷ []
+take_one [] k o e = absurd (not_some o e)
+take_one (x ∷ xs) zero o e = ap (λ (y : Outcome). y ∷ []) (some_same x o e)
+take_one (x ∷ xs) (suc k) o e = ap (λ (ys : List Outcome). x ∷ ys) (take_one xs k o e)
 
 -- Outcomes that stand in the slots of their segments are those of the segments in order.
 told_in_order : (c : CourseTold) (list : List Outcome) → ((g : ℕ) → g < length list → (o : Outcome) × (slice_get list g ≡ Some o) × (outcome_told o ≡ outcome_of c g)) → map outcome_told list ≡ outcomes_before c (length list)
@@ -261,16 +267,10 @@ told_in_order c list each = ap (λ (xs : List Outcome). map outcome_told xs) (sy
     upto_here zero l = refl
     upto_here (suc k) l =
         let here = each k (omega arith) in
-        ap (λ (m : ℕ). map outcome_told (take m list)) (add-one k)
-        ∙ ap (λ (xs : List Outcome). map outcome_told xs) (take_one list k here.0 here.1)
+        ap (λ (xs : List Outcome). map outcome_told xs) (take_one list k here.0 here.1)
         ∙ Rattle.std.proofs.lemmas.List.map-append outcome_told (take k list) (here.0 ∷ [])
         ∙ ap (λ (xs : List OutcomeTold). xs ++ outcome_told here.0 ∷ []) (upto_here k (omega arith))
         ∙ ap (λ (x : OutcomeTold). outcomes_before c k ++ x ∷ []) here.2
-
-    take_one : (xs : List Outcome) (k : ℕ) (o : Outcome) → slice_get xs k ≡ Some o → take (k + 1) xs ≡ take k xs ++ o ∷ []
-    take_one [] k o e = absurd (not_some o e)
-    take_one (x ∷ xs) zero o e = ap (λ (y : Outcome). y ∷ []) (some_same x o e)
-    take_one (x ∷ xs) (suc k) o e = ap (λ (ys : List Outcome). x ∷ ys) (take_one xs k o e)
 
 -- All workers finished: what their joined view has, and what their outcomes tell.
 module _ (c : CourseTold) (s : System) (first : SeatTold CourseTold) (seats : List (SeatTold CourseTold)) (lists : List (List Outcome)) (h : Orderly s)
@@ -323,8 +323,8 @@ module _ (c : CourseTold) (s : System) (first : SeatTold CourseTold) (seats : Li
 
       pub all_told : (list : List Outcome) → map (λ (x : Outcome). Some x) list ≡ placed_all slots lists → map outcome_told list ≡ outcomes_before c (length (segments_in c.plan))
       all_told list is =
-          let n = length-map (λ (x : Outcome). Some x) list in let m = length_placed_all slots lists in let k = long in
+          let n = length-map list (λ (x : Outcome). Some x) in let m = length_placed_all slots lists in let k = long in
           let e = ap (λ (xs : List (Option Outcome)). length xs) is in
           let same : length list ≡ length (segments_in c.plan) = omega arith in
-          told_in_order c list (λ g l. let a = slot_told g (omega arith) in (a.0, (some_at list g a.0 (ap (λ (xs : List (Option Outcome)). slice_get xs g) is ∙ a.1), a.2)))
+          told_in_order c list (λ g l. let a = slot_told g (omega arith) in (a.0, some_at list g a.0 (ap (λ (xs : List (Option Outcome)). slice_get xs g) is ∙ a.1), a.2))
           ∙ ap (λ (k : ℕ). outcomes_before c k) same

@@ -1,5 +1,5 @@
 -- The ends of segments on the shelf.
-use Rattle.std.proofs.Common.{◌≡◌, ℕ, ◌<◌, true, List, Option, None, Some, IfOk, IfSome, IsSome, length, option_map, nat_lt, Bool, if◌then◌else◌, Result, sym, refl, ap, ◌∙◌, subst, arith}
+use Rattle.std.proofs.Common.{◌≡◌, ℕ, ◌<◌, true, List, Option, None, Some, IfOk, IfSome, IsSome, is_some, length, option_map, nat_lt, Bool, if◌then◌else◌, Result, sym, refl, ap, ◌∙◌, subst, arith}
 use Rattle.branch_tree.specs.declared.segment.Segment.{Segment}
 use Rattle.branch_tree.specs.Segments.{segments_in, segment_at, last_of}
 use Rattle.shelf_core.specs.Plan.{place_of, is_in, is_sole}
@@ -21,7 +21,7 @@ pub has_place : (c : CourseTold) (shelf : ShelfTold CourseTold) (s : ℕ) (key :
     → IsSome (place_of shelf.plan key) × (is_sole shelf.plan key ≡ true)
 has_place c shelf s key is l u e =
     let p = end_place c.plan shelf.plan s is.forks l u in
-    subst (λ (k : Key). IsSome (place_of shelf.plan k) × (is_sole shelf.plan k ≡ true)) (sym e) (p.0, p.1)
+    subst (λ (k : Key). IsSome (place_of shelf.plan k) × (is_sole shelf.plan k ≡ true)) (sym e) (ap (λ (o : Option ℕ). is_some o) p.0.1, p.1)
 
 -- what a value of its key has is the segment's end
 pub end_state_of : (c : CourseTold) (s : ℕ) (x : CheckpointTold) → IsCourse c → s < length (segments_in c.plan) → x.key ≡ end_key c.plan s → x.course ≡ c

@@ -22,16 +22,16 @@ pub made_ready : (c : CourseTold) (shelf : ShelfTold CourseTold) (number : ℕ) 
     → IsAtWork c shelf number seat 0 [] pushed
 made_ready c shelf number seat pushed at new h =
     let ready : IsAtWork c shelf number (record { shelf = seat.shelf; view = new_view number }) 0 [] pushed = record {
-      shelf = at;
+      of = at;
       numbers = refl;
       turns = refl;
       claims = record { below = All-nil (λ (s : ℕ). s < length (segments_in c.plan)); once = λ s. omega arith };
       counts = refl;
       ends = λ s pos. absurd (none s pos);
       segments = refl;
-      outcomes = All-nil (λ (o : Outcome). outcome_told o ≡ outcome_of c o.segment);
-      steps = refl;
-      pushed = h;
+      told = All-nil (λ (o : Outcome). outcome_told o ≡ outcome_of c o.segment);
+      counted = refl;
+      lane = h;
     } in
     subst (λ (v : SeatView). IsAtWork c shelf number (record { shelf = seat.shelf; view = v }) 0 [] pushed) (sym new) ready
   where
@@ -61,7 +61,7 @@ module _ {X : Type 0} (c : CourseTold) (shelf : ShelfTold CourseTold) (seat : X 
   -- All that ended handed their seats back.
   pub all_handed : (ws : List X) → length ws ≡ shelf.seats → AreNumbered (map number ws) → All (λ w. HasEnded c shelf (number w) (seat w) (steps w)) ws → AllBack shelf (map seat ws)
   all_handed ws count numbers ended = record {
-    all = length-map seat ws ∙ count;
+    all = length-map ws seat ∙ count;
     each = λ i s e. each ws numbers ended i s e;
   }
     where
@@ -71,17 +71,17 @@ module _ {X : Type 0} (c : CourseTold) (shelf : ShelfTold CourseTold) (seat : X 
       at_number (x ∷ xs) k nums ends zero s e =
           let h = All-head (λ (w : X). HasEnded c shelf (number w) (seat w) (steps w)) x xs ends in let n : number x ≡ k + 0 = nums 0 (number x) refl in
           subst (λ (t : SeatTold CourseTold). (t.shelf ≡ Some shelf) × ((rest : List ℕ) × (t.view.numbers ≡ (k + 0) ∷ rest)) × (t.view.turns ≡ [])) (some_same (seat x) s e)
-          (h.shelf, (([], h.numbers ∙ ap (λ (m : ℕ). m ∷ []) n), h.turns))
+          (h.of, ([], h.numbers ∙ ap (λ (m : ℕ). m ∷ []) n), h.turns)
       at_number (x ∷ xs) k nums ends (suc i) s e =
           let r = at_number xs (suc k) (λ j n q. let a = nums (suc j) n q in omega arith) (All-tail (λ (w : X). HasEnded c shelf (number w) (seat w) (steps w)) x xs ends) i s e in
           let m : suc k + i ≡ k + suc i = omega arith in
-          (r.0, ((r.1.0, r.1.1 ∙ ap (λ (y : ℕ). y ∷ r.1.0) m), r.2))
+          (r.0, (r.1.0, r.1.1 ∙ ap (λ (y : ℕ). y ∷ r.1.0) m), r.2)
 
       each : (xs : List X) → AreNumbered (map number xs) → All (λ w. HasEnded c shelf (number w) (seat w) (steps w)) xs → (i : ℕ) (s : SeatTold CourseTold) → slice_get (map seat xs) i ≡ Some s
           → (s.shelf ≡ Some shelf) × ((rest : List ℕ) × (s.view.numbers ≡ i ∷ rest)) × (s.view.turns ≡ [])
       each xs nums ends i s e =
           let r = at_number xs 0 (λ j n q. let a = nums j n q in omega arith) ends i s e in let m : 0 + i ≡ i = omega arith in
-          (r.0, ((r.1.0, r.1.1 ∙ ap (λ (y : ℕ). y ∷ r.1.0) m), r.2))
+          (r.0, (r.1.0, r.1.1 ∙ ap (λ (y : ℕ). y ∷ r.1.0) m), r.2)
 
   pub all_finished : (ws : List X) → All (λ w. finished w ≡ true) ws → All (λ w. finished w ≡ true → HasFinished c (seat w).view (outcomes w).items) ws
       → HaveFinished c (map seat ws) (map (λ (v : Vec Outcome Global). v.items) (map outcomes ws))
@@ -91,7 +91,7 @@ module _ {X : Type 0} (c : CourseTold) (shelf : ShelfTold CourseTold) (seat : X 
   pub steps_most : (ws : List X) → All (λ w. HasEnded c shelf (number w) (seat w) (steps w)) ws
       → sum_by steps ws ≤ sum_by (λ (s : SeatTold CourseTold). sum_by (own_of c) s.view.claims) (map seat ws)
   steps_most [] ended = omega arith
-  steps_most (w ∷ ws) ended = let h = All-head (λ (w : X). HasEnded c shelf (number w) (seat w) (steps w)) w ws ended in let m = h.steps in let r = steps_most ws (All-tail (λ (w : X). HasEnded c shelf (number w) (seat w) (steps w)) w ws ended) in let a = sum_by-cons steps w ws in let b = sum_by-cons (λ (s : SeatTold CourseTold). sum_by (own_of c) s.view.claims) (seat w) (map seat ws) in omega arith
+  steps_most (w ∷ ws) ended = let h = All-head (λ (w : X). HasEnded c shelf (number w) (seat w) (steps w)) w ws ended in let m = h.counted in let r = steps_most ws (All-tail (λ (w : X). HasEnded c shelf (number w) (seat w) (steps w)) w ws ended) in let a = sum_by-cons steps w ws in let b = sum_by-cons (λ (s : SeatTold CourseTold). sum_by (own_of c) s.view.claims) (seat w) (map seat ws) in omega arith
 
   pub steps_all : (ws : List X) → All (λ w. finished w ≡ true) ws → All (λ w. finished w ≡ true → steps w ≡ sum_by (own_of c) (seat w).view.claims) ws
       → sum_by steps ws ≡ sum_by (λ (s : SeatTold CourseTold). sum_by (own_of c) s.view.claims) (map seat ws)

@@ -65,7 +65,7 @@ module _ (c : CourseTold) (shelf : ShelfTold CourseTold) (number : ℕ) (seat : 
   -- Nothing changed but what the seat saw.
   pub stays_at_work : (w : SeatTold CourseTold) → w.shelf ≡ seat.shelf → Same seat.view w.view → Stays seat.view w.view → IsAtWork c shelf number w steps outcomes pushed
   stays_at_work w at same stays = record {
-    shelf = at ∙ h.shelf;
+    of = at ∙ h.of;
     numbers = same.numbers ∙ h.numbers;
     turns = same.turns ∙ h.turns;
     claims = subst (λ (xs : List ℕ). AreClaims c.plan xs) (sym same.claims) h.claims;
@@ -75,23 +75,23 @@ module _ (c : CourseTold) (shelf : ShelfTold CourseTold) (number : ℕ) (seat : 
       fork = λ l. stays.known (end_key c.plan s) (old.fork l);
     };
     segments = h.segments ∙ sym same.claims;
-    outcomes = h.outcomes;
-    steps = h.steps ∙ sym (ap (λ (xs : List ℕ). sum_by (own_of c) xs) same.claims);
-    pushed = subst (λ (xs : List ℕ). HasPushed c.plan xs pushed) (sym same.claims) h.pushed;
+    told = h.told;
+    counted = h.counted ∙ sym (ap (λ (xs : List ℕ). sum_by (own_of c) xs) same.claims);
+    lane = subst (λ (xs : List ℕ). HasPushed c.plan xs pushed) (sym same.claims) h.lane;
   }
 
   -- The worker ends here.
   pub ends_here : IsCourse c → HasEnded c shelf number seat steps
   ends_here k = record {
-    shelf = h.shelf;
+    of = h.of;
     numbers = h.numbers;
     turns = h.turns;
-    steps = (let e = h.steps in omega arith);
-    few = (let e = h.steps in let f = claims_few c seat.view.claims k h.claims in omega arith);
+    counted = (let e = h.counted in omega arith);
+    few = (let e = h.counted in let f = claims_few c seat.view.claims k h.claims in omega arith);
   }
 
   pub finishes_here : length (segments_in c.plan) ≤ seat.view.done_seen → HasFinished c seat.view outcomes
-  finishes_here done = record { below = h.claims.below; ends = h.ends; segments = h.segments; outcomes = h.outcomes; done = done }
+  finishes_here done = record { below = h.claims.below; ends = h.ends; segments = h.segments; told = h.told; done = done }
 
   module _ (g : ℕ) (below : g < length (segments_in c.plan)) (new : times g seat.view.claims ≡ 0) (claimed : SeatView) (is : claimed ≡ with_claim g seat.view)
       (w : SeatTold CourseTold) (at : w.shelf ≡ seat.shelf) (remains : Remains claimed w.view) (turns : w.view.turns ≡ []) where
@@ -107,13 +107,13 @@ module _ (c : CourseTold) (shelf : ShelfTold CourseTold) (number : ℕ) (seat : 
         let more = claims_more c seat.view.claims g h.claims below new in
         let s = sum_more (own_of c) seat.view.claims g in
         let f = claims_few c (seat.view.claims ++ g ∷ []) k more in
-        let e = h.steps in
+        let e = h.counted in
         let sums : sum_by (own_of c) w.view.claims ≡ sum_by (own_of c) (seat.view.claims ++ g ∷ []) = ap (λ (xs : List ℕ). sum_by (own_of c) xs) claims_are in
         record {
-          shelf = at ∙ h.shelf;
+          of = at ∙ h.of;
           numbers = numbers_are;
           turns = turns;
-          steps = omega arith;
+          counted = omega arith;
           few = omega arith;
         }
 
@@ -124,7 +124,7 @@ module _ (c : CourseTold) (shelf : ShelfTold CourseTold) (number : ℕ) (seat : 
         let more = claims_more c seat.view.claims g h.claims below new in
         let s = sum_more (own_of c) seat.view.claims g in
         record {
-          shelf = at ∙ h.shelf;
+          of = at ∙ h.of;
           numbers = numbers_are;
           turns = turns;
           claims = subst (λ (xs : List ℕ). AreClaims c.plan xs) (sym claims_are) more;
@@ -141,8 +141,8 @@ module _ (c : CourseTold) (shelf : ShelfTold CourseTold) (number : ℕ) (seat : 
               });
           segments = map-append (λ (x : Outcome). x.segment) outcomes (o ∷ []) ∙ ap (λ (xs : List ℕ). xs ++ o.segment ∷ []) h.segments
               ∙ ap (λ (x : ℕ). seat.view.claims ++ x ∷ []) (ap (λ (x : OutcomeTold). x.segment) told) ∙ sym claims_are;
-          outcomes = All-push (λ (x : Outcome). outcome_told x ≡ outcome_of c x.segment) outcomes o h.outcomes
+          told = All-push (λ (x : Outcome). outcome_told x ≡ outcome_of c x.segment) outcomes o h.told
               (told ∙ ap (λ (x : ℕ). outcome_of c x) (sym (ap (λ (x : OutcomeTold). x.segment) told)));
-          steps = (let e = h.steps in let sums : sum_by (own_of c) w.view.claims ≡ sum_by (own_of c) (seat.view.claims ++ g ∷ []) = ap (λ (xs : List ℕ). sum_by (own_of c) xs) claims_are in omega arith);
-          pushed = subst (λ (xs : List ℕ). HasPushed c.plan xs (pushed ++ children_of c.plan g)) (sym claims_are) (pushed_more c.plan seat.view.claims pushed g new h.pushed);
+          counted = (let e = h.counted in let sums : sum_by (own_of c) w.view.claims ≡ sum_by (own_of c) (seat.view.claims ++ g ∷ []) = ap (λ (xs : List ℕ). sum_by (own_of c) xs) claims_are in omega arith);
+          lane = subst (λ (xs : List ℕ). HasPushed c.plan xs (pushed ++ children_of c.plan g)) (sym claims_are) (pushed_more c.plan seat.view.claims pushed g new h.lane);
         }

@@ -1,5 +1,5 @@
 -- What holds of workers.
-use Rattle.std.specs.Prelude.{◌≡◌, ℕ, ◌<◌, ◌≤◌, ◌^◌, All, List, [], ◌∷◌, Option, None, Some, length, map, sum_by, slice_get}
+use Rattle.std.specs.Prelude.{◌≡◌, ℕ, ◌<◌, ◌≤◌, ◌^◌, true, All, List, [], ◌∷◌, Option, None, Some, length, map, sum_by, slice_get}
 use Rattle.branch_tree.specs.Plan.{Plan}
 use Rattle.branch_tree.specs.Segments.{segments_in, segment_at, last_of}
 use Rattle.shelf_core.specs.Plan.{is_in}
@@ -30,23 +30,23 @@ own_of c s = own_count c.opening c.plan (segment_at c.plan s)
 -- claimed was run by it, counted and told.
 pub record IsAtWork (c : CourseTold) (shelf : ShelfTold CourseTold) (number : ℕ) (seat : SeatTold CourseTold) (steps : ℕ)
     (outcomes : List Outcome) (pushed : List ℕ) : Type 0 where
-  pub shelf : seat.shelf ≡ Some shelf
+  pub of : seat.shelf ≡ Some shelf
   pub numbers : seat.view.numbers ≡ number ∷ []
   pub turns : seat.view.turns ≡ []
   pub claims : AreClaims c.plan seat.view.claims
   pub counts : seat.view.counts ≡ length seat.view.claims
   pub ends : HasAllEnds c.plan seat.view
   pub segments : map (λ o. o.segment) outcomes ≡ seat.view.claims
-  pub outcomes : All (λ o. outcome_told o ≡ outcome_of c o.segment) outcomes
-  pub steps : steps ≡ sum_by (own_of c) seat.view.claims
-  pub pushed : HasPushed c.plan seat.view.claims pushed
+  pub told : All (λ o. outcome_told o ≡ outcome_of c o.segment) outcomes
+  pub counted : steps ≡ sum_by (own_of c) seat.view.claims
+  pub lane : HasPushed c.plan seat.view.claims pushed
 
 -- When a worker ended, in want of memory too.
 pub record HasEnded (c : CourseTold) (shelf : ShelfTold CourseTold) (number : ℕ) (seat : SeatTold CourseTold) (steps : ℕ) : Type 0 where
-  pub shelf : seat.shelf ≡ Some shelf
+  pub of : seat.shelf ≡ Some shelf
   pub numbers : seat.view.numbers ≡ number ∷ []
   pub turns : seat.view.turns ≡ []
-  pub steps : steps ≤ sum_by (own_of c) seat.view.claims
+  pub counted : steps ≤ sum_by (own_of c) seat.view.claims
   pub few : steps < 2 ^ 52
 
 -- When a worker with this view and these outcomes ended since all segments are done.
@@ -54,7 +54,7 @@ pub record HasFinished (c : CourseTold) (view : SeatView) (outcomes : List Outco
   pub below : All (λ s. s < length (segments_in c.plan)) view.claims
   pub ends : HasAllEnds c.plan view
   pub segments : map (λ o. o.segment) outcomes ≡ view.claims
-  pub outcomes : All (λ o. outcome_told o ≡ outcome_of c o.segment) outcomes
+  pub told : All (λ o. outcome_told o ≡ outcome_of c o.segment) outcomes
   pub done : length (segments_in c.plan) ≤ view.done_seen
 
 -- so of all workers, with their seats and their outcomes in order
