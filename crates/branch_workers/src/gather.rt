@@ -50,7 +50,7 @@ pub(crate) fn gather<L: Ledger, B: Room>(
     requires finished { back.old.finished ≡ true }
     requires few { length workers.items ≤ 64 }
     requires each { All (λ w. w.steps < 2 ^ 52) workers.items }
-    requires steps { steps.old < 2 ^ 63 }
+    requires steps { steps.old ≤ 2 ^ 63 }
     ensures seats { back.new.seats.items ≡ map (λ w. w.seat) workers.items }
     ensures outcomes { back.new.outcomes.items ≡ map (λ w. w.outcomes) workers.items }
     ensures finished { back.new.finished ≡ true → All (λ w. w.finished ≡ true) workers.items }

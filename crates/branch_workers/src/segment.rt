@@ -6,6 +6,7 @@ ghost use Rattle.kernel_core.specs.Step.{Fits};
 ghost use Rattle.shelf_core.specs.Made.{Stays};
 ghost use Rattle.shelf_core.specs.Plan.{place_of, is_in, is_sole};
 ghost use Rattle.shelf_core.specs.Views.{times};
+ghost use Rattle.kernel_copy.specs.Courses.{IsCourse};
 ghost use Rattle.kernel_copy.specs.Outcomes.{outcome_told, outcome_of};
 ghost use Rattle.kernel_copy.specs.Segmentwise.{segment_end, segment_run, started_at, own_count};
 ghost use Rattle.branch_workers.specs.Layout.{end_key};
@@ -61,6 +62,7 @@ fn begun<R: Wait>(
     ensures same { seat.new.shelf ≡ seat.old.shelf }
     ensures stays { Stays seat.old.view seat.new.view }
     ensures turns { seat.new.view.turns ≡ seat.old.view.turns }
+    ensures course { IsCourse course.now }
     ensures state { IfOk result (λ k. record { state = k; entries = trace.new.list } ≡ started_at course.now.opening course.now.plan (segment_at course.now.plan segment)) }
     ensures fits { IfOk result (λ k. Fits course.now.opening k) }
     ensures found { OnOk result ((q : ℕ) → (segment_at course.now.plan segment).parent ≡ Some q → is_in (end_key course.now.plan q) seat.new.view.found ≡ true) }
@@ -92,7 +94,7 @@ fn advance<R: Wait, L: Ledger>(
     requires seat { seat.old.shelf ≡ Some shelf.now }
     requires shelf { IsShelfOf course.now shelf.now }
     requires segment { segment < length (segments_in course.now.plan) }
-    requires count { steps.old + course.now.opening.limit < 2 ^ 64 }
+    requires count { steps.old ≤ 2 ^ 63 }
     ensures same { seat.new.shelf ≡ seat.old.shelf }
     ensures stays { Stays seat.old.view seat.new.view }
     ensures turns { seat.new.view.turns ≡ seat.old.view.turns }
@@ -179,7 +181,7 @@ pub fn run_segment<R: Wait, G: Gate, L: Ledger>(
     requires claim { 0 < times segment seat.old.view.claims }
     requires more { seat.old.view.counts < length seat.old.view.claims }
     requires turns { seat.old.view.turns ≡ [] }
-    requires count { steps.old + course.now.value.opening.limit < 2 ^ 64 }
+    requires count { steps.old ≤ 2 ^ 63 }
     ensures same { seat.new.shelf ≡ seat.old.shelf }
 
     // What the segment's run tells, and how many steps it took.

@@ -108,7 +108,7 @@ fn work_in<R: Threads + Wait + Sync, G: Gate + Sync, L: Ledger + Send, B: Room +
     count: u32,
 ) -> Result<Worked, Memory>
     requires workers { (0 < workers) × (workers ≤ 64) }
-    requires steps { steps.old < 2 ^ 63 }
+    requires steps { steps.old ≤ 2 ^ 63 }
     requires room { count ≡ B.room }
     requires count { count ≡ length (segments_in course.now.value.plan) }
     ensures outcomes { IfOk result (λ w. map outcome_told w.outcomes.items ≡ outcomes_before course.now.value (length (segments_in course.now.value.plan))) }
@@ -144,7 +144,7 @@ pub fn work<R: Threads + Wait + Sync, G: Gate + Sync, L: Ledger + Send>(
     steps: &mut Steps<L>,
 ) -> Result<Worked, Memory>
     requires workers { (0 < workers) × (workers ≤ 64) }
-    requires steps { steps.old < 2 ^ 63 }
+    requires steps { steps.old ≤ 2 ^ 63 }
     ensures outcomes { IfOk result (λ w. map outcome_told w.outcomes.items ≡ outcomes_before course.now.value (length (segments_in course.now.value.plan))) }
     ensures rose { OnOk result (steps.new ≡ steps.old + distinct course.now.value.opening course.now.value.plan) }
     ensures most { steps.new ≤ steps.old + distinct course.now.value.opening course.now.value.plan }
