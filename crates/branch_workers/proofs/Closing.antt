@@ -1,5 +1,5 @@
 -- What holds once all workers handed back what they have.
-use Rattle.std.proofs.Common.{◌≡◌, ◌≢◌, ℕ, zero, suc, ◌+◌, ◌-◌, ◌<◌, ◌≤◌, max, All, Bool, true, false, true≢false, List, [], ◌∷◌, ◌++◌, Option, None, Some, IsSome, is_some, length, map, replicate, set, sum_by, slice_get, take, ◌||◌, sym, refl, ap, ◌∙◌, subst, ⊎_elim, arith, length-append, add-one}
+use Rattle.std.proofs.Common.{◌≡◌, ◌≢◌, ℕ, zero, suc, ◌+◌, ◌-◌, ◌<◌, ◌≤◌, max, All, Bool, true, false, true≢false, List, [], ◌∷◌, ◌++◌, Option, None, Some, IsSome, is_some, Vec, Global, length, map, replicate, set, sum_by, slice_get, take, ◌||◌, sym, refl, ap, ◌∙◌, subst, ⊎_elim, arith, length-append, add-one}
 use Rattle.std.proofs.lemmas.List.{length-map, length-replicate, take_all, take_more}
 use Rattle.std.proofs.lemmas.List.Sums.{sum_by-append, sum_by-cons}
 use Rattle.std.proofs.lemmas.List.Elements.{All-nil, All-cons, All-head, All-tail}
@@ -328,3 +328,53 @@ module _ (c : CourseTold) (s : System) (first : SeatTold CourseTold) (seats : Li
           let same : length list ≡ length (segments_in c.plan) = omega arith in
           told_in_order c list (λ g l. let a = slot_told g (omega arith) in (a.0, some_at list g a.0 (ap (λ (xs : List (Option Outcome)). slice_get xs g) is ∙ a.1), a.2))
           ∙ ap (λ (k : ℕ). outcomes_before c k) same
+
+-- A system in which the first of some seats took in all others.
+pub record AreJoined (c : CourseTold) (s : System) (seats : List (SeatTold CourseTold)) : Type 0 where
+  pub some : 0 < length seats
+  pub orderly : Orderly s
+  pub settled : IsSettled s (all_in (views_of seats))
+  pub at : slice_get s.views 0 ≡ Some (all_in (views_of seats))
+  pub laid : s.plan ≡ Some (layout c.plan)
+
+module _ (c : CourseTold) (s : System) where
+  pub most_of : (seats : List (SeatTold CourseTold)) → AreJoined c s seats → sum_by (λ (x : SeatTold CourseTold). sum_by (own_of c) x.view.claims) seats ≤ distinct c.opening c.plan
+  most_of [] j = let l = j.some in absurd (omega arith)
+  most_of (first ∷ rest) j = all_most c s first rest [] j.orderly j.settled j.at j.laid
+
+  pub events_of_all : (seats : List (SeatTold CourseTold)) (lists : List (List Outcome)) → AreJoined c s seats → HaveFinished c seats lists
+      → sum_by (λ (x : SeatTold CourseTold). sum_by (own_of c) x.view.claims) seats ≡ distinct c.opening c.plan
+  events_of_all [] lists j fin = let l = j.some in absurd (omega arith)
+  events_of_all (first ∷ rest) lists j fin = all_events c s first rest lists j.orderly j.settled j.at j.laid fin
+
+  pub ran_of_all : (seats : List (SeatTold CourseTold)) (lists : List (List Outcome)) → AreJoined c s seats → HaveFinished c seats lists → (workers : ℕ) → length s.views ≡ workers → RanOnce c.plan workers s
+  ran_of_all [] lists j fin workers count = let l = j.some in absurd (omega arith)
+  ran_of_all (first ∷ rest) lists j fin workers count = all_ran c s first rest lists j.orderly j.settled j.at j.laid fin workers count
+
+  pub some_of_all : (seats : List (SeatTold CourseTold)) (lists : List (List Outcome)) → AreJoined c s seats → HaveFinished c seats lists → (slots : List (Option Outcome))
+      → slots ≡ replicate (length (segments_in c.plan)) None → All (λ (x : Option Outcome). IsSome x) (placed_all slots lists)
+  some_of_all [] lists j fin slots empty = let l = j.some in absurd (omega arith)
+  some_of_all (first ∷ rest) lists j fin slots empty = all_some c s first rest lists j.orderly j.settled j.at j.laid fin slots empty
+
+  pub told_of_all : (seats : List (SeatTold CourseTold)) (lists : List (List Outcome)) → AreJoined c s seats → HaveFinished c seats lists → (slots : List (Option Outcome))
+      → slots ≡ replicate (length (segments_in c.plan)) None → (list : List Outcome) → map (λ (x : Outcome). Some x) list ≡ placed_all slots lists → map outcome_told list ≡ outcomes_before c (length (segments_in c.plan))
+  told_of_all [] lists j fin slots empty list is = let l = j.some in absurd (omega arith)
+  told_of_all (first ∷ rest) lists j fin slots empty list is = all_told c s first rest lists j.orderly j.settled j.at j.laid fin slots empty list is
+
+-- One outcome more is placed.
+pub placed_more : (slots : List (Option Outcome)) (os : List Outcome) (o : Outcome) → placed slots (os ++ o ∷ []) ≡ set (placed slots os) o.segment (Some o)
+placed_more slots [] o = refl
+placed_more slots (x ∷ os) o = placed_more (set slots x.segment (Some x)) os o
+
+pub placed_all_more : (slots : List (Option Outcome)) (lists : List (List Outcome)) (os : List Outcome) → placed_all slots (lists ++ os ∷ []) ≡ placed (placed_all slots lists) os
+placed_all_more slots [] os = refl
+placed_all_more slots (xs ∷ lists) os = placed_all_more (placed slots xs) lists os
+
+all_from_map : {X Y : Type 0} (P : X → Type 0) (f : Y → X) (ys : List Y) → All P (map f ys) → All (λ y. P (f y)) ys
+all_from_map P f [] a = All-nil (λ y. P (f y))
+all_from_map P f (y ∷ ys) a = All-cons (λ z. P (f z)) y ys (All-head P (f y) (map f ys) a) (all_from_map P f ys (All-tail P (f y) (map f ys) a))
+
+pub vectors_below : (c : CourseTold) (n : ℕ) (seats : List (SeatTold CourseTold)) (vs : List (Vec Outcome Global)) → HaveFinished c seats (map (λ v. v.items) vs)
+    → n ≡ length (segments_in c.plan) → All (λ v. All (λ (o : Outcome). o.segment < n) v.items) vs
+vectors_below c n seats vs fin is =
+    all_from_map (λ (os : List Outcome). All (λ (o : Outcome). o.segment < n) os) (λ (v : Vec Outcome Global). v.items) vs (lists_below c n seats (map (λ (v : Vec Outcome Global). v.items) vs) fin is)

@@ -1,5 +1,5 @@
 -- The ends of segments on the shelf.
-use Rattle.std.proofs.Common.{◌≡◌, ℕ, ◌<◌, true, List, Option, None, Some, IfOk, IfSome, IsSome, is_some, length, option_map, nat_lt, Bool, if◌then◌else◌, Result, sym, refl, ap, ◌∙◌, subst, arith}
+use Rattle.std.proofs.Common.{◌≡◌, ℕ, ◌<◌, true, false, List, Option, None, Some, IfOk, IfSome, IsSome, is_some, length, option_map, nat_lt, Bool, if◌then◌else◌, Result, sym, refl, ap, ◌∙◌, subst, arith}
 use Rattle.branch_tree.specs.declared.segment.Segment.{Segment}
 use Rattle.branch_tree.specs.Segments.{segments_in, segment_at, last_of}
 use Rattle.shelf_core.specs.Plan.{place_of, is_in, is_sole}
@@ -36,10 +36,3 @@ kept_is c s x e = at (nat_lt s (last_of c.plan.branches (segment_at c.plan s).br
     at : (b : Bool) → nat_lt s (last_of c.plan.branches (segment_at c.plan s).branch) ≡ b → Some x ≡ (if b then Some (end_of_segment c s) else None) → (x ≡ end_of_segment c s) × (s < last_of c.plan.branches (segment_at c.plan s).branch)
     at true t e = (cc, grind (arith, t))
     at false t e = absurd cc
-
-pub kept_none : (c : CourseTold) (s : ℕ) → None ≡ kept_of c s → s < last_of c.plan.branches (segment_at c.plan s).branch → ⊥
-kept_none c s e u = at (nat_lt s (last_of c.plan.branches (segment_at c.plan s).branch)) refl e
-  where
-    at : (b : Bool) → nat_lt s (last_of c.plan.branches (segment_at c.plan s).branch) ≡ b → None ≡ (if b then Some (end_of_segment c s) else None) → ⊥
-    at true t e = absurd cc
-    at false t e = grind (arith, t, u)

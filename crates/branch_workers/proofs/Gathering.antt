@@ -1,5 +1,5 @@
 -- Workers as they are made and as they end.
-use Rattle.std.proofs.Common.{◌≡◌, ◌≢◌, ℕ, zero, suc, ◌+◌, ◌^◌, ◌<◌, ◌≤◌, All, Bool, true, false, List, [], ◌∷◌, ◌++◌, Option, None, Some, Vec, Global, length, map, sum_by, slice_get, sym, refl, ap, ◌∙◌, subst, arith}
+use Rattle.std.proofs.Common.{◌≡◌, ◌≢◌, ℕ, zero, suc, ◌+◌, ◌^◌, ◌<◌, ◌≤◌, All, Bool, true, false, List, [], ◌∷◌, ◌++◌, Option, None, Some, Vec, Global, length, map, sum_by, slice_get, get_or, sym, refl, ap, ◌∙◌, subst, arith}
 use Rattle.std.proofs.lemmas.List.{length-map}
 use Rattle.std.proofs.lemmas.List.Elements.{All-nil, All-cons, All-head, All-tail}
 use Rattle.std.proofs.lemmas.List.Sums.{sum_by-cons}
@@ -12,16 +12,17 @@ use Rattle.branch_deques.specs.Told.{LaneTold}
 use Rattle.checkpoint_shelf.specs.Told.{ShelfTold, SeatTold}
 use Rattle.checkpoint_shelf.specs.Seats.{AllBack}
 use Rattle.kernel_copy.specs.declared.run.Outcome.{Outcome}
-use Rattle.kernel_copy.specs.Courses.{CourseTold}
+use Rattle.kernel_copy.specs.Courses.{CourseTold, IsCourse}
 use Rattle.kernel_copy.specs.Outcomes.{outcome_told, outcome_of}
 use Rattle.branch_workers.specs.Claims.{AreClaims, HasPushed}
 use Rattle.branch_workers.specs.Workers.{own_of, AreNumbered, IsAtWork, HasEnded, HasFinished, HaveFinished}
 
 -- A worker that is made: its seat is new, and it has done nothing.
-pub made_ready : (c : CourseTold) (shelf : ShelfTold CourseTold) (number : ℕ) (seat : SeatTold CourseTold) (pushed : List ℕ) → seat.shelf ≡ Some shelf → seat.view ≡ new_view number → HasPushed c.plan [] pushed
+pub made_ready : (c : CourseTold) (shelf : ShelfTold CourseTold) (number : ℕ) (seat : SeatTold CourseTold) (pushed : List ℕ) → IsCourse c → seat.shelf ≡ Some shelf → seat.view ≡ new_view number → HasPushed c.plan [] pushed
     → IsAtWork c shelf number seat 0 [] pushed
-made_ready c shelf number seat pushed at new h =
+made_ready c shelf number seat pushed k at new h =
     let ready : IsAtWork c shelf number (record { shelf = seat.shelf; view = new_view number }) 0 [] pushed = record {
+      course = k;
       of = at;
       numbers = refl;
       turns = refl;
@@ -40,21 +41,21 @@ made_ready c shelf number seat pushed at new h =
 
 module _ {X : Type 0} (c : CourseTold) (shelf : ShelfTold CourseTold) (seat : X → SeatTold CourseTold) (steps : X → ℕ) (number : X → ℕ) (outcomes : X → Vec Outcome Global) (lane : X → LaneTold) (finished : X → Bool) where
   -- All workers that are made are ready.
-  pub all_ready : (k : ℕ) (ws : List X) → ((i : ℕ) (s : SeatTold CourseTold) → slice_get (map seat ws) i ≡ Some s → (s.shelf ≡ Some shelf) × (s.view ≡ new_view (k + i)))
-      → ((i n : ℕ) → slice_get (map number ws) i ≡ Some n → n ≡ k + i) → All (λ (l : LaneTold). HasPushed c.plan [] l.own.view.pushed) (map lane ws)
+  pub all_ready : IsCourse c → (n : ℕ) (ws : List X) → ((i : ℕ) (s : SeatTold CourseTold) → slice_get (map seat ws) i ≡ Some s → (s.shelf ≡ Some shelf) × (s.view ≡ new_view (n + i)))
+      → ((i m : ℕ) → slice_get (map number ws) i ≡ Some m → m ≡ n + i) → All (λ (l : LaneTold). HasPushed c.plan [] l.own.view.pushed) (map lane ws)
       → All (λ w. (steps w ≡ 0) × ((outcomes w).items ≡ []) × (finished w ≡ false)) ws
       → All (λ w. IsAtWork c shelf (number w) (seat w) (steps w) (outcomes w).items (lane w).own.view.pushed) ws
-  all_ready k [] seats numbers lanes idle = All-nil (λ (w : X). IsAtWork c shelf (number w) (seat w) (steps w) (outcomes w).items (lane w).own.view.pushed)
-  all_ready k (w ∷ ws) seats numbers lanes idle =
-      let s = seats 0 (seat w) refl in let n : number w ≡ k + 0 = numbers 0 (number w) refl in let i = All-head (λ (w : X). (steps w ≡ 0) × ((outcomes w).items ≡ []) × (finished w ≡ false)) w ws idle in
+  all_ready k n [] seats numbers lanes idle = All-nil (λ (w : X). IsAtWork c shelf (number w) (seat w) (steps w) (outcomes w).items (lane w).own.view.pushed)
+  all_ready k n (w ∷ ws) seats numbers lanes idle =
+      let s = seats 0 (seat w) refl in let m : number w ≡ n + 0 = numbers 0 (number w) refl in let i = All-head (λ (w : X). (steps w ≡ 0) × ((outcomes w).items ≡ []) × (finished w ≡ false)) w ws idle in
       let l = All-head (λ (l : LaneTold). HasPushed c.plan [] l.own.view.pushed) (lane w) (map lane ws) lanes in
-      let view : (seat w).view ≡ new_view (number w) = s.1 ∙ ap (λ (m : ℕ). new_view m) (sym n) in
-      let ready = made_ready c shelf (number w) (seat w) (lane w).own.view.pushed s.0 view l in
+      let view : (seat w).view ≡ new_view (number w) = s.1 ∙ ap (λ (x : ℕ). new_view x) (sym m) in
+      let ready = made_ready c shelf (number w) (seat w) (lane w).own.view.pushed k s.0 view l in
       All-cons (λ (w : X). IsAtWork c shelf (number w) (seat w) (steps w) (outcomes w).items (lane w).own.view.pushed) w ws
       (subst (λ (m : ℕ). IsAtWork c shelf (number w) (seat w) m (outcomes w).items (lane w).own.view.pushed) (sym i.0)
       (subst (λ (os : List Outcome). IsAtWork c shelf (number w) (seat w) 0 os (lane w).own.view.pushed) (sym i.1) ready))
-      (all_ready (suc k) ws
-      (λ j t e. let a = seats (suc j) t e in let m : k + suc j ≡ suc k + j = omega arith in (a.0, a.1 ∙ ap (λ (x : ℕ). new_view x) m))
+      (all_ready k (suc n) ws
+      (λ j t e. let a = seats (suc j) t e in let e2 : n + suc j ≡ suc n + j = omega arith in (a.0, a.1 ∙ ap (λ (x : ℕ). new_view x) e2))
       (λ j t e. let a = numbers (suc j) t e in omega arith)
       (All-tail (λ (l : LaneTold). HasPushed c.plan [] l.own.view.pushed) (lane w) (map lane ws) lanes) (All-tail (λ (w : X). (steps w ≡ 0) × ((outcomes w).items ≡ []) × (finished w ≡ false)) w ws idle))
 
@@ -101,3 +102,26 @@ module _ {X : Type 0} (c : CourseTold) (shelf : ShelfTold CourseTold) (seat : X 
   pub steps_few : (ws : List X) → All (λ w. HasEnded c shelf (number w) (seat w) (steps w)) ws → All (λ w. steps w < 2 ^ 52) ws
   steps_few [] ended = All-nil (λ (w : X). steps w < 2 ^ 52)
   steps_few (w ∷ ws) ended = All-cons (λ (w : X). steps w < 2 ^ 52) w ws (All-head (λ (w : X). HasEnded c shelf (number w) (seat w) (steps w)) w ws ended).few (steps_few ws (All-tail (λ (w : X). HasEnded c shelf (number w) (seat w) (steps w)) w ws ended))
+
+  at_map : (ws : List X) (i n : ℕ) → slice_get (map number ws) i ≡ Some n → (w : X) × (slice_get ws i ≡ Some w) × (number w ≡ n)
+  at_map [] i n e = absurd (not_some n e)
+  at_map (w ∷ ws) zero n e = (w, refl, some_same (number w) n e)
+  at_map (w ∷ ws) (suc i) n e = at_map ws i n e
+
+  index_is : (ws : List X) (i : ℕ) (d w : X) → slice_get ws i ≡ Some w → (get_or ws i d ≡ w) × (i < length ws)
+  index_is [] i d w e = absurd (not_some w e)
+  index_is (x ∷ ws) zero d w e = (some_same x w e, omega arith)
+  index_is (x ∷ ws) (suc i) d w e = let r = index_is ws i d w e in (r.0, (let l = r.1 in omega arith))
+
+  get_index : (ws : List X) (i : ℕ) (d : X) → i < length ws → slice_get (map number ws) i ≡ Some (number (get_or ws i d))
+  get_index [] i d l = absurd (omega arith)
+  get_index (x ∷ ws) zero d l = refl
+  get_index (x ∷ ws) (suc i) d l = get_index ws i d (omega arith)
+
+  -- Workers that keep their numbers are still numbered.
+  pub numbered_still : (ws vs : List X) → length ws ≡ length vs → ((i : ℕ) (d : X) → i < length vs → number (get_or ws i d) ≡ number (get_or vs i d)) → AreNumbered (map number vs) → AreNumbered (map number ws)
+  numbered_still ws vs long same h i n e =
+      let a = at_map ws i n e in
+      let x = index_is ws i a.0 a.0 a.1 in
+      let l : i < length vs = (let y = x.1 in omega arith) in
+      sym a.2 ∙ ap number (sym x.0) ∙ same i a.0 l ∙ h i (number (get_or vs i a.0)) (get_index vs i a.0 l)

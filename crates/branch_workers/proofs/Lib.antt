@@ -7,3 +7,4 @@ pub mod Layouts
 pub mod Ends
 pub mod Closing
 pub mod Gathering
+pub mod Turns

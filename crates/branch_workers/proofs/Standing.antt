@@ -8,7 +8,7 @@ use native.Mathlib.Decide.{ℕ_discrete}
 use Rattle.branch_tree.specs.Segments.{segments_in, segment_at, last_of, children_of}
 use Rattle.shelf_core.specs.Plan.{is_in}
 use Rattle.shelf_core.specs.Views.{times}
-use Rattle.shelf_core.specs.After.{with_claim}
+use Rattle.shelf_core.specs.After.{with_claim, having_stopped}
 use Rattle.shelf_core.specs.Made.{Same, Stays}
 use Rattle.shelf_core.specs.declared.seat.SeatView.{SeatView}
 use Rattle.shelf_core.proofs.Lists.{times_here, times_else, times_append}
@@ -24,7 +24,7 @@ use Rattle.branch_workers.specs.Runs.{HasEnds, HasAllEnds, Remains}
 use Rattle.branch_workers.specs.Claims.{AreClaims, HasPushed}
 use Rattle.branch_workers.specs.Workers.{own_of, IsAtWork, HasEnded, HasFinished}
 use Rattle.branch_workers.proofs.Sums.{upto, weighs_most}
-use Rattle.branch_workers.proofs.Children.{pushed_more}
+use Rattle.branch_workers.proofs.Children.{pushed_more, pushed_few}
 use Rattle.branch_workers.proofs.Forks.{segments_few}
 
 -- the own events of the segments below n
@@ -65,6 +65,7 @@ module _ (c : CourseTold) (shelf : ShelfTold CourseTold) (number : ℕ) (seat : 
   -- Nothing changed but what the seat saw.
   pub stays_at_work : (w : SeatTold CourseTold) → w.shelf ≡ seat.shelf → Same seat.view w.view → Stays seat.view w.view → IsAtWork c shelf number w steps outcomes pushed
   stays_at_work w at same stays = record {
+    course = h.course;
     of = at ∙ h.of;
     numbers = same.numbers ∙ h.numbers;
     turns = same.turns ∙ h.turns;
@@ -81,13 +82,13 @@ module _ (c : CourseTold) (shelf : ShelfTold CourseTold) (number : ℕ) (seat : 
   }
 
   -- The worker ends here.
-  pub ends_here : IsCourse c → HasEnded c shelf number seat steps
-  ends_here k = record {
+  pub ends_here : HasEnded c shelf number seat steps
+  ends_here = record {
     of = h.of;
     numbers = h.numbers;
     turns = h.turns;
     counted = (let e = h.counted in omega arith);
-    few = (let e = h.counted in let f = claims_few c seat.view.claims k h.claims in omega arith);
+    few = (let e = h.counted in let f = claims_few c seat.view.claims h.course h.claims in omega arith);
   }
 
   pub finishes_here : length (segments_in c.plan) ≤ seat.view.done_seen → HasFinished c seat.view outcomes
@@ -102,11 +103,11 @@ module _ (c : CourseTold) (shelf : ShelfTold CourseTold) (number : ℕ) (seat : 
     numbers_are = remains.numbers ∙ ap (λ (v : SeatView). v.numbers) is ∙ h.numbers
 
     -- The segment that was claimed didn't run to its end, for want of memory.
-    pub fails : IsCourse c → (made : ℕ) → made ≤ steps + own_of c g → HasEnded c shelf number w made
-    fails k made most =
+    pub fails : (made : ℕ) → made ≤ steps + own_of c g → HasEnded c shelf number w made
+    fails made most =
         let more = claims_more c seat.view.claims g h.claims below new in
         let s = sum_more (own_of c) seat.view.claims g in
-        let f = claims_few c (seat.view.claims ++ g ∷ []) k more in
+        let f = claims_few c (seat.view.claims ++ g ∷ []) h.course more in
         let e = h.counted in
         let sums : sum_by (own_of c) w.view.claims ≡ sum_by (own_of c) (seat.view.claims ++ g ∷ []) = ap (λ (xs : List ℕ). sum_by (own_of c) xs) claims_are in
         record {
@@ -124,6 +125,7 @@ module _ (c : CourseTold) (shelf : ShelfTold CourseTold) (number : ℕ) (seat : 
         let more = claims_more c seat.view.claims g h.claims below new in
         let s = sum_more (own_of c) seat.view.claims g in
         record {
+          course = h.course;
           of = at ∙ h.of;
           numbers = numbers_are;
           turns = turns;
@@ -146,3 +148,31 @@ module _ (c : CourseTold) (shelf : ShelfTold CourseTold) (number : ℕ) (seat : 
           counted = (let e = h.counted in let sums : sum_by (own_of c) w.view.claims ≡ sum_by (own_of c) (seat.view.claims ++ g ∷ []) = ap (λ (xs : List ℕ). sum_by (own_of c) xs) claims_are in omega arith);
           lane = subst (λ (xs : List ℕ). HasPushed c.plan xs (pushed ++ children_of c.plan g)) (sym claims_are) (pushed_more c.plan seat.view.claims pushed g new h.lane);
         }
+
+-- A claim more than is counted.
+pub claimed_more : (v w : SeatView) (g : ℕ) → w ≡ with_claim g v → v.counts ≡ length v.claims → w.counts < length w.claims
+claimed_more v w g is counts =
+    let a = ap (λ (x : SeatView). x.counts) is in
+    let b = ap (λ (x : SeatView). length x.claims) is in
+    let l = length-append v.claims (g ∷ []) in omega arith
+
+-- A worker that ended may say so to the others.
+pub stops_ended : (c : CourseTold) (shelf : ShelfTold CourseTold) (number : ℕ) (seat : SeatTold CourseTold) (steps : ℕ) → HasEnded c shelf number seat steps → (w : SeatTold CourseTold) → w.shelf ≡ seat.shelf → w.view ≡ having_stopped seat.view
+    → HasEnded c shelf number w steps
+stops_ended c shelf number seat steps h w at is =
+    let claims = ap (λ (v : SeatView). sum_by (own_of c) v.claims) is in
+    let e = h.counted in
+    record {
+      of = at ∙ h.of;
+      numbers = ap (λ (v : SeatView). v.numbers) is ∙ h.numbers;
+      turns = ap (λ (v : SeatView). v.turns) is ∙ h.turns;
+      counted = omega arith;
+      few = h.few;
+    }
+
+-- Each segment that goes on from one more can be pushed.
+pub pushes_few : (c : CourseTold) (claims pushed : List ℕ) (g : ℕ) → AreClaims c.plan claims → HasPushed c.plan claims pushed → g < length (segments_in c.plan) → times g claims ≡ 0
+    → length pushed + length (children_of c.plan g) ≤ length (segments_in c.plan)
+pushes_few c claims pushed g a h below new =
+    let f = pushed_few c.plan (claims ++ g ∷ []) (pushed ++ children_of c.plan g) (claims_more c claims g a below new) (pushed_more c.plan claims pushed g new h) in
+    let l = length-append pushed (children_of c.plan g) in omega arith

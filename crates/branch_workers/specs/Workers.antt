@@ -12,7 +12,7 @@ use Rattle.shelf_core.specs.declared.words.ClaimWord.TheVariants.{Taken}
 use Rattle.checkpoint_shelf.specs.Told.{ShelfTold, SeatTold}
 use Rattle.kernel_copy.specs.declared.run.Outcome.{Outcome}
 use Rattle.kernel_copy.specs.Segmentwise.{own_count}
-use Rattle.kernel_copy.specs.Courses.{CourseTold}
+use Rattle.kernel_copy.specs.Courses.{CourseTold, IsCourse}
 use Rattle.kernel_copy.specs.Outcomes.{outcome_told, outcome_of}
 use Rattle.branch_workers.specs.Layout.{end_key}
 use Rattle.branch_workers.specs.Claims.{AreClaims, HasPushed}
@@ -30,6 +30,7 @@ own_of c s = own_count c.opening c.plan (segment_at c.plan s)
 -- claimed was run by it, counted and told.
 pub record IsAtWork (c : CourseTold) (shelf : ShelfTold CourseTold) (number : ℕ) (seat : SeatTold CourseTold) (steps : ℕ)
     (outcomes : List Outcome) (pushed : List ℕ) : Type 0 where
+  pub course : IsCourse c
   pub of : seat.shelf ≡ Some shelf
   pub numbers : seat.view.numbers ≡ number ∷ []
   pub turns : seat.view.turns ≡ []

@@ -21,8 +21,8 @@ pub(crate) struct Back {
 impl Back {
     // Room for what so many workers hand back.
     pub(crate) fn new(alloc: Global, workers: u32) -> Result<Back, Memory>
-        ensures seats { IfOk result (λ b. (b.seats.items ≡ []) × (workers ≤ vec_capacity b.seats)) }
-        ensures outcomes { IfOk result (λ b. (b.outcomes.items ≡ []) × (workers ≤ vec_capacity b.outcomes)) }
+        ensures seats { IfOk result (λ b. (b.seats.items ≡ []) × (vec_len b.seats + workers ≤ vec_capacity b.seats)) }
+        ensures outcomes { IfOk result (λ b. (b.outcomes.items ≡ []) × (vec_len b.outcomes + workers ≤ vec_capacity b.outcomes)) }
         ensures finished { IfOk result (λ b. b.finished ≡ true) }
     {
         let Ok(seats) = Vec::with_capacity(alloc, workers as usize) else {
@@ -45,8 +45,8 @@ pub(crate) fn gather<L: Ledger, B: Room>(
     mut workers: Vec<Worker<L, B>>,
     steps: &mut Steps<L>,
 )
-    requires seats { (back.old.seats.items ≡ []) × (length workers.items ≤ vec_capacity back.old.seats) }
-    requires outcomes { (back.old.outcomes.items ≡ []) × (length workers.items ≤ vec_capacity back.old.outcomes) }
+    requires seats { (back.old.seats.items ≡ []) × (vec_len back.old.seats + length workers.items ≤ vec_capacity back.old.seats) }
+    requires outcomes { (back.old.outcomes.items ≡ []) × (vec_len back.old.outcomes + length workers.items ≤ vec_capacity back.old.outcomes) }
     requires finished { back.old.finished ≡ true }
     requires few { length workers.items ≤ 64 }
     requires each { All (λ w. w.steps < 2 ^ 52) workers.items }
@@ -57,6 +57,7 @@ pub(crate) fn gather<L: Ledger, B: Room>(
     ensures steps { steps.new ≡ steps.old + sum_by (λ w. w.steps) workers.items }
 {
     while !workers.is_empty() {
+        let worker = workers.remove(0);
         let Worker {
             number: _,
             seat,
@@ -64,11 +65,11 @@ pub(crate) fn gather<L: Ledger, B: Room>(
             steps: part,
             outcomes,
             finished,
-        } = workers.remove(0);
+        } = worker;
         steps.join(part);
         back.seats.push_reserved(seat);
         back.outcomes.push_reserved(outcomes);
-        back.finished = back.finished && finished;
+        back.finished &= finished;
     }
     workers.destroy_empty();
 }

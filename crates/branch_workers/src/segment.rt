@@ -98,6 +98,7 @@ fn advance<R: Wait, L: Ledger>(
     ensures same { seat.new.shelf ≡ seat.old.shelf }
     ensures stays { Stays seat.old.view seat.new.view }
     ensures turns { seat.new.view.turns ≡ seat.old.view.turns }
+    ensures course { IsCourse course.now }
     ensures ran { IfOk result (λ x. record { state = x.kernel; entries = x.entries.list } ≡ segment_run course.now.opening course.now.plan (segment_at course.now.plan segment)) }
     ensures fits { IfOk result (λ x. Fits course.now.opening x.kernel) }
     ensures found { OnOk result ((q : ℕ) → (segment_at course.now.plan segment).parent ≡ Some q → is_in (end_key course.now.plan q) seat.new.view.found ≡ true) }

@@ -49,15 +49,16 @@ pub(crate) fn staff<L: Ledger, B: Room>(
         return Err(Memory);
     };
     for number in 0..seats.len() {
-        let worker = Worker {
+        let seat = seats.remove(0);
+        let lane = lanes.remove(0);
+        workers.push_reserved(Worker {
             number: number as u32,
-            seat: seats.remove(0),
-            lane: lanes.remove(0),
+            seat,
+            lane,
             steps: Steps::new(),
             outcomes: Vec::new(alloc),
             finished: false,
-        };
-        workers.push_reserved(worker);
+        });
     }
     Ok(workers)
 }

@@ -5,6 +5,7 @@ ghost use Rattle.branch_tree.specs.Segments.{segments_in, children_of};
 ghost use Rattle.branch_workers.specs.Runs.{IsShelfOf};
 ghost use Rattle.branch_workers.specs.Workers.{IsAtWork, HasEnded, HasFinished, own_of};
 
+use crate::order::add;
 use crate::segment::run_segment;
 use branch_deques::{Lane, Room};
 use checkpoint_shelf::{Shelf, ShelfSeat};
@@ -24,13 +25,6 @@ pub(crate) struct Worker<L: Ledger, B: Room> {
     pub(crate) outcomes: Vec<Outcome>,
     // Whether it ended since all segments are done.
     pub(crate) finished: bool,
-}
-
-// Notes an outcome, and says whether there was memory.
-fn note(outcomes: &mut Vec<Outcome>, outcome: Outcome) -> bool
-    ensures { IsTrue result → outcomes.new.items ≡ outcomes.old.items ++ outcome ∷ [] }
-{
-    outcomes.push(outcome).is_ok()
 }
 
 // Pushes segments on a lane, in order.
@@ -103,7 +97,7 @@ fn try_segment<R: Wait, G: Gate, L: Ledger, B: Room>(
         shelf.stop(&mut worker.seat);
         return false;
     };
-    if !note(&mut worker.outcomes, outcome) {
+    if add(&mut worker.outcomes, outcome).is_err() {
         shelf.stop(&mut worker.seat);
         return false;
     }
@@ -126,8 +120,11 @@ fn ends<L: Ledger, B: Room>(
 {
     let count = course.plan().segments().len();
     let progress = shelf.progress(&mut worker.seat);
-    worker.finished = !progress.stopped && progress.done as usize == count;
-    worker.finished || progress.stopped
+    if !progress.stopped && progress.done as usize == count {
+        worker.finished = true;
+        return true;
+    }
+    progress.stopped
 }
 
 // What a worker does: it runs the segments of its lane and of the others', until all are done or it is told to stop.

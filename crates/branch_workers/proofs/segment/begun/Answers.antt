@@ -27,8 +27,8 @@ returns-in_ok-kernel-in-None-clause-state g c =
     ∙ ap (λ (es : List EntryTold). let r : Run = record { state = opened k.opening; entries = es } in r) c.requires.empty
     ∙ sym (started-first k.opening k.plan x none)
 
-pub returns-in_ok-go_on-clause-state : goal.returns-in_ok-go_on-clause-state
-returns-in_ok-go_on-clause-state g c =
+pub returns-in_ok-go_on-in-Some-clause-state : goal.returns-in_ok-go_on-in-Some-clause-state
+returns-in_ok-go_on-in-Some-clause-state g c =
     let k : CourseTold = c.args.course.now in
     let x = segment_at k.plan c.args.segment in
     let q = c.in-Some.parent in
