@@ -1,7 +1,7 @@
 -- Workers as they are made and as they end.
 use Rattle.std.proofs.Common.{◌≡◌, ◌≢◌, ℕ, zero, suc, ◌+◌, ◌^◌, ◌<◌, ◌≤◌, All, Bool, true, false, List, [], ◌∷◌, ◌++◌, Option, None, Some, Vec, Global, length, map, sum_by, slice_get, get_or, sym, refl, ap, ◌∙◌, subst, arith}
 use Rattle.std.proofs.lemmas.List.{length-map}
-use Rattle.std.proofs.lemmas.List.Elements.{All-nil, All-cons, All-head, All-tail}
+use Rattle.std.proofs.lemmas.List.Elements.{All-nil, All-cons, All-head, All-tail, All-weaker}
 use Rattle.std.proofs.lemmas.List.Sums.{sum_by-cons}
 use Rattle.branch_tree.specs.Plan.{Plan}
 use Rattle.branch_tree.specs.Segments.{segments_in, segment_at}
@@ -10,7 +10,7 @@ use Rattle.shelf_core.specs.declared.seat.SeatView.{SeatView}
 use Rattle.shelf_core.proofs.Lists.{not_some, some_same, times_here, times_else}
 use Rattle.branch_deques.specs.Told.{LaneTold}
 use Rattle.checkpoint_shelf.specs.Told.{ShelfTold, SeatTold}
-use Rattle.checkpoint_shelf.specs.Seats.{AllBack}
+use Rattle.checkpoint_shelf.specs.Seats.{AllBack, NewFrom}
 use Rattle.kernel_copy.specs.declared.run.Outcome.{Outcome}
 use Rattle.kernel_copy.specs.Courses.{CourseTold, IsCourse}
 use Rattle.kernel_copy.specs.Outcomes.{outcome_told, outcome_of}
@@ -125,3 +125,41 @@ module _ {X : Type 0} (c : CourseTold) (shelf : ShelfTold CourseTold) (seat : X 
       let x = index_is ws i a.0 a.0 a.1 in
       let l : i < length vs = (let y = x.1 in omega arith) in
       sym a.2 ∙ ap number (sym x.0) ∙ same i a.0 l ∙ h i (number (get_or vs i a.0)) (get_index vs i a.0 l)
+
+-- The same of workers that are named first.
+module _ {X : Type 0} (ws : List X) (c : CourseTold) (shelf : ShelfTold CourseTold) (seat : X → SeatTold CourseTold) (steps : X → ℕ) (number : X → ℕ) (outcomes : X → Vec Outcome Global) (lane : X → LaneTold) (finished : X → Bool) where
+  pub ready : IsCourse c → (ss : List (SeatTold CourseTold)) → map seat ws ≡ ss → NewFrom shelf 0 ss → AreNumbered (map number ws)
+      → (ls : List LaneTold) → map lane ws ≡ ls → All (λ (l : LaneTold). HasPushed c.plan [] l.own.view.pushed) ls
+      → All (λ w. (steps w ≡ 0) × ((outcomes w).items ≡ []) × (finished w ≡ false)) ws
+      → All (λ w. IsAtWork c shelf (number w) (seat w) (steps w) (outcomes w).items (lane w).own.view.pushed) ws
+  ready k ss is new numbers ls are pushed idle = all_ready c shelf seat steps number outcomes lane finished k 0 ws
+      (subst (λ (xs : List (SeatTold CourseTold)). NewFrom shelf 0 xs) (sym is) new)
+      (λ i m e. let a = numbers i m e in omega arith)
+      (subst (λ (xs : List LaneTold). All (λ (l : LaneTold). HasPushed c.plan [] l.own.view.pushed) xs) (sym are) pushed) idle
+
+  pub unfinished : All (λ w. (steps w ≡ 0) × ((outcomes w).items ≡ []) × (finished w ≡ false)) ws → All (λ w. finished w ≡ false) ws
+  unfinished idle = All-weaker (λ w. (steps w ≡ 0) × ((outcomes w).items ≡ []) × (finished w ≡ false)) (λ w. finished w ≡ false) (λ w i. i.2) ws idle
+
+  pub handed : length ws ≡ shelf.seats → AreNumbered (map number ws) → All (λ w. HasEnded c shelf (number w) (seat w) (steps w)) ws → AllBack shelf (map seat ws)
+  handed count numbers ended = all_handed c shelf seat steps number outcomes lane finished ws count numbers ended
+
+  pub finishes : All (λ w. finished w ≡ true) ws → All (λ w. finished w ≡ true → HasFinished c (seat w).view (outcomes w).items) ws
+      → HaveFinished c (map seat ws) (map (λ (v : Vec Outcome Global). v.items) (map outcomes ws))
+  finishes all each = all_finished c shelf seat steps number outcomes lane finished ws all each
+
+  pub most_steps : All (λ w. HasEnded c shelf (number w) (seat w) (steps w)) ws → sum_by steps ws ≤ sum_by (λ (s : SeatTold CourseTold). sum_by (own_of c) s.view.claims) (map seat ws)
+  most_steps ended = steps_most c shelf seat steps number outcomes lane finished ws ended
+
+  pub all_steps : All (λ w. finished w ≡ true) ws → All (λ w. finished w ≡ true → steps w ≡ sum_by (own_of c) (seat w).view.claims) ws
+      → sum_by steps ws ≡ sum_by (λ (s : SeatTold CourseTold). sum_by (own_of c) s.view.claims) (map seat ws)
+  all_steps all each = steps_all c shelf seat steps number outcomes lane finished ws all each
+
+  pub few_steps : All (λ w. HasEnded c shelf (number w) (seat w) (steps w)) ws → All (λ w. steps w < 2 ^ 52) ws
+  few_steps ended = steps_few c shelf seat steps number outcomes lane finished ws ended
+
+  pub still_numbered : (vs : List X) → length ws ≡ length vs → ((i : ℕ) (d : X) → i < length vs → number (get_or ws i d) ≡ number (get_or vs i d)) → AreNumbered (map number vs) → AreNumbered (map number ws)
+  still_numbered vs long same h = numbered_still c shelf seat steps number outcomes lane finished ws vs long same h
+
+-- A fact of all of a list holds of all of an equal one.
+pub moved : {X : Type 0} (xs ys : List X) → xs ≡ ys → (P : X → Type 0) → All P ys → All P xs
+moved {X} xs ys e P h = subst (λ (zs : List X). All P zs) (sym e) h

@@ -2,6 +2,7 @@
 
 ghost use Rattle.std.specs.Prelude.{◌≡◌, ℕ, ◌+◌, ◌<◌, ◌≤◌, ◌∷◌, [], All, IfOk, OnOk, Some, false, length, map};
 ghost use Rattle.branch_tree.specs.Segments.{segments_in};
+ghost use Rattle.kernel_copy.specs.Courses.{IsCourse};
 ghost use Rattle.branch_workers.specs.Claims.{HasPushed};
 ghost use Rattle.branch_workers.specs.Workers.{AreNumbered};
 
@@ -23,6 +24,7 @@ pub(crate) fn first_lanes<B: Room>(
     requires some { 0 < workers }
     requires room { count ≡ B.room }
     requires count { count ≡ length (segments_in course.now.plan) }
+    ensures course { IsCourse course.now }
     ensures count { IfOk result (λ lanes. length lanes.items ≡ workers) }
     ensures pushed { IfOk result (λ lanes. All (λ lane. HasPushed course.now.plan [] lane.own.view.pushed) lanes.items) }
 {

@@ -97,10 +97,10 @@ fn try_segment<R: Wait, G: Gate, L: Ledger, B: Room>(
         shelf.stop(&mut worker.seat);
         return false;
     };
-    if add(&mut worker.outcomes, outcome).is_err() {
+    let Ok(_) = add(&mut worker.outcomes, outcome) else {
         shelf.stop(&mut worker.seat);
         return false;
-    }
+    };
     push_children(course, &mut worker.lane, segment);
     true
 }

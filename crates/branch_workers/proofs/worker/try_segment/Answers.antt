@@ -62,8 +62,8 @@ returns-in_default-clause-ended g c = λ _.
     c.run_segment.new.seat at c.run_segment.ensures.remains c.run_segment.ensures.turns c.run_segment.new.steps c.run_segment.ensures.most in
     stops_ended k c.args.shelf.now w.number c.run_segment.new.seat c.run_segment.new.steps e c.stop.new.seat c.stop.ensures.same c.stop.ensures.stopped
 
-pub returns-then-is_err-clause-ended : goal.returns-then-is_err-clause-ended
-returns-then-is_err-clause-ended g c = λ _.
+pub returns-in_default-2-clause-ended : goal.returns-in_default-2-clause-ended
+returns-in_default-2-clause-ended g c = λ _.
     let k : CourseTold = c.args.course.now.value in
     let w = c.args.worker.now in
     let claimed = c.claim.ensures.claimed c.if-not-claim.false in
@@ -81,6 +81,6 @@ returns-clause-work g c = λ _.
     let r = c.in-Ok.ensures in
     let s = ran k c.args.shelf.now w.number w.seat w.steps w.outcomes.items w.lane.own.view.pushed c.requires.work c.args.segment (omega (arith, c.requires.segment, c.requires.room)) claimed.1 c.claim.new.seat.view claimed.0
     c.run_segment.new.seat at c.run_segment.ensures.remains c.run_segment.ensures.turns r.counted r.ends c.in-Ok.outcome r.outcome c.run_segment.new.steps r.rose in
-    subst (λ (os : List Outcome). IsAtWork k c.args.shelf.now w.number c.run_segment.new.seat c.run_segment.new.steps os c.push_children.new.lane.own.view.pushed) (sym ?)
+    subst (λ (os : List Outcome). IsAtWork k c.args.shelf.now w.number c.run_segment.new.seat c.run_segment.new.steps os c.push_children.new.lane.own.view.pushed) (sym c.in-Ok-2.ensures)
     (subst (λ (ps : List ℕ). IsAtWork k c.args.shelf.now w.number c.run_segment.new.seat c.run_segment.new.steps (w.outcomes.items ++ c.in-Ok.outcome ∷ []) ps)
     (sym (c.push_children.ensures ∙ ap (λ (x : CourseTold). w.lane.own.view.pushed ++ children_of x.plan c.args.segment) c.deref.ensures)) s)
