@@ -1,11 +1,10 @@
 -- The ends of segments on the shelf.
-use Rattle.std.proofs.Common.{◌≡◌, ℕ, ◌<◌, true, false, List, Option, None, Some, IfOk, IfSome, IsSome, is_some, length, option_map, nat_lt, Bool, if◌then◌else◌, Result, sym, refl, ap, ◌∙◌, subst, arith}
+use Rattle.std.proofs.Common.{◌≡◌, ℕ, ◌<◌, true, false, Option, None, Some, IsSome, is_some, length, nat_lt, ltb-true, Bool, if◌then◌else◌, sym, refl, ap, ◌∙◌, subst}
 use Rattle.branch_tree.specs.declared.segment.Segment.{Segment}
 use Rattle.branch_tree.specs.Segments.{segments_in, segment_at, last_of}
-use Rattle.shelf_core.specs.Plan.{place_of, is_in, is_sole}
+use Rattle.shelf_core.specs.Plan.{place_of, is_sole}
 use Rattle.shelf_core.specs.declared.plan.Key.{Key}
 use Rattle.checkpoint_shelf.specs.Told.{ShelfTold}
-use Rattle.kernel_core.specs.State.{State}
 use Rattle.kernel_copy.specs.Segmentwise.{segment_end}
 use Rattle.kernel_copy.specs.Courses.{CourseTold, CheckpointTold, IsCourse, state_at, end_of_segment, kept_of}
 use Rattle.kernel_copy.proofs.Keeping.{end-state}
@@ -34,5 +33,5 @@ pub kept_is : (c : CourseTold) (s : ℕ) (x : CheckpointTold) → Some x ≡ kep
 kept_is c s x e = at (nat_lt s (last_of c.plan.branches (segment_at c.plan s).branch)) refl e
   where
     at : (b : Bool) → nat_lt s (last_of c.plan.branches (segment_at c.plan s).branch) ≡ b → Some x ≡ (if b then Some (end_of_segment c s) else None) → (x ≡ end_of_segment c s) × (s < last_of c.plan.branches (segment_at c.plan s).branch)
-    at true t e = (cc, grind (arith, t))
+    at true t e = (cc, ltb-true s (last_of c.plan.branches (segment_at c.plan s).branch) t)
     at false t e = absurd cc

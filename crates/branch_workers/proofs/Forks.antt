@@ -1,5 +1,5 @@
 -- The keys of forks.
-use Rattle.std.proofs.Common.{◌≡◌, ◌≢◌, ℕ, zero, suc, ◌+◌, ◌*◌, ◌^◌, ◌<◌, ◌≤◌, All, Bool, true, false, true≢false, List, [], ◌∷◌, ◌++◌, Option, Some, IsSome, length, get_or, nat_lt, not, ◌&&◌, ◌||◌, if◌then◌else◌, append-nil, sym, refl, ap, ◌∙◌, subst, ⊎_elim, arith}
+use Rattle.std.proofs.Common.{◌≡◌, ◌≢◌, ℕ, zero, suc, ◌+◌, ◌<◌, ◌≤◌, All, Bool, true, false, List, [], ◌∷◌, Some, length, get_or, nat_lt, ◌||◌, if◌then◌else◌, sym, refl, ap, ◌∙◌, subst, ⊎_elim, arith}
 use Rattle.std.proofs.lemmas.Bool.{lt-ltb}
 use Rattle.std.proofs.lemmas.List.Elements.{All-cons, All-nil, All-head, All-tail}
 use Rattle.std.specs.List.{list_all}
@@ -8,7 +8,7 @@ use native.Mathlib.Decide.{ℕ_discrete}
 use Rattle.branch_tree.specs.declared.branch.Branch.{Branch}
 use Rattle.branch_tree.specs.declared.segment.Segment.{Segment}
 use Rattle.branch_tree.specs.Plan.{Plan}
-use Rattle.branch_tree.specs.Segments.{joined_stop, stops_among, cuts_of, count_before, segments_in, segment_at, no_segment, last_of}
+use Rattle.branch_tree.specs.Segments.{joined_stop, stops_among, count_before, segments_in, segment_at, no_segment, last_of}
 use Rattle.branch_tree.proofs.PartLemmas.{length-before}
 use Rattle.shelf_core.specs.Plan.{same_key, is_in, is_before, are_distinct, rise, is_sole, place_of}
 use Rattle.shelf_core.specs.declared.plan.Key.{Key}

@@ -1,5 +1,5 @@
 -- What a seat has once it ran segments.
-use Rattle.std.specs.Prelude.{◌≡◌, ℕ, ◌+◌, ◌<◌, true, Some, length}
+use Rattle.std.specs.Prelude.{◌≡◌, ℕ, ◌<◌, true, Some, length}
 use Rattle.branch_tree.specs.Plan.{Plan}
 use Rattle.branch_tree.specs.Segments.{segments_in, segment_at, last_of}
 use Rattle.shelf_core.specs.Plan.{is_in}

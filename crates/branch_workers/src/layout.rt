@@ -58,8 +58,12 @@ fn shelf_plan(alloc: Global, course: &Course) -> Result<ShelfPlan, Memory>
     })
 }
 
-// The shelf on which a course's segments meet, and a seat for each worker.
-pub(crate) fn open_shelf(
+/// The shelf on which a course's segments meet, with a word for each segment and a place for each end from which others go on,
+/// and a seat for each of so many workers, 1 to 64, in order of number.
+///
+/// # Errors
+/// Want of memory alone.
+pub fn open_shelf(
     alloc: Global,
     course: &Course,
     workers: u32,

@@ -1,4 +1,4 @@
-use Rattle.std.proofs.Common.{◌≡◌, ℕ, List, [], length, sym, ap, ◌∙◌, subst}
+use Rattle.std.proofs.Common.{ℕ, List, length, sym, ap, ◌∙◌, subst}
 use Rattle.branch_tree.specs.Plan.{Plan}
 use Rattle.branch_tree.specs.Planned.{IsTree}
 use Rattle.branch_tree.specs.declared.segment.Segment.{Segment}
@@ -8,7 +8,7 @@ use Rattle.shelf_core.specs.declared.plan.ShelfPlan.{ShelfPlan}
 use Rattle.checkpoint_shelf.specs.Plans.{PlanFits}
 use Rattle.kernel_copy.specs.Courses.{CourseTold}
 use Rattle.kernel_copy.proofs.Trees.{course-tree}
-use Rattle.branch_workers.specs.Layout.{fork_keys, layout}
+use Rattle.branch_workers.specs.Layout.{fork_keys}
 use Rattle.branch_workers.proofs.Layouts.{layout_fits}
 use Rattle.branch_workers.proofs.layout.shelf_plan.Goals as goal
 

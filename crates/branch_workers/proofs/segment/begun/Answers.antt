@@ -33,6 +33,6 @@ returns-in_ok-go_on-in-Some-clause-state g c =
     let x = segment_at k.plan c.args.segment in
     let q = c.in-Some.parent in
     let some : x.parent ≡ Some q = sym (ap (λ (y : Segment). y.parent) c.segment-g.ensures.value) ∙ c.in-Some.is in
-    c.in_ok-go_on.ensures.state
+    c.in_ok-go_on-in-Some.ensures.state
     ∙ ap (λ (y : Segment). started_from k.opening k.plan y.branch (Some q)) c.segment-g.ensures.value
     ∙ sym (started-goes k.opening k.plan x q some)

@@ -1,6 +1,4 @@
-use Rattle.std.proofs.Common.{◌≡◌, IfOk, true, sym, ap, ◌∙◌, subst}
-use Rattle.shelf_core.specs.Plan.{is_in}
-use Rattle.shelf_core.specs.declared.plan.Key.{Key}
+use Rattle.std.proofs.Common.{◌≡◌, IfOk, ap, ◌∙◌, subst}
 use Rattle.kernel_core.specs.State.{State}
 use Rattle.kernel_copy.specs.Courses.{CourseTold, CheckpointTold, state_at}
 use Rattle.branch_workers.proofs.Ends.{key_is, has_place, end_state_of}
@@ -10,7 +8,7 @@ pub wait_for-requires-clause-place : goal.wait_for-requires-clause-place
 wait_for-requires-clause-place g c =
     let k : CourseTold = c.args.course.now in
     (has_place k c.args.shelf.now c.args.segment (record { segment = c.args.segment; event = c.segment-event.result.stop }) c.requires.shelf c.requires.segment c.requires.unfinished
-      (key_is k c.args.segment c.segment-event.result c.segment-event.ensures.value)).0
+    (key_is k c.args.segment c.segment-event.result c.segment-event.ensures.value)).0
 
 pub returns-clause-state : goal.returns-clause-state
 returns-clause-state g c =
