@@ -1,4 +1,4 @@
-use Rattle.std.proofs.Common.{◌≡◌, List, ℕ, ◌++◌, ap, ◌∙◌, subst}
+use Rattle.std.proofs.Common.{List, ℕ, [], ◌++◌, ap, ◌∙◌, subst}
 use Rattle.branch_bundle.specs.Bundle.{header_of}
 use Rattle.large_lines.specs.Tallied.{IsTallyOf}
 use Rattle.large_lines.proofs.bundle.header.Goals as goal
