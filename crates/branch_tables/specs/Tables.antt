@@ -1,5 +1,5 @@
 -- The table that compares the branches of a study.
-use Rattle.std.specs.Prelude.{ℕ, ℤ, zero, suc, ◌==◌, if◌then◌else◌, List, [], ◌∷◌, ◌++◌, length, map, Option, None, Some, unwrap_or}
+use Rattle.std.specs.Prelude.{ℕ, ℤ, zero, suc, ◌==◌, if◌then◌else◌, List, [], ◌∷◌, ◌++◌, length, map, Option, None, Some, unwrap_or, codes}
 use Rattle.market_types.specs.declared.entry.End.{End}
 use Rattle.market_types.specs.declared.entry.End.TheVariants.{Quiet, Closed, EventLimit, QueueFull}
 use Rattle.branch_tree.specs.Plan.{branch_at, parent_at, stop_at}
@@ -7,6 +7,7 @@ use Rattle.kernel_core.specs.Step.{end_of}
 use Rattle.kernel_core.specs.Until.{Run}
 use Rattle.kernel_copy.specs.Full.{full_run}
 use Rattle.kernel_copy.specs.Courses.{CourseTold}
+use Rattle.probe_desk.specs.Columns.{volume, spread_sum, price_range, fees}
 use Rattle.probe_desk.specs.Probe.{Meaning, column_of}
 use Rattle.study_report.specs.declared.row.TableRow.{TableRow}
 use Rattle.study_report.specs.Difference.{first_difference_of}
@@ -58,3 +59,9 @@ rows_of c meanings (suc n) = rows_of c meanings n ++ row_of c meanings n ∷ []
 -- the table of all branches in order, for probes of these meanings and titles
 abbrev pub study_table : CourseTold → List Meaning → List (List ℕ) → List ℕ
 study_table c meanings titles = table_of (rows_of c meanings (length c.plan.branches)) titles
+
+-- the table with the four columns of every table
+abbrev pub four_column_table : CourseTold → List ℕ
+four_column_table c =
+    study_table c (volume ∷ spread_sum ∷ price_range ∷ fees ∷ [])
+    (codes "volume" ∷ codes "spread_sum" ∷ codes "range" ∷ codes "fees" ∷ [])

@@ -5,9 +5,11 @@
 pub mod laws;
 mod parts;
 mod row;
+mod standard;
 mod tables;
 pub mod worked;
 
+pub use standard::four_column_table;
 pub use tables::study_table;
 
 #[cfg(test)]
