@@ -5,47 +5,66 @@
 use abides_run::{Status, run, write_note};
 use outside::{Counted, FileLibrary, OpenGate, Sink, Steps};
 use probe_desk::{Fees, Probe, Range, SpreadSum, Volume};
-use std::alloc::{AllocError, Global};
+use std::alloc::AllocError;
 use std::env;
 use std::io::ErrorKind;
 use std::process::ExitCode;
 use std::rt::{Env, Files};
 
-/// Runs the command line over the system's files. The bundle goes to `out`, the line for the status to `notes`, and the
-/// status is the exit status.
+/// Runs the command line over the system's files. The bundle or the table goes to `out`, the line for the status to
+/// `notes`, and the status is the exit status.
 pub fn run_command_line<R: Env + Files + AllocGlobal, O: Sink, N: Sink>(
     rt: &R,
     out: &mut O,
     notes: &mut N,
 ) -> ExitCode {
-    let mut library = FileLibrary::new(rt);
-    let mut steps: Steps<Counted> = Steps::new();
-    let status = match words_and_probes(rt) {
-        Ok((words, probes)) => run(
-            rt.alloc(),
-            &words,
-            &mut library,
-            out,
-            notes,
-            probes,
-            &OpenGate,
-            &mut steps,
-        ),
+    let status = match command_words(rt) {
+        Ok(words) => run_words(rt, &words, out, notes),
         Err(status) => write_note(rt.alloc(), "", status, notes),
     };
-    steps.close();
     ExitCode::from(status.code())
 }
 
-// The command line, and the probes of a table.
-fn words_and_probes<R: Env + AllocGlobal>(
+// Runs words, with the probes of a table in the order of their columns where there is memory for them.
+fn run_words<R: Files + AllocGlobal, O: Sink, N: Sink>(
     rt: &R,
-) -> Result<(Vec<String>, Vec<Box<dyn Probe>>), Status> {
-    let words = command_words(rt)?;
-    match probes(rt.alloc()) {
-        Ok(probes) => Ok((words, probes)),
-        Err(_) => Err(Status::Memory),
+    words: &[String],
+    out: &mut O,
+    notes: &mut N,
+) -> Status {
+    match run_with_probes(rt, words, out, notes) {
+        Ok(status) => status,
+        Err(_) => write_note(rt.alloc(), "", Status::Memory, notes),
     }
+}
+
+// Makes the probes, and runs words with them.
+fn run_with_probes<R: Files + AllocGlobal, O: Sink, N: Sink>(
+    rt: &R,
+    words: &[String],
+    out: &mut O,
+    notes: &mut N,
+) -> Result<Status, AllocError> {
+    let alloc = rt.alloc();
+    let mut probes: Vec<Box<dyn Probe>> = Vec::new(alloc);
+    probes.push(Box::new(alloc, Volume::new())?)?;
+    probes.push(Box::new(alloc, SpreadSum::new())?)?;
+    probes.push(Box::new(alloc, Range::new())?)?;
+    probes.push(Box::new(alloc, Fees::new())?)?;
+    let mut library = FileLibrary::new(rt);
+    let mut steps: Steps<Counted> = Steps::new();
+    let status = run(
+        alloc,
+        words,
+        &mut library,
+        out,
+        notes,
+        probes,
+        &OpenGate,
+        &mut steps,
+    );
+    steps.close();
+    Ok(status)
 }
 
 // The command line without the program's name. Words that are no text are faulty words.
@@ -67,14 +86,4 @@ fn command_words<R: Env + AllocGlobal>(rt: &R) -> Result<Vec<String>, Status> {
         }
     }
     Ok(words)
-}
-
-// The probes of a table, in the order of their columns.
-fn probes(alloc: Global) -> Result<Vec<Box<dyn Probe>>, AllocError> {
-    let mut probes: Vec<Box<dyn Probe>> = Vec::new(alloc);
-    probes.push(Box::new(alloc, Volume::new())?)?;
-    probes.push(Box::new(alloc, SpreadSum::new())?)?;
-    probes.push(Box::new(alloc, Range::new())?)?;
-    probes.push(Box::new(alloc, Fees::new())?)?;
-    Ok(probes)
 }
