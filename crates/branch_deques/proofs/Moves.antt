@@ -1,5 +1,5 @@
 -- Each step of a lane keeps its rule.
-use Rattle.std.proofs.Common.{◌≡◌, ◌≢◌, ℕ, zero, suc, ◌+◌, List, [], ◌∷◌, ◌++◌, length, set, Some, None, slice_get, sym, refl, ap, ◌∙◌, subst, ⊎_elim, arith, ◌<◌, ◌≤◌, ◌⊎◌, All}
+use Rattle.std.proofs.Common.{◌≡◌, ℕ, zero, suc, ◌+◌, List, [], ◌∷◌, ◌++◌, length, set, Some, slice_get, sym, refl, ap, subst, arith, ◌<◌, ◌≤◌, All}
 use lib.Seq.{take-append_seam, drop-append_seam}
 use Rattle.std.proofs.lemmas.List.Elements.{All-append, All-take, All-drop}
 use mathlib.Core.Option.{some, some-ne-none, some-injective}

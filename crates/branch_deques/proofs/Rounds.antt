@@ -2,7 +2,7 @@
 use Rattle.std.proofs.Common.{◌≡◌, ◌≢◌, ℕ, zero, suc, ◌+◌, ◌<◌, ◌≤◌, ◌⊎◌, inl, inr, ⊎_elim, All, List, [], ◌∷◌, ◌++◌, length, take, drop, set, Option, Some, None, unwrap_or, slice_get, slice_index_or, map, sym, refl, ap, ◌∙◌, subst, arith}
 use Rattle.std.proofs.lemmas.List.Elements.{All-set}
 use Rattle.branch_deques.specs.Lanes.{fresh}
-use Rattle.branch_deques.specs.Told.{EndTold, LaneTold, LaneId, fresh_end, round, own_lanes}
+use Rattle.branch_deques.specs.Told.{EndTold, LaneTold, fresh_end, round, own_lanes}
 
 module _ {A B : Type 0} (f : A → B) where
   map_append : (xs ys : List A) → map f (xs ++ ys) ≡ map f xs ++ map f ys

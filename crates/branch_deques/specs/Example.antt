@@ -1,5 +1,5 @@
 -- Small lanes.
-use Rattle.std.specs.Prelude.{ℕ, List, [], ◌∷◌}
+use Rattle.std.specs.Prelude.{List, [], ◌∷◌}
 use Rattle.branch_deques.specs.Lanes.{fresh, having_pushed, having_taken}
 use Rattle.branch_deques.specs.declared.rule.LaneView.{LaneView}
 

@@ -1,9 +1,9 @@
 -- What contracts see of a worker's lane.
-use Rattle.std.specs.Prelude.{◌≡◌, ℕ, ◌+◌, All, List, [], ◌∷◌, ◌++◌, Some, slice_get, map, take, drop, length}
+use Rattle.std.specs.Prelude.{◌≡◌, ℕ, ◌+◌, All, List, [], ◌∷◌, ◌++◌, Some, slice_get, map, take, drop}
 use Rattle.std.specs.declared.alloc.Global.{Global}
 use Rattle.atomic_blocks.specs.Lent.{RowsId}
 use Rattle.branch_deques.specs.declared.rule.LaneView.{LaneView}
-use Rattle.branch_deques.specs.Lanes.{fresh, having_taken, Took, WasEmpty}
+use Rattle.branch_deques.specs.Lanes.{fresh, Took, WasEmpty}
 
 -- Which lane it is.
 abbrev pub LaneId : Type 0

@@ -1,6 +1,5 @@
 -- Seats that are handed back.
-use Rattle.std.proofs.Common.{◌≡◌, ℕ, zero, suc, ◌+◌, ◌<◌, List, [], ◌∷◌, length, Some, None, slice_get, sym, refl, ap, ◌∙◌, subst, arith}
-use Rattle.shelf_core.specs.Views.{new_view}
+use Rattle.std.proofs.Common.{◌≡◌, ℕ, zero, suc, ◌+◌, List, [], ◌∷◌, length, Some, slice_get, sym, ap, ◌∙◌, subst, arith}
 use Rattle.shelf_core.specs.declared.seat.SeatView.{SeatView}
 use Rattle.shelf_core.proofs.Lists.{some_same, not_some, within, there}
 use Rattle.checkpoint_shelf.specs.Told.{ShelfTold, SeatTold}

@@ -1,5 +1,5 @@
 -- What the calls make of what the steps tell.
-use Rattle.std.proofs.Common.{◌≡◌, ℕ, suc, ◌+◌, ◌<◌, ◌≤◌, ◌/◌, ◌%◌, Bool, true, false, List, [], ◌∷◌, ◌++◌, Option, Some, slice_get, length, sym, refl, ap, ◌∙◌, subst, arith, MatchBool, ◌==◌, ⊎_elim, option_map, nat_eq}
+use Rattle.std.proofs.Common.{◌≡◌, ℕ, suc, ◌+◌, ◌<◌, ◌/◌, ◌%◌, Bool, true, false, List, [], ◌∷◌, ◌++◌, Option, Some, slice_get, sym, refl, ap, ◌∙◌, subst, arith, ◌==◌, ⊎_elim, nat_eq}
 use mathlib.Core.Option.{none}
 use Rattle.atomic_table.specs.Table.{Me, step}
 use Rattle.atomic_table.specs.Seated.{TableId}
@@ -8,20 +8,16 @@ use Rattle.shelf_core.specs.Views.{times}
 use Rattle.shelf_core.specs.After.{with_claim, having_loaded}
 use Rattle.shelf_core.specs.declared.plan.ShelfPlan.{ShelfPlan}
 use Rattle.shelf_core.specs.declared.words.ClaimWord.TheVariants.{Taken}
-use Rattle.shelf_core.specs.declared.words.Word.TheVariants.{Done as done_word}
 use Rattle.shelf_core.specs.declared.words.Seen.{Seen}
-use Rattle.shelf_core.specs.declared.words.Seen.TheVariants.{Claim as claim_seen, Place as place_seen, Done as done_seen}
+use Rattle.shelf_core.specs.declared.words.Seen.TheVariants.{Claim as claim_seen}
 use Rattle.shelf_core.specs.declared.seat.SeatView.{SeatView}
-use Rattle.shelf_core.specs.Orderly.{HasShape}
-use Rattle.shelf_core.proofs.Quiet.{taken_le}
-use Rattle.shelf_core.proofs.Lists.{bool_cases, some_same, total_one, total_le, times_append, times_here}
+use Rattle.shelf_core.proofs.Lists.{bool_cases, some_same, times_append, times_here}
 use Rattle.checkpoint_shelf.specs.declared.about.About.{About}
 use Rattle.checkpoint_shelf.specs.declared.about.View.{View}
 use Rattle.checkpoint_shelf.specs.Codes.{done_code}
 use Rattle.checkpoint_shelf.specs.Told.{ShelfTold, told_of, shelf_of}
 use Rattle.checkpoint_shelf.specs.Holds.{IsSeat, seeing, Hands}
 use Rattle.checkpoint_shelf.specs.Tells.{ClaimTold, Becomes}
-use Rattle.shelf_core.specs.Made.{Sees}
 use Rattle.shelf_core.proofs.Facts.{loaded, at_true, at_false}
 
 -- What holds of the seat's own plan and view holds of those that the clause names.

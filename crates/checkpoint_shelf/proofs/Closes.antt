@@ -3,7 +3,7 @@ use Rattle.std.proofs.Common.{◌≡◌, ℕ, zero, suc, ◌+◌, ◌-◌, ◌<�
 use mathlib.Core.Option.{some}
 use Rattle.std.specs.List.{remove, slice_index_or}
 use lib.ListN.{get_elem?}
-use Rattle.atomic_table.specs.Table.{State, Final, Seen}
+use Rattle.atomic_table.specs.Table.{Final, Seen}
 use Rattle.std.specs.declared.sync.Arc.{Arc}
 use Rattle.shelf_core.specs.Plan.{place_count, place_of}
 use Rattle.shelf_core.specs.Possible.{word_in, word_at}

@@ -1,5 +1,5 @@
 -- A seat stays one by the steps on the words of places.
-use Rattle.std.proofs.Common.{◌≡◌, ◌≢◌, ℕ, zero, suc, ◌+◌, ◌<◌, List, [], ◌∷◌, ◌++◌, Option, Some, None, slice_get, sym, refl, ap, ◌∙◌, subst, arith, ⊎_elim, ◌==◌, true}
+use Rattle.std.proofs.Common.{◌≡◌, ℕ, ◌+◌, ◌<◌, List, [], ◌∷◌, Option, Some, None, slice_get, sym, refl, ap, ◌∙◌, subst, arith, ⊎_elim, true}
 use Rattle.atomic_table.specs.Table.{Me, rest}
 use Rattle.std.specs.declared.sync.Arc.{Arc}
 use Rattle.shelf_core.specs.Plan.{place_of}

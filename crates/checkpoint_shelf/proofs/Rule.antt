@@ -1,8 +1,8 @@
 -- What the rule gives, and how a step keeps it.
-use Rattle.std.proofs.Common.{◌≡◌, ◌≢◌, ℕ, zero, suc, ◌+◌, ◌<◌, ◌≤◌, Bool, true, false, true≢false, List, [], ◌∷◌, ◌++◌, Option, Some, None, slice_get, map, length, get_or, set, slice_index, sym, refl, ap, ◌∙◌, subst, ⊎_elim, arith, if◌then◌else◌, length-append}
+use Rattle.std.proofs.Common.{◌≡◌, ◌≢◌, ℕ, suc, ◌+◌, ◌<◌, Bool, true, false, List, [], ◌∷◌, Option, Some, slice_get, map, length, get_or, set, sym, refl, ap, ◌∙◌, subst, ⊎_elim, arith, if◌then◌else◌, length-append}
 use Rattle.std.proofs.Math.ListN.{length-set}
 use mathlib.Core.Option as plain
-use mathlib.Core.Option.{some, none}
+use mathlib.Core.Option.{some}
 use lib.ListN.{get_elem?}
 use Rattle.atomic_table.specs.Table.{State, Me, Act, keeps, stepped, Valid, carried_after}
 use Rattle.atomic_table.proofs.Lists.{at_set}
@@ -13,12 +13,9 @@ use Rattle.shelf_core.specs.Possible.{possible, passes, through, seen_at}
 use Rattle.shelf_core.specs.After.{after, having_loaded}
 use Rattle.shelf_core.specs.Orderly.{Orderly, HasShape, IsLaid}
 use Rattle.shelf_core.specs.declared.plan.Key.{Key}
-use Rattle.shelf_core.specs.declared.plan.ShelfPlan.{ShelfPlan}
 use Rattle.shelf_core.specs.declared.words.PlaceWord.{PlaceWord}
-use Rattle.shelf_core.specs.declared.words.PlaceWord.TheVariants.{Free, Writing, Ready, Lent}
 use Rattle.shelf_core.specs.declared.words.Word.{Word}
 use Rattle.shelf_core.specs.declared.words.Seen.{Seen}
-use Rattle.shelf_core.specs.declared.words.Seen.TheVariants.{Claim as claim_seen, Place as place_seen, Done as done_seen}
 use Rattle.shelf_core.specs.declared.seat.SeatView.{SeatView}
 use Rattle.shelf_core.specs.declared.system.System.{System}
 use Rattle.shelf_core.specs.declared.event.Event.{Event}
@@ -31,7 +28,7 @@ use Rattle.checkpoint_shelf.specs.declared.about.View.{View}
 use Rattle.checkpoint_shelf.specs.Codes.{claim_code, place_code, words_of}
 use Rattle.shelf_core.specs.Views.{live_count}
 use Rattle.checkpoint_shelf.specs.Holds.{Holds, Stands, Knows, IsSeat, seeing}
-use Rattle.shelf_core.specs.Made.{Makes, Sees, Same}
+use Rattle.shelf_core.specs.Made.{Makes, Sees}
 use Rattle.checkpoint_shelf.proofs.Rows.{length_map, at_mapped, set_map, set_same}
 
 first_of : List ℕ → ℕ

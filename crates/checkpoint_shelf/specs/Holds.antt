@@ -1,5 +1,5 @@
 -- What the table is at any moment: an orderly system, with a value under each word that says so.
-use Rattle.std.specs.Prelude.{◌≡◌, ℕ, ◌+◌, ◌<◌, ◌≤◌, ◌==◌, true, false, if◌then◌else◌, List, ◌∷◌, length, map, Option, Some, None, slice_get}
+use Rattle.std.specs.Prelude.{◌≡◌, ℕ, ◌+◌, ◌<◌, ◌≤◌, ◌==◌, true, false, List, ◌∷◌, length, map, Option, Some, None, slice_get}
 use mathlib.Core.Option as plain
 use mathlib.Core.Option.{some, none}
 use lib.ListN.{get_elem?}

@@ -1,14 +1,11 @@
 -- Where a value may be written, and what the steps on the words of places tell. The word p + 1 is that of the place p.
-use Rattle.std.specs.Prelude.{◌≡◌, ℕ, suc, ◌+◌, ◌==◌, ◌&&◌, not, nat_le, Bool, true, false, List, [], ◌∷◌, length, Option, Some, None, MatchBool}
+use Rattle.std.specs.Prelude.{◌≡◌, ℕ, suc, ◌+◌, ◌==◌, List, [], ◌∷◌, Option, Some, None, MatchBool}
 use Rattle.atomic_table.specs.Table.{Step, Me, rest}
 use Rattle.std.specs.declared.sync.Arc.{Arc}
-use Rattle.shelf_core.specs.Plan.{same_key}
 use Rattle.shelf_core.specs.Views.{times, turns_at, other_turns}
 use Rattle.shelf_core.specs.After.{with_turn, without_turn, having_published, with_loan, having_returned, having_loaded}
 use Rattle.shelf_core.specs.declared.plan.Key.{Key}
-use Rattle.shelf_core.specs.declared.plan.ShelfPlan.{ShelfPlan}
 use Rattle.shelf_core.specs.declared.words.PlaceWord.{PlaceWord}
-use Rattle.shelf_core.specs.declared.words.PlaceWord.TheVariants.{Free, Writing, Ready, Lent}
 use Rattle.shelf_core.specs.declared.words.Word.TheVariants.{Place as place_word}
 use Rattle.shelf_core.specs.declared.words.Seen.TheVariants.{Place as place_seen}
 use Rattle.shelf_core.specs.declared.event.Event.TheVariants.{Begin, Publish, Abandon, Lend, Return}

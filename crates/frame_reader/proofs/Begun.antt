@@ -4,7 +4,7 @@ use Rattle.std.proofs.lemmas.Bool.{ltb-false}
 use Rattle.std.proofs.lemmas.List.{drop-drop, length-drop, length-take-le, take-append-drop}
 use Rattle.market_types.specs.declared.error.CodecError.{CodecError}
 use Rattle.market_types.specs.declared.error.CodecError.TheVariants.{Cut}
-use Rattle.wire_fields.specs.Numbers.{number_bytes, number_of}
+use Rattle.wire_fields.specs.Numbers.{number_bytes}
 use Rattle.wire_fields.proofs.Digits.{IsBytes, IsBytes-take, number_of-bound, number_bytes-number_of}
 use Rattle.itch_codec.specs.Frames.{framed, framed_length, unframed}
 use Rattle.frame_reader.specs.declared.frame.Frame.{Frame}

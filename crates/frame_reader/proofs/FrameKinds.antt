@@ -22,7 +22,7 @@ use Rattle.frame_parts.specs.declared.head.WaitingHead.{WaitingHead}
 use Rattle.frame_parts.specs.Heads.{head_wire}
 use Rattle.frame_parts.specs.Bodies.{IsBody}
 use Rattle.frame_reader.specs.declared.frame.Frame.{Frame}
-use Rattle.frame_reader.specs.declared.frame.Frame.TheVariants.{Header, Branch, Event, Edit, Counts, Stock, Order, Agent, Waiting, End}
+use Rattle.frame_reader.specs.declared.frame.Frame.TheVariants.{Header, Branch, Event, Stock, Agent, Waiting}
 use Rattle.frame_reader.specs.declared.frame.EventFrame.{EventFrame}
 use Rattle.frame_reader.specs.declared.frame.WaitingFrame.{WaitingFrame}
 use Rattle.frame_reader.specs.Frames.{HasPositions}

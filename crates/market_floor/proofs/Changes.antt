@@ -9,7 +9,7 @@ use Rattle.market_rules.specs.declared.changes.Change.{Change}
 use Rattle.market_rules.specs.declared.changes.Change.TheVariants as change
 use Rattle.market_rules.specs.declared.changes.Dated.{Dated}
 use Rattle.market_rules.specs.Changes.{dated_by, dates_refusal}
-use Rattle.exchange_agent.specs.Changes.{Changed, changed_by, turned}
+use Rattle.exchange_agent.specs.Changes.{Changed, changed_by}
 use Rattle.exchange_agent.specs.State.{State, Stock, stock_at, with_stock}
 use Rattle.exchange_agent.proofs.Tellings.{at-change, keeps-change}
 use Rattle.market_opening.specs.declared.opening.Opening.{Opening}

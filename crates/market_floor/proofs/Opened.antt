@@ -1,5 +1,5 @@
 -- What holds of a floor at the opening.
-use Rattle.std.proofs.Common.{◌≡◌, ℕ, suc, pos, ◌+◌, List, [], ◌∷◌, length, map, replicate, All, arith, refl, ap, ◌∙◌, subst, sym}
+use Rattle.std.proofs.Common.{◌≡◌, ℕ, suc, pos, ◌+◌, List, [], ◌∷◌, length, All, arith, refl, ap, ◌∙◌, subst, sym}
 use Rattle.std.proofs.lemmas.List.{length-map, length-replicate}
 use Rattle.std.proofs.lemmas.List.Elements.{All-map}
 use Rattle.agent_shell.specs.declared.setting.TraderSetting.{TraderSetting}

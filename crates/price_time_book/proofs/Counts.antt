@@ -1,11 +1,9 @@
 -- How many open orders a side has, and what stays of orders that give shares.
-use Rattle.std.proofs.Common.{◌≡◌, ◌≢◌, ℕ, ◌+◌, ◌-◌, ◌<◌, ◌≤◌, Bool, true, false, cond, eqb, List, [], ◌∷◌, ◌++◌, length, get_or, set, refl, sym, ap, ◌∙◌, arith, inl, inr, suc, zero, subst}
-use Rattle.std.proofs.lemmas.Bool.{cases_Bool, cases_eq, eq-eqb, ne_eqb}
-use Rattle.std.proofs.lemmas.List.{length-set, get_or-set_same, get_or-set_other}
+use Rattle.std.proofs.Common.{◌≡◌, ◌≢◌, ℕ, ◌+◌, ◌-◌, ◌<◌, Bool, true, false, cond, eqb, List, [], ◌∷◌, ◌++◌, length, get_or, set, refl, ap, ◌∙◌, arith, inl, inr, suc, zero}
+use Rattle.std.proofs.lemmas.Bool.{cases_Bool, eq-eqb, ne_eqb}
 use Rattle.std.proofs.lemmas.List.Sums.{sum_by-append, sum_by-cons}
 use Rattle.market_types.specs.declared.order.Side.{Side}
 use Rattle.price_time_book.specs.declared.resting.Resting.{Resting}
-use Rattle.price_time_book.specs.Index.{AreLessened, IsLessened}
 use Rattle.price_time_book.specs.Indexed.{nothing, open_orders}
 use Rattle.price_time_book.specs.Sides.{depth_of, is_on, is_same_side}
 use Rattle.price_time_book.proofs.Firsts.{same_itself, side_same}

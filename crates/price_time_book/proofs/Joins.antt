@@ -1,15 +1,15 @@
 -- An order joins the vector of arrival, the links and the levels.
-use Rattle.std.proofs.Common.{◌≡◌, ◌≢◌, ℕ, ◌+◌, ◌-◌, ◌<◌, ◌≤◌, max, Bool, true, false, cond, ltb, eqb, List, [], ◌∷◌, ◌++◌, Option, Some, None, length, get_or, set, take, drop, map, refl, sym, ap, ◌∙◌, arith, inl, inr, suc, zero, subst, All, Contains, ◌⊎◌}
+use Rattle.std.proofs.Common.{◌≡◌, ◌≢◌, ℕ, ◌+◌, ◌-◌, ◌<◌, ◌≤◌, true, false, cond, eqb, List, [], ◌∷◌, ◌++◌, length, get_or, set, take, drop, refl, sym, ap, ◌∙◌, arith, inl, inr, suc, zero, subst, All, Contains, ◌⊎◌}
 use Rattle.std.specs.List.{AllByRecursion, insert}
 use Rattle.std.proofs.lemmas.Bool.{cases_eq, cases_lt}
 use Rattle.std.proofs.lemmas.Bool.Decides.{nat_tests}
 use Rattle.std.proofs.lemmas.List.{get_or-map, length-map, length-set, length_push, get_or_default, get_or_append_left, get_or_push, get_or-set_same, get_or-set_other, map-set, set-get_or, take-append-drop, take-map, drop-map, map-append}
-use Rattle.std.proofs.lemmas.List.Elements.{All-from_recursion, recursion_from_All, All-append, All-cons, All-take, All-drop, Contains-get_or, Contains-append_left, Contains-append_right, Contains-append_cases}
+use Rattle.std.proofs.lemmas.List.Elements.{All-from_recursion, All-append, All-cons, All-take, All-drop, Contains-get_or, Contains-append_left, Contains-append_right, Contains-append_cases}
 use Rattle.price_time_book.specs.declared.resting.Resting.{Resting}
 use Rattle.price_time_book.specs.declared.levels.Level.{Level}
 use Rattle.market_types.specs.declared.order.Side.{Side}
 use Rattle.market_types.specs.declared.order.Side.TheVariants.{Buy, Sell}
-use Rattle.price_time_book.specs.Indexed.{bit, key, key_of, open_orders, prices, shares_by, IsImproving, IsNoBetter, IsWorse, nothing, IsOpenAt, IsClear, IsPlacedAt, IsFree, IsRight, IsLinked, IsIndexed}
+use Rattle.price_time_book.specs.Indexed.{bit, key, key_of, open_orders, prices, shares_by, IsImproving, IsWorse, nothing, IsOpenAt, IsClear, IsPlacedAt, IsFree, IsRight, IsLinked, IsIndexed}
 use Rattle.price_time_book.proofs.Prices.{rising_head, rising_le, worse_after, worse_apart, worse_before, worse-trans}
 
 pub open-push-cases : (os : List Resting) (x : Resting) (p k : ℕ) → IsOpenAt (os ++ x ∷ []) p k → IsOpenAt os p k ⊎ ((k ≡ length os) × (key_of x ≡ p))

@@ -1,18 +1,16 @@
 -- Lemmas on a book that is made anew from its open orders.
-use Rattle.std.proofs.Common.{◌≡◌, ◌≢◌, ℕ, ◌+◌, ◌-◌, ◌<◌, ◌≤◌, Bool, true, false, cond, ◌&&◌, eqb, List, [], ◌∷◌, ◌++◌, Option, Some, None, All, length, get_or, take, drop, refl, sym, ap, ◌∙◌, arith, inl, inr, suc, zero, subst, length-append}
+use Rattle.std.proofs.Common.{◌≡◌, ◌≢◌, ℕ, ◌+◌, ◌-◌, ◌<◌, ◌≤◌, true, false, cond, ◌&&◌, eqb, List, [], ◌∷◌, ◌++◌, length, get_or, take, drop, refl, ap, arith, suc, zero, subst, length-append}
 use Rattle.std.specs.Prelude.{bytes_eq}
 use Rattle.std.specs.List.{AllByRecursion}
-use Rattle.std.proofs.lemmas.Bool.{cases_eq, eq-eqb, ne_eqb}
+use Rattle.std.proofs.lemmas.Bool.{eq-eqb, ne_eqb}
 use Rattle.std.proofs.lemmas.List.Elements.{All-from_recursion}
 use Rattle.std.specs.declared.cmp.Ordering.TheVariants.{Equal}
-use Rattle.market_types.specs.declared.order.Token.{Token}
 use Rattle.price_time_book.specs.declared.index.TokenEntry.{TokenEntry}
 use Rattle.price_time_book.specs.declared.resting.Resting.{Resting}
-use Rattle.price_time_book.specs.Awaited.{AreAwaited, IsAwaited}
+use Rattle.price_time_book.specs.Awaited.{AreAwaited}
 use Rattle.price_time_book.specs.Index.{IsByToken, by_pair, pair_at, pair_of}
 use Rattle.price_time_book.specs.Indexed.{nothing, open_orders}
 use Rattle.price_time_book.specs.Orderly.{IsOrderly, IsRising}
-use Rattle.price_time_book.specs.Orders.{order_of}
 use Rattle.price_time_book.proofs.Indexes.{find_nobody, pair_equal, pair_total, places_differ}
 use Rattle.price_time_book.proofs.Lowers.{open_each}
 

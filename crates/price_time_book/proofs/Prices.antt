@@ -1,16 +1,12 @@
 -- The best price of indexed orders.
-use Rattle.std.proofs.Common.{◌≡◌, ◌≢◌, ℕ, ◌+◌, ◌-◌, ◌<◌, ◌≤◌, max, Bool, true, false, cond, ltb, eqb, List, [], ◌∷◌, ◌++◌, Option, Some, None, length, get_or, map, refl, sym, ap, ◌∙◌, arith, inl, inr, suc, zero, subst, All, Contains}
-use Rattle.std.specs.List.{AllByRecursion}
-use Rattle.std.specs.Option.{option_map_or}
-use Rattle.std.proofs.lemmas.Bool.{cases_eq}
+use Rattle.std.proofs.Common.{◌≡◌, ◌≢◌, ℕ, ◌-◌, ◌<◌, ◌≤◌, true, false, cond, eqb, List, [], ◌∷◌, length, get_or, ◌∙◌, arith, suc, zero, subst, Contains}
 use Rattle.std.proofs.lemmas.Bool.Decides.{nat_tests}
-use Rattle.std.proofs.lemmas.List.{get_or-map, length-map, get_or_default}
-use Rattle.std.proofs.lemmas.List.Elements.{All-from_recursion, recursion_from_All, Contains-get_or}
+use Rattle.std.proofs.lemmas.List.{get_or_default}
+use Rattle.std.proofs.lemmas.List.Elements.{All-from_recursion}
 use Rattle.price_time_book.specs.declared.resting.Resting.{Resting}
-use Rattle.price_time_book.specs.declared.levels.Level.{Level}
 use Rattle.market_types.specs.declared.order.Side.{Side}
 use Rattle.market_types.specs.declared.order.Side.TheVariants.{Buy, Sell}
-use Rattle.price_time_book.specs.Indexed.{bit, key, key_of, open_orders, prices, shares_by, IsImproving, IsNoBetter, IsWorse, nothing, IsOpenAt, IsClear, IsPlacedAt, IsFree, IsRight, IsLinked, IsIndexed}
+use Rattle.price_time_book.specs.Indexed.{key_of, open_orders, shares_by, IsImproving, IsNoBetter, IsWorse, IsOpenAt}
 
 pub worse_is : (s : Side) (p q : ℕ) → IsWorse s p q → IsNoBetter s p q
 worse_is Buy p q h = omega arith

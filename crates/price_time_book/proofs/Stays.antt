@@ -10,15 +10,15 @@ use Rattle.market_types.specs.declared.order.Side.TheVariants.{Buy, Sell}
 use Rattle.market_types.specs.declared.order.Token.{Token}
 use Rattle.price_time_book.specs.declared.resting.Fill.{Fill}
 use Rattle.price_time_book.specs.declared.resting.Resting.{Resting}
-use Rattle.price_time_book.specs.Kept.{IsKeptByFills, IsKeptByReduce, WasIn}
+use Rattle.price_time_book.specs.Kept.{WasIn}
 use Rattle.price_time_book.specs.Matched.{Matching, after_fill, completed, fill_of, matched, matched_by, with_fill, with_next}
-use Rattle.price_time_book.specs.Next.{crosses, crossing_of, first_best, next_of}
+use Rattle.price_time_book.specs.Next.{crosses, crossing_of, next_of}
 use Rattle.price_time_book.specs.Orders.{changed, order_of, order_with, reduced, with_order, without}
 use Rattle.price_time_book.specs.Sides.{depth_of, is_on, is_same_side, is_within, opposite_of}
-use Rattle.price_time_book.proofs.Changes.{each-filter, each-push, each-with, keep_all, leave_all, length-changed, orderly-changed, orderly-push, same_reference}
+use Rattle.price_time_book.proofs.Changes.{each-filter, each-push, each-with, keep_all, leave_all, length-changed, orderly-changed, orderly-push}
 use Rattle.price_time_book.specs.Orderly.{IsOrderly, IsRising}
 use Rattle.std.proofs.lemmas.Bool.Decides.{nat_tests}
-use Rattle.price_time_book.proofs.Matching.{IsAmong, among-filter, completed_goes, first_among, progress, still}
+use Rattle.price_time_book.proofs.Matching.{IsAmong, among-filter, completed_goes, first_among, still}
 use Rattle.price_time_book.proofs.Places.{each_found, found_by_reference}
 
 -- ---- the way of an incoming order

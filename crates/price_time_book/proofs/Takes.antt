@@ -1,22 +1,21 @@
 -- An order of the vector of arrival gives shares or is lowered.
-use Rattle.std.proofs.Common.{◌≡◌, ◌≢◌, ℕ, ◌+◌, ◌-◌, ◌*◌, ◌<◌, ◌≤◌, Bool, true, false, not, cond, ◌&&◌, eqb, filter, count_by, IfSome, List, [], ◌∷◌, ◌++◌, Option, Some, None, length, get_or, set, refl, sym, ap, ◌∙◌, arith, inl, inr, suc, zero, subst, All, Contains, find, option_map, length-append}
+use Rattle.std.proofs.Common.{◌≡◌, ◌≢◌, ℕ, ◌+◌, ◌-◌, ◌*◌, ◌<◌, ◌≤◌, Bool, true, false, not, cond, ◌&&◌, eqb, filter, count_by, IfSome, List, [], ◌∷◌, Option, Some, None, length, get_or, refl, sym, ap, ◌∙◌, arith, inl, inr, suc, zero, subst, All, option_map}
 use Rattle.std.specs.Prelude.{slice_get}
 use Rattle.std.specs.List.{AllByRecursion}
-use Rattle.std.proofs.lemmas.Bool.{cases_eq, cases_lt, eq-eqb, ne_eqb}
-use Rattle.std.proofs.lemmas.Bool.Decides.{nat_tests}
+use Rattle.std.proofs.lemmas.Bool.{cases_lt}
 use Rattle.std.proofs.lemmas.List.{get_or_default, length-map}
 use Rattle.std.proofs.lemmas.List.Sums.{sum_by-cons}
 use Rattle.market_types.specs.declared.order.Side.{Side}
 use Rattle.market_types.specs.declared.order.Side.TheVariants.{Buy, Sell}
 use Rattle.price_time_book.specs.declared.resting.Resting.{Resting}
 use Rattle.price_time_book.specs.declared.levels.Level.{Level}
-use Rattle.price_time_book.specs.Indexed.{bit, key, key_of, open_orders, prices, shares_by, IsImproving, IsNoBetter, IsWorse, nothing, IsOpenAt, IsRight, IsIndexed, IsSmall}
+use Rattle.price_time_book.specs.Indexed.{key, key_of, open_orders, prices, shares_by, IsNoBetter, IsWorse, nothing, IsOpenAt, IsIndexed, IsSmall}
 use Rattle.std.specs.Option.{option_map_or}
 use Rattle.std.proofs.lemmas.List.Elements.{recursion_from_All}
 use Rattle.price_time_book.specs.declared.resting.Best.{Best}
 use Rattle.price_time_book.specs.Next.{best_at, crosses, crossing_of, next_of, shares_at, top_of}
 use Rattle.price_time_book.proofs.Bests.{none_crosses}
-use Rattle.price_time_book.specs.Orderly.{IsOrderly, IsRising}
+use Rattle.price_time_book.specs.Orderly.{IsOrderly}
 use Rattle.price_time_book.specs.Orders.{changed, order_with}
 use Rattle.price_time_book.specs.Sides.{is_within, opposite_of}
 use Rattle.price_time_book.proofs.Changes.{orderly-changed}

@@ -1,5 +1,5 @@
 -- What the levels and the links say of the orders in the vector of arrival.
-use Rattle.std.specs.Prelude.{◌≡◌, ◌+◌, ◌*◌, ◌≢◌, ◌<◌, ◌≤◌, ℕ, ◌==◌, if◌then◌else◌, List, [], ◌∷◌, map, length, All, Contains, slice_index, slice_index_or}
+use Rattle.std.specs.Prelude.{◌≡◌, ◌+◌, ◌*◌, ◌<◌, ◌≤◌, ℕ, ◌==◌, if◌then◌else◌, List, [], ◌∷◌, map, length, All, Contains, slice_index, slice_index_or}
 use Rattle.std.specs.List.{AllByRecursion}
 use Rattle.market_types.specs.declared.order.Side.{Side}
 use Rattle.market_types.specs.declared.order.Side.TheVariants.{Buy, Sell}

@@ -1,5 +1,5 @@
 -- One level after another is quoted.
-use Rattle.std.proofs.Common.{◌≡◌, ℕ, suc, ◌+◌, ◌++◌, List, refl, ap, sym, subst, ◌∙◌, arith, append_assoc}
+use Rattle.std.proofs.Common.{◌≡◌, ℕ, suc, ◌+◌, ◌++◌, List, ap, sym, subst, ◌∙◌, arith, append_assoc}
 use Rattle.market_types.specs.declared.order.Symbol.{Symbol}
 use Rattle.market_rules.specs.declared.bands.Band.{Band}
 use Rattle.agent_shell.specs.declared.sending.Sending.{Sending}

@@ -1,5 +1,5 @@
 -- Lemmas on reading records one by one.
-use Rattle.std.proofs.Common.{◌≡◌, ◌∙◌, ℕ, ◌+◌, ◌&&◌, List, [], ◌∷◌, length, Some, None, Err, ap, map, replicate}
+use Rattle.std.proofs.Common.{◌≡◌, ◌∙◌, ◌≤◌, ℕ, ◌+◌, ◌&&◌, List, [], ◌∷◌, length, Some, None, Err, ap, map, replicate, arith}
 use Rattle.std.proofs.lemmas.List.{length-replicate}
 use Rattle.std.specs.Prelude.{position}
 use Rattle.std.specs.List.{enumerate_from}
@@ -19,6 +19,12 @@ pub taken : (stocks : List Data) (number : ℕ) (tables more : List (List Series
     → after_record stocks number tables fields ≡ Some more
     → rows_from stocks number tables (fields ∷ rest) ≡ rows_from stocks (number + 1) more rest
 taken stocks number tables more fields rest e = rw (rows_from, e)
+
+-- the record after one that is taken is at most the one after the last that may be
+pub low-taken : (stocks : List Data) (number : ℕ) (tables more : List (List SeriesRow)) (fields : List (List ℕ))
+    → after_record stocks number tables fields ≡ Some more
+    → number + 1 ≤ 1000001
+low-taken stocks number tables more fields e = grind arith
 
 -- a record that is refused
 pub refused : (stocks : List Data) (number : ℕ) (tables : List (List SeriesRow)) (fields : List (List ℕ)) (rest : List (List (List ℕ)))

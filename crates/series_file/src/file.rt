@@ -89,5 +89,5 @@ pub fn read_series(
             return Err(SeriesError::Refused(number));
         }
     }
-    Err(SeriesError::Memory)
+    unreachable!()
 }

@@ -1,27 +1,25 @@
 -- What the code of each event makes is what the event leaves.
-use Rattle.std.proofs.Common.{◌≡◌, ◌≢◌, ℕ, zero, suc, ◌+◌, ◌<◌, ◌≤◌, Bool, true, false, List, [], ◌∷◌, Option, Some, None, slice_get, length, map, set, sym, refl, ap, ◌∙◌, subst, ⊎_elim, arith, ◌==◌, ◌&&◌, not, is_some, is_none, inl, inr, ◌⊎◌, nat_lt, true≢false, eq-eqb}
+use Rattle.std.proofs.Common.{◌≡◌, ◌≢◌, ℕ, zero, suc, ◌+◌, ◌<◌, ◌≤◌, Bool, true, false, List, [], ◌∷◌, Option, Some, None, slice_get, length, set, sym, refl, ap, ◌∙◌, subst, ⊎_elim, arith, ◌==◌, ◌&&◌, not, is_some, is_none, ◌⊎◌, nat_lt, true≢false, eq-eqb}
 use Rattle.std.specs.List.{list_any}
 use lib.ListN.{length-map}
 use Rattle.shelf_core.specs.Plan.{same_key, place_in, segments_in}
-use Rattle.shelf_core.specs.Words.{is_open, is_ready, value_under}
+use Rattle.shelf_core.specs.Words.{is_ready, value_under}
 use Rattle.shelf_core.specs.Views.{total, changed_at, has_turn, live_view}
 use Rattle.shelf_core.specs.Possible.{possible, through, word_at, allows_writing}
-use Rattle.shelf_core.specs.After.{after, seat, put, key_place, loan_of}
+use Rattle.shelf_core.specs.After.{seat, put, key_place, loan_of}
 use Rattle.shelf_core.specs.Orderly.{Orderly, HasShape}
 use Rattle.shelf_core.specs.declared.plan.Key.{Key}
 use Rattle.shelf_core.specs.declared.plan.ShelfPlan.{ShelfPlan}
-use Rattle.shelf_core.specs.declared.words.ClaimWord.TheVariants.{Open, Taken}
 use Rattle.shelf_core.specs.declared.words.PlaceWord.{PlaceWord}
-use Rattle.shelf_core.specs.declared.words.PlaceWord.TheVariants.{Free, Writing, Ready, Lent}
+use Rattle.shelf_core.specs.declared.words.PlaceWord.TheVariants.{Free, Ready}
 use Rattle.shelf_core.specs.declared.seat.SeatView.{SeatView}
 use Rattle.shelf_core.specs.declared.system.System.{System}
-use Rattle.shelf_core.specs.declared.event.Event.{Event}
-use Rattle.shelf_core.specs.declared.event.Event.TheVariants.{Begin, Publish, Abandon, Lend, Return, Count, Join}
+use Rattle.shelf_core.specs.declared.event.Event.TheVariants.{Begin, Publish, Lend, Return, Count, Join}
 use Rattle.shelf_core.proofs.Lists.{some_same, not_some, within, changed_is_set, total_one, total_two, total_le}
 use Rattle.shelf_core.proofs.Plans.{and_left, and_right, not_true}
 use Rattle.shelf_core.proofs.Parts.{word_cases}
 use Rattle.shelf_core.proofs.Quiet.{taken_le}
-use Rattle.shelf_core.proofs.Steps.{live_seat, live_is, allowed, ready_is, word_there, place_is, turn_place, less_of, some_of}
+use Rattle.shelf_core.proofs.Steps.{live_seat, live_is, allowed, ready_is, word_there, place_is, turn_place, less_of}
 
 -- the views once the view of a seat is replaced
 pub replaced : (change : SeatView → SeatView) (views new : List SeatView) (n : ℕ) (v w : SeatView) → slice_get views n ≡ Some v → w ≡ change v → new ≡ set views n w → new ≡ changed_at change views n

@@ -1,12 +1,12 @@
 -- The events that change which seats there are.
-use Rattle.std.proofs.Common.{◌≡◌, ◌≢◌, ℕ, zero, suc, ◌+◌, ◌<◌, ◌≤◌, max, Bool, true, false, List, [], ◌∷◌, ◌++◌, Option, Some, None, slice_get, length, set, sym, refl, ap, ◌∙◌, subst, ⊎_elim, arith, true≢false, length-append, if◌then◌else◌, inl, inr, ◌⊎◌, ◌||◌}
+use Rattle.std.proofs.Common.{◌≡◌, ◌≢◌, ℕ, suc, ◌+◌, ◌<◌, ◌≤◌, true, false, List, [], ◌∷◌, ◌++◌, Option, Some, None, slice_get, length, set, sym, refl, ap, ◌∙◌, subst, ⊎_elim, arith, true≢false, length-append, ◌⊎◌}
 use Rattle.std.proofs.lemmas.List.Folds.{list_any-append}
 use mathlib.Core.Logic.{dite}
-use native.Mathlib.Decide.{dec_le, ℕ_discrete}
-use Rattle.shelf_core.specs.Plan.{is_in, place_in, same_key}
-use Rattle.shelf_core.specs.Views.{times, total, turns_at, new_view, spent_view}
+use native.Mathlib.Decide.{dec_le}
+use Rattle.shelf_core.specs.Plan.{is_in, same_key}
+use Rattle.shelf_core.specs.Views.{times, turns_at, new_view, spent_view}
 use Rattle.shelf_core.specs.After.{joined_with}
-use Rattle.shelf_core.specs.Sound.{ForViews, IsKept, ClaimsStand, PlacesStand, CountsStand, SeenStands, KnownStands, TakerStands, WordBelongs, claimed_by, turned_by, lent_by, loans_at}
+use Rattle.shelf_core.specs.Sound.{IsKept, TakerStands, WordBelongs, claimed_by, turned_by, lent_by, loans_at}
 use Rattle.shelf_core.specs.Orderly.{Orderly}
 use Rattle.shelf_core.specs.declared.plan.Key.{Key}
 use Rattle.shelf_core.specs.declared.plan.ShelfPlan.{ShelfPlan}
@@ -18,7 +18,7 @@ use Rattle.shelf_core.specs.declared.seat.SeatView.{SeatView}
 use Rattle.shelf_core.specs.declared.system.System.{System}
 use Rattle.shelf_core.proofs.Lists.{bool_cases, not_some, times_else, times_append, total_end, for_end}
 use Rattle.shelf_core.proofs.Plans.{or_either}
-use Rattle.shelf_core.proofs.Numbers.{Seats, seats_end, seats_join, for_both, both_total, same_length}
+use Rattle.shelf_core.proofs.Numbers.{seats_end, seats_join, for_both, both_total, same_length}
 use Rattle.shelf_core.proofs.Parts.{orderly_of, seats_of, TurnKeys, LoanKeys}
 use Rattle.shelf_core.proofs.Quiet.{shape_keeps}
 

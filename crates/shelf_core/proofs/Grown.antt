@@ -1,18 +1,17 @@
 -- What one event more adds: a view at most, and no plan but its own.
-use Rattle.std.proofs.Common.{◌≡◌, ℕ, zero, suc, ◌+◌, ◌<◌, ◌≤◌, Bool, true, false, List, [], ◌∷◌, ◌++◌, Option, Some, None, slice_get, length, set, take, sym, refl, ap, ◌∙◌, subst, ⊎_elim, arith, if◌then◌else◌, length-append}
+use Rattle.std.proofs.Common.{◌≡◌, ℕ, zero, suc, ◌+◌, ◌≤◌, Bool, true, false, List, [], ◌∷◌, Option, Some, None, slice_get, length, take, refl, ap, ◌∙◌, arith, if◌then◌else◌, length-append}
 use Rattle.std.specs.List.{fold}
 use Rattle.std.proofs.Math.ListN.{length-set}
 use Rattle.shelf_core.specs.Views.{changed_at, live_view, new_view, spent_view}
 use Rattle.shelf_core.specs.Possible.{possible}
 use Rattle.shelf_core.specs.After.{after, step_of, left_by, opening, after_return, after_join, loan_of, joined_with, with_claim, with_turn, having_published, without_turn, with_loan, with_count, having_stopped, having_loaded, having_returned, key_place}
 use Rattle.shelf_core.specs.Possible.{seen_at}
-use Rattle.shelf_core.specs.Orderly.{IsSmall, IsSmallEvent}
 use Rattle.shelf_core.specs.declared.plan.Key.{Key}
 use Rattle.shelf_core.specs.declared.seat.SeatView.{SeatView}
 use Rattle.shelf_core.specs.declared.system.System.{System}
 use Rattle.shelf_core.specs.declared.event.Event.{Event}
 use Rattle.shelf_core.specs.declared.event.Event.TheVariants.{Lay, Claim, Begin, Publish, Abandon, Lend, Return, Count, Stop, Load, Split, Join}
-use Rattle.shelf_core.proofs.Lists.{bool_cases, not_some, some_same}
+use Rattle.shelf_core.proofs.Lists.{not_some, some_same}
 
 as_long : (change : SeatView → SeatView) (views : List SeatView) (n : ℕ) → length (changed_at change views n) ≡ length views
 as_long change [] n = refl

@@ -1,12 +1,12 @@
 -- What no event undoes.
-use Rattle.std.proofs.Common.{◌≡◌, ◌≢◌, ℕ, zero, suc, ◌+◌, ◌<◌, ◌≤◌, Bool, true, false, List, [], ◌∷◌, ◌++◌, Option, Some, None, slice_get, length, set, take, sym, refl, ap, ◌∙◌, subst, ⊎_elim, arith, true≢false, ◌==◌, ◌&&◌, not, is_some, is_none, if◌then◌else◌}
+use Rattle.std.proofs.Common.{◌≡◌, ◌≢◌, ℕ, zero, suc, ◌+◌, Bool, true, false, List, [], ◌∷◌, ◌++◌, Option, Some, None, slice_get, length, set, take, sym, refl, ap, ◌∙◌, subst, ⊎_elim, arith, true≢false, ◌==◌, ◌&&◌, is_some, is_none, if◌then◌else◌}
 use Rattle.std.specs.List.{list_any, fold}
 use mathlib.Core.Logic.{dite}
 use native.Mathlib.Decide.{ℕ_discrete}
 use Rattle.shelf_core.specs.Plan.{same_key, place_in, sole_in, are_distinct}
 use Rattle.shelf_core.specs.Words.{is_open, is_ready, is_filled}
 use Rattle.shelf_core.specs.Views.{live_view, live_views, has_turn}
-use Rattle.shelf_core.specs.Possible.{possible, through, word_in, word_at, allows_writing}
+use Rattle.shelf_core.specs.Possible.{possible, word_in, word_at, allows_writing}
 use Rattle.shelf_core.specs.After.{after, step_of, after_return, after_join, loan_of, key_place, opening, left_by}
 use Rattle.shelf_core.specs.Orderly.{Orderly, HasShape, IsBare}
 use Rattle.shelf_core.specs.Law.{Keeps, Law}
@@ -25,7 +25,7 @@ use Rattle.shelf_core.proofs.Plans.{and_left, and_right, key_self, alone_in}
 use Rattle.shelf_core.proofs.Parts.{word_cases}
 use Rattle.shelf_core.proofs.Moved.{turn_word}
 use Rattle.shelf_core.proofs.Laid.{opening_orderly}
-use Rattle.shelf_core.proofs.Steps.{live_seat, live_is, open_is, ready_is, allowed, none_of, some_of, word_there, place_is, turn_place, step_orderly, left_orderly}
+use Rattle.shelf_core.proofs.Steps.{live_seat, live_is, open_is, ready_is, allowed, none_of, word_there, place_is, turn_place, step_orderly, left_orderly}
 
 keeps_self : (s : System) → Keeps s s
 keeps_self s = record { stopped = λ f. f; done = omega arith; taken = λ g n e. e; filled = λ key sole f. f }

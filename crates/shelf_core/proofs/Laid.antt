@@ -1,19 +1,17 @@
 -- The shelf is laid out.
-use Rattle.std.proofs.Common.{◌≡◌, ◌≢◌, ℕ, zero, suc, ◌+◌, ◌<◌, ◌≤◌, Bool, true, false, List, [], ◌∷◌, ◌++◌, Option, Some, None, slice_get, length, map, replicate, sym, refl, ap, ◌∙◌, subst, ⊎_elim, arith, true≢false}
+use Rattle.std.proofs.Common.{◌≡◌, ◌≢◌, ℕ, zero, suc, ◌+◌, true, false, List, [], ◌∷◌, ◌++◌, Option, Some, None, slice_get, length, map, replicate, sym, refl, ap, ◌∙◌, subst, arith, true≢false}
 use mathlib.Core.Logic.{dite}
 use native.Mathlib.Decide.{dec_le}
-use Rattle.shelf_core.specs.Plan.{is_in, sole_in, place_in, are_distinct, place_count}
+use Rattle.shelf_core.specs.Plan.{sole_in, place_in, are_distinct, place_count}
 use Rattle.shelf_core.specs.Words.{value_under, taken_count}
 use Rattle.shelf_core.specs.Views.{times, total, turns_at, new_view}
 use Rattle.shelf_core.specs.After.{opening}
-use Rattle.shelf_core.specs.Sound.{ForViews, NumbersStand, TakerStands, standing, IsKept, WordBelongs, claimed_by, turned_by, lent_by, loans_at}
+use Rattle.shelf_core.specs.Sound.{ForViews, NumbersStand, TakerStands, standing, WordBelongs, claimed_by, turned_by, lent_by, loans_at}
 use Rattle.shelf_core.specs.Orderly.{Orderly, HasShape, IsBare}
 use Rattle.shelf_core.specs.declared.plan.Key.{Key}
 use Rattle.shelf_core.specs.declared.plan.ShelfPlan.{ShelfPlan}
-use Rattle.shelf_core.specs.declared.words.ClaimWord.{ClaimWord}
-use Rattle.shelf_core.specs.declared.words.ClaimWord.TheVariants.{Open, Taken}
-use Rattle.shelf_core.specs.declared.words.PlaceWord.{PlaceWord}
-use Rattle.shelf_core.specs.declared.words.PlaceWord.TheVariants.{Free, Writing, Ready, Lent}
+use Rattle.shelf_core.specs.declared.words.ClaimWord.TheVariants.{Open}
+use Rattle.shelf_core.specs.declared.words.PlaceWord.TheVariants.{Free}
 use Rattle.shelf_core.specs.declared.seat.SeatView.{SeatView}
 use Rattle.shelf_core.specs.declared.system.System.{System}
 use Rattle.shelf_core.proofs.Lists.{some_same, not_some, times_else}

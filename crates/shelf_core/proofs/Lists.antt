@@ -1,8 +1,7 @@
 -- Lists, and lists of views.
-use Rattle.std.proofs.Common.{◌≡◌, ◌≢◌, ℕ, zero, suc, ◌+◌, ◌<◌, ◌≤◌, Bool, true, false, List, [], ◌∷◌, ◌++◌, Option, Some, None, slice_get, map, length, set, sym, refl, ap, ◌∙◌, subst, ⊎_elim, arith, eq-eqb, ne_eqb, if◌then◌else◌, inl, inr, ◌⊎◌, length-append, true≢false, ◌==◌}
+use Rattle.std.proofs.Common.{◌≡◌, ◌≢◌, ℕ, zero, suc, ◌+◌, ◌<◌, ◌≤◌, Bool, true, false, List, [], ◌∷◌, ◌++◌, Option, Some, None, slice_get, map, length, set, sym, refl, ap, subst, ⊎_elim, arith, eq-eqb, ne_eqb, inl, inr, ◌⊎◌}
 use mathlib.Core.Logic.{dite}
 use native.Mathlib.Decide.{dec_le, ℕ_discrete}
-use Rattle.std.proofs.Math.ListN.{length-set}
 use Rattle.shelf_core.specs.Views.{times, total, changed_at, turns_at}
 use Rattle.shelf_core.specs.Sound.{ForViews}
 use Rattle.shelf_core.specs.declared.seat.SeatView.{SeatView}

@@ -1,26 +1,22 @@
 -- The events that change a place's word.
-use Rattle.std.proofs.Common.{◌≡◌, ◌≢◌, ℕ, zero, suc, ◌+◌, ◌<◌, ◌≤◌, Bool, true, false, List, [], ◌∷◌, ◌++◌, Option, Some, None, slice_get, length, set, sym, refl, ap, ◌∙◌, subst, ⊎_elim, arith, true≢false, ◌==◌, ◌&&◌, not, if◌then◌else◌, filter, ne_eqb, eq-eqb, inl, inr, ◌⊎◌}
-use Rattle.std.specs.List.{list_any}
-use mathlib.Core.Logic.{dite}
-use native.Mathlib.Decide.{dec_le, ℕ_discrete}
+use Rattle.std.proofs.Common.{◌≡◌, ◌≢◌, ℕ, zero, suc, ◌+◌, ◌<◌, true, false, List, [], ◌∷◌, Some, None, slice_get, length, set, sym, refl, ap, ◌∙◌, subst, ⊎_elim, arith, true≢false, ◌==◌, ◌&&◌, if◌then◌else◌, ne_eqb, eq-eqb, ◌⊎◌}
 use Rattle.std.proofs.Math.ListN.{length-set}
 use Rattle.shelf_core.specs.Plan.{is_in, place_in, sole_in, same_key}
 use Rattle.shelf_core.specs.Words.{is_held, value_under}
-use Rattle.shelf_core.specs.Views.{times, total, turns_at, has_turn, other_turns}
+use Rattle.shelf_core.specs.Views.{times, turns_at, has_turn, other_turns}
 use Rattle.shelf_core.specs.Possible.{word_in}
-use Rattle.shelf_core.specs.After.{with_turn, without_turn, having_published, with_loan, having_returned, knowing}
-use Rattle.shelf_core.specs.Sound.{ForViews, IsKept, WordBelongs, turned_by, lent_by, loans_at}
+use Rattle.shelf_core.specs.After.{with_turn, without_turn, having_published, with_loan, having_returned}
+use Rattle.shelf_core.specs.Sound.{IsKept, WordBelongs, turned_by, lent_by, loans_at}
 use Rattle.shelf_core.specs.Orderly.{Orderly}
 use Rattle.shelf_core.specs.declared.plan.Key.{Key}
-use Rattle.shelf_core.specs.declared.plan.ShelfPlan.{ShelfPlan}
 use Rattle.shelf_core.specs.declared.words.PlaceWord.{PlaceWord}
 use Rattle.shelf_core.specs.declared.words.PlaceWord.TheVariants.{Free, Writing, Ready, Lent}
 use Rattle.shelf_core.specs.declared.seat.SeatView.{SeatView}
 use Rattle.shelf_core.specs.declared.system.System.{System}
-use Rattle.shelf_core.proofs.Lists.{bool_cases, some_same, not_some, within, there, at_end, set_here, times_here, times_else, times_append, turns_here, turns_else, turns_append, total_set}
-use Rattle.shelf_core.proofs.Numbers.{Seats, seats_set, mine, once}
-use Rattle.shelf_core.proofs.Plans.{key_is, key_self, and_left, and_right, or_either, alone_in}
-use Rattle.shelf_core.proofs.Parts.{orderly_of, seats_of, claims_same, places_move, counts_set, seen_set, known_set, segments_set, knowing_kept, kept_move, Moves, Apart, TurnKeys, LoanKeys}
+use Rattle.shelf_core.proofs.Lists.{bool_cases, some_same, not_some, within, there, at_end, set_here, turns_here, turns_else, turns_append, total_set}
+use Rattle.shelf_core.proofs.Numbers.{seats_set, mine, once}
+use Rattle.shelf_core.proofs.Plans.{key_is, key_self, or_either, alone_in}
+use Rattle.shelf_core.proofs.Parts.{orderly_of, seats_of, claims_same, places_move, counts_set, seen_set, known_set, segments_set, knowing_kept, kept_move, Moves, TurnKeys, LoanKeys}
 use Rattle.shelf_core.proofs.Quiet.{shape_keeps}
 
 -- The word of a place changes through a seat that keeps what it claimed and counted.

@@ -1,5 +1,5 @@
 -- Which seat has which number.
-use Rattle.std.proofs.Common.{◌≡◌, ◌≢◌, ℕ, zero, suc, ◌+◌, ◌<◌, ◌≤◌, Bool, true, false, List, [], ◌∷◌, ◌++◌, Option, Some, None, slice_get, length, set, sym, refl, ap, ◌∙◌, subst, ⊎_elim, arith, if◌then◌else◌, inl, inr, ◌⊎◌, true≢false, length-append, nat_lt}
+use Rattle.std.proofs.Common.{◌≡◌, ◌≢◌, ℕ, suc, ◌+◌, ◌<◌, ◌≤◌, true, false, List, [], ◌∷◌, ◌++◌, Some, slice_get, length, set, sym, refl, ap, ◌∙◌, subst, ⊎_elim, arith, if◌then◌else◌, ◌⊎◌, true≢false, length-append, nat_lt}
 use mathlib.Core.Logic.{dite}
 use native.Mathlib.Decide.{dec_le, ℕ_discrete}
 use Rattle.std.proofs.Math.ListN.{length-set}
@@ -7,7 +7,7 @@ use Rattle.shelf_core.specs.Views.{times, total, new_view, spent_view}
 use Rattle.shelf_core.specs.After.{joined_with}
 use Rattle.shelf_core.specs.Sound.{ForViews, standing, NumbersStand}
 use Rattle.shelf_core.specs.declared.seat.SeatView.{SeatView}
-use Rattle.shelf_core.proofs.Lists.{bool_cases, some_same, not_some, within, there, at_set, set_else, times_here, times_else, times_append, times_one, for_set, for_end, total_set, total_end, total_two, total_one, total_some}
+use Rattle.shelf_core.proofs.Lists.{bool_cases, some_same, at_set, set_else, times_here, times_else, times_append, for_set, for_end, total_set, total_end, total_two, total_one, total_some}
 
 abbrev pub Spent : ℕ → SeatView → Type 0
 Spent n view = view.spent ≡ true → view ≡ spent_view

@@ -1,28 +1,27 @@
 -- Each part of Sound, where the view of one seat changes.
-use Rattle.std.proofs.Common.{◌≡◌, ◌≢◌, ℕ, zero, suc, ◌+◌, ◌<◌, ◌≤◌, Bool, true, false, List, [], ◌∷◌, ◌++◌, Option, Some, None, slice_get, length, map, set, sym, refl, ap, ◌∙◌, subst, ⊎_elim, arith, if◌then◌else◌, inl, inr, ◌⊎◌, true≢false, length-append, ◌||◌}
-use Rattle.std.specs.List.{list_any}
+use Rattle.std.proofs.Common.{◌≡◌, ◌≢◌, ℕ, zero, suc, ◌+◌, ◌<◌, ◌≤◌, Bool, true, false, List, [], ◌∷◌, ◌++◌, Option, Some, None, slice_get, length, set, sym, refl, ap, ◌∙◌, subst, ⊎_elim, arith, ◌⊎◌, true≢false}
 use Rattle.std.proofs.lemmas.List.Folds.{list_any-append}
 use mathlib.Core.Logic.{dite}
-use native.Mathlib.Decide.{dec_le, ℕ_discrete}
+use native.Mathlib.Decide.{ℕ_discrete}
 use Rattle.std.proofs.Math.ListN.{length-set}
 use Rattle.shelf_core.specs.Plan.{same_key, is_in, place_in, sole_in}
 use Rattle.shelf_core.specs.Words.{is_held, value_under, taken_count}
-use Rattle.shelf_core.specs.Views.{times, total, turns_at, has_turn, spent_view}
+use Rattle.shelf_core.specs.Views.{times, total, turns_at, has_turn}
 use Rattle.shelf_core.specs.Possible.{word_in}
 use Rattle.shelf_core.specs.After.{knowing}
-use Rattle.shelf_core.specs.Sound.{ForViews, Sound, ClaimsStand, PlacesStand, CountsStand, SeenStands, IsKept, KnownStands, WritersStand, TakerStands, WordBelongs, claimed_by, turned_by, lent_by, loans_at}
+use Rattle.shelf_core.specs.Sound.{ForViews, ClaimsStand, PlacesStand, CountsStand, SeenStands, IsKept, KnownStands, WritersStand, TakerStands, WordBelongs, claimed_by, turned_by, lent_by, loans_at}
 use Rattle.shelf_core.specs.Orderly.{Orderly, HasShape}
 use Rattle.shelf_core.specs.declared.plan.Key.{Key}
 use Rattle.shelf_core.specs.declared.plan.ShelfPlan.{ShelfPlan}
 use Rattle.shelf_core.specs.declared.words.ClaimWord.{ClaimWord}
 use Rattle.shelf_core.specs.declared.words.ClaimWord.TheVariants.{Open, Taken}
 use Rattle.shelf_core.specs.declared.words.PlaceWord.{PlaceWord}
-use Rattle.shelf_core.specs.declared.words.PlaceWord.TheVariants.{Free, Writing, Ready, Lent}
+use Rattle.shelf_core.specs.declared.words.PlaceWord.TheVariants.{Writing}
 use Rattle.shelf_core.specs.declared.seat.SeatView.{SeatView}
 use Rattle.shelf_core.specs.declared.system.System.{System}
 use Rattle.shelf_core.proofs.Lists.{bool_cases, some_same, not_some, within, there, at_set, set_here, set_else, map_set, for_set, times_here, times_else, times_append, total_set}
 use Rattle.shelf_core.proofs.Plans.{key_is, key_self, or_either, alone_in}
-use Rattle.shelf_core.proofs.Numbers.{Seats, Spent, Own, once, apart, mine, holder, same_holder}
+use Rattle.shelf_core.proofs.Numbers.{Seats, apart, mine, holder, same_holder}
 
 -- The word of a key's place is that of the place.
 pub word_cases : (places : List PlaceWord) (o : Option ℕ) (w : PlaceWord) → word_in places o ≡ Some w → (p : ℕ) × (o ≡ Some p) × (slice_get places p ≡ Some w)

@@ -1,9 +1,9 @@
 -- The places of keys.
-use Rattle.std.proofs.Common.{◌≡◌, ◌≢◌, ℕ, zero, suc, ◌+◌, ◌<◌, ◌≤◌, Bool, true, false, List, [], ◌∷◌, ◌++◌, Option, Some, None, slice_get, length, sym, refl, ap, ◌∙◌, subst, ⊎_elim, arith, if◌then◌else◌, inl, inr, ◌⊎◌, true≢false, ◌==◌, ◌&&◌, ◌||◌, not, nat_le, ◌%◌}
+use Rattle.std.proofs.Common.{◌≡◌, ◌≢◌, ℕ, zero, suc, ◌+◌, ◌<◌, Bool, true, false, List, [], ◌∷◌, ◌++◌, Option, Some, None, slice_get, length, sym, refl, ap, ◌∙◌, subst, ⊎_elim, arith, inl, inr, ◌⊎◌, true≢false, ◌==◌, ◌&&◌, ◌||◌, not, ◌%◌}
 use Rattle.std.specs.List.{list_any, list_all, position_from}
 use Rattle.std.proofs.Math.Nat.{mod-lt}
 use Rattle.std.proofs.lemmas.List.Folds.{list_any-append}
-use Rattle.shelf_core.specs.Plan.{same_key, is_in, are_distinct, index_of, fork_or_grid, place_of, is_at, has_alone, is_sole, place_in, sole_in, place_count, is_grid_place}
+use Rattle.shelf_core.specs.Plan.{same_key, is_in, are_distinct, index_of, fork_or_grid, place_of, is_at, has_alone, is_sole, place_in, sole_in, place_count}
 use Rattle.shelf_core.specs.declared.plan.Key.{Key}
 use Rattle.shelf_core.specs.declared.plan.ShelfPlan.{ShelfPlan}
 use Rattle.shelf_core.proofs.Lists.{some_same, not_some, bool_cases, within}

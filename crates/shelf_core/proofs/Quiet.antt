@@ -1,29 +1,27 @@
 -- The events that change no place's word.
-use Rattle.std.proofs.Common.{◌≡◌, ◌≢◌, ℕ, zero, suc, ◌+◌, ◌<◌, ◌≤◌, Bool, true, false, List, [], ◌∷◌, ◌++◌, Option, Some, None, slice_get, length, set, sym, refl, ap, ◌∙◌, subst, ⊎_elim, arith, true≢false, length-append}
+use Rattle.std.proofs.Common.{◌≡◌, ℕ, zero, suc, ◌+◌, ◌<◌, ◌≤◌, Bool, true, false, List, [], ◌∷◌, Option, Some, None, slice_get, length, set, sym, refl, ap, ◌∙◌, subst, arith, length-append}
 use mathlib.Core.Logic.{dite}
-use native.Mathlib.Decide.{dec_le, ℕ_discrete}
+use native.Mathlib.Decide.{ℕ_discrete}
 use Rattle.std.proofs.Math.ListN.{length-set}
 use Rattle.shelf_core.specs.Plan.{is_in, place_in}
 use Rattle.shelf_core.specs.Words.{is_held, taken_count}
-use Rattle.shelf_core.specs.Views.{times, total}
-use Rattle.shelf_core.specs.Possible.{word_in, seen_at}
+use Rattle.shelf_core.specs.Views.{times}
+use Rattle.shelf_core.specs.Possible.{word_in}
 use Rattle.shelf_core.specs.After.{with_claim, with_count, having_stopped, having_loaded, knowing}
-use Rattle.shelf_core.specs.Sound.{ForViews, IsKept}
-use Rattle.shelf_core.specs.Orderly.{Orderly, HasShape, IsBare, IsLaid}
+use Rattle.shelf_core.specs.Sound.{IsKept}
+use Rattle.shelf_core.specs.Orderly.{Orderly, HasShape, IsBare}
 use Rattle.shelf_core.specs.declared.plan.Key.{Key}
 use Rattle.shelf_core.specs.declared.plan.ShelfPlan.{ShelfPlan}
 use Rattle.shelf_core.specs.declared.words.ClaimWord.{ClaimWord}
 use Rattle.shelf_core.specs.declared.words.ClaimWord.TheVariants.{Open, Taken}
 use Rattle.shelf_core.specs.declared.words.PlaceWord.{PlaceWord}
 use Rattle.shelf_core.specs.declared.words.PlaceWord.TheVariants.{Free, Writing, Ready, Lent}
-use Rattle.shelf_core.specs.declared.words.Word.{Word}
-use Rattle.shelf_core.specs.declared.words.Word.TheVariants.{Claim as claim_word, Place as place_word, Done as done_word}
 use Rattle.shelf_core.specs.declared.words.Seen.{Seen}
 use Rattle.shelf_core.specs.declared.words.Seen.TheVariants.{Claim as claim_seen, Place as place_seen, Done as done_seen}
 use Rattle.shelf_core.specs.declared.seat.SeatView.{SeatView}
 use Rattle.shelf_core.specs.declared.system.System.{System}
-use Rattle.shelf_core.proofs.Lists.{some_same, not_some, within, there, times_here, times_else, times_append, total_set, total_le}
-use Rattle.shelf_core.proofs.Numbers.{Seats, seats_set}
+use Rattle.shelf_core.proofs.Lists.{some_same, not_some, within, times_here, times_else, times_append, total_set}
+use Rattle.shelf_core.proofs.Numbers.{seats_set}
 use Rattle.shelf_core.proofs.Plans.{key_self}
 use Rattle.shelf_core.proofs.Parts.{orderly_of, seats_of, claims_same, claims_taken, places_same, counts_set, seen_set, known_set, segments_set, knowing_kept}
 

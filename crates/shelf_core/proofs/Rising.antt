@@ -1,10 +1,10 @@
 -- Lists whose keys rise.
-use Rattle.std.proofs.Common.{◌≡◌, ◌≢◌, ℕ, zero, suc, ◌+◌, ◌<◌, ◌≤◌, Bool, true, false, true≢false, List, [], ◌∷◌, Option, Some, None, slice_get, slice_index_or, length, sym, refl, ap, ◌∙◌, subst, ⊎_elim, arith, inl, inr, ◌⊎◌, ◌==◌, ◌&&◌, ◌||◌, nat_lt}
+use Rattle.std.proofs.Common.{◌≡◌, ◌≢◌, ℕ, zero, suc, ◌<◌, ◌≤◌, Bool, true, false, true≢false, List, [], ◌∷◌, Option, Some, None, slice_get, slice_index_or, length, sym, refl, ap, ◌∙◌, subst, ⊎_elim, arith, inl, inr, ◌⊎◌, ◌||◌}
 use Rattle.std.specs.List.{list_all}
 use Rattle.std.specs.List.Sorted.{IsPartitionedBy, IsPartitionPoint}
 use Rattle.shelf_core.specs.Plan.{same_key, is_before, rise, index_of}
 use Rattle.shelf_core.specs.declared.plan.Key.{Key}
-use Rattle.shelf_core.proofs.Lists.{some_same, not_some, bool_cases, within, there}
+use Rattle.shelf_core.proofs.Lists.{some_same, not_some, within, there}
 use Rattle.shelf_core.proofs.Plans.{and_left, and_right, key_is, key_self, all_at, index_found, in_has_index}
 
 pub before_self : (k : Key) → is_before k k ≡ false

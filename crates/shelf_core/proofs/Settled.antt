@@ -1,8 +1,7 @@
 -- What holds once all seats are back.
-use Rattle.std.proofs.Common.{◌≡◌, ◌≢◌, ℕ, zero, suc, ◌+◌, ◌<◌, Bool, true, false, true≢false, List, [], ◌∷◌, Option, Some, None, slice_get, length, sym, refl, ap, ◌∙◌, subst, arith, if◌then◌else◌, nat_lt, ⊎_elim}
-use Rattle.shelf_core.specs.Plan.{same_key}
-use Rattle.shelf_core.specs.Views.{times, total, turns_at, live_count, spent_view}
-use Rattle.shelf_core.specs.Sound.{ForViews, standing, TakerStands, WordBelongs, claimed_by, turned_by, lent_by, loans_at}
+use Rattle.std.proofs.Common.{◌≡◌, ℕ, zero, suc, ◌<◌, Bool, true, false, List, [], ◌∷◌, Some, slice_get, length, sym, refl, ap, ◌∙◌, arith, if◌then◌else◌, nat_lt, ⊎_elim}
+use Rattle.shelf_core.specs.Views.{times, total, turns_at, live_count}
+use Rattle.shelf_core.specs.Sound.{standing, lent_by, loans_at}
 use Rattle.shelf_core.specs.Orderly.{Orderly}
 use Rattle.shelf_core.specs.Settled.{IsBack, IsSettled, is_at_rest}
 use Rattle.shelf_core.specs.declared.words.ClaimWord.TheVariants.{Taken}

@@ -1,10 +1,10 @@
 -- What the calls of a seat leave as it was.
-use Rattle.std.proofs.Common.{◌≡◌, ℕ, Bool, true, false, true≢false, List, [], ◌∷◌, ◌++◌, Option, Some, None, sym, refl, ap, ◌∙◌, subst, ◌||◌, ◌&&◌, ⊎_elim, if◌then◌else◌, not, slice_get, ◌==◌}
+use Rattle.std.proofs.Common.{◌≡◌, ℕ, Bool, true, false, true≢false, List, [], ◌∷◌, ◌++◌, Option, Some, None, sym, refl, ap, ◌∙◌, subst, ◌||◌, ◌&&◌, ⊎_elim, if◌then◌else◌, not, ◌==◌}
 use Rattle.std.specs.List.{list_any}
-use Rattle.shelf_core.specs.Plan.{same_key, is_in, is_sole, sole_in, place_of, place_in}
+use Rattle.shelf_core.specs.Plan.{same_key, is_in, is_sole, sole_in, place_of}
 use Rattle.shelf_core.specs.Views.{other_turns, has_turn}
 use Rattle.shelf_core.specs.Possible.{allows_writing, word_at, word_in}
-use Rattle.shelf_core.specs.After.{knowing, having_loaded, with_turn, without_turn, having_published, with_loan, having_returned}
+use Rattle.shelf_core.specs.After.{knowing, having_loaded, with_loan, having_returned}
 use Rattle.shelf_core.specs.Made.{Sees, Same, Stays}
 use Rattle.shelf_core.specs.Calls.{SeesPlace, is_fork_place, Readied, Began, Refused, Published, Abandoned, Borrowed, Missed}
 use Rattle.shelf_core.specs.declared.plan.Key.{Key}
@@ -16,7 +16,7 @@ use Rattle.shelf_core.specs.declared.words.Word.TheVariants.{Place as place_word
 use Rattle.shelf_core.specs.declared.words.Seen.{Seen}
 use Rattle.shelf_core.specs.declared.words.Seen.TheVariants.{Claim as claim_seen, Place as place_seen, Done as done_seen}
 use Rattle.shelf_core.specs.declared.seat.SeatView.{SeatView}
-use Rattle.shelf_core.proofs.Lists.{bool_cases, some_same}
+use Rattle.shelf_core.proofs.Lists.{bool_cases}
 use Rattle.shelf_core.proofs.Plans.{and_right, key_self}
 use Rattle.shelf_core.proofs.Moved.{turn_word}
 use Rattle.shelf_core.proofs.Steps.{live_seat, turn_place, word_there}

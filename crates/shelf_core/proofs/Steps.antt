@@ -1,10 +1,10 @@
 -- Each event that is possible leaves an orderly system.
-use Rattle.std.proofs.Common.{◌≡◌, ◌≢◌, ℕ, zero, suc, ◌+◌, ◌<◌, ◌≤◌, Bool, true, false, List, [], ◌∷◌, ◌++◌, Option, Some, None, slice_get, length, set, sym, refl, ap, ◌∙◌, subst, ⊎_elim, arith, true≢false, ◌==◌, ◌&&◌, ◌||◌, not, unwrap_or, is_some, is_none, inl, inr, ◌⊎◌, if◌then◌else◌, option_map, nat_lt, nat_eq, eq-eqb}
+use Rattle.std.proofs.Common.{◌≡◌, ◌≢◌, ℕ, ◌+◌, ◌<◌, Bool, true, false, List, [], ◌∷◌, ◌++◌, Option, Some, None, slice_get, length, set, sym, refl, ap, ◌∙◌, subst, ⊎_elim, arith, true≢false, ◌==◌, ◌&&◌, not, unwrap_or, is_some, is_none, inl, inr, ◌⊎◌, if◌then◌else◌, option_map, nat_lt, eq-eqb}
 use Rattle.std.specs.List.{list_any, fold}
-use Rattle.shelf_core.specs.Plan.{same_key, is_in, place_in, sole_in, are_distinct, place_count}
-use Rattle.shelf_core.specs.Words.{is_open, is_ready, is_filled}
-use Rattle.shelf_core.specs.Views.{times, live_view, unspent, live_views, changed_at, has_turn, new_view, spent_view}
-use Rattle.shelf_core.specs.Possible.{possible, passes, through, word_in, word_at, is_replaceable, allows_writing, seen_at}
+use Rattle.shelf_core.specs.Plan.{same_key, place_in, are_distinct}
+use Rattle.shelf_core.specs.Words.{is_open, is_ready}
+use Rattle.shelf_core.specs.Views.{times, live_view, unspent, live_views, changed_at, has_turn, spent_view}
+use Rattle.shelf_core.specs.Possible.{possible, passes, through, word_at, is_replaceable, allows_writing, seen_at}
 use Rattle.shelf_core.specs.After.{after, step_of, seat, put, key_place, after_join, after_return, loan_of, with_claim, with_turn, without_turn, having_published, with_loan, having_returned, with_count, having_stopped, having_loaded, joined_with, opening, left_by}
 use Rattle.shelf_core.specs.Orderly.{Orderly, HasShape}
 use Rattle.shelf_core.specs.declared.plan.Key.{Key}
@@ -21,7 +21,7 @@ use Rattle.shelf_core.specs.declared.seat.SeatView.{SeatView}
 use Rattle.shelf_core.specs.declared.system.System.{System}
 use Rattle.shelf_core.specs.declared.event.Event.{Event}
 use Rattle.shelf_core.specs.declared.event.Event.TheVariants.{Lay, Claim, Begin, Publish, Abandon, Lend, Return, Count, Stop, Load, Split, Join}
-use Rattle.shelf_core.proofs.Lists.{bool_cases, some_same, not_some, there, times_here, times_else, changed_is_set}
+use Rattle.shelf_core.proofs.Lists.{bool_cases, some_same, not_some, there, changed_is_set}
 use Rattle.shelf_core.proofs.Plans.{and_left, and_right, key_is, not_true, eq_true, place_below}
 use Rattle.shelf_core.proofs.Parts.{word_cases}
 use Rattle.shelf_core.proofs.Quiet.{empty_of, claim_orderly, count_orderly, stop_orderly, seen_orderly}

@@ -1,4 +1,4 @@
-use Rattle.std.specs.Prelude.{ℕ, ◌+◌, ◌%◌, ◌^◌, ◌++◌, ◌||◌, max, Bool, true, false, List, [], ◌∷◌, Option, Some, None, slice_get, slice_set, length, replicate, take, unwrap_or, if◌then◌else◌}
+use Rattle.std.specs.Prelude.{ℕ, ◌+◌, ◌%◌, ◌^◌, ◌++◌, ◌||◌, max, Bool, true, false, List, [], ◌∷◌, Option, Some, None, slice_set, length, replicate, take, unwrap_or, if◌then◌else◌}
 use Rattle.std.specs.List.{fold}
 use Rattle.shelf_core.specs.Plan.{place_in, sole_in, place_count}
 use Rattle.shelf_core.specs.Views.{new_view, spent_view, live_view, changed_at, other_turns}

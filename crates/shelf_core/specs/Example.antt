@@ -1,4 +1,4 @@
-use Rattle.std.specs.Prelude.{ℕ, Bool, true, false, List, [], ◌∷◌, Option, Some, None}
+use Rattle.std.specs.Prelude.{ℕ, Bool, true, false, List, [], ◌∷◌, Some, None}
 use Rattle.shelf_core.specs.Possible.{possible}
 use Rattle.shelf_core.specs.After.{step_of}
 use Rattle.shelf_core.specs.declared.plan.Key.{Key}

@@ -1,4 +1,4 @@
-use Rattle.std.specs.Prelude.{◌≡◌, ℕ, ◌+◌, ◌≤◌, Bool, true, List, Some, slice_get, take}
+use Rattle.std.specs.Prelude.{◌≡◌, ℕ, ◌+◌, ◌≤◌, true, List, Some, slice_get, take}
 use Rattle.shelf_core.specs.Plan.{sole_in}
 use Rattle.shelf_core.specs.Words.{is_filled}
 use Rattle.shelf_core.specs.Possible.{word_at}

@@ -1,4 +1,4 @@
-use Rattle.std.specs.Prelude.{◌≡◌, ℕ, ◌+◌, ◌<◌, ◌≤◌, ◌++◌, ◌^◌, Bool, true, false, List, [], ◌∷◌, Option, Some, None, length}
+use Rattle.std.specs.Prelude.{◌≡◌, ℕ, ◌+◌, ◌<◌, ◌++◌, ◌^◌, true, false, List, [], ◌∷◌, Option, Some, None, length}
 use Rattle.shelf_core.specs.Plan.{are_distinct, place_count}
 use Rattle.shelf_core.specs.Words.{taken_count}
 use Rattle.shelf_core.specs.Views.{spent_view, times, total}

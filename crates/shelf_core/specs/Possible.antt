@@ -1,4 +1,4 @@
-use Rattle.std.specs.Prelude.{ℕ, ◌==◌, ◌&&◌, ◌++◌, not, Bool, true, false, List, [], ◌∷◌, Option, Some, None, slice_get, nat_lt, nat_le, length, is_some, is_none, option_map}
+use Rattle.std.specs.Prelude.{ℕ, ◌==◌, ◌&&◌, ◌++◌, not, Bool, true, false, List, Option, Some, None, slice_get, nat_lt, nat_le, length, is_some, is_none, option_map}
 use Rattle.std.specs.List.{list_any}
 use Rattle.shelf_core.specs.Plan.{same_key, are_distinct, place_in, is_grid_place}
 use Rattle.shelf_core.specs.Words.{is_open, is_ready}

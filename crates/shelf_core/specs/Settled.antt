@@ -1,5 +1,5 @@
 -- A system whose seats are all back.
-use Rattle.std.specs.Prelude.{◌≡◌, ℕ, Bool, true, false, List, [], Option, Some, None, slice_get}
+use Rattle.std.specs.Prelude.{◌≡◌, ℕ, Bool, true, false, [], Some, None, slice_get}
 use Rattle.shelf_core.specs.Views.{times, live_count}
 use Rattle.shelf_core.specs.declared.words.ClaimWord.TheVariants.{Taken}
 use Rattle.shelf_core.specs.declared.words.PlaceWord.{PlaceWord}

@@ -1,5 +1,4 @@
-use Rattle.std.specs.Prelude.{◌≡◌, ℕ, ◌+◌, ◌<◌, ◌≤◌, ◌==◌, ◌&&◌, Bool, true, false, List, [], ◌∷◌, Option, Some, None, slice_get, length, map, nat_lt, if◌then◌else◌}
-use Rattle.std.specs.List.{list_any}
+use Rattle.std.specs.Prelude.{◌≡◌, ℕ, ◌<◌, ◌≤◌, ◌==◌, ◌&&◌, Bool, true, List, Option, Some, None, slice_get, length, map, nat_lt, if◌then◌else◌}
 use Rattle.shelf_core.specs.Plan.{same_key, is_in, place_in, sole_in}
 use Rattle.shelf_core.specs.Words.{is_held, value_under}
 use Rattle.shelf_core.specs.Views.{times, turns_at, has_turn, total}

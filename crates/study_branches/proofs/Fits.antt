@@ -1,6 +1,6 @@
 -- The edits that a study says can be made where there are its stocks, its traders by kind and its latency groups.
 use Rattle.std.proofs.Common.{◌≡◌, ◌≤◌, ◌<◌, ◌+◌, ◌-◌, ℕ, zero, suc, ℤ, pos, negsuc, unsigned_abs, nat_le, nat_lt, Bool, true, false, List, [], ◌∷◌, map, length, Option, None, Some, IfSome, refl, ap, sym, ◌∙◌, arith, subst, codes, bytes_eq, if◌then◌else◌}
-use Rattle.std.specs.Prelude.{◌&&◌, int_le, int_lt, position, option_map, is_none, slice_index_or}
+use Rattle.std.specs.Prelude.{◌&&◌, int_le, int_lt, option_map, is_none, slice_index_or}
 use Rattle.std.specs.List.{list_all}
 use Rattle.std.proofs.lemmas.Bool.{and_parts, and_from}
 use Rattle.std.proofs.lemmas.Bool.Decides.{nat_tests}

@@ -17,7 +17,7 @@ use crate::entries::branch_edits;
 use crate::keys::few_branches;
 use crate::scope::{Scope, study_scope};
 use hex::FromHexError;
-use market_rules::{Edit, FeeTable, Param, TickTable};
+use market_rules::{Edit, FeeTable, Param, RuleError, TickTable};
 use market_types::{AgentNo, Inbound, Memory, StockNo};
 use ouch_codec::decode_in;
 use std::alloc::Global;
@@ -82,7 +82,8 @@ fn read_table(alloc: Global, bands: &[Value]) -> Result<TickTable, Memory>
     let bands = read_bands(alloc, bands)?;
     match TickTable::new(alloc, bands.as_slice()) {
         Ok(table) => Ok(table),
-        Err(_) => Err(Memory),
+        Err(RuleError::Memory) => Err(Memory),
+        Err(_) => unreachable!(),
     }
 }
 

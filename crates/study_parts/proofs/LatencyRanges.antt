@@ -1,5 +1,5 @@
 -- The latencies of an accepted study are in their ranges.
-use Rattle.std.proofs.Common.{◌≡◌, ◌∙◌, ◌≤◌, ◌<◌, ◌+◌, ◌==◌, ◌&&◌, true, false, not, ℕ, ℤ, pos, unsigned_abs, List, [], ◌∷◌, length, get_or, map, Option, None, Some, All, refl, subst, arith}
+use Rattle.std.proofs.Common.{◌≡◌, ◌∙◌, ◌≤◌, ◌<◌, ◌+◌, ◌==◌, ◌&&◌, true, not, ℕ, ℤ, pos, unsigned_abs, List, [], ◌∷◌, length, get_or, map, Option, None, Some, All, refl, subst, arith}
 use Rattle.std.specs.Prelude.{position, option_map}
 use Rattle.std.specs.Int.{is_in_range}
 use Rattle.std.specs.List.{list_all}

@@ -1,5 +1,5 @@
 -- Lists of entries, each of which keeps a rule.
-use Rattle.std.proofs.Common.{◌≡◌, ◌∙◌, ◌<◌, ◌+◌, nat_lt, Bool, true, false, cond, not, ℕ, suc, List, [], ◌∷◌, ◌++◌, length, get_or, map, take, Option, Some, None, All, unwrap_or, refl, sym, ap, subst, inl, inr, arith}
+use Rattle.std.proofs.Common.{◌≡◌, ◌∙◌, ◌<◌, ◌+◌, nat_lt, Bool, true, false, not, ℕ, suc, List, [], ◌∷◌, ◌++◌, length, get_or, map, take, Option, Some, None, All, unwrap_or, refl, sym, ap, subst, inl, inr, arith}
 use Rattle.std.specs.Prelude.{position, ◌||◌, is_some}
 use Rattle.std.specs.List.{list_all, list_any, flat_map, position_or_len, enumerate_from, range_with_len}
 use Rattle.std.proofs.lemmas.Bool.{and_parts, or_parts, cases_Bool, cases_lt, cond-true, cond-false, lt-ltb, le-ltb, not-false, not_from_true, false≢true}

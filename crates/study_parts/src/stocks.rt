@@ -10,7 +10,7 @@ ghost use Rattle.study_parts.specs.Entries.{entry_of};
 ghost use Rattle.study_parts.specs.Stocks.{fees_of, stock_of, stock_rules_of};
 
 use exchange_agent::StockRules;
-use market_rules::{FeeTable, TickTable};
+use market_rules::{FeeTable, RuleError, TickTable};
 use market_types::{Memory, Sequence, read_symbol};
 use std::alloc::Global;
 use study_file::{Table, Value, list_at, number_at, string_at};
@@ -35,7 +35,8 @@ pub fn tick_table(alloc: Global, values: &[Value]) -> Result<TickTable, Memory>
     let bands = read_bands(alloc, values)?;
     match TickTable::new(alloc, bands.as_slice()) {
         Ok(ticks) => Ok(ticks),
-        Err(_) => Err(Memory),
+        Err(RuleError::Memory) => Err(Memory),
+        Err(_) => unreachable!(),
     }
 }
 

@@ -1,4 +1,4 @@
-use Rattle.std.proofs.Common.{◌≡◌, ◌+◌, ◌++◌, ◌≤◌, map, drop, ap, ◌∙◌, arith}
+use Rattle.std.proofs.Common.{◌+◌, ◌++◌, map, drop, ap, ◌∙◌, arith}
 use Rattle.branch_deques.specs.Told.{fresh_end, own_lanes}
 use Rattle.branch_deques.proofs.Rounds.{round_is, take_long}
 use Rattle.branch_deques.proofs.lanes.ends_for.Goals as goal

@@ -1,6 +1,5 @@
 use Rattle.std.proofs.Common.{ap, sym, ◌∙◌, subst}
 use Rattle.std.specs.Mem.Slots.{slots_items, slots_counts}
-use Rattle.shelf_core.specs.Plan.{place_count}
 use Rattle.checkpoint_shelf.specs.Closing.{IsClosed}
 use Rattle.checkpoint_shelf.proofs.Closes.{closes}
 use Rattle.checkpoint_shelf.proofs.close.seal.Goals as goal

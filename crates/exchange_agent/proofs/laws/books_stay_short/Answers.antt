@@ -1,4 +1,3 @@
-use Rattle.std.proofs.Common.{ℕ}
 use Rattle.exchange_agent.proofs.Shorts.{LengthLaws, short-change, short-market}
 use Rattle.exchange_agent.proofs.laws.books_stay_short.Goals as goal
 use Rattle.exchange_agent.proofs.laws.books_stay_short.Goals.{After-changes_keep}

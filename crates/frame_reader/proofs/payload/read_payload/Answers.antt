@@ -1,4 +1,4 @@
-use Rattle.std.proofs.Common.{ℕ, List, Some, rules}
+use Rattle.std.proofs.Common.{ℕ, List, rules}
 use Rattle.frame_parts.specs.declared.head.Head.{Head}
 use Rattle.frame_parts.specs.Heads.{IsLed}
 use Rattle.frame_reader.proofs.HeadAndRest.{none_some}

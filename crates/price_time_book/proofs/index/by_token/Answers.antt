@@ -1,10 +1,8 @@
-use Rattle.std.proofs.Common.{◌≡◌, ◌<◌, ◌&&◌, eqb, List, [], length, get_or, refl, sym, ap, ◌∙◌, subst, arith, rules}
+use Rattle.std.proofs.Common.{◌<◌, ◌&&◌, eqb, [], get_or, arith}
 use Rattle.std.specs.Prelude.{bytes_eq}
-use Rattle.std.specs.Ordering.{nat_cmp}
-use Rattle.std.specs.declared.cmp.Ordering.TheVariants.{Equal}
 use Rattle.price_time_book.specs.declared.index.TokenEntry.{TokenEntry}
 use Rattle.price_time_book.specs.declared.resting.Resting.{Resting}
-use Rattle.price_time_book.specs.Index.{IsByToken, by_pair, pair_at, pair_of}
+use Rattle.price_time_book.specs.Index.{by_pair, pair_at, pair_of}
 use Rattle.price_time_book.specs.Indexed.{nothing}
 use Rattle.price_time_book.proofs.Indexes.{IsFrom, absent_by, agrees_token, closed_by, found_by, pair_total}
 use Rattle.price_time_book.proofs.index.by_token.Goals as goal

@@ -1,11 +1,10 @@
-use Rattle.std.proofs.Common.{◌≡◌, ◌≢◌, ◌<◌, ◌++◌, ◌∷◌, List, [], length, get_or, refl, sym, ap, ◌∙◌, subst, arith, rules}
+use Rattle.std.proofs.Common.{◌≡◌, ◌≢◌, ◌<◌, ◌++◌, ◌∷◌, List, [], length, get_or, refl, sym, subst}
 use Rattle.std.proofs.lemmas.List.{get_or_default}
 use Rattle.std.specs.Ordering.{nat_cmp}
 use Rattle.std.specs.declared.cmp.Ordering.TheVariants.{Equal}
 use Rattle.price_time_book.specs.declared.index.ReferenceEntry.{ReferenceEntry}
 use Rattle.price_time_book.specs.declared.resting.Resting.{Resting}
-use Rattle.price_time_book.specs.Index.{IsByReference, by_pair, pair_at, pair_of}
-use Rattle.price_time_book.specs.Indexed.{nothing}
+use Rattle.price_time_book.specs.Index.{IsByReference}
 use Rattle.price_time_book.proofs.Indexes.{IsFrom, fresh_reference, index_insert, index_replace, parted, reference_total}
 use Rattle.price_time_book.proofs.index.enter_reference.Goals as goal
 

@@ -1,5 +1,5 @@
 use Rattle.std.proofs.Common.{◌≡◌, ◌≤◌, ◌<◌, ◌+◌, ◌-◌, ℕ, true, false, length, get_or}
-use Rattle.std.specs.Ordering.{is_lt, nat_cmp}
+use Rattle.std.specs.Ordering.{is_lt}
 use Rattle.price_time_book.specs.declared.index.TokenEntry.{TokenEntry}
 use Rattle.price_time_book.specs.Index.{by_pair, pair_at}
 use Rattle.price_time_book.proofs.index.token_from.Given as goal

@@ -1,4 +1,4 @@
-use Rattle.std.proofs.Common.{◌≡◌, Bool, true}
+use Rattle.std.proofs.Common.{◌≡◌, true}
 use Rattle.price_time_book.specs.declared.resting.Resting.{Resting}
 use Rattle.price_time_book.proofs.Stays.{all-fill, references-fill, token-fill, was-fill}
 use Rattle.price_time_book.proofs.keeping.a_fill_keeps.Goals as goal

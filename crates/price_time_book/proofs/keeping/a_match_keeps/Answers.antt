@@ -1,4 +1,4 @@
-use Rattle.std.proofs.Common.{◌≡◌, Bool, true}
+use Rattle.std.proofs.Common.{◌≡◌, true}
 use Rattle.price_time_book.specs.declared.resting.Resting.{Resting}
 use Rattle.price_time_book.proofs.Stays.{all-matched, length_le-matched, references-matched, token-matched, was-matched}
 use Rattle.price_time_book.proofs.keeping.a_match_keeps.Goals as goal

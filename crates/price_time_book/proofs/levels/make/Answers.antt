@@ -1,7 +1,6 @@
-use Rattle.std.proofs.Common.{◌≡◌, ◌+◌, ◌++◌, ◌∷◌, [], length, set, sym, ap, ◌∙◌, subst, arith, rules}
+use Rattle.std.proofs.Common.{◌≡◌, length, ap, ◌∙◌, rules}
 use Rattle.std.specs.List.{insert}
 use Rattle.price_time_book.specs.declared.levels.Level.{Level}
-use Rattle.price_time_book.specs.Indexed.{IsIndexed}
 use Rattle.price_time_book.proofs.Joins.{indexed_make, others_make}
 use Rattle.price_time_book.proofs.levels.make.Goals as goal
 

@@ -1,12 +1,12 @@
-use Rattle.std.proofs.Common.{◌≡◌, ◌≢◌, inl, inr, ◌<◌, ◌≤◌, ◌-◌, List, length, get_or, sym, ap, ◌∙◌, subst, refl, arith, rules}
+use Rattle.std.proofs.Common.{◌≡◌, inl, inr, ◌<◌, ◌≤◌, ◌-◌, List, length, get_or, sym, ap, ◌∙◌, subst, refl, arith}
 use Rattle.std.proofs.lemmas.List.{get_or_default}
 use Rattle.price_time_book.specs.declared.levels.Level.{Level}
 use Rattle.price_time_book.specs.declared.resting.Resting.{Resting}
-use Rattle.price_time_book.specs.Indexed.{IsNoBetter, IsOpenAt, IsWorse, key, nothing, open_orders}
+use Rattle.price_time_book.specs.Indexed.{IsNoBetter, IsOpenAt, IsWorse, key, nothing}
 use Rattle.price_time_book.proofs.Firsts.{key_at}
 use Rattle.std.proofs.lemmas.Bool.{cases_eq}
 use Rattle.price_time_book.proofs.Counts.{depth_kept, depth_left, depth_other}
-use Rattle.price_time_book.proofs.Takes.{IsLowered, level_found, lowered, no_level, others_lowered}
+use Rattle.price_time_book.proofs.Takes.{IsLowered, level_found, lowered, others_lowered}
 use Rattle.price_time_book.proofs.lowering.lower_at.Goals as goal
 
 pub set_left-requires-clause-level : goal.set_left-requires-clause-level

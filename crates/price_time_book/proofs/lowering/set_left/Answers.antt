@@ -1,5 +1,4 @@
 use Rattle.std.proofs.Common.{arith}
-use Rattle.price_time_book.specs.declared.levels.Level.{Level}
 use Rattle.price_time_book.proofs.lowering.set_left.Goals as goal
 
 pub index-requires : goal.index-requires

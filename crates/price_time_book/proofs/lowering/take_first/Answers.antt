@@ -1,6 +1,5 @@
-use Rattle.std.proofs.Common.{◌≡◌, ◌≢◌, inl, inr, ◌<◌, ◌≤◌, ◌-◌, Some, None, length, get_or, refl, sym, ap, ◌∙◌, subst, arith, rules, option_map}
+use Rattle.std.proofs.Common.{◌≡◌, inl, inr, ◌-◌, Some, None, get_or, refl, sym, ap, ◌∙◌, subst, arith, option_map}
 use Rattle.std.proofs.lemmas.List.{get_or_default}
-use Rattle.market_types.specs.declared.order.Side.{Side}
 use Rattle.price_time_book.specs.declared.levels.Level.{Level}
 use Rattle.price_time_book.specs.declared.resting.Resting.{Resting}
 use Rattle.price_time_book.specs.Indexed.{IsOpenAt, key, nothing, open_orders}

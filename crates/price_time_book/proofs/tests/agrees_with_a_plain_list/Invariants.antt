@@ -1,4 +1,4 @@
-use Rattle.std.proofs.Common.{◌<◌, ◌≤◌, ◌+◌, All, length}
+use Rattle.std.proofs.Common.{◌<◌, ◌≤◌, All, length}
 use Rattle.price_time_book.specs.declared.resting.Resting.{Resting}
 use Rattle.price_time_book.proofs.tests.agrees_with_a_plain_list.Given as goal
 

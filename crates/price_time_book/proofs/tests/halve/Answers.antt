@@ -1,4 +1,4 @@
-use Rattle.std.proofs.Common.{◌/◌, ◌<◌, ◌≤◌, All, List, length, ap, arith}
+use Rattle.std.proofs.Common.{◌/◌, ◌<◌, ◌≤◌, All, List, length, arith}
 use Rattle.price_time_book.specs.declared.resting.Resting.{Resting}
 use Rattle.price_time_book.specs.Orders.{reduced}
 use Rattle.price_time_book.proofs.Changes.{kept}

@@ -1,6 +1,5 @@
 use Rattle.std.proofs.Common.{◌≡◌, ◌≤◌, ◌+◌, ◌-◌, ◌*◌, ◌++◌}
 use Rattle.agent_shell.specs.Ordered.{all_ordered}
-use Rattle.agent_shell.specs.Sight.{sight_of}
 use Rattle.agent_shell.specs.Sound.{IsOwn}
 use Rattle.agent_shell.specs.Maker.{levels_from}
 use Rattle.quoter_agents.proofs.levels.quote_levels.Given as goal

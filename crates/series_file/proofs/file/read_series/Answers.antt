@@ -1,4 +1,4 @@
-use Rattle.std.proofs.Common.{Bor, Bool, List, ℕ, Option, Result, Some, None, Ok, Err, ◌≡◌, ◌∙◌, ◌∷◌, ◌++◌, [], sym, ap, subst, refl, inl, inr, map, length, replicate, append-nil, append_assoc, IfOk, IfErr, if◌then◌else◌}
+use Rattle.std.proofs.Common.{Bor, Bool, List, ℕ, Option, Result, Some, None, Ok, Err, ◌≡◌, ◌∙◌, ◌∷◌, ◌++◌, [], sym, ap, subst, refl, inl, inr, map, length, replicate, append-nil, append_assoc, IfOk, IfErr, if◌then◌else◌, arith}
 use Rattle.toml.specs.View.{view}
 use Rattle.csv.specs.Reading.{ReadRecord, Reached, builder_config, builder_names_headers, builder_trim, default_config, records_from, strip_bom}
 use Rattle.csv.specs.Records.{fields_of}
@@ -9,7 +9,7 @@ use Rattle.series_file.specs.declared.file.SeriesError.{SeriesError}
 use Rattle.series_file.specs.declared.file.SeriesError.TheVariants.{Refused}
 use Rattle.series_file.specs.Records.{records_of}
 use Rattle.series_file.specs.Rows.{after_record, no_rows, rows_from, read_rows, at_end}
-use Rattle.series_file.proofs.OneByOne.{taken, refused, same_refusal, empty-tables, no-rows}
+use Rattle.series_file.proofs.OneByOne.{taken, low-taken, refused, same_refusal, empty-tables, no-rows}
 use Rattle.series_file.proofs.Whole.{split, whole}
 use Rattle.series_file.proofs.file.read_series.Goals as goal
 
@@ -21,6 +21,7 @@ loop-number-init c =
     let named = from.has_headers ∙ ap builder_names_headers c.flexible.ensures ∙ ap builder_names_headers c.has_headers.ensures in
     let config = from.config ∙ ap builder_config c.flexible.ensures ∙ ap builder_config c.has_headers.ensures ∙ c.new.ensures.config in
     let tables : c.in-Ok.tables ≡ replicate (length c.args.stocks.now) [] = c.in-Ok.ensures in (
+      omega arith,
       trim,
       inr (inr (named, from.headers)),
       config,
@@ -34,7 +35,7 @@ loop-number-init c =
 
 pub loop-number-preserved : goal.loop-number-preserved
 loop-number-preserved c =
-    let (trim, ready, config, y, source, done, reached, lengths, none) = c.loop-number.invariant in
+    let (low, trim, ready, config, y, source, done, reached, lengths, none) = c.loop-number.invariant in
     let rem : Bor (List ℕ) → Option (List ℕ) = λ s. Some s.now in
     let fields = fields_of c.read_byte_record.new.row in
     let read = subst (λ (found : Bool). ReadRecord rem c.loop-number.reader c.read_byte_record.new.self found fields) c.if-not-found.false (c.in-Ok-read_byte_record.ensures.reads trim ready) in
@@ -42,6 +43,7 @@ loop-number-preserved c =
     let stocks = map view c.args.stocks.now in
     let step : after_record stocks c.loop-number.number c.loop-number.tables fields ≡ Some c.take_record.new.tables
     = c.in-Ok-take_record.ensures.taken ∙ ap (λ (b : Bool). if b then Some c.take_record.new.tables else None) c.if-not-taken.false in (
+      low-taken stocks c.loop-number.number c.loop-number.tables c.take_record.new.tables fields step,
       read.3 ∙ trim,
       inl (c.in-Ok-read_byte_record.ensures.ready trim),
       read.2 ∙ config,
@@ -56,7 +58,7 @@ loop-number-preserved c =
 
 pub returns-then-not-found-clause-rows : goal.returns-then-not-found-clause-rows
 returns-then-not-found-clause-rows c =
-    let (trim, ready, config, y, source, done, reached, lengths, none) = c.loop-number.invariant in
+    let (low, trim, ready, config, y, source, done, reached, lengths, none) = c.loop-number.invariant in
     let rem : Bor (List ℕ) → Option (List ℕ) = λ s. Some s.now in
     let fields = fields_of c.read_byte_record.new.row in
     let read = subst (λ (found : Bool). ReadRecord rem c.loop-number.reader c.read_byte_record.new.self found fields) c.if-not-found.true (c.in-Ok-read_byte_record.ensures.reads trim ready) in
@@ -69,7 +71,7 @@ returns-then-not-found-clause-rows c =
 
 pub returns-then-not-found-clause-refused : goal.returns-then-not-found-clause-refused
 returns-then-not-found-clause-refused c =
-    let (trim, ready, config, y, source, done, reached, lengths, none) = c.loop-number.invariant in
+    let (low, trim, ready, config, y, source, done, reached, lengths, none) = c.loop-number.invariant in
     let rem : Bor (List ℕ) → Option (List ℕ) = λ s. Some s.now in
     let fields = fields_of c.read_byte_record.new.row in
     let read = subst (λ (found : Bool). ReadRecord rem c.loop-number.reader c.read_byte_record.new.self found fields) c.if-not-found.true (c.in-Ok-read_byte_record.ensures.reads trim ready) in
@@ -82,7 +84,7 @@ returns-then-not-found-clause-refused c =
 
 pub returns-then-not-taken-clause-refused : goal.returns-then-not-taken-clause-refused
 returns-then-not-taken-clause-refused c n e =
-    let (trim, ready, config, y, source, done, reached, lengths, none) = c.loop-number.invariant in
+    let (low, trim, ready, config, y, source, done, reached, lengths, none) = c.loop-number.invariant in
     let rem : Bor (List ℕ) → Option (List ℕ) = λ s. Some s.now in
     let fields = fields_of c.read_byte_record.new.row in
     let read = subst (λ (found : Bool). ReadRecord rem c.loop-number.reader c.read_byte_record.new.self found fields) c.if-not-found.false (c.in-Ok-read_byte_record.ensures.reads trim ready) in

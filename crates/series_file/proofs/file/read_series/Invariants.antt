@@ -1,4 +1,4 @@
-use Rattle.std.proofs.Common.{◌≡◌, ◌++◌, ℕ, List, Some, map, length}
+use Rattle.std.proofs.Common.{◌≡◌, ◌≤◌, ◌++◌, ℕ, List, Some, map, length}
 use Rattle.toml.specs.View.{view}
 use Rattle.csv.specs.Reading.{Reached, Ready, default_config, reader_config, reader_state, reader_trim, source_of, strip_bom}
 use Rattle.csv.specs.declared.parser.State.TheVariants as st
@@ -7,7 +7,7 @@ use Rattle.series_file.specs.Rows.{no_rows, rows_from}
 use Rattle.series_file.proofs.file.read_series.Given as goal
 
 abbrev pub invariant-loop-number : goal.invariant-loop-number
-invariant-loop-number l = (reader_trim l.reader ≡ trim.None) × Ready l.reader × (reader_config l.reader ≡ default_config)
+invariant-loop-number l = (l.number ≤ 1000001) × (reader_trim l.reader ≡ trim.None) × Ready l.reader × (reader_config l.reader ≡ default_config)
     × (y : List ℕ) × (source_of (λ s. Some s.now) l.reader ≡ Some y)
     × (done : List (List (List ℕ))) × Reached default_config st.StartRecord (strip_bom l.fn.text) done (reader_state l.reader) y
     × (length l.tables ≡ length l.fn.stocks)

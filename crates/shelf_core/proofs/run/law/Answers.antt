@@ -1,8 +1,7 @@
-use Rattle.std.proofs.Common.{◌≡◌, ◌<◌, ◌≤◌, ◌+◌, length, sym, ◌∙◌, ap, subst, arith}
+use Rattle.std.proofs.Common.{◌≡◌, length, sym, ◌∙◌, ap, arith}
 use Rattle.std.proofs.lemmas.Option.{slice_get_read}
-use Rattle.std.proofs.Common.{refl, take}
-use Rattle.shelf_core.specs.After.{left_by, step_of}
-use Rattle.shelf_core.specs.Orderly.{IsSmall, IsSmallEvent}
+use Rattle.std.proofs.Common.{refl}
+use Rattle.shelf_core.specs.After.{step_of}
 use Rattle.shelf_core.specs.declared.system.System.{System}
 use Rattle.shelf_core.specs.declared.event.Event.{Event}
 use Rattle.shelf_core.proofs.Grown.{step_is, left_next}

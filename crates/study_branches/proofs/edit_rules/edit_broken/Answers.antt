@@ -1,4 +1,4 @@
-use Rattle.std.proofs.Common.{arith, length, map}
+use Rattle.std.proofs.Common.{arith, map}
 use Rattle.toml.specs.View.{view}
 use Rattle.study_file.proofs.KeyLists.{length-mapped}
 use Rattle.study_branches.proofs.Walks.{all-below}

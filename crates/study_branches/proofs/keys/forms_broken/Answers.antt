@@ -3,7 +3,6 @@ use Rattle.std.specs.Prelude.{not}
 use Rattle.toml.specs.Data.{Data, as_table}
 use Rattle.toml.specs.View.{view}
 use Rattle.study_file.specs.Keys.{has_form, passes}
-use Rattle.study_file.specs.Values.{first_failing}
 use Rattle.study_file.proofs.KeyLists.{length-mapped, position-found}
 use Rattle.study_branches.specs.Forms.{edit_form}
 use Rattle.study_branches.proofs.Walks.{below-few, few-forms, many-forms}

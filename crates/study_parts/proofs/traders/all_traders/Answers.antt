@@ -1,7 +1,7 @@
 use Rattle.std.proofs.Common.{◌∙◌, ap, map}
 use Rattle.toml.specs.View.{view, table_view}
 use Rattle.study_file.specs.Values.{first_failing}
-use Rattle.study_refusals.specs.AgentRules.{first_too_many, has_own, agents}
+use Rattle.study_refusals.specs.AgentRules.{first_too_many, has_own}
 use Rattle.study_parts.proofs.TraderRanges.{counts-held, loosely-timed}
 use Rattle.study_parts.proofs.traders.all_traders.Goals as goal
 

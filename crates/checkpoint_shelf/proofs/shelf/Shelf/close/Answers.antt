@@ -1,4 +1,4 @@
-use Rattle.std.proofs.Common.{arith, ◌≡◌, ◌+◌, ◌<◌, ◌==◌, ◌∷◌, [], length, map, ap, sym, ◌∙◌, subst, refl, true, Some, slice_get, replicate, ◌-◌}
+use Rattle.std.proofs.Common.{arith, ◌≡◌, ◌+◌, ◌==◌, ◌∷◌, map, ap, sym, ◌∙◌, subst, Some, slice_get, replicate, ◌-◌}
 use Rattle.shelf_core.specs.Views.{spent_view}
 use Rattle.shelf_core.specs.Settled.{IsSettled}
 use Rattle.checkpoint_shelf.specs.Seats.{gathered, all_in}

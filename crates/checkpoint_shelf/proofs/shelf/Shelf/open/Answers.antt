@@ -1,7 +1,7 @@
-use Rattle.std.proofs.Common.{arith, ◌≡◌, ◌+◌, ◌<◌, [], length, sym, ap, ◌∙◌, subst, length-append}
+use Rattle.std.proofs.Common.{arith, ◌≡◌, ◌+◌, [], length, sym, ap, ◌∙◌, subst, length-append}
 use Rattle.shelf_core.specs.Views.{new_view}
 use Rattle.shelf_core.proofs.Lists.{not_some}
-use Rattle.checkpoint_shelf.specs.Holds.{AboutFits, IsSeat, led, follower}
+use Rattle.checkpoint_shelf.specs.Holds.{IsSeat, led}
 use Rattle.checkpoint_shelf.specs.Seats.{NewFrom}
 use Rattle.checkpoint_shelf.specs.Told.{told_of, shelf_of}
 use Rattle.checkpoint_shelf.proofs.Calls.{about_same}

@@ -3,7 +3,7 @@ use Rattle.market_types.specs.declared.feed.Feed.{Feed}
 use Rattle.market_types.specs.Room.{Room}
 use Rattle.market_rules.specs.Changes.{dated_by}
 use Rattle.market_floor.specs.Floor.{FloorState}
-use Rattle.market_floor.specs.Ruled.{all_changed, due, ruled}
+use Rattle.market_floor.specs.Ruled.{all_changed, due}
 use Rattle.market_floor.specs.Sound.{IsSoundFloor}
 use Rattle.market_floor.proofs.Changes.{IsBy}
 use Rattle.market_floor.proofs.Rulings.{ruled-made, ruled-none, ruled-sound, ruled-stocks, ruled-times, ruled-told, untold-none}

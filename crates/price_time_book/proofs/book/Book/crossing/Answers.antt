@@ -1,4 +1,4 @@
-use Rattle.std.proofs.Common.{◌≡◌, Option, false, sym, ap, ◌∙◌}
+use Rattle.std.proofs.Common.{Option, false, sym, ap, ◌∙◌}
 use Rattle.std.specs.Option.{option_map_or}
 use Rattle.market_types.specs.declared.order.Side.{Side}
 use Rattle.price_time_book.specs.declared.resting.Best.{Best}

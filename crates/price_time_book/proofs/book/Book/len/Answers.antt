@@ -1,4 +1,4 @@
-use Rattle.std.proofs.Common.{◌+◌, length, ap, arith}
+use Rattle.std.proofs.Common.{length, ap, arith}
 use Rattle.price_time_book.specs.Indexed.{open_orders}
 use Rattle.price_time_book.proofs.Stays.{both_sides}
 use Rattle.price_time_book.proofs.book.Book.len.Goals as goal

@@ -1,4 +1,4 @@
-use Rattle.std.proofs.Common.{◌≡◌, ◌∙◌, sym, subst, refl, arith, rules}
+use Rattle.std.proofs.Common.{◌∙◌, sym, subst, refl, rules}
 use Rattle.market_types.specs.declared.order.Side.TheVariants.{Buy, Sell}
 use Rattle.price_time_book.specs.Indexed.{IsIndexed}
 use Rattle.price_time_book.proofs.Indexes.{references_lessened, tokens_lessened}

@@ -1,12 +1,10 @@
-use Rattle.std.proofs.Common.{◌≡◌, ◌<◌, ◌≤◌, ◌-◌, List, Some, length, get_or, sym, ap, ◌∙◌, subst, refl, arith, rules}
+use Rattle.std.proofs.Common.{◌-◌, sym, ap, ◌∙◌, subst, refl, arith, rules}
 use Rattle.market_types.specs.Room.{Room}
-use Rattle.market_types.specs.declared.order.Side.{Side}
 use Rattle.market_types.specs.declared.order.Side.TheVariants.{Buy, Sell}
 use Rattle.price_time_book.specs.declared.resting.Resting.{Resting}
-use Rattle.price_time_book.specs.Indexed.{IsIndexed, nothing, open_orders}
-use Rattle.price_time_book.specs.Orders.{changed}
+use Rattle.price_time_book.specs.Indexed.{IsIndexed}
 use Rattle.price_time_book.proofs.Indexes.{references_lessened, tokens_lessened}
-use Rattle.price_time_book.proofs.Takes.{IsHeld, held, others_buy, others_sell}
+use Rattle.price_time_book.proofs.Takes.{held, others_buy, others_sell}
 use Rattle.price_time_book.proofs.book.Book.reduce.Goals as goal
 
 pub overflow_sub-intended-2 : goal.overflow_sub-intended-2

@@ -1,6 +1,6 @@
-use Rattle.std.proofs.Common.{Some, None}
-use Rattle.shelf_core.specs.After.{having_published, without_turn}
-use Rattle.shelf_core.specs.declared.words.PlaceWord.TheVariants.{Ready, Free}
+use Rattle.std.proofs.Common.{None}
+use Rattle.shelf_core.specs.After.{without_turn}
+use Rattle.shelf_core.specs.declared.words.PlaceWord.TheVariants.{Free}
 use Rattle.shelf_core.proofs.Apply.{placed, place_low, turn_at}
 use Rattle.shelf_core.proofs.system.System.abandon.Goals as goal
 
