@@ -1,0 +1,37 @@
+-- The ends of segments on the shelf.
+use Rattle.std.proofs.Common.{◌≡◌, ℕ, ◌<◌, true, false, Option, None, Some, IsSome, is_some, length, nat_lt, ltb-true, Bool, if◌then◌else◌, sym, refl, ap, ◌∙◌, subst}
+use Rattle.branch_tree.specs.declared.segment.Segment.{Segment}
+use Rattle.branch_tree.specs.Segments.{segments_in, segment_at, last_of}
+use Rattle.shelf_core.specs.Plan.{place_of, is_sole}
+use Rattle.shelf_core.specs.declared.plan.Key.{Key}
+use Rattle.checkpoint_shelf.specs.Told.{ShelfTold}
+use Rattle.kernel_copy.specs.Segmentwise.{segment_end}
+use Rattle.kernel_copy.specs.Courses.{CourseTold, CheckpointTold, IsCourse, state_at, end_of_segment, kept_of}
+use Rattle.kernel_copy.proofs.Keeping.{end-state}
+use Rattle.branch_workers.specs.Layout.{end_key}
+use Rattle.branch_workers.specs.Runs.{IsShelfOf}
+use Rattle.branch_workers.proofs.Forks.{end_place}
+
+pub key_is : (c : CourseTold) (s : ℕ) (g : Segment) → g ≡ segment_at c.plan s → ◌≡◌ {A = Key} (record { segment = s; event = g.stop }) (end_key c.plan s)
+key_is c s g e = ap (λ (x : Segment). let k : Key = record { segment = s; event = x.stop } in k) e
+
+-- an end from which others go on has a place of its own
+pub has_place : (c : CourseTold) (shelf : ShelfTold CourseTold) (s : ℕ) (key : Key) → IsShelfOf c shelf → s < length (segments_in c.plan) → s < last_of c.plan.branches (segment_at c.plan s).branch → key ≡ end_key c.plan s
+    → IsSome (place_of shelf.plan key) × (is_sole shelf.plan key ≡ true)
+has_place c shelf s key is l u e =
+    let p = end_place c.plan shelf.plan s is.forks l u in
+    subst (λ (k : Key). IsSome (place_of shelf.plan k) × (is_sole shelf.plan k ≡ true)) (sym e) (ap (λ (o : Option ℕ). is_some o) p.0.1, p.1)
+
+-- what a value of its key has is the segment's end
+pub end_state_of : (c : CourseTold) (s : ℕ) (x : CheckpointTold) → IsCourse c → s < length (segments_in c.plan) → x.key ≡ end_key c.plan s → x.course ≡ c
+    → state_at x.course x.key ≡ (segment_end c.opening c.plan (segment_at c.plan s)).state
+end_state_of c s x h l key course =
+    ap (λ (k : CourseTold). state_at k x.key) course ∙ ap (λ (k : Key). state_at c k) key ∙ sym (end-state c s h l)
+
+-- what is kept of a segment
+pub kept_is : (c : CourseTold) (s : ℕ) (x : CheckpointTold) → Some x ≡ kept_of c s → (x ≡ end_of_segment c s) × (s < last_of c.plan.branches (segment_at c.plan s).branch)
+kept_is c s x e = at (nat_lt s (last_of c.plan.branches (segment_at c.plan s).branch)) refl e
+  where
+    at : (b : Bool) → nat_lt s (last_of c.plan.branches (segment_at c.plan s).branch) ≡ b → Some x ≡ (if b then Some (end_of_segment c s) else None) → (x ≡ end_of_segment c s) × (s < last_of c.plan.branches (segment_at c.plan s).branch)
+    at true t e = (cc, ltb-true s (last_of c.plan.branches (segment_at c.plan s).branch) t)
+    at false t e = absurd cc

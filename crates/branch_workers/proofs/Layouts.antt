@@ -1,0 +1,63 @@
+-- The shelf and the lanes of a course.
+use Rattle.std.proofs.Common.{◌≡◌, ◌≢◌, ℕ, zero, suc, ◌+◌, ◌^◌, ◌<◌, ◌≤◌, All, true, List, [], ◌∷◌, ◌++◌, Option, None, Some, length, get_or, append-nil, refl, sym, ap, ◌∙◌, subst, arith}
+use Rattle.std.proofs.lemmas.List.Elements.{All-nil, All-cons, All-from_get_or}
+use mathlib.Core.Logic.{dite}
+use native.Mathlib.Decide.{ℕ_discrete}
+use Rattle.branch_tree.specs.declared.branch.Branch.{Branch}
+use Rattle.branch_tree.specs.declared.segment.Segment.{Segment}
+use Rattle.branch_tree.specs.Plan.{Plan}
+use Rattle.branch_tree.specs.Segments.{segments_in, segment_at, no_segment, count_before}
+use Rattle.branch_tree.proofs.PartLemmas.{length-before}
+use Rattle.shelf_core.specs.Plan.{are_distinct, place_count}
+use Rattle.shelf_core.specs.Views.{times}
+use Rattle.shelf_core.specs.declared.plan.Key.{Key}
+use Rattle.shelf_core.proofs.Lists.{times_here, times_else}
+use Rattle.checkpoint_shelf.specs.Plans.{PlanFits, KeyBelow}
+use Rattle.kernel_copy.specs.Courses.{CourseTold, IsCourse}
+use Rattle.kernel_copy.proofs.Trees.{course-tree, course-few}
+use Rattle.kernel_copy.proofs.Walks.{planned-at, has_parent}
+use Rattle.branch_workers.specs.Layout.{fork_keys, layout}
+use Rattle.branch_workers.specs.Claims.{HasPushed, pushes}
+use Rattle.branch_workers.proofs.Forks.{forks_rise, forks_distinct, forks_below, forks_few, segments_few}
+
+-- a course's shelf can be laid out
+pub layout_fits : (c : CourseTold) → IsCourse c → PlanFits (layout c.plan)
+layout_fits c h =
+    let few = segments_few c.plan (course-few c h) in
+    let keys = forks_few c.plan 0 (segments_in c.plan) in
+    let stops : All (λ (g : Segment). g.stop < 16777216) (segments_in c.plan) =
+    All-from_get_or (λ (g : Segment). g.stop < 16777216) (segments_in c.plan) no_segment
+    (λ i l. let w = (planned-at c.plan i (course-tree c h) l).within in let a = h.limit in let b = h.opening.limit in omega arith) in
+    record {
+      segments = omega arith;
+      places = omega arith;
+      distinct = ap (λ (xs : List Key). are_distinct xs) (append-nil (fork_keys c.plan)) ∙ forks_distinct c.plan 0 (segments_in c.plan);
+      forks = forks_below c.plan (length (segments_in c.plan)) 0 (segments_in c.plan) (omega arith) stops;
+      grid = All-nil (KeyBelow (length (segments_in c.plan)));
+      forks_rise = forks_rise c.plan 0 (segments_in c.plan);
+      grid_rise = refl;
+    }
+
+-- there is a segment
+pub some_segment : (c : CourseTold) → IsCourse c → 0 < length (segments_in c.plan)
+some_segment c h = let l = length-before c.plan.branches c.plan.limit (length c.plan.branches) in let s = some (length c.plan.branches) h.rooted.some in omega arith
+  where
+    some : (n : ℕ) → 0 < n → 0 < count_before c.plan.branches n
+    some zero l = absurd (omega arith)
+    some (suc n) l = omega arith
+
+-- The lanes before the first segment is run: empty, or with the root's first segment.
+pub pushed_none : (p : Plan) → HasPushed p [] []
+pushed_none p = record { below = All-nil (λ s. s < length (segments_in p)); few = λ s l. omega arith }
+
+pub pushed_first : (c : CourseTold) → IsCourse c → HasPushed c.plan [] (0 ∷ [])
+pushed_first c h = record {
+  below = All-cons (λ s. s < length (segments_in c.plan)) 0 [] (some_segment c h) (All-nil (λ s. s < length (segments_in c.plan)));
+  few = λ s l. dite (ℕ_discrete s 0)
+      (λ (one : s ≡ 0). subst (λ (t : ℕ). times t (0 ∷ []) ≤ pushes (segment_at c.plan t).parent []) (sym one) (first (segment_at c.plan 0).parent refl))
+      (λ (ne : s ≢ 0). let z = times_else s 0 [] (λ e. ne (sym e)) in omega arith);
+}
+  where
+    first : (parent : Option ℕ) → (segment_at c.plan 0).parent ≡ parent → times 0 (0 ∷ []) ≤ pushes parent []
+    first None e = let t = times_here 0 [] in omega arith
+    first (Some q) e = let n = (has_parent c.plan 0 q (course-tree c h) (some_segment c h) e).earlier in absurd (omega arith)

@@ -1,0 +1,10 @@
+pub mod Sums
+pub mod Joined
+pub mod Forks
+pub mod Children
+pub mod Standing
+pub mod Layouts
+pub mod Ends
+pub mod Closing
+pub mod Gathering
+pub mod Turns

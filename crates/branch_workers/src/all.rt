@@ -1,0 +1,159 @@
+//! All segments of a course by workers.
+
+ghost use Rattle.std.specs.Prelude.{◌≡◌, ℕ, ◌+◌, ◌<◌, ◌≤◌, ◌^◌, All, None, true, false, IfOk, OnOk, length, map, replicate, sum_by, slice_index_or};
+ghost use Rattle.branch_tree.specs.Segments.{segments_in};
+ghost use Rattle.checkpoint_shelf.specs.Seats.{AllBack};
+ghost use Rattle.kernel_copy.specs.Outcomes.{outcome_told, outcomes_before};
+ghost use Rattle.kernel_copy.specs.Segmentwise.{distinct};
+ghost use Rattle.branch_workers.specs.Layout.{layout};
+ghost use Rattle.branch_workers.specs.Runs.{IsShelfOf};
+ghost use Rattle.branch_workers.specs.Workers.{IsAtWork, HasEnded, HasFinished, HaveFinished, RanOnce, own_of};
+
+use crate::gather::{Back, gather};
+use crate::layout::open_shelf;
+use crate::order::{empty_slots, in_order, place_all};
+use crate::staff::{first_lanes, staff};
+use crate::worker::{Worker, run_worker};
+use branch_deques::Room;
+use checkpoint_shelf::{ClosedShelf, Shelf};
+use kernel_copy::{Checkpoint, Course, Outcome};
+use market_types::Memory;
+use outside::{Gate, Ledger, Steps};
+use std::alloc::Global;
+use std::marker::Brand;
+use std::sync::{Arc, Wait};
+use std::thread;
+use std::thread::Threads;
+
+/// What workers did of a course.
+#[derive(Drop)]
+pub struct Worked {
+    /// The outcomes in order of segment.
+    pub outcomes: Vec<Outcome>,
+    /// The shelf, on which the end of each segment stands from which others go on.
+    pub shelf: ClosedShelf<Checkpoint>,
+}
+
+// Lets each worker work, in a thread of its own where one can be made.
+fn run_all<R: Threads + Wait + Sync, G: Gate + Sync, L: Ledger + Send, B: Room + Send>(
+    rt: &R,
+    alloc: Global,
+    course: &Arc<Course>,
+    shelf: &Shelf<Checkpoint>,
+    gate: &G,
+    workers: &mut [Worker<L, B>],
+)
+    requires shelf { IsShelfOf course.now.value shelf.now }
+    requires room { B.room ≡ length (segments_in course.now.value.plan) }
+    requires some { 0 < length workers.old }
+    requires work { All (λ w. IsAtWork course.now.value shelf.now w.number w.seat w.steps w.outcomes.items w.lane.own.view.pushed) workers.old }
+    requires finished { All (λ w. w.finished ≡ false) workers.old }
+    ensures numbers { (i : ℕ) (d : _) → i < length workers.old → (slice_index_or workers.new i d).number ≡ (slice_index_or workers.old i d).number }
+    ensures ended { All (λ w. HasEnded course.now.value shelf.now w.number w.seat w.steps) workers.new }
+    ensures finished { All (λ w. w.finished ≡ true → HasFinished course.now.value w.seat.view w.outcomes.items) workers.new }
+    ensures counted { All (λ w. w.finished ≡ true → w.steps ≡ sum_by (own_of course.now.value) w.seat.view.claims) workers.new }
+{
+    let count = workers.len();
+    thread::for_each_mut(
+        rt,
+        workers,
+        count,
+        &|_, worker| run_worker(rt, alloc, course, shelf, gate, worker),
+    );
+}
+
+// Closes the shelf of workers that handed all back, and puts their outcomes in order, if all finished.
+fn finish(
+    alloc: Global,
+    course: &Course,
+    shelf: Shelf<Checkpoint>,
+    back: Back,
+    mut slots: Vec<Option<Outcome>>,
+) -> Result<Worked, Memory>
+    requires some { 0 < length back.seats.items }
+    requires shelf { (shelf.plan ≡ layout course.now.plan) × (shelf.course ≡ course.now) }
+    requires back { AllBack shelf back.seats.items }
+    requires slots { slots.items ≡ replicate (length (segments_in course.now.plan)) None }
+    requires finished { back.finished ≡ true → HaveFinished course.now back.seats.items (map (λ v. v.items) back.outcomes.items) }
+    ensures outcomes { IfOk result (λ w. map outcome_told w.outcomes.items ≡ outcomes_before course.now (length (segments_in course.now.plan))) }
+    ensures finished { OnOk result (back.finished ≡ true) }
+    ensures all { OnOk result (sum_by (λ s. sum_by (own_of course.now) s.view.claims) back.seats.items ≡ distinct course.now.opening course.now.plan) }
+    ensures most { sum_by (λ s. sum_by (own_of course.now) s.view.claims) back.seats.items ≤ distinct course.now.opening course.now.plan }
+    ensures shelf { IfOk result (λ w. (w.shelf.plan ≡ layout course.now.plan) × (w.shelf.course ≡ course.now)) }
+    ensures once { IfOk result (λ w. RanOnce course.now.plan (length back.seats.items) w.shelf.system) }
+{
+    let _ = course.plan();
+    let Back {
+        seats,
+        outcomes,
+        finished,
+    } = back;
+    let shelf = shelf.close(seats);
+    if !finished {
+        return Err(Memory);
+    }
+    place_all(&mut slots, outcomes);
+    let outcomes = in_order(alloc, slots)?;
+    Ok(Worked { outcomes, shelf })
+}
+
+// The same as `work`, where the lanes have room for all segments.
+fn work_in<R: Threads + Wait + Sync, G: Gate + Sync, L: Ledger + Send, B: Room + Send>(
+    rt: &R,
+    alloc: Global,
+    course: &Arc<Course>,
+    workers: u32,
+    gate: &G,
+    steps: &mut Steps<L>,
+    count: u32,
+) -> Result<Worked, Memory>
+    requires workers { (0 < workers) × (workers ≤ 64) }
+    requires steps { steps.old ≤ 2 ^ 63 }
+    requires room { count ≡ B.room }
+    requires count { count ≡ length (segments_in course.now.value.plan) }
+    ensures outcomes { IfOk result (λ w. map outcome_told w.outcomes.items ≡ outcomes_before course.now.value (length (segments_in course.now.value.plan))) }
+    ensures rose { OnOk result (steps.new ≡ steps.old + distinct course.now.value.opening course.now.value.plan) }
+    ensures most { steps.new ≤ steps.old + distinct course.now.value.opening course.now.value.plan }
+    ensures shelf { IfOk result (λ w. (w.shelf.plan ≡ layout course.now.value.plan) × (w.shelf.course ≡ course.now.value)) }
+    ensures once { IfOk result (λ w. RanOnce course.now.value.plan workers w.shelf.system) }
+{
+    let (shelf, seats) = open_shelf(alloc, course, workers)?;
+    let lanes = first_lanes::<B>(alloc, course, workers, count)?;
+    let slots = empty_slots(alloc, count)?;
+    let mut back = Back::new(alloc, workers)?;
+    let mut workers = staff::<L, B>(alloc, seats, lanes)?;
+    run_all(rt, alloc, course, &shelf, gate, workers.as_mut_slice());
+    gather(&mut back, workers, steps);
+    finish(alloc, course, shelf, back, slots)
+}
+
+/// Runs each segment of a course once, by so many workers, 1 to 64, each in a thread of its own where one can be made: the
+/// outcomes in order of segment, and the counter rises by the events of all segments.
+///
+/// Each segment was claimed once, by one of the workers, and run by it from the end of its parent that the shelf keeps; none
+/// is left. The shelf has the end of each segment from which others go on. It may wait.
+///
+/// # Errors
+/// Want of memory alone. The counter then rose by no more.
+pub fn work<R: Threads + Wait + Sync, G: Gate + Sync, L: Ledger + Send>(
+    rt: &R,
+    alloc: Global,
+    course: &Arc<Course>,
+    workers: u32,
+    gate: &G,
+    steps: &mut Steps<L>,
+) -> Result<Worked, Memory>
+    requires workers { (0 < workers) × (workers ≤ 64) }
+    requires steps { steps.old ≤ 2 ^ 63 }
+    ensures outcomes { IfOk result (λ w. map outcome_told w.outcomes.items ≡ outcomes_before course.now.value (length (segments_in course.now.value.plan))) }
+    ensures rose { OnOk result (steps.new ≡ steps.old + distinct course.now.value.opening course.now.value.plan) }
+    ensures most { steps.new ≤ steps.old + distinct course.now.value.opening course.now.value.plan }
+
+    // The shelf is the course's; each segment is Taken by one of the workers and stands once among their claims, and each end from
+    // which others go on stands on the shelf.
+    ensures shelf { IfOk result (λ w. (w.shelf.plan ≡ layout course.now.value.plan) × (w.shelf.course ≡ course.now.value)) }
+    ensures once { IfOk result (λ w. RanOnce course.now.value.plan workers w.shelf.system) }
+{
+    let count = course.plan().segments().len() as u32;
+    work_in::<R, G, L, Brand>(rt, alloc, course, workers, gate, steps, count)
+}

@@ -1,0 +1,18 @@
+//! Workers that share a course's segments: each segment is claimed and run once, from the end of its parent that a shelf keeps.
+#![tactic(auto)]
+
+mod all;
+pub mod examples;
+mod found;
+mod gather;
+mod layout;
+mod order;
+mod segment;
+mod staff;
+mod worker;
+
+pub use all::{Worked, work};
+pub use segment::run_segment;
+
+#[cfg(test)]
+mod tests;

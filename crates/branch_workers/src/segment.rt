@@ -1,0 +1,208 @@
+//! One segment by one worker.
+
+ghost use Rattle.std.specs.Prelude.{◌≡◌, ℕ, ◌+◌, ◌<◌, ◌≤◌, ◌^◌, [], true, Some, IfOk, OnOk, OnErr, IsSome, length};
+ghost use Rattle.branch_tree.specs.Segments.{segments_in, segment_at, last_of};
+ghost use Rattle.kernel_core.specs.Step.{Fits};
+ghost use Rattle.shelf_core.specs.Made.{Stays};
+ghost use Rattle.shelf_core.specs.Plan.{place_of, is_in, is_sole};
+ghost use Rattle.shelf_core.specs.Views.{times};
+ghost use Rattle.kernel_copy.specs.Courses.{IsCourse};
+ghost use Rattle.kernel_copy.specs.Outcomes.{outcome_told, outcome_of};
+ghost use Rattle.kernel_copy.specs.Segmentwise.{segment_end, segment_run, started_at, own_count};
+ghost use Rattle.branch_workers.specs.Layout.{end_key};
+ghost use Rattle.branch_workers.specs.Runs.{IsShelfOf, HasEnds, Remains};
+
+use crate::found::wait_for;
+use checkpoint_shelf::{Begun, Key, Shelf, ShelfSeat};
+use kernel_copy::{Checkpoint, Course, Outcome, Ran, go_on, kept_end, outcome_at, run_on};
+use kernel_core::Kernel;
+use market_types::{Memory, Trace};
+use outside::{Gate, Ledger, Steps};
+use std::alloc::Global;
+use std::sync::{Arc, Wait};
+
+// A kernel as it is at the end of a segment that isn't its branch's last.
+fn end_of<R: Wait>(
+    rt: &R,
+    alloc: Global,
+    course: &Course,
+    shelf: &Shelf<Checkpoint>,
+    seat: &mut ShelfSeat<Checkpoint>,
+    segment: u32,
+) -> Result<Kernel, Memory>
+    requires seat { seat.old.shelf ≡ Some shelf.now }
+    requires shelf { IsShelfOf course.now shelf.now }
+    requires segment { segment < length (segments_in course.now.plan) }
+    requires unfinished { segment < last_of course.now.plan.branches (segment_at course.now.plan segment).branch }
+    ensures same { seat.new.shelf ≡ seat.old.shelf }
+    ensures stays { Stays seat.old.view seat.new.view }
+    ensures turns { seat.new.view.turns ≡ seat.old.view.turns }
+    ensures state { IfOk result (λ k. k ≡ (segment_end course.now.opening course.now.plan (segment_at course.now.plan segment)).state) }
+    ensures found { OnOk result (is_in (end_key course.now.plan segment) seat.new.view.found ≡ true) }
+{
+    let event = course.segment(segment).stop;
+    let end = wait_for(rt, shelf, seat, Key { segment, event })?;
+    end.resume(alloc)
+}
+
+// A segment's run at its beginning: the kernel of the opening or of its parent's end, and the entries of the edits.
+fn begun<R: Wait>(
+    rt: &R,
+    alloc: Global,
+    course: &Course,
+    shelf: &Shelf<Checkpoint>,
+    seat: &mut ShelfSeat<Checkpoint>,
+    segment: u32,
+    trace: &mut Trace,
+) -> Result<Kernel, Memory>
+    requires seat { seat.old.shelf ≡ Some shelf.now }
+    requires shelf { IsShelfOf course.now shelf.now }
+    requires segment { segment < length (segments_in course.now.plan) }
+    requires empty { trace.old.list ≡ [] }
+    ensures same { seat.new.shelf ≡ seat.old.shelf }
+    ensures stays { Stays seat.old.view seat.new.view }
+    ensures turns { seat.new.view.turns ≡ seat.old.view.turns }
+    ensures course { IsCourse course.now }
+    ensures state { IfOk result (λ k. record { state = k; entries = trace.new.list } ≡ started_at course.now.opening course.now.plan (segment_at course.now.plan segment)) }
+    ensures fits { IfOk result (λ k. Fits course.now.opening k) }
+    ensures found { OnOk result ((q : ℕ) → (segment_at course.now.plan segment).parent ≡ Some q → is_in (end_key course.now.plan q) seat.new.view.found ≡ true) }
+{
+    let g = course.segment(segment);
+    match g.parent {
+        None => {
+            let kernel = Kernel::open(alloc, course.opening())?;
+            Ok(kernel)
+        }
+        Some(parent) => {
+            let mut kernel = end_of(rt, alloc, course, shelf, seat, parent)?;
+            go_on(alloc, course, g.branch, parent, &mut kernel, trace)?;
+            Ok(kernel)
+        }
+    }
+}
+
+// Makes a segment's own events.
+fn advance<R: Wait, L: Ledger>(
+    rt: &R,
+    alloc: Global,
+    course: &Course,
+    shelf: &Shelf<Checkpoint>,
+    seat: &mut ShelfSeat<Checkpoint>,
+    segment: u32,
+    steps: &mut Steps<L>,
+) -> Result<Ran, Memory>
+    requires seat { seat.old.shelf ≡ Some shelf.now }
+    requires shelf { IsShelfOf course.now shelf.now }
+    requires segment { segment < length (segments_in course.now.plan) }
+    requires count { steps.old ≤ 2 ^ 63 }
+    ensures same { seat.new.shelf ≡ seat.old.shelf }
+    ensures stays { Stays seat.old.view seat.new.view }
+    ensures turns { seat.new.view.turns ≡ seat.old.view.turns }
+    ensures course { IsCourse course.now }
+    ensures ran { IfOk result (λ x. record { state = x.kernel; entries = x.entries.list } ≡ segment_run course.now.opening course.now.plan (segment_at course.now.plan segment)) }
+    ensures fits { IfOk result (λ x. Fits course.now.opening x.kernel) }
+    ensures found { OnOk result ((q : ℕ) → (segment_at course.now.plan segment).parent ≡ Some q → is_in (end_key course.now.plan q) seat.new.view.found ≡ true) }
+    ensures rose { OnOk result (steps.new ≡ steps.old + own_count course.now.opening course.now.plan (segment_at course.now.plan segment)) }
+    ensures most { steps.new ≤ steps.old + own_count course.now.opening course.now.plan (segment_at course.now.plan segment) }
+{
+    let mut entries = Trace::new(alloc);
+    let kernel = begun(rt, alloc, course, shelf, seat, segment, &mut entries)?;
+    run_on(alloc, course, segment, kernel, entries, steps)
+}
+
+// Puts a checkpoint on the shelf, where it isn't there yet.
+fn put(shelf: &Shelf<Checkpoint>, seat: &mut ShelfSeat<Checkpoint>, end: Arc<Checkpoint>)
+    requires seat { seat.old.shelf ≡ Some shelf.now }
+    requires course { end.value.course ≡ shelf.now.course }
+    requires claim { 0 < times end.value.key.segment seat.old.view.claims }
+    requires turns { seat.old.view.turns ≡ [] }
+    requires place { IsSome (place_of shelf.now.plan end.value.key) }
+    requires sole { is_sole shelf.now.plan end.value.key ≡ true }
+    ensures same { seat.new.shelf ≡ seat.old.shelf }
+    ensures stays { Stays seat.old.view seat.new.view }
+    ensures turns { seat.new.view.turns ≡ [] }
+    ensures known { is_in end.value.key seat.new.view.known ≡ true }
+{
+    let key = end.key();
+    match shelf.begin(seat, key) {
+        Begun::Turn(turn) => shelf.publish(seat, turn, end),
+        Begun::Taken(_) => {}
+    }
+}
+
+// Puts a segment's end on the shelf, unless the segment is its branch's last.
+fn put_end(
+    alloc: Global,
+    course: &Arc<Course>,
+    shelf: &Shelf<Checkpoint>,
+    seat: &mut ShelfSeat<Checkpoint>,
+    segment: u32,
+    kernel: &Kernel,
+) -> Result<(), Memory>
+    requires seat { seat.old.shelf ≡ Some shelf.now }
+    requires shelf { IsShelfOf course.now.value shelf.now }
+    requires segment { segment < length (segments_in course.now.value.plan) }
+    requires claim { 0 < times segment seat.old.view.claims }
+    requires turns { seat.old.view.turns ≡ [] }
+    requires state { kernel.now ≡ (segment_end course.now.value.opening course.now.value.plan (segment_at course.now.value.plan segment)).state }
+    ensures same { seat.new.shelf ≡ seat.old.shelf }
+    ensures stays { Stays seat.old.view seat.new.view }
+    ensures turns { seat.new.view.turns ≡ [] }
+    ensures known { OnOk result (segment < last_of course.now.value.plan.branches (segment_at course.now.value.plan segment).branch → is_in (end_key course.now.value.plan segment) seat.new.view.known ≡ true) }
+{
+    match kept_end(alloc, course, segment, kernel)? {
+        None => {}
+        Some(end) => put(shelf, seat, end),
+    }
+    Ok(())
+}
+
+/// Runs a segment that the seat claimed, from the end of its parent that the shelf keeps or is to keep, puts its end on the
+/// shelf where others go on from it, and counts it: the outcome is the segment's own, and the counter rises by the segment's
+/// own events.
+///
+/// The gate is passed before the first step. It may wait.
+///
+/// # Errors
+/// Want of memory alone. The counter then rose by no more, and the seat's count is as it was.
+pub fn run_segment<R: Wait, G: Gate, L: Ledger>(
+    rt: &R,
+    alloc: Global,
+    course: &Arc<Course>,
+    shelf: &Shelf<Checkpoint>,
+    seat: &mut ShelfSeat<Checkpoint>,
+    worker: u32,
+    segment: u32,
+    gate: &G,
+    steps: &mut Steps<L>,
+) -> Result<Outcome, Memory>
+    requires seat { seat.old.shelf ≡ Some shelf.now }
+    requires shelf { IsShelfOf course.now.value shelf.now }
+    requires segment { segment < length (segments_in course.now.value.plan) }
+    requires claim { 0 < times segment seat.old.view.claims }
+    requires more { seat.old.view.counts < length seat.old.view.claims }
+    requires turns { seat.old.view.turns ≡ [] }
+    requires count { steps.old ≤ 2 ^ 63 }
+    ensures same { seat.new.shelf ≡ seat.old.shelf }
+
+    // What the segment's run tells, and how many steps it took.
+    ensures outcome { IfOk result (λ x. outcome_told x ≡ outcome_of course.now.value segment) }
+    ensures rose { OnOk result (steps.new ≡ steps.old + own_count course.now.value.opening course.now.value.plan (segment_at course.now.value.plan segment)) }
+    ensures most { steps.new ≤ steps.old + own_count course.now.value.opening course.now.value.plan (segment_at course.now.value.plan segment) }
+
+    // The ends from which and to which it ran, and one claim more that is counted.
+    ensures ends { OnOk result (HasEnds course.now.value.plan segment seat.new.view) }
+    ensures counted { OnOk result (seat.new.view.counts ≡ seat.old.view.counts + 1) }
+    ensures uncounted { OnErr result (seat.new.view.counts ≡ seat.old.view.counts) }
+
+    // What stays, after want of memory too.
+    ensures remains { Remains seat.old.view seat.new.view }
+    ensures turns { seat.new.view.turns ≡ [] }
+{
+    gate.pass(worker, segment);
+    let ran = advance(rt, alloc, course, shelf, seat, segment, steps)?;
+    put_end(alloc, course, shelf, seat, segment, &ran.kernel)?;
+    let outcome = outcome_at(alloc, course.opening(), segment, ran)?;
+    shelf.count(seat);
+    Ok(outcome)
+}

@@ -1,0 +1,163 @@
+//! A worker, which takes segments from lanes until all are done.
+
+ghost use Rattle.std.specs.Prelude.{◌≡◌, ℕ, ◌+◌, ◌<◌, ◌≤◌, ◌^◌, ◌++◌, ◌∷◌, [], All, Some, true, false, IfSome, IsTrue, IsFalse, length, sum_by};
+ghost use Rattle.branch_tree.specs.Segments.{segments_in, children_of};
+ghost use Rattle.branch_workers.specs.Runs.{IsShelfOf};
+ghost use Rattle.branch_workers.specs.Workers.{IsAtWork, HasEnded, HasFinished, own_of};
+
+use crate::order::add;
+use crate::segment::run_segment;
+use branch_deques::{Lane, Room};
+use checkpoint_shelf::{Shelf, ShelfSeat};
+use kernel_copy::{Checkpoint, Course, Outcome};
+use outside::{Gate, Ledger, Steps};
+use std::alloc::Global;
+use std::sync::{Arc, Wait};
+use std::thread;
+
+// What one worker has.
+pub(crate) struct Worker<L: Ledger, B: Room> {
+    pub(crate) number: u32,
+    pub(crate) seat: ShelfSeat<Checkpoint>,
+    pub(crate) lane: Lane<B>,
+    pub(crate) steps: Steps<L>,
+    // The outcomes of the segments that the seat claimed, in the order of its claims.
+    pub(crate) outcomes: Vec<Outcome>,
+    // Whether it ended since all segments are done.
+    pub(crate) finished: bool,
+}
+
+// Pushes segments on a lane, in order.
+fn push_all<B: Room>(lane: &mut Lane<B>, segments: &[u32])
+    requires few { length lane.old.own.view.pushed + length segments.now ≤ B.room }
+    requires below { All (λ s. s < B.room) segments.now }
+    ensures { lane.new.own.view.pushed ≡ lane.old.own.view.pushed ++ segments.now }
+{
+    for segment in segments.iter() {
+        lane.push(*segment);
+    }
+}
+
+// The next segment of the own lane, or else of another's.
+fn next<R: Wait, B: Room>(rt: &R, lane: &mut Lane<B>) -> Option<u32>
+    ensures below { IfSome result (λ segment. segment < B.room) }
+    ensures pushed { lane.new.own.view.pushed ≡ lane.old.own.view.pushed }
+{
+    if let Some(segment) = lane.pop() {
+        return Some(segment);
+    }
+    lane.steal_round(rt)
+}
+
+// Pushes the segments that go on from a segment.
+fn push_children<B: Room>(course: &Course, lane: &mut Lane<B>, segment: u32)
+    requires segment { segment < length (segments_in course.now.plan) }
+    requires few { length lane.old.own.view.pushed + length (children_of course.now.plan segment) ≤ B.room }
+    requires below { All (λ s. s < B.room) (children_of course.now.plan segment) }
+    ensures { lane.new.own.view.pushed ≡ lane.old.own.view.pushed ++ children_of course.now.plan segment }
+{
+    push_all(lane, course.plan().children_of(segment));
+}
+
+// Runs a segment that no seat has claimed, and pushes those that go on from it. The answer says whether there was memory; if
+// not, the others are told to stop.
+fn try_segment<R: Wait, G: Gate, L: Ledger, B: Room>(
+    rt: &R,
+    alloc: Global,
+    course: &Arc<Course>,
+    shelf: &Shelf<Checkpoint>,
+    gate: &G,
+    worker: &mut Worker<L, B>,
+    segment: u32,
+) -> bool
+    requires shelf { IsShelfOf course.now.value shelf.now }
+    requires room { B.room ≡ length (segments_in course.now.value.plan) }
+    requires segment { segment < B.room }
+    requires work { IsAtWork course.now.value shelf.now worker.old.number worker.old.seat worker.old.steps worker.old.outcomes.items worker.old.lane.own.view.pushed }
+    ensures number { worker.new.number ≡ worker.old.number }
+    ensures finished { worker.new.finished ≡ worker.old.finished }
+    ensures work { IsTrue result → IsAtWork course.now.value shelf.now worker.new.number worker.new.seat worker.new.steps worker.new.outcomes.items worker.new.lane.own.view.pushed }
+    ensures ended { IsFalse result → HasEnded course.now.value shelf.now worker.new.number worker.new.seat worker.new.steps }
+{
+    if !shelf.claim(&mut worker.seat, segment) {
+        return true;
+    }
+    let number = worker.number;
+    let Ok(outcome) = run_segment(
+        rt,
+        alloc,
+        course,
+        shelf,
+        &mut worker.seat,
+        number,
+        segment,
+        gate,
+        &mut worker.steps,
+    ) else {
+        shelf.stop(&mut worker.seat);
+        return false;
+    };
+    let Ok(_) = add(&mut worker.outcomes, outcome) else {
+        shelf.stop(&mut worker.seat);
+        return false;
+    };
+    push_children(course, &mut worker.lane, segment);
+    true
+}
+
+// Whether a worker that found no segment ends: since all are done, which it notes, or since it is told to stop.
+fn ends<L: Ledger, B: Room>(
+    course: &Arc<Course>,
+    shelf: &Shelf<Checkpoint>,
+    worker: &mut Worker<L, B>,
+) -> bool
+    requires work { IsAtWork course.now.value shelf.now worker.old.number worker.old.seat worker.old.steps worker.old.outcomes.items worker.old.lane.own.view.pushed }
+    requires finished { worker.old.finished ≡ false }
+    ensures number { worker.new.number ≡ worker.old.number }
+    ensures work { IsAtWork course.now.value shelf.now worker.new.number worker.new.seat worker.new.steps worker.new.outcomes.items worker.new.lane.own.view.pushed }
+    ensures done { worker.new.finished ≡ true → length (segments_in course.now.value.plan) ≤ worker.new.seat.view.done_seen }
+    ensures goes_on { IsFalse result → worker.new.finished ≡ false }
+{
+    let count = course.plan().segments().len();
+    let progress = shelf.progress(&mut worker.seat);
+    if !progress.stopped && progress.done as usize == count {
+        worker.finished = true;
+        return true;
+    }
+    progress.stopped
+}
+
+// What a worker does: it runs the segments of its lane and of the others', until all are done or it is told to stop.
+pub(crate) fn run_worker<R: Wait, G: Gate, L: Ledger, B: Room>(
+    rt: &R,
+    alloc: Global,
+    course: &Arc<Course>,
+    shelf: &Shelf<Checkpoint>,
+    gate: &G,
+    worker: &mut Worker<L, B>,
+)
+    requires shelf { IsShelfOf course.now.value shelf.now }
+    requires room { B.room ≡ length (segments_in course.now.value.plan) }
+    requires work { IsAtWork course.now.value shelf.now worker.old.number worker.old.seat worker.old.steps worker.old.outcomes.items worker.old.lane.own.view.pushed }
+    requires finished { worker.old.finished ≡ false }
+    ensures number { worker.new.number ≡ worker.old.number }
+    ensures ended { HasEnded course.now.value shelf.now worker.new.number worker.new.seat worker.new.steps }
+    ensures finished { worker.new.finished ≡ true → HasFinished course.now.value worker.new.seat.view worker.new.outcomes.items }
+    ensures counted { worker.new.finished ≡ true → worker.new.steps ≡ sum_by (own_of course.now.value) worker.new.seat.view.claims }
+{
+    for _ in rt.forever() {
+        match next(rt, &mut worker.lane) {
+            Some(segment) => {
+                if !try_segment(rt, alloc, course, shelf, gate, worker, segment) {
+                    return;
+                }
+            }
+            None => {
+                if ends(course, shelf, worker) {
+                    return;
+                }
+                thread::yield_now();
+            }
+        }
+    }
+}
