@@ -10,10 +10,12 @@ use std::env;
 use std::io::ErrorKind;
 use std::process::ExitCode;
 use std::rt::{Env, Files};
+use std::sync::Wait;
+use std::thread::Threads;
 
 /// Runs the command line over the system's files. The bundle or the table goes to `out`, the line for the status to
 /// `notes`, and the status is the exit status.
-pub fn run_command_line<R: Env + Files + AllocGlobal, O: Sink, N: Sink>(
+pub fn run_command_line<R: Env + Files + AllocGlobal + Threads + Wait + Sync, O: Sink, N: Sink>(
     rt: &R,
     out: &mut O,
     notes: &mut N,
@@ -26,7 +28,7 @@ pub fn run_command_line<R: Env + Files + AllocGlobal, O: Sink, N: Sink>(
 }
 
 // Runs words, with the probes of a table in the order of their columns where there is memory for them.
-fn run_words<R: Files + AllocGlobal, O: Sink, N: Sink>(
+fn run_words<R: Files + AllocGlobal + Threads + Wait + Sync, O: Sink, N: Sink>(
     rt: &R,
     words: &[String],
     out: &mut O,
@@ -39,7 +41,7 @@ fn run_words<R: Files + AllocGlobal, O: Sink, N: Sink>(
 }
 
 // Makes the probes, and runs words with them.
-fn run_with_probes<R: Files + AllocGlobal, O: Sink, N: Sink>(
+fn run_with_probes<R: Files + AllocGlobal + Threads + Wait + Sync, O: Sink, N: Sink>(
     rt: &R,
     words: &[String],
     out: &mut O,
@@ -54,6 +56,7 @@ fn run_with_probes<R: Files + AllocGlobal, O: Sink, N: Sink>(
     let mut library = FileLibrary::new(rt);
     let mut steps: Steps<Counted> = Steps::new();
     let status = run(
+        rt,
         alloc,
         words,
         &mut library,

@@ -13,14 +13,14 @@ use Rattle.abides_run.specs.declared.request.Task.TheVariants as task
 abbrev pub texts : List (String Global) → List (List ℕ)
 texts words = map string_bytes words
 
--- what a command asks for; those that the program does not have ask for nothing
-abbrev pub request_of : Command → Option Request
-request_of (Run study) = Some (record { task = task.Run; study = study })
-request_of (Check study) = Some (record { task = task.Check; study = study })
-request_of (Table study) = Some (record { task = task.Table; study = study })
-request_of (Rewind study marks) = None
-request_of (Big number) = None
+-- what a command asks of so many workers; those that the program does not have ask for nothing
+abbrev pub request_of : ℕ → Command → Option Request
+request_of workers (Run study) = Some (record { task = task.Run; study = study; workers = workers })
+request_of workers (Check study) = Some (record { task = task.Check; study = study; workers = workers })
+request_of workers (Table study) = Some (record { task = task.Table; study = study; workers = workers })
+request_of workers (Rewind study marks) = None
+request_of workers (Big number) = None
 
 -- what the words ask for, where they are a command line
 abbrev pub asked_of : List (List ℕ) → Option Request
-asked_of words = option_and_then (λ (asked : Asked). request_of asked.command) (line.asked_of words)
+asked_of words = option_and_then (λ (asked : Asked). request_of asked.workers asked.command) (line.asked_of words)

@@ -1,6 +1,6 @@
 //! From words and a library to a study.
 
-ghost use Rattle.std.specs.Prelude.{◌≡◌, ◌⊎◌, ◌≤◌, ◌∷◌, [], ℕ, List, None, Some, IfOk, IfErr, IfSome, OnOk, option_map, string_bytes};
+ghost use Rattle.std.specs.Prelude.{◌≡◌, ◌⊎◌, ◌<◌, ◌≤◌, ◌∷◌, [], ℕ, List, None, Some, IfOk, IfErr, IfSome, OnOk, option_map, string_bytes};
 ghost use Rattle.toml.specs.View.{table_view};
 ghost use Rattle.outside.specs.Rose.{Rose};
 ghost use Rattle.outside.specs.Files.{whole, held, content};
@@ -156,6 +156,8 @@ pub fn find_study<L: Library>(
 ) -> Result<Found, Ending>
     ensures study { IfOk result (λ f. IfSome (L.files library.old) (λ files. verdict files (texts words.now) ≡ accepted f.task (study_told f.study))) }
     ensures asked { OnOk result (¬ (asked_of (texts words.now) ≡ None)) }
+    ensures workers { IfOk result (λ f. option_map (λ request. request.workers) (asked_of (texts words.now)) ≡ Some f.workers) }
+    ensures some_workers { IfOk result (λ f. (0 < f.workers) × (f.workers ≤ 64)) }
     ensures ended { IfErr result (λ e. IfSome (L.files library.old) (λ files.
         Ends (verdict files (texts words.now)) (fetched_names files (texts words.now)) e.status (string_bytes e.name))) }
     ensures speaks { IfErr result (λ e. SpeaksFor (texts words.now) e.status (string_bytes e.name)) }
@@ -178,5 +180,6 @@ pub fn find_study<L: Library>(
     Ok(Found {
         task: request.task,
         study,
+        workers: request.workers,
     })
 }

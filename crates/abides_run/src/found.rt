@@ -3,11 +3,13 @@
 use crate::request::Task;
 use study_accept::Study;
 
-/// An accepted study, and what is to be done with it.
+/// An accepted study, what is to be done with it, and by how many workers.
 #[derive(Drop)]
 pub struct Found {
     /// What is to be done.
     pub task: Task,
     /// The study.
     pub study: Study,
+    /// How many workers: 1 to 64.
+    pub workers: u32,
 }

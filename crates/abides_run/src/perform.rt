@@ -1,6 +1,6 @@
 //! What is done with a study.
 
-ghost use Rattle.std.specs.Prelude.{◌≡◌, ◌+◌, ◌++◌, ◌∷◌, ◌≤◌, ◌^◌, [], ℕ, IfOk, codes, length, map, string_bytes};
+ghost use Rattle.std.specs.Prelude.{◌≡◌, ◌+◌, ◌++◌, ◌∷◌, ◌<◌, ◌≤◌, ◌^◌, [], ℕ, IfOk, codes, length, map, string_bytes};
 ghost use Rattle.std.specs.Fmt.{decimal};
 ghost use Rattle.abides_run.specs.Output.{counts_line, simulated, study_bundle, study_events, study_table, written};
 ghost use Rattle.abides_run.specs.Performed.{Performed};
@@ -12,46 +12,56 @@ use crate::send::{send, send_bundle};
 use crate::status::Status;
 use branch_bundle::laws::outcomes_are_a_run;
 use branch_tables::study_table;
-use kernel_copy::{Course, run_segments};
-use outside::{Ledger, Sink, Steps};
+use branch_workers::work;
+use kernel_copy::Course;
+use outside::{Gate, Ledger, Sink, Steps};
 use plain_lists::Memory;
 use probe_desk::Probe;
 use std::alloc::{AllocError, Global};
-use std::sync::Arc;
+use std::sync::{Arc, Wait};
+use std::thread::Threads;
 
-// Simulates each segment of a study once, and then writes the bundle.
-fn run_study<O: Sink, D: Ledger>(
+// Has workers simulate each segment of a study once, and then writes the bundle.
+fn run_study<R: Threads + Wait + Sync, O: Sink, G: Gate + Sync, D: Ledger + Send>(
+    rt: &R,
     alloc: Global,
     course: &Arc<Course>,
+    workers: u32,
     out: &mut O,
+    gate: &G,
     steps: &mut Steps<D>,
 ) -> Status
-    requires { steps.old ≤ 2 ^ 63 }
+    requires workers { (0 < workers) × (workers ≤ 64) }
+    requires steps { steps.old ≤ 2 ^ 63 }
     ensures { (reads : ℕ) → Performed (study_bundle course.now.value) (study_events course.now.value)
         (record { reads = reads; writes = O.faults out.old; taken = O.taken out.old; steps = steps.old })
         (record { reads = reads; writes = O.faults out.new; taken = O.taken out.new; steps = steps.new })
         result }
 {
     outcomes_are_a_run();
-    let outcomes = match run_segments(alloc, course, steps) {
-        Ok(outcomes) => outcomes,
+    let worked = match work(rt, alloc, course, workers, gate, steps) {
+        Ok(worked) => worked,
         Err(Memory) => return Status::Memory,
     };
-    match send_bundle(alloc, course, &outcomes, out) {
+    match send_bundle(alloc, course, &worked.outcomes, out) {
         Ok(()) => Status::Ok,
         Err(status) => status,
     }
 }
 
-// Simulates each segment of a study once, and then writes the table that compares the branches.
-fn table_study<O: Sink, D: Ledger>(
+// Has workers simulate each segment of a study once, and then writes the table that compares the branches.
+fn table_study<R: Threads + Wait + Sync, O: Sink, G: Gate + Sync, D: Ledger + Send>(
+    rt: &R,
     alloc: Global,
     course: &Arc<Course>,
+    workers: u32,
     probes: &mut [Box<dyn Probe>],
     out: &mut O,
+    gate: &G,
     steps: &mut Steps<D>,
 ) -> Status
-    requires { steps.old ≤ 2 ^ 63 }
+    requires workers { (0 < workers) × (workers ≤ 64) }
+    requires steps { steps.old ≤ 2 ^ 63 }
     ensures { (reads : ℕ) → Performed (study_table (record { meanings = map (λ p. meaning p) probes.old; titles = map (λ p. title p) probes.old }) course.now.value)
         (study_events course.now.value)
         (record { reads = reads; writes = O.faults out.old; taken = O.taken out.old; steps = steps.old })
@@ -59,11 +69,11 @@ fn table_study<O: Sink, D: Ledger>(
         result }
 {
     outcomes_are_a_run();
-    let outcomes = match run_segments(alloc, course, steps) {
-        Ok(outcomes) => outcomes,
+    let worked = match work(rt, alloc, course, workers, gate, steps) {
+        Ok(worked) => worked,
         Err(Memory) => return Status::Memory,
     };
-    let text = match study_table(alloc, course, &outcomes, probes) {
+    let text = match study_table(alloc, course, &worked.outcomes, probes) {
         Ok(text) => text,
         Err(_) => return Status::Memory,
     };
@@ -123,14 +133,17 @@ fn check_study<O: Sink>(alloc: Global, course: &Course, out: &mut O) -> Status
 }
 
 /// Does with a study what is asked for.
-pub fn perform<O: Sink, D: Ledger>(
+pub fn perform<R: Threads + Wait + Sync, O: Sink, G: Gate + Sync, D: Ledger + Send>(
+    rt: &R,
     alloc: Global,
     found: &Found,
     probes: &mut [Box<dyn Probe>],
     out: &mut O,
+    gate: &G,
     steps: &mut Steps<D>,
 ) -> Status
-    requires { steps.old ≤ 2 ^ 63 }
+    requires workers { (0 < found.now.workers) × (found.now.workers ≤ 64) }
+    requires steps { steps.old ≤ 2 ^ 63 }
     ensures { (reads : ℕ) → Performed
         (written (record { meanings = map (λ p. meaning p) probes.old; titles = map (λ p. title p) probes.old }) found.now.task (study_told found.now.study))
         (simulated found.now.task (study_told found.now.study))
@@ -138,9 +151,10 @@ pub fn perform<O: Sink, D: Ledger>(
         (record { reads = reads; writes = O.faults out.new; taken = O.taken out.new; steps = steps.new })
         result }
 {
+    let course = &found.study.course;
     match found.task {
-        Task::Run => run_study(alloc, &found.study.course, out, steps),
-        Task::Check => check_study(alloc, &found.study.course, out),
-        Task::Table => table_study(alloc, &found.study.course, probes, out, steps),
+        Task::Run => run_study(rt, alloc, course, found.workers, out, gate, steps),
+        Task::Check => check_study(alloc, course, out),
+        Task::Table => table_study(rt, alloc, course, found.workers, probes, out, gate, steps),
     }
 }

@@ -13,11 +13,13 @@ pub enum Task {
     Table,
 }
 
-/// A task, and the name of the study's file.
+/// A task, the name of the study's file, and how many workers do it.
 #[derive(Drop)]
 pub struct Request<'a> {
     /// What is to be done.
     pub task: Task,
     /// The name of the file, which is not empty.
     pub study: Text<'a>,
+    /// How many workers: 1 to 64.
+    pub workers: u32,
 }

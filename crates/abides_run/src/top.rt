@@ -12,14 +12,18 @@ use crate::status::Status;
 use outside::{Gate, Ledger, Library, Sink, Steps};
 use probe_desk::Probe;
 use std::alloc::Global;
+use std::sync::Wait;
+use std::thread::Threads;
 
 // All but the note.
-fn answer<L: Library, O: Sink, D: Ledger>(
+fn answer<R: Threads + Wait + Sync, L: Library, O: Sink, G: Gate + Sync, D: Ledger + Send>(
+    rt: &R,
     alloc: Global,
     words: &[String],
     library: &mut L,
     out: &mut O,
     probes: &mut [Box<dyn Probe>],
+    gate: &G,
     steps: &mut Steps<D>,
 ) -> Ending
     requires { steps.old ≤ 2 ^ 63 }
@@ -33,7 +37,7 @@ fn answer<L: Library, O: Sink, D: Ledger>(
 {
     match find_study(alloc, words, library) {
         Ok(found) => Ending {
-            status: perform(alloc, &found, probes, out, steps),
+            status: perform(rt, alloc, &found, probes, out, gate, steps),
             name: String::new(alloc),
         },
         Err(ending) => ending,
@@ -42,19 +46,28 @@ fn answer<L: Library, O: Sink, D: Ledger>(
 
 /// Does what the words ask for: the study's file and the series file that it names come from the library, the bundle or the
 /// line of counts or the table goes to `out`, and the line for the status to `notes`. The words are the command line without the
-/// program's name; each simulated event ticks `steps` once. The gate is where workers will pass; one thread needs none.
+/// program's name; each simulated event ticks `steps` once. So many workers as the words say simulate the study's segments, each
+/// in a thread of its own where `rt` can make one; each passes the gate before the first step of a segment.
 ///
 /// What is promised of it are the fields of two records. `Answered` has the output, the rise of the counter, the cause of
 /// each status and the status of each cause, what stands at a refusal, and that want of memory is the only other end.
 /// `Noted` has the line of the status, with the name of the file that the status speaks of, and `Named` whose name that is.
-pub fn run<L: Library, O: Sink, N: Sink, G: Gate, D: Ledger>(
+pub fn run<
+    R: Threads + Wait + Sync,
+    L: Library,
+    O: Sink,
+    N: Sink,
+    G: Gate + Sync,
+    D: Ledger + Send,
+>(
+    rt: &R,
     alloc: Global,
     words: &[String],
     library: &mut L,
     out: &mut O,
     notes: &mut N,
     probes: Vec<Box<dyn Probe>>,
-    _gate: &G,
+    gate: &G,
     steps: &mut Steps<D>,
 ) -> Status
     requires { steps.old ≤ 2 ^ 63 }
@@ -68,6 +81,6 @@ pub fn run<L: Library, O: Sink, N: Sink, G: Gate, D: Ledger>(
     ensures files { L.files library.new ≡ L.files library.old }
 {
     let mut probes = probes;
-    let ending = answer(alloc, words, library, out, &mut probes, steps);
+    let ending = answer(rt, alloc, words, library, out, &mut probes, gate, steps);
     write_note(alloc, ending.name.as_str(), ending.status, notes)
 }

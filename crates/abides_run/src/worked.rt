@@ -30,13 +30,13 @@ pub fn shared_events_are_counted_once()
 /// The words `run s`, `check s` and `table s` ask for the study `s`; with no name, an empty one, a further word, or a command that the
 /// program does not have they ask for nothing.
 pub fn asked_words()
-    ensures run { asked_of (codes "run" ∷ codes "s" ∷ []) ≡ Some (record { task = task.Run; study = codes "s" }) }
-    ensures check { asked_of (codes "check" ∷ codes "s" ∷ codes "--workers=64" ∷ []) ≡ Some (record { task = task.Check; study = codes "s" }) }
+    ensures run { asked_of (codes "run" ∷ codes "s" ∷ []) ≡ Some (record { task = task.Run; study = codes "s"; workers = 1 }) }
+    ensures check { asked_of (codes "check" ∷ codes "s" ∷ codes "--workers=64" ∷ []) ≡ Some (record { task = task.Check; study = codes "s"; workers = 64 }) }
     ensures nameless { asked_of (codes "run" ∷ []) ≡ None }
     ensures empty { asked_of (codes "run" ∷ [] ∷ []) ≡ None }
     ensures further { asked_of (codes "run" ∷ codes "s" ∷ codes "t" ∷ []) ≡ None }
     ensures other { asked_of (codes "ran" ∷ codes "s" ∷ []) ≡ None }
-    ensures table { asked_of (codes "table" ∷ codes "s" ∷ []) ≡ Some (record { task = task.Table; study = codes "s" }) }
+    ensures table { asked_of (codes "table" ∷ codes "s" ∷ []) ≡ Some (record { task = task.Table; study = codes "s"; workers = 1 }) }
     ensures rewind { asked_of (codes "rewind" ∷ codes "s" ∷ codes "root:1" ∷ []) ≡ None }
     ensures big { asked_of (codes "big" ∷ codes "7" ∷ []) ≡ None }
     ensures many_workers { asked_of (codes "run" ∷ codes "s" ∷ codes "--workers=65" ∷ []) ≡ None }
@@ -47,8 +47,8 @@ pub fn asked_words()
 pub fn order_of_refusals()
     ensures faulty { verdict [] [] ≡ usage }
     ensures missing { verdict [] (codes "run" ∷ codes "s" ∷ []) ≡ no_file (codes "s") }
-    ensures absent_study { verdict_on_study [] (record { task = task.Run; study = codes "s" }) absent ≡ no_file (codes "s") }
-    ensures long_study { verdict_on_study [] (record { task = task.Run; study = codes "s" }) too_long ≡ file_too_long (codes "s") }
+    ensures absent_study { verdict_on_study [] (record { task = task.Run; study = codes "s"; workers = 1 }) absent ≡ no_file (codes "s") }
+    ensures long_study { verdict_on_study [] (record { task = task.Run; study = codes "s"; workers = 1 }) too_long ≡ file_too_long (codes "s") }
     ensures no_table { verdict ((codes "s", 255 ∷ []) ∷ []) (codes "run" ∷ codes "s" ∷ []) ≡ refused 0 0 }
     ensures no_series { verdict ((codes "s", study_with_series) ∷ []) (codes "run" ∷ codes "s" ∷ []) ≡ no_file (codes "t") }
     ensures fetched { fetched ((codes "s", study_with_series) ∷ []) (codes "run" ∷ codes "s" ∷ []) ≡ codes "s" ∷ codes "t" ∷ [] }

@@ -2,7 +2,9 @@ use abides_run::{Status, run};
 use outside::{Counted, MemoryLibrary, MemorySink, OpenGate, Steps};
 use std::alloc::Global;
 use std::process::Abort;
+use std::sync::Wait;
 use std::test::Fail;
+use std::thread::Threads;
 
 // Two watchers of one stock.
 const WATCHERS: &str = "version = 1
@@ -128,7 +130,13 @@ struct Ended {
 }
 
 // Runs a command on the study `s`. A sink takes at most 64 bytes a call.
-fn ran(alloc: Global, command: &str, study: &[u8], around: Around) -> Result<Ended, Fail> {
+fn ran<R: Threads + Wait + Sync>(
+    rt: &R,
+    alloc: Global,
+    command: &str,
+    study: &[u8],
+    around: Around,
+) -> Result<Ended, Fail> {
     let mut words = Vec::with_capacity(alloc, 2)?;
     words.push(String::from_str(alloc, command)?)?;
     words.push(String::from_str(alloc, "s")?)?;
@@ -137,6 +145,7 @@ fn ran(alloc: Global, command: &str, study: &[u8], around: Around) -> Result<End
     let mut notes = sink(alloc, around.notes_room, 0)?;
     let mut steps: Steps<Counted> = Steps::new();
     let status = run(
+        rt,
         alloc,
         &words,
         &mut library,
@@ -169,7 +178,7 @@ fn a_failed_read_names_its_file(rt: HostRuntime) -> Result<(), Fail> {
                 failing_read,
                 ..QUIET
             };
-            let ran = ran(alloc, command, study.as_bytes(), around)?;
+            let ran = ran(&rt, alloc, command, study.as_bytes(), around)?;
             assert_eq!(rt; ran.status, status, "{command}, call {failing_read}");
             assert_eq!(rt; ran.notes.taken(), note.as_bytes());
             assert_eq!(rt; ran.out.taken().is_empty(), status != Status::Ok);
@@ -193,21 +202,21 @@ fn taken_before_calls(alloc: Global, pieces: &[usize]) -> Result<Vec<usize>, Fai
 
 // Runs a study of so many steps once for each write, which fails, and once more; the pieces are the sizes of its header,
 // of each of its branches and of its end.
-fn fail_each_write(
-    rt: &impl Abort,
+fn fail_each_write<R: Abort + Threads + Wait + Sync>(
+    rt: &R,
     alloc: Global,
     study: &str,
     steps: u64,
     pieces: &[usize],
 ) -> Result<usize, Fail> {
-    let whole = ran(alloc, "run", study.as_bytes(), QUIET)?;
+    let whole = ran(rt, alloc, "run", study.as_bytes(), QUIET)?;
     let mut call = 1;
     for taken in taken_before_calls(alloc, pieces)? {
         let around = Around {
             failing_write: call,
             ..QUIET
         };
-        let ran = ran(alloc, "run", study.as_bytes(), around)?;
+        let ran = ran(rt, alloc, "run", study.as_bytes(), around)?;
         assert!(rt;
             ran.status == Status::WriteFault && ran.steps == steps,
             "call {call}"
@@ -223,7 +232,7 @@ fn fail_each_write(
         failing_write: call,
         ..QUIET
     };
-    let ran = ran(alloc, "run", study.as_bytes(), around)?;
+    let ran = ran(rt, alloc, "run", study.as_bytes(), around)?;
     assert!(rt;
         ran.status == Status::Ok && ran.steps == steps,
         "no call {call}"
@@ -251,7 +260,7 @@ fn a_sink_without_room_is_a_fault(rt: HostRuntime) -> Result<(), Fail> {
     let study = branched_study(alloc)?;
     for (command, steps) in [("run", 18), ("check", 0)] {
         let around = Around { room: 0, ..QUIET };
-        let ran = ran(alloc, command, study.as_bytes(), around)?;
+        let ran = ran(&rt, alloc, command, study.as_bytes(), around)?;
         assert!(rt; ran.status == Status::WriteFault && ran.steps == steps);
         assert!(rt; ran.out.taken().is_empty());
         assert_eq!(rt; ran.notes.taken(), b"write failed\n".as_slice());
@@ -282,7 +291,7 @@ fn notes_that_fail_change_no_status(rt: HostRuntime) -> Result<(), Fail> {
                 room,
                 notes_room,
             };
-            let ran = ran(alloc, command, study, around)?;
+            let ran = ran(&rt, alloc, command, study, around)?;
             assert_eq!(rt; ran.status, status, "{command}");
             let silent = notes_room == 0 || status == Status::Ok;
             assert_eq!(rt; ran.notes.taken().is_empty(), silent);
@@ -292,8 +301,12 @@ fn notes_that_fail_change_no_status(rt: HostRuntime) -> Result<(), Fail> {
 }
 
 // Whether a run of these bytes is accepted; one that is not is refused by a rule, and writes nothing.
-fn is_accepted(rt: &impl Abort, alloc: Global, study: &[u8]) -> Result<bool, Fail> {
-    let ran = ran(alloc, "run", study, QUIET)?;
+fn is_accepted<R: Abort + Threads + Wait + Sync>(
+    rt: &R,
+    alloc: Global,
+    study: &[u8],
+) -> Result<bool, Fail> {
+    let ran = ran(rt, alloc, "run", study, QUIET)?;
     let refused = matches!(ran.status, Status::Refused { .. });
     assert!(rt;
         ran.status == Status::Ok || refused,

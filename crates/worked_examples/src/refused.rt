@@ -6,14 +6,21 @@ use crate::broken::{
 use crate::runs::{library, run_over, sink};
 use abides_run::Status;
 use std::alloc::Global;
+use std::sync::Wait;
 use std::test::Fail;
+use std::thread::Threads;
 
 // The rule and the place that refuse a study with its series file, where the run makes no event and writes its note only.
-fn refusal_of(alloc: Global, study: &str, rows: &str) -> Result<(u32, u32), Fail> {
+fn refusal_of<R: Threads + Wait + Sync>(
+    rt: &R,
+    alloc: Global,
+    study: &str,
+    rows: &str,
+) -> Result<(u32, u32), Fail> {
     let mut out = sink(alloc, 100, 64, &[])?;
     let mut notes = sink(alloc, 100, 64, &[])?;
     let held = library(alloc, study.as_bytes(), rows.as_bytes(), &[])?;
-    let (status, counted) = run_over(alloc, &["run", "s"], held, &mut out, &mut notes)?;
+    let (status, counted) = run_over(rt, alloc, &["run", "s"], held, &mut out, &mut notes)?;
     let Status::Refused { rule, place } = status else {
         return Err(Fail::from("not refused"));
     };
@@ -26,7 +33,8 @@ fn refusal_of(alloc: Global, study: &str, rows: &str) -> Result<(u32, u32), Fail
 }
 
 // The first change of a study and its series file that is not refused as it says.
-fn first_odd(
+fn first_odd<R: Threads + Wait + Sync>(
+    rt: &R,
     alloc: Global,
     study: &str,
     rows: &str,
@@ -35,7 +43,7 @@ fn first_odd(
     for (old, new, rule, place) in changes {
         let study = study.replacen(alloc, *old, new, 1)?;
         let rows = rows.replacen(alloc, *old, new, 1)?;
-        if refusal_of(alloc, study.as_str(), rows.as_str())? != (*rule, *place) {
+        if refusal_of(rt, alloc, study.as_str(), rows.as_str())? != (*rule, *place) {
             return Ok(Some(*new));
         }
     }
@@ -44,22 +52,25 @@ fn first_odd(
 
 #[test]
 fn hostile_studies_are_refused(rt: HostRuntime) -> Result<(), Fail> {
-    assert_eq!(rt; first_odd(rt.alloc(), SMALL, "", &HOSTILE)?, None);
+    assert_eq!(rt; first_odd(&rt, rt.alloc(), SMALL, "", &HOSTILE)?, None);
     let branches = "[[branch]]\nname = 'x'\nparent = 'root'\nat = 2\n".repeat(rt.alloc(), 128)?;
     let crowded = format!(in rt.alloc(); "{SMALL}{branches}")?;
-    assert_eq!(rt; refusal_of(rt.alloc(), crowded.as_str(), "")?, (30, 127));
+    assert_eq!(rt;
+        refusal_of(&rt, rt.alloc(), crowded.as_str(), "")?,
+        (30, 127)
+    );
     Ok(())
 }
 
 #[test]
 fn broken_tables_are_refused(rt: HostRuntime) -> Result<(), Fail> {
-    assert_eq!(rt; first_odd(rt.alloc(), FULL, ROWS, &TABLES)?, None);
+    assert_eq!(rt; first_odd(&rt, rt.alloc(), FULL, ROWS, &TABLES)?, None);
     Ok(())
 }
 
 #[test]
 fn broken_branches_are_refused(rt: HostRuntime) -> Result<(), Fail> {
-    assert_eq!(rt; first_odd(rt.alloc(), FULL, ROWS, &BRANCHES)?, None);
+    assert_eq!(rt; first_odd(&rt, rt.alloc(), FULL, ROWS, &BRANCHES)?, None);
     Ok(())
 }
 
@@ -70,17 +81,25 @@ fn crowds_are_refused(rt: HostRuntime) -> Result<(), Fail> {
         let entries = entry.repeat(alloc, count)?;
         let crowd = format!(in alloc; "{old}{entries}")?;
         let study = FULL.replacen(alloc, old, crowd.as_str(), 1)?;
-        assert_eq!(rt; refusal_of(alloc, study.as_str(), ROWS)?, (rule, place));
+        assert_eq!(rt;
+            refusal_of(&rt, alloc, study.as_str(), ROWS)?,
+            (rule, place)
+        );
     }
     Ok(())
 }
 
 // What `check` writes of a study with its series file.
-fn checked(alloc: Global, study: &str, rows: &str) -> Result<Vec<u8>, Fail> {
+fn checked<R: Threads + Wait + Sync>(
+    rt: &R,
+    alloc: Global,
+    study: &str,
+    rows: &str,
+) -> Result<Vec<u8>, Fail> {
     let mut out = sink(alloc, 100, 64, &[])?;
     let mut notes = sink(alloc, 100, 64, &[])?;
     let held = library(alloc, study.as_bytes(), rows.as_bytes(), &[])?;
-    let ended = run_over(alloc, &["check", "s"], held, &mut out, &mut notes)?;
+    let ended = run_over(rt, alloc, &["check", "s"], held, &mut out, &mut notes)?;
     if ended == (Status::Ok, 0) && notes.taken().is_empty() {
         Ok(out.taken().to_vec(alloc)?)
     } else {
@@ -89,7 +108,11 @@ fn checked(alloc: Global, study: &str, rows: &str) -> Result<Vec<u8>, Fail> {
 }
 
 // The first change of the full study and its series file that `check` does not accept with the numbers that it says.
-fn first_refused(alloc: Global, changes: &[Edge]) -> Result<Option<&'static str>, Fail> {
+fn first_refused<R: Threads + Wait + Sync>(
+    rt: &R,
+    alloc: Global,
+    changes: &[Edge],
+) -> Result<Option<&'static str>, Fail> {
     for (old, new, counts) in changes {
         let [agents, stocks, branches, segments] = *counts;
         let study = FULL.replacen(alloc, *old, new, 1)?;
@@ -97,7 +120,7 @@ fn first_refused(alloc: Global, changes: &[Edge]) -> Result<Option<&'static str>
         let line = format!(in alloc;
             "accepted: agents {agents}, stocks {stocks}, branches {branches}, segments {segments}\n"
         )?;
-        let written = checked(alloc, study.as_str(), rows.as_str())?;
+        let written = checked(rt, alloc, study.as_str(), rows.as_str())?;
         if written.as_slice() != line.as_bytes() {
             return Ok(Some(*new));
         }
@@ -107,16 +130,20 @@ fn first_refused(alloc: Global, changes: &[Edge]) -> Result<Option<&'static str>
 
 #[test]
 fn edges_are_accepted(rt: HostRuntime) -> Result<(), Fail> {
-    assert_eq!(rt; first_refused(rt.alloc(), &EDGES)?, None);
+    assert_eq!(rt; first_refused(&rt, rt.alloc(), &EDGES)?, None);
     Ok(())
 }
 
 // The bytes that a run of a study writes and its events; none where the study is refused and nothing is written.
-fn run_of(alloc: Global, study: &[u8]) -> Result<Option<(usize, u64)>, Fail> {
+fn run_of<R: Threads + Wait + Sync>(
+    rt: &R,
+    alloc: Global,
+    study: &[u8],
+) -> Result<Option<(usize, u64)>, Fail> {
     let mut out = sink(alloc, 6000, 4096, &[])?;
     let mut notes = sink(alloc, 100, 64, &[])?;
     let held = library(alloc, study, b"", &[])?;
-    let (status, counted) = run_over(alloc, &["run", "s"], held, &mut out, &mut notes)?;
+    let (status, counted) = run_over(rt, alloc, &["run", "s"], held, &mut out, &mut notes)?;
     match status {
         Status::Ok => Ok(Some((out.taken().len(), counted))),
         Status::Refused { .. } if out.taken().is_empty() && counted == 0 => Ok(None),
@@ -130,7 +157,7 @@ fn a_cut_study_runs_or_is_refused(rt: HostRuntime) -> Result<(), Fail> {
     let mut found = Vec::new(alloc);
     for length in 0..=SMALL.len() {
         let cut = SMALL.as_bytes().get(..length).ok_or("no such length")?;
-        if let Some((size, counted)) = run_of(alloc, cut)? {
+        if let Some((size, counted)) = run_of(&rt, alloc, cut)? {
             found.push((length, size, counted))?;
         }
     }
@@ -159,12 +186,12 @@ fn a_million_rows_are_taken_and_no_more(rt: HostRuntime) -> Result<(), Fail> {
     )?;
     let study = format!(in alloc; "series = \"t\"\n{by_rows}")?;
     let mut rows = many_rows(alloc, 1_000_000)?;
-    let line = checked(alloc, study.as_str(), rows.as_str())?;
+    let line = checked(&rt, alloc, study.as_str(), rows.as_str())?;
     let accepted = b"accepted: agents 3, stocks 1, branches 1, segments 1\n";
     assert!(rt; line.as_slice() == accepted.as_slice());
     rows.push_str("ABM,1000000,1\n")?;
     assert_eq!(rt;
-        refusal_of(alloc, study.as_str(), rows.as_str())?,
+        refusal_of(&rt, alloc, study.as_str(), rows.as_str())?,
         (19, 1_000_001)
     );
     Ok(())

@@ -4,7 +4,9 @@ use abides_run::{Status, run};
 use outside::{Counted, MemoryLibrary, MemorySink, OpenGate, Steps};
 use probe_desk::{Fees, Probe, Range, SpreadSum, Volume};
 use std::alloc::Global;
+use std::sync::Wait;
 use std::test::Fail;
+use std::thread::Threads;
 
 fn words_of(alloc: Global, words: &[&str]) -> Result<Vec<String>, Fail> {
     let mut all = Vec::new(alloc);
@@ -43,7 +45,8 @@ pub fn four_probes(alloc: Global) -> Result<Vec<Box<dyn Probe>>, Fail> {
 }
 
 /// Runs words over the files `s` and `t` with the program's probes; answers the status and the counted steps.
-pub fn run_over(
+pub fn run_over<R: Threads + Wait + Sync>(
+    rt: &R,
     alloc: Global,
     words: &[&str],
     library: MemoryLibrary,
@@ -51,11 +54,12 @@ pub fn run_over(
     notes: &mut MemorySink,
 ) -> Result<(Status, u64), Fail> {
     let probes = four_probes(alloc)?;
-    run_with(alloc, words, library, probes, out, notes)
+    run_with(rt, alloc, words, library, probes, out, notes)
 }
 
 /// The same with these probes.
-pub fn run_with(
+pub fn run_with<R: Threads + Wait + Sync>(
+    rt: &R,
     alloc: Global,
     words: &[&str],
     mut library: MemoryLibrary,
@@ -66,6 +70,7 @@ pub fn run_with(
     let words = words_of(alloc, words)?;
     let mut steps: Steps<Counted> = Steps::new();
     let status = run(
+        rt,
         alloc,
         &words,
         &mut library,

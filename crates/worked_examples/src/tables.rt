@@ -34,7 +34,15 @@ fn branches_are_compared(rt: HostRuntime) -> Result<(), Fail> {
         let mut out = sink(alloc, 4000, 4096, &[])?;
         let mut notes = sink(alloc, 100, 64, &[])?;
         let held = library(alloc, text.as_bytes(), b"", &[])?;
-        let ended = run_with(alloc, &["table", "s"], held, probes, &mut out, &mut notes)?;
+        let ended = run_with(
+            &rt,
+            alloc,
+            &["table", "s"],
+            held,
+            probes,
+            &mut out,
+            &mut notes,
+        )?;
         assert_eq!(rt; ended, (Status::Ok, counted));
         assert!(rt; out.taken() == table.as_bytes() && notes.taken().is_empty());
     }
@@ -58,7 +66,15 @@ fn a_thousand_probes_have_their_columns(rt: HostRuntime) -> Result<(), Fail> {
     let mut notes = sink(alloc, 100, 64, &[])?;
     let held = library(alloc, text.as_bytes(), b"", &[])?;
     let probes = volumes(alloc, 1000)?;
-    let ended = run_with(alloc, &["table", "s"], held, probes, &mut out, &mut notes)?;
+    let ended = run_with(
+        &rt,
+        alloc,
+        &["table", "s"],
+        held,
+        probes,
+        &mut out,
+        &mut notes,
+    )?;
     assert_eq!(rt; ended, (Status::Ok, 18));
     // each column adds `,volume` to the first line and `,0` to the four others
     assert_eq!(rt;

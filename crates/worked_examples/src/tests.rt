@@ -1,8 +1,11 @@
 use crate::runs::{library, run_over, sink};
 use crate::{EMPTY_RUN, TWO_WATCHERS};
 use abides_run::Status;
+use outside::MemorySink;
 use std::alloc::Global;
+use std::sync::Wait;
 use std::test::Fail;
+use std::thread::Threads;
 
 // A study of one stock whose value stays at ten dollars, and what stands between its values that the tests change.
 const BEFORE_KEY: &str = "version = 1\nkey = \"";
@@ -78,7 +81,7 @@ fn bundles_byte_for_byte(rt: HostRuntime) -> Result<(), Fail> {
             let mut out = sink(alloc, size, most, &[])?;
             let mut notes = sink(alloc, 100, most, &[])?;
             let held = library(alloc, text.as_bytes(), b"", &[])?;
-            let ended = run_over(alloc, &["run", "s"], held, &mut out, &mut notes)?;
+            let ended = run_over(&rt, alloc, &["run", "s"], held, &mut out, &mut notes)?;
             assert_eq!(rt; ended, (Status::Ok, counted));
             assert!(rt; are_frames(out.taken(), frames) && notes.taken().is_empty());
         }
@@ -86,17 +89,30 @@ fn bundles_byte_for_byte(rt: HostRuntime) -> Result<(), Fail> {
     Ok(())
 }
 
-#[test]
-fn three_branches_share_two_events(rt: HostRuntime) -> Result<(), Fail> {
-    let alloc = rt.alloc();
+// What a run of three branches by so many workers writes, where it counts each shared event once.
+fn three_branches<R: Threads + Wait + Sync>(
+    rt: &R,
+    alloc: Global,
+    workers: &str,
+) -> Result<MemorySink, Fail> {
     let text = study(alloc, KEY, 2000, 30, WATCHERS, BRANCHES)?;
     let mut out = sink(alloc, 3255, 4096, &[])?;
     let mut notes = sink(alloc, 100, 64, &[])?;
     let held = library(alloc, text.as_bytes(), b"", &[])?;
-    let ended = run_over(alloc, &["run", "s"], held, &mut out, &mut notes)?;
-    assert_eq!(rt; ended, (Status::Ok, 18));
+    let words = ["run", "s", "--workers", workers];
+    let ended = run_over(rt, alloc, &words, held, &mut out, &mut notes)?;
+    if ended == (Status::Ok, 18) && out.taken().len() == 3255 {
+        Ok(out)
+    } else {
+        Err(Fail::from("not its bytes or its steps"))
+    }
+}
+
+#[test]
+fn three_branches_share_two_events_among_any_workers(rt: HostRuntime) -> Result<(), Fail> {
+    let alloc = rt.alloc();
+    let out = three_branches(&rt, alloc, "1")?;
     let bytes = out.taken();
-    assert_eq!(rt; bytes.len(), 3255);
     // the last branch changes nothing: behind its frame it is the root's trace
     assert!(rt; bytes.get(27..813) == bytes.get(2464..3250));
     // the fifth event of the root, of x and of y
@@ -106,6 +122,12 @@ fn three_branches_share_two_events(rt: HostRuntime) -> Result<(), Fail> {
     assert!(rt; bytes.get(295..308) == Some(root.as_slice()));
     assert!(rt; bytes.get(1114..1127) == Some(x.as_slice()));
     assert!(rt; bytes.get(1933..1946) == Some(y.as_slice()));
+    for workers in ["3", "64"] {
+        assert!(rt;
+            three_branches(&rt, alloc, workers)?.taken() == bytes,
+            "{workers} workers"
+        );
+    }
     Ok(())
 }
 
@@ -144,7 +166,7 @@ fn commands_write_what_they_say(rt: HostRuntime) -> Result<(), Fail> {
         let mut out = sink(alloc, 4000, 4096, &[])?;
         let mut notes = sink(alloc, 100, 64, &[])?;
         let held = library(alloc, text.as_bytes(), b"", &[])?;
-        let ended = run_over(alloc, words, held, &mut out, &mut notes)?;
+        let ended = run_over(&rt, alloc, words, held, &mut out, &mut notes)?;
         assert_eq!(rt; ended, (Status::Ok, counted));
         assert_eq!(rt; out.taken().len(), size);
         assert!(rt; line.is_empty() || out.taken() == line.as_bytes());
@@ -160,7 +182,7 @@ fn failing_writes_leave_a_first_part(rt: HostRuntime) -> Result<(), Fail> {
     let mut whole = sink(alloc, 3255, 3255, &[])?;
     let mut notes = sink(alloc, 100, 64, &[])?;
     let held = library(alloc, text.as_bytes(), b"", &[])?;
-    let ended = run_over(alloc, &["run", "s"], held, &mut whole, &mut notes)?;
+    let ended = run_over(&rt, alloc, &["run", "s"], held, &mut whole, &mut notes)?;
     assert_eq!(rt; ended, (Status::Ok, 18));
     // the command, room, the most bytes a call, the failing call (0: none), and how many steps are counted and bytes taken
     for (command, room, most, failing, counted, taken) in [
@@ -175,7 +197,7 @@ fn failing_writes_leave_a_first_part(rt: HostRuntime) -> Result<(), Fail> {
         let mut out = sink(alloc, room, most, &[failing])?;
         let mut notes = sink(alloc, 100, 64, &[])?;
         let held = library(alloc, text.as_bytes(), b"", &[])?;
-        let ended = run_over(alloc, &[command, "s"], held, &mut out, &mut notes)?;
+        let ended = run_over(&rt, alloc, &[command, "s"], held, &mut out, &mut notes)?;
         assert_eq!(rt; ended, (Status::WriteFault, counted));
         assert!(rt; whole.taken().starts_with(out.taken()) && out.taken().len() == taken);
         assert_eq!(rt; notes.taken(), b"write failed\n".as_slice());
@@ -191,7 +213,7 @@ fn each_write_fails_in_turn(rt: HostRuntime) -> Result<(), Fail> {
         let mut out = sink(alloc, 402, 64, &[failing])?;
         let mut notes = sink(alloc, 100, 64, &[])?;
         let held = library(alloc, text.as_bytes(), b"", &[])?;
-        let ended = run_over(alloc, &["run", "s"], held, &mut out, &mut notes)?;
+        let ended = run_over(&rt, alloc, &["run", "s"], held, &mut out, &mut notes)?;
         if ended == (Status::Ok, 0) {
             assert!(rt; failing > 7 && are_frames(out.taken(), &EMPTY_RUN));
             return Ok(());
@@ -228,7 +250,7 @@ fn faulty_words_ask_for_nothing(rt: HostRuntime) -> Result<(), Fail> {
         let mut notes = sink(alloc, 100, 7, &[])?;
         // a fetch would fail
         let held = library(alloc, b"", b"", &[1])?;
-        let ended = run_over(alloc, words, held, &mut out, &mut notes)?;
+        let ended = run_over(&rt, alloc, words, held, &mut out, &mut notes)?;
         assert_eq!(rt; ended, (Status::Usage, 0));
         assert!(rt; out.taken().is_empty() && notes.taken() == USAGE.as_bytes());
     }
@@ -347,7 +369,7 @@ fn refusals_come_in_order(rt: HostRuntime) -> Result<(), Fail> {
             let mut out = sink(alloc, 100, 64, &[])?;
             let mut notes = sink(alloc, 100, 7, &[])?;
             let held = library(alloc, study, series, &[failing])?;
-            let ended = run_over(alloc, &[command, name], held, &mut out, &mut notes)?;
+            let ended = run_over(&rt, alloc, &[command, name], held, &mut out, &mut notes)?;
             assert_eq!(rt; ended, (status, 0), "{line}");
             assert!(rt; out.taken().is_empty());
             assert_eq!(rt; notes.taken(), line.as_bytes());
@@ -362,7 +384,7 @@ fn a_failed_note_changes_nothing(rt: HostRuntime) -> Result<(), Fail> {
     let mut out = sink(alloc, 100, 64, &[])?;
     let mut notes = sink(alloc, 100, 4, &[2])?;
     let held = library(alloc, b"", b"", &[])?;
-    let ended = run_over(alloc, &["run", "u"], held, &mut out, &mut notes)?;
+    let ended = run_over(&rt, alloc, &["run", "u"], held, &mut out, &mut notes)?;
     assert_eq!(rt; ended, (Status::NoStudy, 0));
     assert_eq!(rt; notes.taken(), b"no s".as_slice());
     Ok(())
