@@ -1,7 +1,7 @@
 //! One run over a library and sinks in memory.
 
 use abides_run::{Status, run};
-use outside::{Counted, MemoryLibrary, MemorySink, OpenGate, Steps};
+use outside::{Counted, Gate, MemoryLibrary, MemorySink, OpenGate, Steps};
 use probe_desk::{Fees, Probe, Range, SpreadSum, Volume};
 use std::alloc::Global;
 use std::sync::Wait;
@@ -62,8 +62,22 @@ pub fn run_with<R: Threads + Wait + Sync>(
     rt: &R,
     alloc: Global,
     words: &[&str],
+    library: MemoryLibrary,
+    probes: Vec<Box<dyn Probe>>,
+    out: &mut MemorySink,
+    notes: &mut MemorySink,
+) -> Result<(Status, u64), Fail> {
+    run_past(rt, alloc, words, library, probes, &OpenGate, out, notes)
+}
+
+/// The same with this gate.
+pub fn run_past<R: Threads + Wait + Sync, G: Gate + Sync>(
+    rt: &R,
+    alloc: Global,
+    words: &[&str],
     mut library: MemoryLibrary,
     probes: Vec<Box<dyn Probe>>,
+    gate: &G,
     out: &mut MemorySink,
     notes: &mut MemorySink,
 ) -> Result<(Status, u64), Fail> {
@@ -77,7 +91,7 @@ pub fn run_with<R: Threads + Wait + Sync>(
         out,
         notes,
         probes,
-        &OpenGate,
+        gate,
         &mut steps,
     );
     Ok((status, steps.close()))

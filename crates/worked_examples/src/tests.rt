@@ -1,7 +1,8 @@
-use crate::runs::{library, run_over, sink};
+use crate::runs::{library, run_over, run_past, sink};
 use crate::{EMPTY_RUN, TWO_WATCHERS};
 use abides_run::Status;
-use outside::MemorySink;
+use hold_gate::HoldGate;
+use outside::{Gate, MemorySink, OpenGate};
 use std::alloc::Global;
 use std::sync::Wait;
 use std::test::Fail;
@@ -89,18 +90,20 @@ fn bundles_byte_for_byte(rt: HostRuntime) -> Result<(), Fail> {
     Ok(())
 }
 
-// What a run of three branches by so many workers writes, where it counts each shared event once.
-fn three_branches<R: Threads + Wait + Sync>(
+// What a run of three branches by so many workers past a gate writes, where it counts each shared event once.
+fn three_branches<R: Threads + Wait + Sync, G: Gate + Sync>(
     rt: &R,
     alloc: Global,
     workers: &str,
+    gate: &G,
 ) -> Result<MemorySink, Fail> {
     let text = study(alloc, KEY, 2000, 30, WATCHERS, BRANCHES)?;
     let mut out = sink(alloc, 3255, 4096, &[])?;
     let mut notes = sink(alloc, 100, 64, &[])?;
     let held = library(alloc, text.as_bytes(), b"", &[])?;
     let words = ["run", "s", "--workers", workers];
-    let ended = run_over(rt, alloc, &words, held, &mut out, &mut notes)?;
+    let probes = Vec::new(alloc);
+    let ended = run_past(rt, alloc, &words, held, probes, gate, &mut out, &mut notes)?;
     if ended == (Status::Ok, 18) && out.taken().len() == 3255 {
         Ok(out)
     } else {
@@ -111,7 +114,7 @@ fn three_branches<R: Threads + Wait + Sync>(
 #[test]
 fn three_branches_share_two_events_among_any_workers(rt: HostRuntime) -> Result<(), Fail> {
     let alloc = rt.alloc();
-    let out = three_branches(&rt, alloc, "1")?;
+    let out = three_branches(&rt, alloc, "1", &OpenGate)?;
     let bytes = out.taken();
     // the last branch changes nothing: behind its frame it is the root's trace
     assert!(rt; bytes.get(27..813) == bytes.get(2464..3250));
@@ -123,10 +126,15 @@ fn three_branches_share_two_events_among_any_workers(rt: HostRuntime) -> Result<
     assert!(rt; bytes.get(1114..1127) == Some(x.as_slice()));
     assert!(rt; bytes.get(1933..1946) == Some(y.as_slice()));
     for workers in ["3", "64"] {
-        assert!(rt;
-            three_branches(&rt, alloc, workers)?.taken() == bytes,
-            "{workers} workers"
-        );
+        let again = three_branches(&rt, alloc, workers, &OpenGate)?;
+        assert!(rt; again.taken() == bytes, "{workers} workers");
+    }
+    // the segments of x and y are under way at once, each held until the other is passed
+    for (held, until) in [(2, 3), (3, 2)] {
+        let gate = HoldGate::new(held, until, 100_000_000);
+        let again = three_branches(&rt, alloc, "2", &gate)?;
+        assert!(rt; again.taken() == bytes, "{held} held");
+        assert_eq!(rt; (gate.exceeded(), gate.passes()), (false, 5));
     }
     Ok(())
 }
