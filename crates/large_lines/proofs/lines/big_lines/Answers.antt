@@ -10,5 +10,5 @@ returns g c =
     let bundle = c.in_ok-tally_of_bundle.field-0 in
     let few : length c.branches.result.now ≡ length k.plan.branches = ap (λ (xs : List Branch). length xs) (c.branches.ensures.value ∙ ap (λ (p : Plan). p.branches) c.plan.ensures.value) in
     c.in_ok-six_lines.ensures
-    ∙ lines-told (length c.args.study.now) (length c.branches.result.now) c.events_of_all.result c.args.distinct bundle.count bundle.total k
+    ∙ lines-told c.args.study (length c.branches.result.now) c.events_of_all.result c.args.distinct bundle.count bundle.total k
     few c.events_of_all.ensures c.requires.distinct c.in_ok-tally_of_bundle.ensures.count c.in_ok-tally_of_bundle.ensures.total
