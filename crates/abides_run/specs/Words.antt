@@ -7,6 +7,7 @@ use Rattle.command_words.specs.declared.asked.Command.TheVariants.{Run, Table, C
 use Rattle.command_words.specs.declared.asked.Asked.{Asked}
 use Rattle.command_words.specs.Asked as line
 use Rattle.abides_run.specs.declared.request.Request.{Request}
+use Rattle.abides_run.specs.declared.request.Request.TheVariants.{File, Large}
 use Rattle.abides_run.specs.declared.request.Task.TheVariants as task
 
 -- the bytes of each word
@@ -15,11 +16,17 @@ texts words = map string_bytes words
 
 -- what a command asks for; those that the program does not have ask for nothing
 abbrev pub request_of : Command → Option Request
-request_of (Run study) = Some (record { task = task.Run; study = study })
-request_of (Check study) = Some (record { task = task.Check; study = study })
-request_of (Table study) = Some (record { task = task.Table; study = study })
+request_of (Run study) = Some (File task.Run study)
+request_of (Check study) = Some (File task.Check study)
+request_of (Table study) = Some (File task.Table study)
 request_of (Rewind study marks) = None
-request_of (Big number) = None
+request_of (Big number) = Some (Large number)
+
+-- the large study of a number is asked for, which is in no file
+abbrev pub IsLarge : Option Request → Type 0
+IsLarge None = ⊥
+IsLarge (Some (File task study)) = ⊥
+IsLarge (Some (Large number)) = Unit {0}
 
 -- what the words ask for, where they are a command line
 abbrev pub asked_of : List (List ℕ) → Option Request

@@ -2,7 +2,7 @@
 
 ghost use Rattle.std.specs.Prelude.{◌≡◌, ◌+◌, ◌++◌, ◌∷◌, ◌≤◌, ◌^◌, [], ℕ, IfOk, codes, length, map, string_bytes};
 ghost use Rattle.std.specs.Fmt.{decimal};
-ghost use Rattle.abides_run.specs.Output.{counts_line, simulated, study_bundle, study_events, study_table, written};
+ghost use Rattle.abides_run.specs.Output.{counts_line, simulated, study_bundle, study_events, study_lines, study_table, written};
 ghost use Rattle.abides_run.specs.Performed.{Performed};
 ghost use Rattle.study_accept.specs.Accepted.{study_told};
 
@@ -13,6 +13,7 @@ use crate::status::Status;
 use branch_bundle::laws::outcomes_are_a_run;
 use branch_tables::study_table;
 use kernel_copy::{Course, run_segments};
+use large_lines::big_lines;
 use outside::{Ledger, Sink, Steps};
 use plain_lists::Memory;
 use probe_desk::Probe;
@@ -68,6 +69,38 @@ fn table_study<O: Sink, D: Ledger>(
         Err(_) => return Status::Memory,
     };
     match send(out, &text) {
+        Ok(()) => Status::Ok,
+        Err(status) => status,
+    }
+}
+
+// Simulates each segment of a study once, and then writes the lines that tell of the run. The study's text has so many
+// bytes.
+fn tell_study<O: Sink, D: Ledger>(
+    alloc: Global,
+    bytes: usize,
+    course: &Arc<Course>,
+    out: &mut O,
+    steps: &mut Steps<D>,
+) -> Status
+    requires { steps.old ≤ 2 ^ 63 }
+    ensures { (reads : ℕ) → Performed (study_lines bytes course.now.value) (study_events course.now.value)
+        (record { reads = reads; writes = O.faults out.old; taken = O.taken out.old; steps = steps.old })
+        (record { reads = reads; writes = O.faults out.new; taken = O.taken out.new; steps = steps.new })
+        result }
+{
+    outcomes_are_a_run();
+    let before = steps.count();
+    let outcomes = match run_segments(alloc, course, steps) {
+        Ok(outcomes) => outcomes,
+        Err(Memory) => return Status::Memory,
+    };
+    let distinct = steps.count() - before;
+    let text = match big_lines(alloc, bytes, course, &outcomes, distinct) {
+        Ok(text) => text,
+        Err(Memory) => return Status::Memory,
+    };
+    match send(out, text.as_bytes()) {
         Ok(()) => Status::Ok,
         Err(status) => status,
     }
@@ -142,5 +175,6 @@ pub fn perform<O: Sink, D: Ledger>(
         Task::Run => run_study(alloc, &found.study.course, out, steps),
         Task::Check => check_study(alloc, &found.study.course, out),
         Task::Table => table_study(alloc, &found.study.course, probes, out, steps),
+        Task::Lines(bytes) => tell_study(alloc, bytes, &found.study.course, out, steps),
     }
 }

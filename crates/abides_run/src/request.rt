@@ -11,13 +11,15 @@ pub enum Task {
     Check,
     /// The table that compares its branches is written.
     Table,
+    /// Six lines that tell of its run are written. Its text has so many bytes.
+    Lines(usize),
 }
 
-/// A task, and the name of the study's file.
+/// A study, and what is to be done with it.
 #[derive(Drop)]
-pub struct Request<'a> {
-    /// What is to be done.
-    pub task: Task,
-    /// The name of the file, which is not empty.
-    pub study: Text<'a>,
+pub enum Request<'a> {
+    /// A task, and the name of the study's file, which is not empty.
+    File(Task, Text<'a>),
+    /// The lines that tell of the run of the large study of a number.
+    Large(u32),
 }

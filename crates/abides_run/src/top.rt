@@ -40,8 +40,8 @@ fn answer<L: Library, O: Sink, D: Ledger>(
     }
 }
 
-/// Does what the words ask for: the study's file and the series file that it names come from the library, the bundle or the
-/// line of counts or the table goes to `out`, and the line for the status to `notes`. The words are the command line without the
+/// Does what the words ask for: the study's file and the series file that it names come from the library, the bundle, the
+/// line of counts, the table or the lines of a large study go to `out`, and the line for the status to `notes`. The words are the command line without the
 /// program's name; each simulated event ticks `steps` once. The gate is where workers will pass; one thread needs none.
 ///
 /// What is promised of it are the fields of two records. `Answered` has the output, the rise of the counter, the cause of

@@ -12,20 +12,11 @@ fn request<'a>(command: Command<'a>) -> Option<Request<'a>>
     ensures { result ≡ request_of command.entry }
 {
     match command {
-        Command::Run(study) => Some(Request {
-            task: Task::Run,
-            study,
-        }),
-        Command::Check(study) => Some(Request {
-            task: Task::Check,
-            study,
-        }),
-        Command::Table(study) => Some(Request {
-            task: Task::Table,
-            study,
-        }),
+        Command::Run(study) => Some(Request::File(Task::Run, study)),
+        Command::Check(study) => Some(Request::File(Task::Check, study)),
+        Command::Table(study) => Some(Request::File(Task::Table, study)),
+        Command::Big(number) => Some(Request::Large(number)),
         Command::Rewind(_study, _marks) => None,
-        Command::Big(_number) => None,
     }
 }
 
