@@ -4,7 +4,7 @@ use Rattle.outside.specs.Rose.{Rose}
 use Rattle.outside.specs.Taken.{TookPrefix}
 use Rattle.study_accept.specs.Accepted.{StudyTold}
 use Rattle.abides_run.specs.declared.request.Task.{Task}
-use Rattle.abides_run.specs.Words.{asked_of}
+use Rattle.abides_run.specs.Words.{asked_of, IsLarge}
 use Rattle.abides_run.specs.Verdict.{Verdict, Files, usage, no_file, file_too_long, refused, accepted, verdict, IsStudy, output, distinct}
 use Rattle.abides_run.specs.Output.{Probes, written, simulated}
 use Rattle.abides_run.specs.Fetched.{fetched}
@@ -100,13 +100,14 @@ early_ok st (inr e) w = subst IsSought w e
 pub ended_early : (files : Option Files) (words : List (List ℕ)) (probes : Probes) (name : List ℕ) (old new writes steps : ℕ) (taken : Option (List ℕ)) (st : Status)
     → IsEarly st → IfSome files (λ library. Ends (verdict library words) (fetched library words) st name)
     → (st ≡ status.Usage → asked_of words ≡ None) → (asked_of words ≡ None → (st ≡ status.Usage) ⊎ (st ≡ status.Memory))
-    → (st ≡ status.Usage → new ≡ old) → (st ≡ status.ReadFault → Rose old new) → old ≤ new
+    → (st ≡ status.Usage → new ≡ old) → (IsLarge (asked_of words) → new ≡ old) → (st ≡ status.ReadFault → Rose old new) → old ≤ new
     → Answered files words probes (record { reads = old; writes = writes; taken = taken; steps = steps }) (record { reads = new; writes = writes; taken = taken; steps = steps }) st
-ended_early files words probes name old new writes steps taken st early ends faulty not_asked still fault rises = record {
+ended_early files words probes name old new writes steps taken st early ends faulty not_asked still unread fault rises = record {
   told = early_told files words probes name old new writes steps taken st early ends fault;
   usage = faulty;
   not_asked = not_asked;
   unasked = still;
+  unread = unread;
   read_fault = fault;
   write_fault = λ e. absurd (early_write st early e);
   steady = λ e. absurd (early_ok st early e);
@@ -202,6 +203,7 @@ performed_answers files words probes task s before after st is asked reads p = r
   usage = λ e. absurd (performed_usage st p.ended e);
   not_asked = λ n. absurd (asked n);
   unasked = λ e. reads;
+  unread = λ l. reads;
   read_fault = λ e. absurd (performed_read st p.ended e);
   write_fault = p.fault;
   steady = λ e. (reads, p.steady e);
@@ -270,6 +272,7 @@ turned files words probes before after st other a = record {
   usage = λ e. cc;
   not_asked = λ n. inr refl;
   unasked = λ e. cc;
+  unread = a.unread;
   read_fault = λ e. cc;
   write_fault = λ e. cc;
   steady = λ e. cc;

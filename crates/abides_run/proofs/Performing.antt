@@ -3,8 +3,8 @@ use Rattle.std.proofs.Common.{◌≡◌, ◌≤◌, ◌+◌, ℕ, List, Option, 
 use Rattle.outside.specs.Taken.{appended, TookPrefix}
 use Rattle.study_accept.specs.Accepted.{StudyTold}
 use Rattle.abides_run.specs.declared.request.Task.{Task}
-use Rattle.abides_run.specs.declared.request.Task.TheVariants.{Run, Check, Table}
-use Rattle.abides_run.specs.Output.{counts_line, study_bundle, study_events, study_table, Probes, written, simulated}
+use Rattle.abides_run.specs.declared.request.Task.TheVariants.{Run, Check, Table, Lines}
+use Rattle.abides_run.specs.Output.{counts_line, study_bundle, study_events, study_lines, study_table, Probes, written, simulated}
 use Rattle.abides_run.specs.Statuses.{Counts}
 use Rattle.abides_run.specs.Performed.{Performed, Sent, IsUnsent}
 use Rattle.abides_run.specs.declared.status.Status.{Status}
@@ -90,4 +90,11 @@ pub table_performed : (probes : Probes) (t : Task) (s : StudyTold) (writes now o
     → ((reads : ℕ) → Performed (study_table probes s.course) (study_events s.course) (record { reads = reads; writes = writes; taken = before; steps = old }) (record { reads = reads; writes = now; taken = after; steps = new }) st)
     → (reads : ℕ) → Performed (written probes t s) (simulated t s) (record { reads = reads; writes = writes; taken = before; steps = old }) (record { reads = reads; writes = now; taken = after; steps = new }) st
 table_performed probes t s writes now old new before after st is p =
+    subst (λ (x : Task). (reads : ℕ) → Performed (written probes x s) (simulated x s) (record { reads = reads; writes = writes; taken = before; steps = old }) (record { reads = reads; writes = now; taken = after; steps = new }) st) (sym is) p
+
+-- lines were asked for
+pub lines_performed : (probes : Probes) (t : Task) (bytes : ℕ) (s : StudyTold) (writes now old new : ℕ) (before after : Option (List ℕ)) (st : Status) → t ≡ Lines bytes
+    → ((reads : ℕ) → Performed (study_lines bytes s.course) (study_events s.course) (record { reads = reads; writes = writes; taken = before; steps = old }) (record { reads = reads; writes = now; taken = after; steps = new }) st)
+    → (reads : ℕ) → Performed (written probes t s) (simulated t s) (record { reads = reads; writes = writes; taken = before; steps = old }) (record { reads = reads; writes = now; taken = after; steps = new }) st
+lines_performed probes t bytes s writes now old new before after st is p =
     subst (λ (x : Task). (reads : ℕ) → Performed (written probes x s) (simulated x s) (record { reads = reads; writes = writes; taken = before; steps = old }) (record { reads = reads; writes = now; taken = after; steps = new }) st) (sym is) p

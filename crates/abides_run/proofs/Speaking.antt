@@ -1,8 +1,12 @@
 -- Which files the line of an end may name.
-use Rattle.std.proofs.Common.{◌≡◌, ◌⊎◌, ℕ, List, [], ◌∷◌, Option, Some, None, IfSome, refl, sym, subst, inl, inr}
+use Rattle.std.proofs.Common.{◌≡◌, ◌⊎◌, ℕ, List, [], ◌∷◌, Option, Some, None, IfSome, Result, Ok, Err, IfErr, string_bytes, refl, sym, subst, inl, inr}
 use Rattle.toml.specs.Data.{Members}
 use Rattle.study_file.specs.Tables.{table_of}
+use Rattle.abides_run.specs.declared.ending.Ending.{Ending}
+use Rattle.abides_run.specs.declared.found.Found.{Found}
 use Rattle.abides_run.specs.declared.request.Request.{Request}
+use Rattle.abides_run.specs.declared.request.Request.TheVariants.{File, Large}
+use Rattle.abides_run.specs.declared.request.Task.{Task}
 use Rattle.abides_run.specs.Words.{asked_of}
 use Rattle.abides_run.specs.Verdict.{Files, series_of, verdict}
 use Rattle.abides_run.specs.Fetched.{named, series_after, fetched, files_of}
@@ -76,17 +80,31 @@ speaks_first first files status.ReadFault name (inr none) = absurd none
 speaks_first first files status.WriteFault name s = tt
 speaks_first first files status.Memory name s = tt
 
+-- a study's file, or the series file that it names where these are its bytes
+abbrev pub SpeaksOf : List ℕ → Status → List ℕ → Type 0
+SpeaksOf study st name = (bytes : List ℕ) × Speaks (study ∷ series_after (table_of bytes)) st name
+
 -- the study's fetch gave no bytes
-pub study_speaks : (words : List (List ℕ)) (request : Request) (st : Status) (name : List ℕ) → Some request ≡ asked_of words
-    → Speaks (request.study ∷ []) st name → SpeaksFor words st name
-study_speaks words request st name asks s =
-    ([], subst (λ (o : Option Request). Speaks (files_of o []) st name) asks (speaks_first request.study (series_after (table_of [])) st name s))
+pub study_speaks : (study : List ℕ) (st : Status) (name : List ℕ) → Speaks (study ∷ []) st name → SpeaksOf study st name
+study_speaks study st name s = ([], speaks_first study (series_after (table_of [])) st name s)
 
 -- the study of these bytes was not found in them
-pub bytes_speak : (words : List (List ℕ)) (request : Request) (bytes : List ℕ) (st : Status) (name : List ℕ) → Some request ≡ asked_of words
-    → Speaks (series_after (table_of bytes)) st name → SpeaksFor words st name
-bytes_speak words request bytes st name asks s =
-    (bytes, subst (λ (o : Option Request). Speaks (files_of o bytes) st name) asks (speaks_more request.study (series_after (table_of bytes)) st name s))
+pub bytes_speak : (study bytes : List ℕ) (st : Status) (name : List ℕ) → Speaks (series_after (table_of bytes)) st name → SpeaksOf study st name
+bytes_speak study bytes st name s = (bytes, speaks_more study (series_after (table_of bytes)) st name s)
+
+-- the words asked for the study of a file
+pub file_speaks : (r : Result Found Ending) (words : List (List ℕ)) (task : Task) (study : List ℕ) → Some (File task study) ≡ asked_of words
+    → IfErr r (λ e. SpeaksOf study e.status (string_bytes e.name)) → IfErr r (λ e. SpeaksFor words e.status (string_bytes e.name))
+file_speaks (Ok f) words task study asks s = tt
+file_speaks (Err e) words task study asks s =
+    (s.0, subst (λ (o : Option Request). Speaks (files_of o s.0) e.status (string_bytes e.name)) asks s.1)
+
+-- they asked for the large study of a number, which is in no file
+pub large_speaks : (r : Result Found Ending) (words : List (List ℕ)) (number : ℕ) → Some (Large number) ≡ asked_of words
+    → IfErr r (λ e. (files : List (List ℕ)) (name : List ℕ) → Speaks files e.status name) → IfErr r (λ e. SpeaksFor words e.status (string_bytes e.name))
+large_speaks (Ok f) words number asks s = tt
+large_speaks (Err e) words number asks s =
+    ([], subst (λ (o : Option Request). Speaks (files_of o []) e.status (string_bytes e.name)) asks (s [] (string_bytes e.name)))
 
 pub words_speak : (words : List (List ℕ)) (st : Status) (name : List ℕ) → (st ≡ status.Memory) ⊎ ((st ≡ status.Usage) × (None ≡ asked_of words)) → SpeaksFor words st name
 words_speak words st name (inl wanting) = ([], wanting_speaks (files_of (asked_of words) []) st name wanting)

@@ -4,6 +4,7 @@ use Rattle.toml.specs.Data.{Members}
 use Rattle.outside.specs.Files.{Content, absent, too_long, whole, held, content}
 use Rattle.study_file.specs.Tables.{table_of}
 use Rattle.abides_run.specs.declared.request.Request.{Request}
+use Rattle.abides_run.specs.declared.request.Request.TheVariants.{File, Large}
 use Rattle.abides_run.specs.Words.{asked_of}
 use Rattle.abides_run.specs.Verdict.{Files, most_bytes, series_of}
 
@@ -23,16 +24,18 @@ series_behind (whole bytes) = series_after (table_of bytes)
 
 abbrev pub fetched_for : Files → Option Request → List (List ℕ)
 fetched_for files None = []
-fetched_for files (Some request) = request.study ∷ series_behind (content (held files request.study) most_bytes)
+fetched_for files (Some (File task study)) = study ∷ series_behind (content (held files study) most_bytes)
+fetched_for files (Some (Large number)) = []
 
--- the study that the words ask for, and then the series file that it names
+-- the study that the words ask for, and then the series file that it names; nothing for a large study
 abbrev pub fetched : Files → List (List ℕ) → List (List ℕ)
 fetched files words = fetched_for files (asked_of words)
 
 -- the study that is asked for, and the series file that it names where these are its bytes
 abbrev pub files_of : Option Request → List ℕ → List (List ℕ)
 files_of None bytes = []
-files_of (Some request) bytes = request.study ∷ series_after (table_of bytes)
+files_of (Some (File task study)) bytes = study ∷ series_after (table_of bytes)
+files_of (Some (Large number)) bytes = []
 
 -- the name is one of these
 abbrev pub IsAmong : List ℕ → List (List ℕ) → Type 0

@@ -2,7 +2,7 @@
 use Rattle.std.specs.Prelude.{◌≡◌, ◌⊎◌, ◌≤◌, ℕ, List, Option, IfSome, None}
 use Rattle.outside.specs.Rose.{Rose}
 use Rattle.outside.specs.Taken.{appended, TookPrefix}
-use Rattle.abides_run.specs.Words.{asked_of}
+use Rattle.abides_run.specs.Words.{asked_of, IsLarge}
 use Rattle.abides_run.specs.Verdict.{Verdict, Files, verdict, IsStudy, output, distinct}
 use Rattle.abides_run.specs.Output.{Probes}
 use Rattle.abides_run.specs.Fetched.{fetched}
@@ -42,6 +42,8 @@ pub record Answered (files : Option Files) (words : List (List ℕ)) (probes : P
   pub usage : status ≡ Usage → asked_of words ≡ None
   pub not_asked : asked_of words ≡ None → (status ≡ Usage) ⊎ (status ≡ Memory)
   pub unasked : status ≡ Usage → after.reads ≡ before.reads
+  -- For a large study the library is not asked either.
+  pub unread : IsLarge (asked_of words) → after.reads ≡ before.reads
   -- A fault is told only where one was counted, and none is counted at status 0.
   pub read_fault : status ≡ ReadFault → Rose before.reads after.reads
   pub write_fault : status ≡ WriteFault → Rose before.writes after.writes

@@ -8,8 +8,9 @@ use Rattle.branch_bundle.specs.Bundle.{bundle_of}
 use Rattle.study_accept.specs.Accepted.{StudyTold}
 use Rattle.probe_desk.specs.Probe.{Meaning}
 use Rattle.branch_tables.specs.Tables as tables
+use Rattle.large_lines.specs.Report.{big_lines_of}
 use Rattle.abides_run.specs.declared.request.Task.{Task}
-use Rattle.abides_run.specs.declared.request.Task.TheVariants.{Run, Check, Table}
+use Rattle.abides_run.specs.declared.request.Task.TheVariants.{Run, Check, Table, Lines}
 
 -- the bundle of a study: the trace of each branch
 unfoldable pub study_bundle : CourseTold → List ℕ
@@ -32,6 +33,10 @@ pub record Probes : Type 0 where
 unfoldable pub study_table : Probes → CourseTold → List ℕ
 study_table probes c = tables.study_table c probes.meanings probes.titles
 
+-- the six lines that tell of the run of a study, whose text has so many bytes
+unfoldable pub study_lines : ℕ → CourseTold → List ℕ
+study_lines bytes c = big_lines_of bytes c
+
 -- each segment's own events, once
 unfoldable pub study_events : CourseTold → ℕ
 study_events c = segmentwise.distinct c.opening c.plan
@@ -40,9 +45,11 @@ abbrev pub written : Probes → Task → StudyTold → List ℕ
 written probes Run s = study_bundle s.course
 written probes Check s = counts_line s.course
 written probes Table s = study_table probes s.course
+written probes (Lines bytes) s = study_lines bytes s.course
 
 -- a check simulates nothing
 abbrev pub simulated : Task → StudyTold → ℕ
 simulated Run s = study_events s.course
 simulated Check s = 0
 simulated Table s = study_events s.course
+simulated (Lines bytes) s = study_events s.course

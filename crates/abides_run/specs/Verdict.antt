@@ -1,12 +1,15 @@
 -- What words and files come to, before anything is simulated. The order of refusals is the order of this computation.
-use Rattle.std.specs.Prelude.{ℕ, List, [], Option, Some, None, Result, Ok, Err, codes}
+use Rattle.std.specs.Prelude.{ℕ, List, [], Option, Some, None, Result, Ok, Err, codes, length}
 use Rattle.toml.specs.Data.{Members}
 use Rattle.outside.specs.Files.{Content, absent, too_long, whole, held, content}
 use Rattle.study_file.specs.Tables.{table_of, text_at}
 use Rattle.study_tables.specs.declared.refusal.Refusal.{Refusal}
 use Rattle.study_accept.specs.Accepted.{StudyTold, study_of}
+use Rattle.large_study.specs.LargeStudy.{large_study}
 use Rattle.abides_run.specs.declared.request.Request.{Request}
+use Rattle.abides_run.specs.declared.request.Request.TheVariants.{File, Large}
 use Rattle.abides_run.specs.declared.request.Task.{Task}
+use Rattle.abides_run.specs.declared.request.Task.TheVariants.{Lines}
 use Rattle.abides_run.specs.Words.{asked_of}
 use Rattle.abides_run.specs.Output.{Probes, written, simulated}
 
@@ -51,14 +54,28 @@ verdict_on_bytes files task None = refused 0 0
 verdict_on_bytes files task (Some table) = verdict_on_table files task table (series_of table)
 
 -- the study was asked for under its name
-abbrev pub verdict_on_study : Files → Request → Content → Verdict
-verdict_on_study files request absent = no_file request.study
-verdict_on_study files request too_long = file_too_long request.study
-verdict_on_study files request (whole bytes) = verdict_on_bytes files request.task (table_of bytes)
+abbrev pub verdict_on_study : Files → Task → List ℕ → Content → Verdict
+verdict_on_study files task study absent = no_file study
+verdict_on_study files task study too_long = file_too_long study
+verdict_on_study files task study (whole bytes) = verdict_on_bytes files task (table_of bytes)
+
+-- a text that is in no file and has no series file is judged by the same rules
+abbrev pub verdict_on_text : Task → Option Members → Verdict
+verdict_on_text task None = refused 0 0
+verdict_on_text task (Some table) = judged task (study_of table None)
+
+-- each branch of the large study has at most so many events
+abbrev pub large_limit : ℕ
+large_limit = 20000
+
+-- the text of the large study of a number is judged, and nothing is fetched
+abbrev pub verdict_on_large : List ℕ → Verdict
+verdict_on_large text = verdict_on_text (Lines (length text)) (table_of text)
 
 abbrev pub verdict_for : Files → Option Request → Verdict
 verdict_for files None = usage
-verdict_for files (Some request) = verdict_on_study files request (content (held files request.study) most_bytes)
+verdict_for files (Some (File task study)) = verdict_on_study files task study (content (held files study) most_bytes)
+verdict_for files (Some (Large number)) = verdict_on_large (large_study number large_limit)
 
 abbrev pub verdict : Files → List (List ℕ) → Verdict
 verdict files words = verdict_for files (asked_of words)

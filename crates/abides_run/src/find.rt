@@ -7,16 +7,19 @@ ghost use Rattle.outside.specs.Files.{whole, held, content};
 ghost use Rattle.study_file.specs.Tables.{table_of};
 ghost use Rattle.study_accept.specs.Accepted.{study_told, study_of};
 ghost use Rattle.abides_run.specs.declared.request.Task.{Task as TaskTold};
-ghost use Rattle.abides_run.specs.Words.{texts, asked_of};
-ghost use Rattle.abides_run.specs.Verdict.{verdict, verdict_on_bytes, verdict_on_table, accepted, judged, most_bytes, series_of};
-ghost use Rattle.abides_run.specs.Fetched.{fetched as fetched_names, series_after, named as named_file};
+ghost use Rattle.large_study.specs.LargeStudy.{large_study};
+ghost use Rattle.abides_run.specs.Words.{texts, asked_of, workers_of, IsLarge};
+ghost use Rattle.abides_run.specs.Verdict.{verdict, verdict_on_study, verdict_on_bytes, verdict_on_table, verdict_on_large, accepted, judged, large_limit, most_bytes, series_of};
+ghost use Rattle.abides_run.specs.Fetched.{fetched as fetched_names, series_after, series_behind, named as named_file};
 ghost use Rattle.abides_run.specs.Statuses.{Speaks, SpeaksFor};
 ghost use Rattle.abides_run.specs.Ends.{Ends, Fetches, IsSought};
 
 use crate::ending::Ending;
 use crate::found::Found;
+use crate::request::{Job, Request, Task};
 use crate::status::Status;
 use crate::words::asked;
+use large_study::study_text;
 use outside::{FetchError, Fetched, Library};
 use plain_lists::Memory;
 use std::alloc::Global;
@@ -25,6 +28,9 @@ use study_file::{RawStudy, StudyError, read_tables, series_name};
 
 // A study file or a series file may have so many bytes.
 const MOST_BYTES: u64 = 16_777_216;
+
+// Each branch of the large study has at most so many events.
+const LARGE_LIMIT: u32 = 20_000;
 
 // An end whose line names no file.
 fn nameless(alloc: Global, status: Status) -> Ending
@@ -148,7 +154,79 @@ fn read_study<L: Library>(alloc: Global, bytes: &[u8], library: &mut L) -> Resul
     accept_study(alloc, &raw, series.as_deref())
 }
 
-/// The study that the words ask for and what is to be done with it, or how the search ends without one.
+// The study that a file says and what is to be done with it, or how the search ends without one.
+fn find_file<L: Library>(
+    alloc: Global,
+    task: Task,
+    workers: u32,
+    name: &str,
+    library: &mut L,
+) -> Result<Found, Ending>
+    ensures study { IfOk result (λ f. IfSome (L.files library.old) (λ files.
+        verdict_on_study files task name.now (content (held files name.now) most_bytes) ≡ accepted f.task (study_told f.study))) }
+    ensures workers { IfOk result (λ f. f.workers ≡ workers) }
+    ensures ended { IfErr result (λ e. IfSome (L.files library.old) (λ files.
+        Ends (verdict_on_study files task name.now (content (held files name.now) most_bytes))
+        (name.now ∷ series_behind (content (held files name.now) most_bytes)) e.status (string_bytes e.name))) }
+    ensures speaks { IfErr result (λ e. (bytes : List ℕ) × Speaks (name.now ∷ series_after (table_of bytes)) e.status (string_bytes e.name)) }
+    ensures sought { IfErr result (λ e. IsSought e.status) }
+    ensures fault { IfErr result (λ e. e.status ≡ Status.ReadFault → Rose (L.faults library.old) (L.faults library.new)) }
+    ensures steady { OnOk result (L.faults library.new ≡ L.faults library.old) }
+    ensures rises { L.faults library.old ≤ L.faults library.new }
+    ensures files { L.files library.new ≡ L.files library.old }
+{
+    let bytes = fetch_file(alloc, name, library)?;
+    let study = read_study(alloc, &bytes, library)?;
+    Ok(Found {
+        task,
+        study,
+        workers,
+    })
+}
+
+// The text of the large study of a number, or how the search ends without it.
+fn large_text(alloc: Global, number: u32) -> Result<String, Ending>
+    ensures text { IfOk result (λ text. string_bytes text ≡ large_study number large_limit) }
+    ensures wanting { IfErr result (λ e. e.status ≡ Status.Memory) }
+{
+    match study_text(alloc, number, LARGE_LIMIT) {
+        Ok(text) => Ok(text),
+        Err(Memory) => Err(nameless(alloc, Status::Memory)),
+    }
+}
+
+// The study of a text that is in no file, and that its lines are to be told; or how the search ends without one.
+fn read_text(alloc: Global, workers: u32, text: &str) -> Result<Found, Ending>
+    ensures study { IfOk result (λ f. verdict_on_large text.now ≡ accepted f.task (study_told f.study)) }
+    ensures workers { IfOk result (λ f. f.workers ≡ workers) }
+    ensures ended { IfErr result (λ e. (fetched : List (List ℕ)) (name : List ℕ) → Ends (verdict_on_large text.now) fetched e.status name) }
+    ensures speaks { IfErr result (λ e. (files : List (List ℕ)) (name : List ℕ) → Speaks files e.status name) }
+    ensures sought { IfErr result (λ e. IsSought e.status) }
+    ensures silent { IfErr result (λ e. ¬ (e.status ≡ Status.ReadFault)) }
+{
+    let raw = tables(alloc, text.as_bytes())?;
+    let study = accept_study(alloc, &raw, None)?;
+    Ok(Found {
+        task: Task::Lines(text.len()),
+        study,
+        workers,
+    })
+}
+
+// The large study of a number, or how the search ends without one. No file is fetched.
+fn find_large(alloc: Global, workers: u32, number: u32) -> Result<Found, Ending>
+    ensures study { IfOk result (λ f. verdict_on_large (large_study number large_limit) ≡ accepted f.task (study_told f.study)) }
+    ensures workers { IfOk result (λ f. f.workers ≡ workers) }
+    ensures ended { IfErr result (λ e. (fetched : List (List ℕ)) (name : List ℕ) → Ends (verdict_on_large (large_study number large_limit)) fetched e.status name) }
+    ensures speaks { IfErr result (λ e. (files : List (List ℕ)) (name : List ℕ) → Speaks files e.status name) }
+    ensures sought { IfErr result (λ e. IsSought e.status) }
+    ensures silent { IfErr result (λ e. ¬ (e.status ≡ Status.ReadFault)) }
+{
+    let text = large_text(alloc, number)?;
+    read_text(alloc, workers, text.as_str())
+}
+
+/// The study that the words ask for, what is to be done with it and by how many workers, or how the search ends without one.
 pub fn find_study<L: Library>(
     alloc: Global,
     words: &[String],
@@ -156,8 +234,8 @@ pub fn find_study<L: Library>(
 ) -> Result<Found, Ending>
     ensures study { IfOk result (λ f. IfSome (L.files library.old) (λ files. verdict files (texts words.now) ≡ accepted f.task (study_told f.study))) }
     ensures asked { OnOk result (¬ (asked_of (texts words.now) ≡ None)) }
-    ensures workers { IfOk result (λ f. option_map (λ request. request.workers) (asked_of (texts words.now)) ≡ Some f.workers) }
-    ensures some_workers { IfOk result (λ f. (0 < f.workers) × (f.workers ≤ 64)) }
+    ensures workers { IfOk result (λ f. workers_of (texts words.now) ≡ Some f.workers) }
+    ensures range { IfOk result (λ f. (0 < f.workers) × (f.workers ≤ 64)) }
     ensures ended { IfErr result (λ e. IfSome (L.files library.old) (λ files.
         Ends (verdict files (texts words.now)) (fetched_names files (texts words.now)) e.status (string_bytes e.name))) }
     ensures speaks { IfErr result (λ e. SpeaksFor (texts words.now) e.status (string_bytes e.name)) }
@@ -165,21 +243,30 @@ pub fn find_study<L: Library>(
     ensures usage { IfErr result (λ e. e.status ≡ Status.Usage → asked_of (texts words.now) ≡ None) }
     ensures not_asked { IfErr result (λ e. asked_of (texts words.now) ≡ None → (e.status ≡ Status.Usage) ⊎ (e.status ≡ Status.Memory)) }
     ensures unasked { IfErr result (λ e. e.status ≡ Status.Usage → L.faults library.new ≡ L.faults library.old) }
+    ensures unread { IsLarge (asked_of (texts words.now)) → L.faults library.new ≡ L.faults library.old }
     ensures fault { IfErr result (λ e. e.status ≡ Status.ReadFault → Rose (L.faults library.old) (L.faults library.new)) }
     ensures steady { OnOk result (L.faults library.new ≡ L.faults library.old) }
     ensures rises { L.faults library.old ≤ L.faults library.new }
     ensures files { L.files library.new ≡ L.files library.old }
 {
-    let request = match asked(alloc, words) {
-        Ok(Some(request)) => request,
-        Ok(None) => return Err(nameless(alloc, Status::Usage)),
-        Err(Memory) => return Err(nameless(alloc, Status::Memory)),
-    };
-    let bytes = fetch_file(alloc, request.study.as_str(), library)?;
-    let study = read_study(alloc, &bytes, library)?;
-    Ok(Found {
-        task: request.task,
-        study,
-        workers: request.workers,
-    })
+    match asked(alloc, words) {
+        Ok(
+            Some(
+                Job {
+                    request: Request::File(task, study),
+                    workers,
+                },
+            ),
+        ) => find_file(alloc, task, workers, study.as_str(), library),
+        Ok(
+            Some(
+                Job {
+                    request: Request::Large(number),
+                    workers,
+                },
+            ),
+        ) => find_large(alloc, workers, number),
+        Ok(None) => Err(nameless(alloc, Status::Usage)),
+        Err(Memory) => Err(nameless(alloc, Status::Memory)),
+    }
 }

@@ -2,7 +2,7 @@
 
 ghost use Rattle.std.specs.Prelude.{◌≡◌, ◌+◌, ◌++◌, ◌∷◌, ◌<◌, ◌≤◌, ◌^◌, [], ℕ, IfOk, codes, length, map, string_bytes};
 ghost use Rattle.std.specs.Fmt.{decimal};
-ghost use Rattle.abides_run.specs.Output.{counts_line, simulated, study_bundle, study_events, study_table, written};
+ghost use Rattle.abides_run.specs.Output.{counts_line, simulated, study_bundle, study_events, study_lines, study_table, written};
 ghost use Rattle.abides_run.specs.Performed.{Performed};
 ghost use Rattle.study_accept.specs.Accepted.{study_told};
 
@@ -14,6 +14,7 @@ use branch_bundle::laws::outcomes_are_a_run;
 use branch_tables::study_table;
 use branch_workers::work;
 use kernel_copy::Course;
+use large_lines::big_lines;
 use outside::{Gate, Ledger, Sink, Steps};
 use plain_lists::Memory;
 use probe_desk::Probe;
@@ -78,6 +79,42 @@ fn table_study<R: Threads + Wait + Sync, O: Sink, G: Gate + Sync, D: Ledger + Se
         Err(_) => return Status::Memory,
     };
     match send(out, &text) {
+        Ok(()) => Status::Ok,
+        Err(status) => status,
+    }
+}
+
+// Has workers simulate each segment of a study once, and then writes the lines that tell of the run. The study's text has
+// so many bytes.
+fn tell_study<R: Threads + Wait + Sync, O: Sink, G: Gate + Sync, D: Ledger + Send>(
+    rt: &R,
+    alloc: Global,
+    bytes: usize,
+    course: &Arc<Course>,
+    workers: u32,
+    out: &mut O,
+    gate: &G,
+    steps: &mut Steps<D>,
+) -> Status
+    requires workers { (0 < workers) × (workers ≤ 64) }
+    requires steps { steps.old ≤ 2 ^ 63 }
+    ensures { (reads : ℕ) → Performed (study_lines bytes course.now.value) (study_events course.now.value)
+        (record { reads = reads; writes = O.faults out.old; taken = O.taken out.old; steps = steps.old })
+        (record { reads = reads; writes = O.faults out.new; taken = O.taken out.new; steps = steps.new })
+        result }
+{
+    outcomes_are_a_run();
+    let before = steps.count();
+    let worked = match work(rt, alloc, course, workers, gate, steps) {
+        Ok(worked) => worked,
+        Err(Memory) => return Status::Memory,
+    };
+    let distinct = steps.count() - before;
+    let text = match big_lines(alloc, bytes, course, &worked.outcomes, distinct) {
+        Ok(text) => text,
+        Err(Memory) => return Status::Memory,
+    };
+    match send(out, text.as_bytes()) {
         Ok(()) => Status::Ok,
         Err(status) => status,
     }
@@ -152,9 +189,11 @@ pub fn perform<R: Threads + Wait + Sync, O: Sink, G: Gate + Sync, D: Ledger + Se
         result }
 {
     let course = &found.study.course;
+    let workers = found.workers;
     match found.task {
-        Task::Run => run_study(rt, alloc, course, found.workers, out, gate, steps),
+        Task::Run => run_study(rt, alloc, course, workers, out, gate, steps),
         Task::Check => check_study(alloc, course, out),
-        Task::Table => table_study(rt, alloc, course, found.workers, probes, out, gate, steps),
+        Task::Table => table_study(rt, alloc, course, workers, probes, out, gate, steps),
+        Task::Lines(bytes) => tell_study(rt, alloc, bytes, course, workers, out, gate, steps),
     }
 }

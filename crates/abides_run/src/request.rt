@@ -11,15 +11,24 @@ pub enum Task {
     Check,
     /// The table that compares its branches is written.
     Table,
+    /// Six lines that tell of its run are written. Its text has so many bytes.
+    Lines(usize),
 }
 
-/// A task, the name of the study's file, and how many workers do it.
+/// A study, and what is to be done with it.
 #[derive(Drop)]
-pub struct Request<'a> {
-    /// What is to be done.
-    pub task: Task,
-    /// The name of the file, which is not empty.
-    pub study: Text<'a>,
+pub enum Request<'a> {
+    /// A task, and the name of the study's file, which is not empty.
+    File(Task, Text<'a>),
+    /// The lines that tell of the run of the large study of a number.
+    Large(u32),
+}
+
+/// What is asked for, and how many workers are to do it.
+#[derive(Drop)]
+pub struct Job<'a> {
+    /// What is asked for.
+    pub request: Request<'a>,
     /// How many workers: 1 to 64.
     pub workers: u32,
 }

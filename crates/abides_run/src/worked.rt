@@ -8,6 +8,7 @@ ghost use Rattle.abides_run.specs.Words.{asked_of};
 ghost use Rattle.abides_run.specs.Verdict.{verdict, usage, no_file, file_too_long, refused, verdict_on_study, verdict_on_bytes};
 ghost use Rattle.abides_run.specs.Fetched.{fetched};
 ghost use Rattle.abides_run.specs.Notes.{note};
+ghost use Rattle.abides_run.specs.declared.request.Request.TheVariants.{File, Large};
 ghost use Rattle.abides_run.specs.declared.request.Task.TheVariants as task;
 
 use crate::status::Status;
@@ -27,18 +28,19 @@ pub fn shared_events_are_counted_once()
     ensures counts { counts_line three_branches ≡ codes "accepted: agents 3, stocks 1, branches 4, segments 5\n" }
 {}
 
-/// The words `run s`, `check s` and `table s` ask for the study `s`; with no name, an empty one, a further word, or a command that the
-/// program does not have they ask for nothing.
+/// The words `run s`, `check s` and `table s` ask for the study `s`, and `big 7` for the large study of the number 7; with no
+/// name, an empty one, a further word, or a command that the program does not have they ask for nothing.
 pub fn asked_words()
-    ensures run { asked_of (codes "run" ∷ codes "s" ∷ []) ≡ Some (record { task = task.Run; study = codes "s"; workers = 1 }) }
-    ensures check { asked_of (codes "check" ∷ codes "s" ∷ codes "--workers=64" ∷ []) ≡ Some (record { task = task.Check; study = codes "s"; workers = 64 }) }
+    ensures run { asked_of (codes "run" ∷ codes "s" ∷ []) ≡ Some (File task.Run (codes "s")) }
+    ensures check { asked_of (codes "check" ∷ codes "s" ∷ codes "--workers=64" ∷ []) ≡ Some (File task.Check (codes "s")) }
     ensures nameless { asked_of (codes "run" ∷ []) ≡ None }
     ensures empty { asked_of (codes "run" ∷ [] ∷ []) ≡ None }
     ensures further { asked_of (codes "run" ∷ codes "s" ∷ codes "t" ∷ []) ≡ None }
     ensures other { asked_of (codes "ran" ∷ codes "s" ∷ []) ≡ None }
-    ensures table { asked_of (codes "table" ∷ codes "s" ∷ []) ≡ Some (record { task = task.Table; study = codes "s"; workers = 1 }) }
+    ensures table { asked_of (codes "table" ∷ codes "s" ∷ []) ≡ Some (File task.Table (codes "s")) }
     ensures rewind { asked_of (codes "rewind" ∷ codes "s" ∷ codes "root:1" ∷ []) ≡ None }
-    ensures big { asked_of (codes "big" ∷ codes "7" ∷ []) ≡ None }
+    ensures big { asked_of (codes "big" ∷ codes "7" ∷ []) ≡ Some (Large 7) }
+    ensures big_words { asked_of (codes "big" ∷ codes "seven" ∷ []) ≡ None }
     ensures many_workers { asked_of (codes "run" ∷ codes "s" ∷ codes "--workers=65" ∷ []) ≡ None }
 {}
 
@@ -47,10 +49,11 @@ pub fn asked_words()
 pub fn order_of_refusals()
     ensures faulty { verdict [] [] ≡ usage }
     ensures missing { verdict [] (codes "run" ∷ codes "s" ∷ []) ≡ no_file (codes "s") }
-    ensures absent_study { verdict_on_study [] (record { task = task.Run; study = codes "s"; workers = 1 }) absent ≡ no_file (codes "s") }
-    ensures long_study { verdict_on_study [] (record { task = task.Run; study = codes "s"; workers = 1 }) too_long ≡ file_too_long (codes "s") }
+    ensures absent_study { verdict_on_study [] task.Run (codes "s") absent ≡ no_file (codes "s") }
+    ensures long_study { verdict_on_study [] task.Run (codes "s") too_long ≡ file_too_long (codes "s") }
     ensures no_table { verdict ((codes "s", 255 ∷ []) ∷ []) (codes "run" ∷ codes "s" ∷ []) ≡ refused 0 0 }
     ensures no_series { verdict ((codes "s", study_with_series) ∷ []) (codes "run" ∷ codes "s" ∷ []) ≡ no_file (codes "t") }
+    ensures large { fetched ((codes "7", study_with_series) ∷ []) (codes "big" ∷ codes "7" ∷ []) ≡ [] }
     ensures fetched { fetched ((codes "s", study_with_series) ∷ []) (codes "run" ∷ codes "s" ∷ []) ≡ codes "s" ∷ codes "t" ∷ [] }
     ensures first_rule { verdict ((codes "s", study_with_series) ∷ (codes "t", []) ∷ []) (codes "run" ∷ codes "s" ∷ []) ≡ refused 1 1 }
 {}

@@ -1,7 +1,7 @@
 use Rattle.std.proofs.Common.{◌≡◌, rules}
 use Rattle.study_accept.specs.Accepted.{study_told}
-use Rattle.abides_run.specs.declared.request.Task.TheVariants.{Run, Check, Table}
-use Rattle.abides_run.proofs.Performing.{run_performed, check_performed, table_performed}
+use Rattle.abides_run.specs.declared.request.Task.TheVariants.{Run, Check, Table, Lines}
+use Rattle.abides_run.proofs.Performing.{run_performed, check_performed, table_performed, lines_performed}
 use Rattle.abides_run.proofs.perform.perform.Goals as goal
 
 pub returns-in-Run : goal.returns-in-Run
@@ -24,3 +24,10 @@ returns-in-Table g c =
     let is : f.task ≡ Table = search rules in
     table_performed _ f.task (study_told f.study) (g.O.Sink.faults c.args.out.now) (g.O.Sink.faults c.table_study.new.out) c.args.steps.now c.table_study.new.steps (g.O.Sink.taken c.args.out.now) (g.O.Sink.taken c.table_study.new.out) c.table_study.result
     is c.table_study.ensures
+
+pub returns-in-Lines : goal.returns-in-Lines
+returns-in-Lines g c =
+    let f = c.args.found.now in
+    let is : f.task ≡ Lines c.in-Lines.bytes = search rules in
+    lines_performed _ f.task c.in-Lines.bytes (study_told f.study) (g.O.Sink.faults c.args.out.now) (g.O.Sink.faults c.tell_study.new.out) c.args.steps.now c.tell_study.new.steps (g.O.Sink.taken c.args.out.now) (g.O.Sink.taken c.tell_study.new.out) c.tell_study.result
+    is c.tell_study.ensures

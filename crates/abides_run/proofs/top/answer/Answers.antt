@@ -24,4 +24,4 @@ returns-in-Err-clause-answered g c =
     let e = c.in-Err.ending in
     let says = c.in-Err.ensures in
     ended_early (g.L.Library.files c.args.library.now) (texts c.args.words.now) _ (string_bytes e.name) (g.L.Library.faults c.args.library.now) (g.L.Library.faults c.find_study.new.library) (g.O.Sink.faults c.args.out.now) c.args.steps.now (g.O.Sink.taken c.args.out.now) e.status
-    says.sought says.ended says.usage says.not_asked says.unasked says.fault c.find_study.ensures.rises
+    says.sought says.ended says.usage says.not_asked says.unasked c.find_study.ensures.unread says.fault c.find_study.ensures.rises

@@ -15,5 +15,6 @@ returns c = record {
   table = refl;
   rewind = refl;
   big = refl;
+  big_words = refl;
   many_workers = refl;
 }

@@ -15,6 +15,7 @@ returns c = record {
   long_study = refl;
   no_table = refl;
   no_series = refl;
+  large = refl;
   fetched = refl;
   first_rule = refl;
 }
