@@ -250,22 +250,15 @@ pub fn find_study<L: Library>(
     ensures files { L.files library.new ≡ L.files library.old }
 {
     match asked(alloc, words) {
-        Ok(
-            Some(
-                Job {
-                    request: Request::File(task, study),
-                    workers,
-                },
-            ),
-        ) => find_file(alloc, task, workers, study.as_str(), library),
-        Ok(
-            Some(
-                Job {
-                    request: Request::Large(number),
-                    workers,
-                },
-            ),
-        ) => find_large(alloc, workers, number),
+        Ok(Some(job)) => {
+            let Job { request, workers } = job;
+            match request {
+                Request::File(task, study) => {
+                    find_file(alloc, task, workers, study.as_str(), library)
+                }
+                Request::Large(number) => find_large(alloc, workers, number),
+            }
+        }
         Ok(None) => Err(nameless(alloc, Status::Usage)),
         Err(Memory) => Err(nameless(alloc, Status::Memory)),
     }
