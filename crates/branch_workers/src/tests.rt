@@ -7,7 +7,7 @@ use self::market::course;
 use crate::work;
 use hold_gate::HoldGate;
 use kernel_copy::{Course, Outcome, run_segments};
-use market_types::Memory;
+use market_types::{Entry, Memory};
 use outside::{Counted, Gate, OpenGate, Steps};
 use std::alloc::Global;
 use std::sync::{Arc, Wait};
@@ -33,9 +33,26 @@ fn worked<R: Threads + Wait + Sync, G: Gate + Sync>(
     (outcomes, steps.close())
 }
 
-// Whether two outcomes are one.
+// Whether two entries are of one event, or of one edit.
+fn are_of_one(a: &Entry, b: &Entry) -> bool {
+    match (a, b) {
+        (Entry::Event(a), Entry::Event(b)) => {
+            (a.number, a.time, a.seq, a.to) == (b.number, b.time, b.seq, b.to)
+        }
+        (Entry::Edit(a), Entry::Edit(b)) => {
+            (a.events, a.time, a.branch, a.index) == (b.events, b.time, b.branch, b.index)
+        }
+        _ => false,
+    }
+}
+
+// Whether two outcomes tell of one segment, with the same events and counters at the end.
 fn are_one(a: &Outcome, b: &Outcome) -> bool {
-    a.segment == b.segment && a.events == b.events && a.entries.len() == b.entries.len()
+    let mut events = a.entries.as_slice().iter().zip(b.entries.as_slice());
+    a.segment == b.segment
+        && a.closing.counts == b.closing.counts
+        && a.entries.len() == b.entries.len()
+        && events.all(|(a, b)| are_of_one(a, b))
 }
 
 // Three branches, x, y and z, by one worker and by many: as one after another.
@@ -59,12 +76,12 @@ fn three_branches(rt: HostRuntime) -> Result<(), Fail> {
     Ok(())
 }
 
-// Two segments are under way at once: each of two children waits for the other to begin.
+// Two segments are under way at once: each of two branches waits for the other to begin.
 #[test]
 fn two_segments_at_once(rt: HostRuntime) -> Result<(), Fail> {
     let alloc = rt.alloc();
     let course = course(alloc)?;
-    for (held, until) in [(1, 2), (2, 1)] {
+    for (held, until) in [(2, 3), (3, 2)] {
         let gate = HoldGate::new(held, until, 100_000_000);
         let (outcomes, ticks) = worked(&rt, alloc, &course, 2, &gate);
         assert_eq!(rt; (outcomes?.len(), ticks), (5, 18));

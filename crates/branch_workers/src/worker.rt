@@ -78,6 +78,7 @@ fn try_segment<R: Wait, G: Gate, L: Ledger, B: Room>(
     ensures finished { worker.new.finished ≡ worker.old.finished }
     ensures work { IsTrue result → IsAtWork course.now.value shelf.now worker.new.number worker.new.seat worker.new.steps worker.new.outcomes.items worker.new.lane.own.view.pushed }
     ensures ended { IsFalse result → HasEnded course.now.value shelf.now worker.new.number worker.new.seat worker.new.steps }
+    ensures stopped { IsFalse result → worker.new.seat.view.stopped ≡ true }
 {
     if !shelf.claim(&mut worker.seat, segment) {
         return true;
@@ -117,6 +118,7 @@ fn ends<L: Ledger, B: Room>(
     ensures work { IsAtWork course.now.value shelf.now worker.new.number worker.new.seat worker.new.steps worker.new.outcomes.items worker.new.lane.own.view.pushed }
     ensures done { worker.new.finished ≡ true → length (segments_in course.now.value.plan) ≤ worker.new.seat.view.done_seen }
     ensures goes_on { IsFalse result → worker.new.finished ≡ false }
+    ensures stopped { IsTrue result → worker.new.finished ≡ false → worker.new.seat.view.stopped ≡ true }
 {
     let count = course.plan().segments().len();
     let progress = shelf.progress(&mut worker.seat);
@@ -144,6 +146,7 @@ pub(crate) fn run_worker<R: Wait, G: Gate, L: Ledger, B: Room>(
     ensures ended { HasEnded course.now.value shelf.now worker.new.number worker.new.seat worker.new.steps }
     ensures finished { worker.new.finished ≡ true → HasFinished course.now.value worker.new.seat.view worker.new.outcomes.items }
     ensures counted { worker.new.finished ≡ true → worker.new.steps ≡ sum_by (own_of course.now.value) worker.new.seat.view.claims }
+    ensures stopped { worker.new.finished ≡ false → worker.new.seat.view.stopped ≡ true }
 {
     for _ in rt.forever() {
         match next(rt, &mut worker.lane) {

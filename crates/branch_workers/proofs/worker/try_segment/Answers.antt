@@ -84,3 +84,9 @@ returns-clause-work g c = λ _.
     subst (λ (os : List Outcome). IsAtWork k c.args.shelf.now w.number c.run_segment.new.seat c.run_segment.new.steps os c.push_children.new.lane.own.view.pushed) (sym c.in-Ok-2.ensures)
     (subst (λ (ps : List ℕ). IsAtWork k c.args.shelf.now w.number c.run_segment.new.seat c.run_segment.new.steps (w.outcomes.items ++ c.in-Ok.outcome ∷ []) ps)
     (sym (c.push_children.ensures ∙ ap (λ (x : CourseTold). w.lane.own.view.pushed ++ children_of x.plan c.args.segment) c.deref.ensures)) s)
+
+pub returns-in_default-clause-stopped : goal.returns-in_default-clause-stopped
+returns-in_default-clause-stopped g c = λ _. ap (λ (v : SeatView). v.stopped) c.stop.ensures.stopped
+
+pub returns-in_default-2-clause-stopped : goal.returns-in_default-2-clause-stopped
+returns-in_default-2-clause-stopped g c = λ _. ap (λ (v : SeatView). v.stopped) c.stop.ensures.stopped
