@@ -39,7 +39,7 @@ fn push_all<B: Room>(lane: &mut Lane<B>, segments: &[u32])
 }
 
 // The next segment of the own lane, or else of another's.
-fn next<R: Wait, B: Room>(rt: &R, lane: &mut Lane<B>) -> Option<u32>
+fn next_segment<R: Wait, B: Room>(rt: &R, lane: &mut Lane<B>) -> Option<u32>
     ensures below { IfSome result (λ segment. segment < B.room) }
     ensures pushed { lane.new.own.view.pushed ≡ lane.old.own.view.pushed }
 {
@@ -149,7 +149,7 @@ pub(crate) fn run_worker<R: Wait, G: Gate, L: Ledger, B: Room>(
     ensures stopped { worker.new.finished ≡ false → worker.new.seat.view.stopped ≡ true }
 {
     for _ in rt.forever() {
-        match next(rt, &mut worker.lane) {
+        match next_segment(rt, &mut worker.lane) {
             Some(segment) => {
                 if !try_segment(rt, alloc, course, shelf, gate, worker, segment) {
                     return;
