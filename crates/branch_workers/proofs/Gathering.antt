@@ -1,21 +1,20 @@
 -- Workers as they are made and as they end.
-use Rattle.std.proofs.Common.{◌≡◌, ◌≢◌, ℕ, zero, suc, ◌+◌, ◌^◌, ◌<◌, ◌≤◌, All, Bool, true, false, List, [], ◌∷◌, ◌++◌, Option, None, Some, Result, Ok, Err, OnOk, Vec, Global, length, map, take, sum_by, slice_get, get_or, sym, refl, ap, ◌∙◌, subst, arith}
+use Rattle.std.proofs.Common.{◌≡◌, ℕ, zero, suc, ◌+◌, ◌^◌, ◌<◌, ◌≤◌, All, Bool, true, false, List, [], ◌∷◌, ◌++◌, Some, Result, Ok, Err, OnOk, Vec, Global, length, map, take, sum_by, slice_get, get_or, sym, refl, ap, ◌∙◌, subst, arith}
 use Rattle.std.proofs.lemmas.List.{length-map}
 use Rattle.std.proofs.Math.Seq.{take-append_seam}
 use Rattle.std.proofs.lemmas.List.Elements.{All-nil, All-cons, All-head, All-tail, All-weaker}
 use Rattle.std.proofs.lemmas.List.Sums.{sum_by-cons}
-use Rattle.branch_tree.specs.Plan.{Plan}
-use Rattle.branch_tree.specs.Segments.{segments_in, segment_at}
+use Rattle.branch_tree.specs.Segments.{segments_in}
 use Rattle.shelf_core.specs.Views.{times, new_view}
 use Rattle.shelf_core.specs.declared.seat.SeatView.{SeatView}
-use Rattle.shelf_core.proofs.Lists.{not_some, some_same, times_here, times_else}
+use Rattle.shelf_core.proofs.Lists.{not_some, some_same}
 use Rattle.branch_deques.specs.Told.{LaneTold}
 use Rattle.checkpoint_shelf.specs.Told.{ShelfTold, SeatTold}
 use Rattle.checkpoint_shelf.specs.Seats.{AllBack, NewFrom}
 use Rattle.kernel_copy.specs.declared.run.Outcome.{Outcome}
 use Rattle.kernel_copy.specs.Courses.{CourseTold, IsCourse}
 use Rattle.kernel_copy.specs.Outcomes.{outcome_told, outcome_of}
-use Rattle.branch_workers.specs.Claims.{AreClaims, HasPushed}
+use Rattle.branch_workers.specs.Claims.{HasPushed}
 use Rattle.branch_workers.specs.Workers.{own_of, AreNumbered, IsAtWork, HasEnded, HasFinished, HaveFinished}
 
 -- A worker that is made: its seat is new, and it has done nothing.

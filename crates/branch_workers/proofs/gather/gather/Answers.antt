@@ -1,4 +1,4 @@
-use Rattle.std.proofs.Common.{◌≡◌, ◌<◌, ◌≤◌, ◌+◌, ◌*◌, ◌^◌, ◌++◌, ◌∷◌, [], All, ℕ, List, length, map, sum_by, sym, ap, ◌∙◌, subst, arith, true}
+use Rattle.std.proofs.Common.{◌<◌, ◌+◌, ◌^◌, ◌++◌, ℕ, length, map, sum_by, ap, ◌∙◌, arith}
 use Rattle.checkpoint_shelf.proofs.Closes.{first_split}
 use Rattle.branch_workers.proofs.Turns.{taken, counted_in, first_of_all, rest_of_all, finished_more}
 use Rattle.branch_workers.proofs.gather.gather.Goals as goal

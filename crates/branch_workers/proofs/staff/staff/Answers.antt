@@ -1,4 +1,4 @@
-use Rattle.std.proofs.Common.{◌≡◌, ◌+◌, ◌++◌, ◌∷◌, [], All, false, length, map, refl, ap, ◌∙◌, arith}
+use Rattle.std.proofs.Common.{◌≡◌, [], false, length, refl, ap, arith}
 use Rattle.checkpoint_shelf.proofs.Closes.{first_split}
 use Rattle.branch_workers.proofs.Turns.{made_of, numbered_of, all_of, longer}
 use Rattle.branch_workers.proofs.staff.staff.Goals as goal
