@@ -60,7 +60,7 @@ returns-in_default-clause-ended g c = λ _.
     let at = c.run_segment.ensures.same ∙ c.claim.ensures.same in
     let e = fails k c.args.shelf.now w.number w.seat w.steps w.outcomes.items w.lane.own.view.pushed c.requires.work c.args.segment (omega (arith, c.requires.segment, c.requires.room)) claimed.1 c.claim.new.seat.view claimed.0
     c.run_segment.new.seat at c.run_segment.ensures.remains c.run_segment.ensures.turns c.run_segment.new.steps c.run_segment.ensures.most in
-    stops_ended k c.args.shelf.now w.number c.run_segment.new.seat c.run_segment.new.steps e c.stop.new.seat c.stop.ensures.same c.stop.ensures.stopped
+    stops_ended k c.args.shelf.now w.number c.run_segment.new.seat c.run_segment.new.steps e c.stop_others.new.seat c.stop_others.ensures.same c.stop_others.ensures.stopped
 
 pub returns-in_default-add-clause-ended : goal.returns-in_default-add-clause-ended
 returns-in_default-add-clause-ended g c = λ _.
@@ -70,7 +70,7 @@ returns-in_default-add-clause-ended g c = λ _.
     let at = c.run_segment.ensures.same ∙ c.claim.ensures.same in
     let e = fails k c.args.shelf.now w.number w.seat w.steps w.outcomes.items w.lane.own.view.pushed c.requires.work c.args.segment (omega (arith, c.requires.segment, c.requires.room)) claimed.1 c.claim.new.seat.view claimed.0
     c.run_segment.new.seat at c.run_segment.ensures.remains c.run_segment.ensures.turns c.run_segment.new.steps c.run_segment.ensures.most in
-    stops_ended k c.args.shelf.now w.number c.run_segment.new.seat c.run_segment.new.steps e c.stop-in_default-add.new.seat c.stop-in_default-add.ensures.same c.stop-in_default-add.ensures.stopped
+    stops_ended k c.args.shelf.now w.number c.run_segment.new.seat c.run_segment.new.steps e c.stop_others-in_default-add.new.seat c.stop_others-in_default-add.ensures.same c.stop_others-in_default-add.ensures.stopped
 
 pub returns-clause-work : goal.returns-clause-work
 returns-clause-work g c = λ _.
@@ -86,7 +86,7 @@ returns-clause-work g c = λ _.
     (sym (c.push_children.ensures ∙ ap (λ (x : CourseTold). w.lane.own.view.pushed ++ children_of x.plan c.args.segment) c.deref.ensures)) s)
 
 pub returns-in_default-clause-stopped : goal.returns-in_default-clause-stopped
-returns-in_default-clause-stopped g c = λ _. ap (λ (v : SeatView). v.stopped) c.stop.ensures.stopped
+returns-in_default-clause-stopped g c = λ _. ap (λ (v : SeatView). v.stopped) c.stop_others.ensures.stopped
 
 pub returns-in_default-add-clause-stopped : goal.returns-in_default-add-clause-stopped
-returns-in_default-add-clause-stopped g c = λ _. ap (λ (v : SeatView). v.stopped) c.stop-in_default-add.ensures.stopped
+returns-in_default-add-clause-stopped g c = λ _. ap (λ (v : SeatView). v.stopped) c.stop_others-in_default-add.ensures.stopped
