@@ -1,18 +1,17 @@
 -- What holds once all workers handed back what they have.
-use Rattle.std.proofs.Common.{◌≡◌, ◌≢◌, ℕ, zero, suc, ◌+◌, ◌-◌, ◌<◌, ◌≤◌, max, All, Bool, true, false, true≢false, List, [], ◌∷◌, ◌++◌, Option, None, Some, IsSome, is_some, Vec, Global, length, map, replicate, set, sum_by, slice_get, take, ◌||◌, sym, refl, ap, ◌∙◌, subst, ⊎_elim, arith, length-append, add-one}
+use Rattle.std.proofs.Common.{◌≡◌, ◌≢◌, ℕ, zero, suc, ◌<◌, ◌≤◌, max, All, Bool, true, false, true≢false, List, [], ◌∷◌, ◌++◌, Option, None, Some, IsSome, is_some, Vec, Global, length, map, replicate, set, sum_by, slice_get, take, ◌||◌, sym, refl, ap, ◌∙◌, subst, arith}
 use Rattle.std.proofs.lemmas.List.{length-map, length-replicate, take_all, take_more}
 use Rattle.std.proofs.lemmas.List.Sums.{sum_by-append, sum_by-cons}
 use Rattle.std.proofs.lemmas.List.Elements.{All-nil, All-cons, All-head, All-tail}
 use mathlib.Core.Logic.{dite}
 use native.Mathlib.Decide.{ℕ_discrete}
 use Rattle.branch_tree.specs.Plan.{Plan}
-use Rattle.branch_tree.specs.Segments.{segments_in, segment_at, last_of}
+use Rattle.branch_tree.specs.Segments.{segments_in}
 use Rattle.shelf_core.specs.Plan.{same_key, is_in, place_in}
 use Rattle.shelf_core.specs.Possible.{word_in, word_at}
-use Rattle.shelf_core.specs.Views.{times, spent_view}
+use Rattle.shelf_core.specs.Views.{times}
 use Rattle.shelf_core.specs.Words.{is_held, is_ready}
 use Rattle.shelf_core.specs.After.{joined_with}
-use Rattle.shelf_core.specs.Sound.{claimed_by}
 use Rattle.shelf_core.specs.Orderly.{Orderly, HasShape, IsLaid}
 use Rattle.shelf_core.specs.Settled.{IsSettled, is_at_rest}
 use Rattle.shelf_core.specs.declared.plan.Key.{Key}
@@ -23,18 +22,18 @@ use Rattle.shelf_core.specs.declared.words.ClaimWord.{ClaimWord}
 use Rattle.shelf_core.specs.declared.words.ClaimWord.TheVariants.{Open, Taken}
 use Rattle.shelf_core.specs.declared.words.PlaceWord.{PlaceWord}
 use Rattle.shelf_core.specs.declared.words.PlaceWord.TheVariants.{Free, Writing, Ready, Lent}
-use Rattle.shelf_core.proofs.Lists.{there, within, not_some, some_same, set_here, set_else, times_here, times_else, times_append}
-use Rattle.checkpoint_shelf.specs.Told.{ShelfTold, SeatTold}
+use Rattle.shelf_core.proofs.Lists.{there, not_some, some_same, set_here, set_else, times_here, times_else, times_append}
+use Rattle.checkpoint_shelf.specs.Told.{SeatTold}
 use Rattle.checkpoint_shelf.specs.Seats.{all_in}
 use Rattle.kernel_copy.specs.declared.run.Outcome.{Outcome}
 use Rattle.kernel_copy.specs.Segmentwise.{distinct}
 use Rattle.kernel_copy.specs.Courses.{CourseTold}
 use Rattle.kernel_copy.specs.Outcomes.{OutcomeTold, outcome_told, outcome_of, outcomes_before}
 use Rattle.branch_workers.specs.Layout.{end_key, layout}
-use Rattle.branch_workers.specs.Runs.{HasEnds, HasAllEnds}
+use Rattle.branch_workers.specs.Runs.{HasAllEnds}
 use Rattle.branch_workers.specs.Workers.{own_of, HasFinished, HaveFinished, RanOnce}
 use Rattle.branch_workers.specs.Order.{placed, placed_all}
-use Rattle.branch_workers.proofs.Sums.{upto, weighs_most, weighs_all, each_once, times_parts}
+use Rattle.branch_workers.proofs.Sums.{weighs_most, weighs_all, each_once}
 use Rattle.branch_workers.proofs.Joined.{joined_fact, added_up}
 use Rattle.branch_workers.proofs.Standing.{own_distinct}
 

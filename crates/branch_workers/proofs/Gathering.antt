@@ -1,20 +1,20 @@
 -- Workers as they are made and as they end.
-use Rattle.std.proofs.Common.{◌≡◌, ◌≢◌, ℕ, zero, suc, ◌+◌, ◌^◌, ◌<◌, ◌≤◌, All, Bool, true, false, List, [], ◌∷◌, ◌++◌, Option, None, Some, Vec, Global, length, map, sum_by, slice_get, get_or, sym, refl, ap, ◌∙◌, subst, arith}
+use Rattle.std.proofs.Common.{◌≡◌, ℕ, zero, suc, ◌+◌, ◌^◌, ◌<◌, ◌≤◌, All, Bool, true, false, List, [], ◌∷◌, ◌++◌, Some, Result, Ok, Err, OnOk, Vec, Global, length, map, take, sum_by, slice_get, get_or, sym, refl, ap, ◌∙◌, subst, arith}
 use Rattle.std.proofs.lemmas.List.{length-map}
+use Rattle.std.proofs.Math.Seq.{take-append_seam}
 use Rattle.std.proofs.lemmas.List.Elements.{All-nil, All-cons, All-head, All-tail, All-weaker}
 use Rattle.std.proofs.lemmas.List.Sums.{sum_by-cons}
-use Rattle.branch_tree.specs.Plan.{Plan}
-use Rattle.branch_tree.specs.Segments.{segments_in, segment_at}
+use Rattle.branch_tree.specs.Segments.{segments_in}
 use Rattle.shelf_core.specs.Views.{times, new_view}
 use Rattle.shelf_core.specs.declared.seat.SeatView.{SeatView}
-use Rattle.shelf_core.proofs.Lists.{not_some, some_same, times_here, times_else}
+use Rattle.shelf_core.proofs.Lists.{not_some, some_same}
 use Rattle.branch_deques.specs.Told.{LaneTold}
 use Rattle.checkpoint_shelf.specs.Told.{ShelfTold, SeatTold}
 use Rattle.checkpoint_shelf.specs.Seats.{AllBack, NewFrom}
 use Rattle.kernel_copy.specs.declared.run.Outcome.{Outcome}
 use Rattle.kernel_copy.specs.Courses.{CourseTold, IsCourse}
 use Rattle.kernel_copy.specs.Outcomes.{outcome_told, outcome_of}
-use Rattle.branch_workers.specs.Claims.{AreClaims, HasPushed}
+use Rattle.branch_workers.specs.Claims.{HasPushed}
 use Rattle.branch_workers.specs.Workers.{own_of, AreNumbered, IsAtWork, HasEnded, HasFinished, HaveFinished}
 
 -- A worker that is made: its seat is new, and it has done nothing.
@@ -160,6 +160,29 @@ module _ {X : Type 0} (ws : List X) (c : CourseTold) (shelf : ShelfTold CourseTo
   pub still_numbered : (vs : List X) → length ws ≡ length vs → ((i : ℕ) (d : X) → i < length vs → number (get_or ws i d) ≡ number (get_or vs i d)) → AreNumbered (map number vs) → AreNumbered (map number ws)
   still_numbered vs long same h = numbered_still c shelf seat steps number outcomes lane finished ws vs long same h
 
+-- What all workers that finished tell, of equal lists.
+pub finished_told : (c d : CourseTold) → d ≡ c → (seats others : List (SeatTold CourseTold)) → others ≡ seats → (lists more : List (Vec Outcome Global)) → more ≡ lists
+    → HaveFinished c seats (map (λ (v : Vec Outcome Global). v.items) lists) → HaveFinished d others (map (λ (v : Vec Outcome Global). v.items) more)
+finished_told c d course seats others same lists more equal h =
+    subst (λ (x : CourseTold). HaveFinished x others (map (λ (v : Vec Outcome Global). v.items) more)) (sym course)
+    (subst (λ (ss : List (SeatTold CourseTold)). HaveFinished c ss (map (λ (v : Vec Outcome Global). v.items) more)) (sym same)
+    (subst (λ (vs : List (Vec Outcome Global)). HaveFinished c seats (map (λ (v : Vec Outcome Global). v.items) vs)) (sym equal) h))
+
 -- A fact of all of a list holds of all of an equal one.
 pub moved : {X : Type 0} (xs ys : List X) → xs ≡ ys → (P : X → Type 0) → All P ys → All P xs
 moved {X} xs ys e P h = subst (λ (zs : List X). All P zs) (sym e) h
+
+pub mapped : {X S : Type 0} (xs ys : List X) → xs ≡ ys → (f : X → S) → map f xs ≡ map f ys
+mapped {X} {S} xs ys e f = ap (λ (zs : List X). map f zs) e
+
+pub summed : {X : Type 0} (xs ys : List X) → xs ≡ ys → (f : X → ℕ) → sum_by f xs ≡ sum_by f ys
+summed {X} xs ys e f = ap (λ (zs : List X). sum_by f zs) e
+
+-- What is written over all of a list.
+pub written_over : {X : Type 0} (ws rest : List X) (n : ℕ) → length ws ≡ n → take n (ws ++ rest) ≡ ws
+written_over {X} ws rest n long = ap (λ (m : ℕ). take m (ws ++ rest)) (sym long) ∙ take-append_seam ws rest
+
+-- What follows of two facts of a call's answer.
+pub both_ok : {A E : Type 0} (r : Result A E) (P Q S : Type 0) → (P → Q → S) → OnOk r P → OnOk r Q → OnOk r S
+both_ok (Ok x) P Q S f p q = f p q
+both_ok (Err e) P Q S f p q = tt

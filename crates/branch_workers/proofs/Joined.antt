@@ -1,7 +1,6 @@
 -- What the seat has that took in all others.
-use Rattle.std.proofs.Common.{◌≡◌, ◌≢◌, ℕ, zero, suc, ◌+◌, ◌<◌, ◌≤◌, max, Bool, true, false, List, [], ◌∷◌, ◌++◌, length, Some, slice_get, sum_by, map, sym, refl, ap, ◌∙◌, subst, ⊎_elim, arith}
+use Rattle.std.proofs.Common.{◌≡◌, ℕ, suc, ◌+◌, List, [], ◌∷◌, Some, slice_get, sum_by, refl, arith}
 use Rattle.std.proofs.lemmas.List.Sums.{sum_by-cons}
-use Rattle.shelf_core.specs.Views.{times, spent_view}
 use Rattle.shelf_core.specs.After.{joined_with}
 use Rattle.shelf_core.specs.declared.seat.SeatView.{SeatView}
 use Rattle.checkpoint_shelf.specs.Seats.{gathered, all_in}

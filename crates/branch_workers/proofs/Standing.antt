@@ -1,11 +1,11 @@
 -- A worker between two segments.
-use Rattle.std.proofs.Common.{◌≡◌, ◌≢◌, ℕ, zero, suc, ◌+◌, ◌^◌, ◌<◌, ◌≤◌, All, true, List, [], ◌∷◌, ◌++◌, Option, None, Some, length, map, sum_by, sym, refl, ap, ◌∙◌, subst, arith, length-append, add-one}
+use Rattle.std.proofs.Common.{◌≡◌, ◌≢◌, ℕ, zero, suc, ◌+◌, ◌^◌, ◌<◌, ◌≤◌, List, [], ◌∷◌, ◌++◌, length, sum_by, sym, refl, ap, ◌∙◌, subst, arith, length-append, add-one}
 use Rattle.std.proofs.lemmas.List.{map-append}
 use Rattle.std.proofs.lemmas.List.Sums.{sum_by-append, sum_by-cons}
 use Rattle.std.proofs.lemmas.List.Elements.{All-push}
 use mathlib.Core.Logic.{dite}
 use native.Mathlib.Decide.{ℕ_discrete}
-use Rattle.branch_tree.specs.Segments.{segments_in, segment_at, last_of, children_of}
+use Rattle.branch_tree.specs.Segments.{segments_in, children_of}
 use Rattle.shelf_core.specs.Plan.{is_in}
 use Rattle.shelf_core.specs.Views.{times}
 use Rattle.shelf_core.specs.After.{with_claim, having_stopped}
@@ -14,13 +14,13 @@ use Rattle.shelf_core.specs.declared.seat.SeatView.{SeatView}
 use Rattle.shelf_core.proofs.Lists.{times_here, times_else, times_append}
 use Rattle.checkpoint_shelf.specs.Told.{ShelfTold, SeatTold}
 use Rattle.kernel_copy.specs.declared.run.Outcome.{Outcome}
-use Rattle.kernel_copy.specs.Segmentwise.{own_count, own_before, distinct}
+use Rattle.kernel_copy.specs.Segmentwise.{own_before, distinct}
 use Rattle.kernel_copy.specs.Courses.{CourseTold, IsCourse}
 use Rattle.kernel_copy.specs.Outcomes.{OutcomeTold, outcome_told, outcome_of}
 use Rattle.kernel_copy.proofs.Adding.{own-more, own-all, distinct-bound}
 use Rattle.kernel_copy.proofs.Trees.{course-few}
 use Rattle.branch_workers.specs.Layout.{end_key}
-use Rattle.branch_workers.specs.Runs.{HasEnds, HasAllEnds, Remains}
+use Rattle.branch_workers.specs.Runs.{HasEnds, Remains}
 use Rattle.branch_workers.specs.Claims.{AreClaims, HasPushed}
 use Rattle.branch_workers.specs.Workers.{own_of, IsAtWork, HasEnded, HasFinished}
 use Rattle.branch_workers.proofs.Sums.{upto, weighs_most}

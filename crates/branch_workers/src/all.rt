@@ -114,6 +114,7 @@ fn work_in<R: Threads + Wait + Sync, G: Gate + Sync, L: Ledger + Send, B: Room +
     ensures outcomes { IfOk result (λ w. map outcome_told w.outcomes.items ≡ outcomes_before course.now.value (length (segments_in course.now.value.plan))) }
     ensures rose { OnOk result (steps.new ≡ steps.old + distinct course.now.value.opening course.now.value.plan) }
     ensures most { steps.new ≤ steps.old + distinct course.now.value.opening course.now.value.plan }
+    ensures least { steps.old ≤ steps.new }
     ensures shelf { IfOk result (λ w. (w.shelf.plan ≡ layout course.now.value.plan) × (w.shelf.course ≡ course.now.value)) }
     ensures once { IfOk result (λ w. RanOnce course.now.value.plan workers w.shelf.system) }
 {
@@ -148,6 +149,7 @@ pub fn work<R: Threads + Wait + Sync, G: Gate + Sync, L: Ledger + Send>(
     ensures outcomes { IfOk result (λ w. map outcome_told w.outcomes.items ≡ outcomes_before course.now.value (length (segments_in course.now.value.plan))) }
     ensures rose { OnOk result (steps.new ≡ steps.old + distinct course.now.value.opening course.now.value.plan) }
     ensures most { steps.new ≤ steps.old + distinct course.now.value.opening course.now.value.plan }
+    ensures least { steps.old ≤ steps.new }
 
     // The shelf is the course's; each segment is Taken by one of the workers and stands once among their claims, and each end from
     // which others go on stands on the shelf.

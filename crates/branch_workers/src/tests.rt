@@ -14,16 +14,17 @@ use std::sync::{Arc, Wait};
 use std::test::Fail;
 use std::thread::Threads;
 
-// The outcomes of workers, and how many steps they counted.
+// The outcomes of so many workers, 1 to 64, and how many steps they counted.
 fn worked<R: Threads + Wait + Sync, G: Gate + Sync>(
     rt: &R,
     alloc: Global,
     course: &Arc<Course>,
     workers: u32,
     gate: &G,
-) -> (Result<Vec<Outcome>, Memory>, u64)
-    requires { (0 < workers) × (workers ≤ 64) }
-{
+) -> (Result<Vec<Outcome>, Memory>, u64) {
+    if workers == 0 || workers > 64 {
+        return (Err(Memory), 0);
+    }
     let mut steps: Steps<Counted> = Steps::new();
     let worked = work(rt, alloc, course, workers, gate, &mut steps);
     let outcomes = match worked {

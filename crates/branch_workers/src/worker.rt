@@ -2,6 +2,7 @@
 
 ghost use Rattle.std.specs.Prelude.{◌≡◌, ℕ, ◌+◌, ◌<◌, ◌≤◌, ◌^◌, ◌++◌, ◌∷◌, [], All, Some, true, false, IfSome, IsTrue, IsFalse, length, sum_by};
 ghost use Rattle.branch_tree.specs.Segments.{segments_in, children_of};
+ghost use Rattle.shelf_core.specs.After.{having_stopped};
 ghost use Rattle.branch_workers.specs.Runs.{IsShelfOf};
 ghost use Rattle.branch_workers.specs.Workers.{IsAtWork, HasEnded, HasFinished, own_of};
 
@@ -39,7 +40,7 @@ fn push_all<B: Room>(lane: &mut Lane<B>, segments: &[u32])
 }
 
 // The next segment of the own lane, or else of another's.
-fn next<R: Wait, B: Room>(rt: &R, lane: &mut Lane<B>) -> Option<u32>
+fn next_segment<R: Wait, B: Room>(rt: &R, lane: &mut Lane<B>) -> Option<u32>
     ensures below { IfSome result (λ segment. segment < B.room) }
     ensures pushed { lane.new.own.view.pushed ≡ lane.old.own.view.pushed }
 {
@@ -57,6 +58,15 @@ fn push_children<B: Room>(course: &Course, lane: &mut Lane<B>, segment: u32)
     ensures { lane.new.own.view.pushed ≡ lane.old.own.view.pushed ++ children_of course.now.plan segment }
 {
     push_all(lane, course.plan().children_of(segment));
+}
+
+// Tells the other workers to stop.
+fn stop_others(shelf: &Shelf<Checkpoint>, seat: &mut ShelfSeat<Checkpoint>)
+    requires { seat.old.shelf ≡ Some shelf.now }
+    ensures same { seat.new.shelf ≡ seat.old.shelf }
+    ensures stopped { seat.new.view ≡ having_stopped seat.old.view }
+{
+    shelf.stop(seat);
 }
 
 // Runs a segment that no seat has claimed, and pushes those that go on from it. The answer says whether there was memory; if
@@ -95,11 +105,11 @@ fn try_segment<R: Wait, G: Gate, L: Ledger, B: Room>(
         gate,
         &mut worker.steps,
     ) else {
-        shelf.stop(&mut worker.seat);
+        stop_others(shelf, &mut worker.seat);
         return false;
     };
     let Ok(_) = add(&mut worker.outcomes, outcome) else {
-        shelf.stop(&mut worker.seat);
+        stop_others(shelf, &mut worker.seat);
         return false;
     };
     push_children(course, &mut worker.lane, segment);
@@ -149,7 +159,7 @@ pub(crate) fn run_worker<R: Wait, G: Gate, L: Ledger, B: Room>(
     ensures stopped { worker.new.finished ≡ false → worker.new.seat.view.stopped ≡ true }
 {
     for _ in rt.forever() {
-        match next(rt, &mut worker.lane) {
+        match next_segment(rt, &mut worker.lane) {
             Some(segment) => {
                 if !try_segment(rt, alloc, course, shelf, gate, worker, segment) {
                     return;

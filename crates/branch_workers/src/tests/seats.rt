@@ -1,7 +1,8 @@
 //! Two seats of which one never had the state from which its segment goes on.
 
-ghost use Rattle.std.specs.Prelude.{◌≡◌, ◌<◌, [], Some, length};
+ghost use Rattle.std.specs.Prelude.{◌≡◌, ◌<◌, [], Some, IfSome, length};
 ghost use Rattle.branch_tree.specs.Segments.{segments_in};
+ghost use Rattle.checkpoint_shelf.specs.Seats.{NewFrom};
 ghost use Rattle.branch_workers.specs.Runs.{IsShelfOf};
 
 use super::market::course;
@@ -14,6 +15,22 @@ use outside::{Counted, OpenGate, Steps};
 use std::alloc::Global;
 use std::sync::{Arc, Wait};
 use std::test::Fail;
+
+// The two seats of a new shelf, in order of number.
+fn two_new(
+    shelf: &Shelf<Checkpoint>,
+    mut seats: Vec<ShelfSeat<Checkpoint>>,
+) -> Option<(ShelfSeat<Checkpoint>, ShelfSeat<Checkpoint>)>
+    requires new { NewFrom shelf.now 0 seats.items }
+    requires two { length seats.items ≡ 2 }
+    ensures zero { IfSome result (λ both. (both.0.shelf ≡ Some shelf.now) × (both.0.view.counts ≡ length both.0.view.claims) × (both.0.view.turns ≡ [])) }
+    ensures one { IfSome result (λ both. (both.1.shelf ≡ Some shelf.now) × (both.1.view.counts ≡ length both.1.view.claims) × (both.1.view.turns ≡ [])) }
+{
+    let _ = shelf;
+    let Some(one) = seats.pop() else { return None };
+    let Some(zero) = seats.pop() else { return None };
+    Some((zero, one))
+}
 
 // A seat claims a segment and runs it: what came of it, and how many steps it counted.
 fn claim_and_run<R: Wait>(
@@ -53,11 +70,11 @@ struct Told {
 
 // One seat runs a course's first segment, and another, which ran nothing before, the segment 2.
 fn two_seats<R: Wait>(rt: &R, alloc: Global, course: &Arc<Course>) -> Result<Option<Told>, Memory> {
-    let (shelf, mut seats) = open_shelf(alloc, course, 2)?;
+    let (shelf, seats) = open_shelf(alloc, course, 2)?;
     if course.plan().segments().len() < 3 {
         return Ok(None);
     }
-    let (Some(mut one), Some(mut zero)) = (seats.pop(), seats.pop()) else {
+    let Some((mut zero, mut one)) = two_new(&shelf, seats) else {
         return Ok(None);
     };
     let (first, first_ticks) = claim_and_run(rt, alloc, course, &shelf, &mut zero, 0);

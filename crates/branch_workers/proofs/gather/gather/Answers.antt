@@ -1,4 +1,4 @@
-use Rattle.std.proofs.Common.{◌≡◌, ◌<◌, ◌≤◌, ◌+◌, ◌*◌, ◌^◌, ◌++◌, ◌∷◌, [], All, ℕ, List, length, map, sum_by, sym, ap, ◌∙◌, subst, arith, true}
+use Rattle.std.proofs.Common.{◌<◌, ◌+◌, ◌^◌, ◌++◌, ℕ, length, map, sum_by, ap, ◌∙◌, arith}
 use Rattle.checkpoint_shelf.proofs.Closes.{first_split}
 use Rattle.branch_workers.proofs.Turns.{taken, counted_in, first_of_all, rest_of_all, finished_more}
 use Rattle.branch_workers.proofs.gather.gather.Goals as goal
@@ -22,9 +22,9 @@ loop-workers-preserved g c =
     let seats = inv.seat_room in let outcomes = inv.outcome_room in
     record {
       seats = ap (λ ys. ys ++ map (λ w. w.seat) rest) c.push_reserved.ensures.items ∙ taken ws rest x is (λ w. w.seat) c.loop-workers.back.seats.items (map (λ w. w.seat) c.args.workers.items) inv.seats;
-      outcomes = ap (λ ys. ys ++ map (λ w. w.outcomes) rest) c.push_reserved-2.ensures.items ∙ taken ws rest x is (λ w. w.outcomes) c.loop-workers.back.outcomes.items (map (λ w. w.outcomes) c.args.workers.items) inv.outcomes;
+      outcomes = ap (λ ys. ys ++ map (λ w. w.outcomes) rest) c.push_reserved-in-loop-workers.ensures.items ∙ taken ws rest x is (λ w. w.outcomes) c.loop-workers.back.outcomes.items (map (λ w. w.outcomes) c.args.workers.items) inv.outcomes;
       seat_room = omega (arith, c.push_reserved.ensures.len, c.push_reserved.ensures.capacity);
-      outcome_room = omega (arith, c.push_reserved-2.ensures.len, c.push_reserved-2.ensures.capacity);
+      outcome_room = omega (arith, c.push_reserved-in-loop-workers.ensures.len, c.push_reserved-in-loop-workers.ensures.capacity);
       each = rest_of_all ws rest x is (λ w. w.steps < 2 ^ 52) inv.each;
       few = omega arith;
       steps = ap (λ (n : ℕ). n + sum_by (λ w. w.steps) rest) c.join.ensures ∙ counted_in ws rest x is (λ w. w.steps) c.loop-workers.steps (c.args.steps.now + sum_by (λ w. w.steps) c.args.workers.items) inv.steps;

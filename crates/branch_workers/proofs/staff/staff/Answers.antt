@@ -1,4 +1,4 @@
-use Rattle.std.proofs.Common.{◌≡◌, ◌+◌, ◌++◌, ◌∷◌, [], All, false, length, map, refl, ap, ◌∙◌, arith}
+use Rattle.std.proofs.Common.{◌≡◌, [], false, length, refl, ap, arith}
 use Rattle.checkpoint_shelf.proofs.Closes.{first_split}
 use Rattle.branch_workers.proofs.Turns.{made_of, numbered_of, all_of, longer}
 use Rattle.branch_workers.proofs.staff.staff.Goals as goal
@@ -18,7 +18,7 @@ loop-number-preserved g c =
       seats = made_of ws _ _ p (λ w. w.seat) c.loop-number.seats.items c.remove-seat.new.self.items c.args.seats.items seats inv.seats;
       lanes = made_of ws _ _ p (λ w. w.lane) c.loop-number.lanes.items c.remove-lane.new.self.items c.args.lanes.items lanes inv.lanes;
       numbers = numbered_of ws _ _ p (λ w. w.number) inv.numbers inv.count;
-      idle = all_of ws _ _ p (λ w. (w.steps ≡ 0) × (w.outcomes.items ≡ []) × (w.finished ≡ false)) inv.idle (c.new.ensures, c.new-2.ensures.items, refl);
+      idle = all_of ws _ _ p (λ w. (w.steps ≡ 0) × (w.outcomes.items ≡ []) × (w.finished ≡ false)) inv.idle (c.new.ensures, c.new-in-loop-number.ensures.items, refl);
       count = omega arith;
       seats_left = omega arith;
       lanes_left = omega arith;

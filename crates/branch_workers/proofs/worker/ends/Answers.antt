@@ -7,13 +7,13 @@ use Rattle.kernel_copy.specs.Courses.{CourseTold}
 use Rattle.branch_workers.proofs.Standing.{stays_at_work}
 use Rattle.branch_workers.proofs.worker.ends.Goals as goal
 
-pub returns-then-clause-work : goal.returns-then-clause-work
-returns-then-clause-work g c =
+pub returns-then-progress-count-clause-work : goal.returns-then-progress-count-clause-work
+returns-then-progress-count-clause-work g c =
     let w = c.args.worker.now in
     stays_at_work c.args.course.now.value c.args.shelf.now w.number w.seat w.steps w.outcomes.items w.lane.own.view.pushed c.requires.work c.progress-progress.new.seat c.progress-progress.ensures.same c.progress-progress.ensures.kept.0 c.progress-progress.ensures.kept.1
 
-pub returns-then-clause-done : goal.returns-then-clause-done
-returns-then-clause-done g c = λ _.
+pub returns-then-progress-count-clause-done : goal.returns-then-progress-count-clause-done
+returns-then-progress-count-clause-done g c = λ _.
     let seen = ap (λ (v : SeatView). v.done_seen) c.progress-progress.ensures.seen.is in
     let count = ap (λ (xs : List Segment). length xs) (c.segments-count.ensures.value ∙ ap (λ (p : Plan). segments_in p) (c.plan.ensures.value ∙ ap (λ (x : CourseTold). x.plan) c.deref.ensures)) in
     omega arith

@@ -7,12 +7,12 @@ use Rattle.branch_workers.proofs.worker.run_worker.Goals as goal
 pub try_segment-requires-clause-work : goal.try_segment-requires-clause-work
 try_segment-requires-clause-work g c =
     let w = c.loop.worker in
-    subst (λ (ps : List ℕ). IsAtWork c.args.course.now.value c.args.shelf.now w.number w.seat w.steps w.outcomes.items ps) (sym c.next.ensures.pushed) c.loop.invariant.work
+    subst (λ (ps : List ℕ). IsAtWork c.args.course.now.value c.args.shelf.now w.number w.seat w.steps w.outcomes.items ps) (sym c.next_segment.ensures.pushed) c.loop.invariant.work
 
 pub ends-requires-clause-work : goal.ends-requires-clause-work
 ends-requires-clause-work g c =
     let w = c.loop.worker in
-    subst (λ (ps : List ℕ). IsAtWork c.args.course.now.value c.args.shelf.now w.number w.seat w.steps w.outcomes.items ps) (sym c.next.ensures.pushed) c.loop.invariant.work
+    subst (λ (ps : List ℕ). IsAtWork c.args.course.now.value c.args.shelf.now w.number w.seat w.steps w.outcomes.items ps) (sym c.next_segment.ensures.pushed) c.loop.invariant.work
 
 pub returns-then-not-try_segment-clause-finished : goal.returns-then-not-try_segment-clause-finished
 returns-then-not-try_segment-clause-finished g c = λ e. absurd (true≢false (sym e ∙ c.try_segment.ensures.finished ∙ c.loop.invariant.finished))

@@ -7,8 +7,8 @@ use Rattle.checkpoint_shelf.specs.Told.{ShelfTold, SeatTold}
 use Rattle.kernel_copy.specs.Courses.{CourseTold}
 use Rattle.kernel_copy.specs.declared.run.Outcome.{Outcome}
 use Rattle.branch_workers.specs.Workers.{IsAtWork, HasEnded, own_of}
-use Rattle.branch_workers.proofs.Children.{pushed_few, pushed_more, are_below}
-use Rattle.branch_workers.proofs.Standing.{claims_few, claims_more, claimed_more, stays_at_work, fails, ran, stops_ended}
+use Rattle.branch_workers.proofs.Children.{are_below}
+use Rattle.branch_workers.proofs.Standing.{claims_few, claimed_more, stays_at_work, fails, ran, stops_ended, pushes_few}
 use Rattle.branch_workers.proofs.worker.try_segment.Goals as goal
 
 pub run_segment-requires-clause-more : goal.run_segment-requires-clause-more
@@ -60,17 +60,17 @@ returns-in_default-clause-ended g c = λ _.
     let at = c.run_segment.ensures.same ∙ c.claim.ensures.same in
     let e = fails k c.args.shelf.now w.number w.seat w.steps w.outcomes.items w.lane.own.view.pushed c.requires.work c.args.segment (omega (arith, c.requires.segment, c.requires.room)) claimed.1 c.claim.new.seat.view claimed.0
     c.run_segment.new.seat at c.run_segment.ensures.remains c.run_segment.ensures.turns c.run_segment.new.steps c.run_segment.ensures.most in
-    stops_ended k c.args.shelf.now w.number c.run_segment.new.seat c.run_segment.new.steps e c.stop.new.seat c.stop.ensures.same c.stop.ensures.stopped
+    stops_ended k c.args.shelf.now w.number c.run_segment.new.seat c.run_segment.new.steps e c.stop_others.new.seat c.stop_others.ensures.same c.stop_others.ensures.stopped
 
-pub returns-in_default-2-clause-ended : goal.returns-in_default-2-clause-ended
-returns-in_default-2-clause-ended g c = λ _.
+pub returns-in_default-add-clause-ended : goal.returns-in_default-add-clause-ended
+returns-in_default-add-clause-ended g c = λ _.
     let k : CourseTold = c.args.course.now.value in
     let w = c.args.worker.now in
     let claimed = c.claim.ensures.claimed c.if-not-claim.false in
     let at = c.run_segment.ensures.same ∙ c.claim.ensures.same in
     let e = fails k c.args.shelf.now w.number w.seat w.steps w.outcomes.items w.lane.own.view.pushed c.requires.work c.args.segment (omega (arith, c.requires.segment, c.requires.room)) claimed.1 c.claim.new.seat.view claimed.0
     c.run_segment.new.seat at c.run_segment.ensures.remains c.run_segment.ensures.turns c.run_segment.new.steps c.run_segment.ensures.most in
-    stops_ended k c.args.shelf.now w.number c.run_segment.new.seat c.run_segment.new.steps e c.stop.new.seat c.stop.ensures.same c.stop.ensures.stopped
+    stops_ended k c.args.shelf.now w.number c.run_segment.new.seat c.run_segment.new.steps e c.stop_others-in_default-add.new.seat c.stop_others-in_default-add.ensures.same c.stop_others-in_default-add.ensures.stopped
 
 pub returns-clause-work : goal.returns-clause-work
 returns-clause-work g c = λ _.
@@ -81,12 +81,12 @@ returns-clause-work g c = λ _.
     let r = c.in-Ok.ensures in
     let s = ran k c.args.shelf.now w.number w.seat w.steps w.outcomes.items w.lane.own.view.pushed c.requires.work c.args.segment (omega (arith, c.requires.segment, c.requires.room)) claimed.1 c.claim.new.seat.view claimed.0
     c.run_segment.new.seat at c.run_segment.ensures.remains c.run_segment.ensures.turns r.counted r.ends c.in-Ok.outcome r.outcome c.run_segment.new.steps r.rose in
-    subst (λ (os : List Outcome). IsAtWork k c.args.shelf.now w.number c.run_segment.new.seat c.run_segment.new.steps os c.push_children.new.lane.own.view.pushed) (sym c.in-Ok-2.ensures)
+    subst (λ (os : List Outcome). IsAtWork k c.args.shelf.now w.number c.run_segment.new.seat c.run_segment.new.steps os c.push_children.new.lane.own.view.pushed) (sym c.in-Ok-add.ensures)
     (subst (λ (ps : List ℕ). IsAtWork k c.args.shelf.now w.number c.run_segment.new.seat c.run_segment.new.steps (w.outcomes.items ++ c.in-Ok.outcome ∷ []) ps)
     (sym (c.push_children.ensures ∙ ap (λ (x : CourseTold). w.lane.own.view.pushed ++ children_of x.plan c.args.segment) c.deref.ensures)) s)
 
 pub returns-in_default-clause-stopped : goal.returns-in_default-clause-stopped
-returns-in_default-clause-stopped g c = λ _. ap (λ (v : SeatView). v.stopped) c.stop.ensures.stopped
+returns-in_default-clause-stopped g c = λ _. ap (λ (v : SeatView). v.stopped) c.stop_others.ensures.stopped
 
-pub returns-in_default-2-clause-stopped : goal.returns-in_default-2-clause-stopped
-returns-in_default-2-clause-stopped g c = λ _. ap (λ (v : SeatView). v.stopped) c.stop.ensures.stopped
+pub returns-in_default-add-clause-stopped : goal.returns-in_default-add-clause-stopped
+returns-in_default-add-clause-stopped g c = λ _. ap (λ (v : SeatView). v.stopped) c.stop_others-in_default-add.ensures.stopped

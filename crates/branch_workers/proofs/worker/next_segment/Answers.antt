@@ -1,7 +1,7 @@
 use Rattle.std.proofs.Common.{◌≡◌, List, ℕ, ap, ◌∙◌}
 use Rattle.branch_deques.specs.declared.rule.LaneView.{LaneView}
 use Rattle.branch_deques.specs.Told.{EndTold}
-use Rattle.branch_workers.proofs.worker.next.Goals as goal
+use Rattle.branch_workers.proofs.worker.next_segment.Goals as goal
 
 pub returns-in-Some-clause-pushed : goal.returns-in-Some-clause-pushed
 returns-in-Some-clause-pushed g c = ap (λ (v : LaneView). v.pushed) c.in-Some.ensures.none_or_first.is
