@@ -1,4 +1,4 @@
-use Rattle.std.proofs.Common.{◌≡◌, List, ℕ, length, ap, ◌∙◌}
+use Rattle.std.proofs.Common.{◌≡◌, List, length, ap, ◌∙◌}
 use Rattle.branch_tree.specs.Plan.{Plan}
 use Rattle.branch_tree.specs.declared.branch.Branch.{Branch}
 use Rattle.large_lines.proofs.Sums.{lines-told}
