@@ -2,7 +2,7 @@ use crate::tally::Tally;
 
 #[test]
 fn tallies(rt: HostRuntime) {
-    let tally = Tally::new().with(&[255, 255]).with(&[]).with(&[0, 1]);
+    let tally = Tally::new().with(&[255, 255]).with(&[0, 1]);
     assert_eq!(rt;
         tally,
         Tally {

@@ -8,6 +8,8 @@ pub use bundles::{EMPTY_RUN, TWO_WATCHERS};
 #[cfg(test)]
 mod broken;
 #[cfg(test)]
+mod large;
+#[cfg(test)]
 mod refused;
 #[cfg(test)]
 mod runs;

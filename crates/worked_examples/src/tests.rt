@@ -250,7 +250,7 @@ fn faulty_words_ask_for_nothing(rt: HostRuntime) -> Result<(), Fail> {
         &["run", "s", "--help"],
         &["table", "s", "more"],
         &["rewind", "s", "root:0"],
-        &["big", "7"],
+        &["big", "seven"],
         &["check", "s", "more"],
     ];
     for words in lines {

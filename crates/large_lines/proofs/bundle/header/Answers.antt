@@ -6,4 +6,4 @@ use Rattle.large_lines.proofs.bundle.header.Goals as goal
 pub returns : goal.returns
 returns c =
     let whole = c.in_ok-write_header.ensures.appended ∙ ap (λ (bytes : List ℕ). bytes ++ header_of c.args.course.now) c.new-bytes.ensures.items in
-    subst (λ (bytes : List ℕ). IsTallyOf c.with.result bytes 1) (c.deref.ensures ∙ whole) (c.with.ensures [] 0 c.new.ensures)
+    subst (λ (bytes : List ℕ). IsTallyOf c.with.result bytes 1) (c.deref.ensures.value ∙ whole) (c.with.ensures [] 0 c.new.ensures)

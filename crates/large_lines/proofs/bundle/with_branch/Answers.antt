@@ -7,4 +7,4 @@ pub returns : goal.returns
 returns g c = λ before parts is.
     let trace = trace_of c.args.course.now c.args.branch in
     let whole = c.in_ok-write_branch.ensures.appended ∙ ap (λ (bytes : List ℕ). bytes ++ trace) c.new-bytes.ensures.items in
-    subst (λ (bytes : List ℕ). IsTallyOf c.with.result (before ++ bytes) (parts + 1)) (c.deref.ensures ∙ whole) (c.with.ensures before parts is)
+    subst (λ (bytes : List ℕ). IsTallyOf c.with.result (before ++ bytes) (parts + 1)) (c.deref.ensures.value ∙ whole) (c.with.ensures before parts is)

@@ -11,7 +11,7 @@ pub loop-branch-preserved : goal.loop-branch-preserved
 loop-branch-preserved g c =
     let k = c.args.course.now in
     let b = c.loop-branch.branch in
-    branch-more k b c.in_ok-tally.field-0 (c.in_ok-tally.ensures (header_of k ++ traces_of k b) (b + 1) c.loop-branch.invariant)
+    branch-more k b c.in_ok-tally.tally (c.in_ok-tally.ensures (header_of k ++ traces_of k b) (b + 1) c.loop-branch.invariant)
 
 pub returns : goal.returns
 returns g c =

@@ -7,7 +7,6 @@ use Rattle.kernel_copy.specs.Full.{full_run}
 use Rattle.kernel_copy.specs.Segmentwise.{segment_end}
 use Rattle.kernel_copy.proofs.Trees.{course-tree}
 use Rattle.kernel_copy.proofs.Walks.{full-last}
-use Rattle.market_closing.specs.Closing.{closing_at}
 use Rattle.large_lines.proofs.events.events_of_branch.Goals as goal
 
 pub returns : goal.returns

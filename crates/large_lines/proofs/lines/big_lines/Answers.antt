@@ -1,4 +1,4 @@
-use Rattle.std.proofs.Common.{◌≡◌, List, ℕ, length, ap, ◌∙◌}
+use Rattle.std.proofs.Common.{◌≡◌, List, length, ap, ◌∙◌}
 use Rattle.branch_tree.specs.Plan.{Plan}
 use Rattle.branch_tree.specs.declared.branch.Branch.{Branch}
 use Rattle.large_lines.proofs.Sums.{lines-told}
@@ -8,7 +8,7 @@ pub returns : goal.returns
 returns g c =
     let k = c.args.course.now in
     let bundle = c.in_ok-bundle.bundle in
-    let few : length c.branches.result.now ≡ length k.plan.branches = ap (λ (xs : List Branch). length xs) (c.branches.ensures.value ∙ ap (λ (p : Plan). p.branches) c.plan.ensures.value) in
+    let few : length c.branches-branches.result.now ≡ length k.plan.branches = ap (λ (xs : List Branch). length xs) (c.branches-branches.ensures.value ∙ ap (λ (p : Plan). p.branches) c.plan.ensures.value) in
     c.in_ok-six_lines.ensures
-    ∙ lines-told c.args.study (length c.branches.result.now) c.events_of_all.result c.args.distinct bundle.count bundle.total k
-    few c.events_of_all.ensures c.requires.distinct c.in_ok-bundle.ensures.count c.in_ok-bundle.ensures.total
+    ∙ lines-told c.args.study (length c.branches-branches.result.now) c.events_of_all-events.result c.args.distinct bundle.count bundle.total k
+    few c.events_of_all-events.ensures c.requires.distinct c.in_ok-bundle.ensures.count c.in_ok-bundle.ensures.total
