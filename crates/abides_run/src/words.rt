@@ -23,8 +23,8 @@ fn request<'a>(command: Command<'a>) -> Option<Request<'a>>
 // The same of a command line, with its number of workers.
 fn job<'a>(asked: Asked<'a>) -> Option<Job<'a>>
     requires { (0 < asked.workers) × (asked.workers ≤ 64) }
-    ensures request { option_map (λ j. j.request) result ≡ request_of asked.command }
-    ensures workers { IfSome result (λ j. j.workers ≡ asked.workers) }
+    ensures request { option_map (λ j. j.request) result ≡ request_of asked.entry.command }
+    ensures workers { IfSome result (λ j. j.workers ≡ asked.entry.workers) }
 {
     let request = request(asked.command)?;
     Some(Job {
