@@ -1,13 +1,13 @@
 -- The segments that go on from a segment.
 use Rattle.std.proofs.Common.{◌≡◌, ◌≢◌, ℕ, zero, suc, ◌+◌, ◌<◌, ◌≤◌, All, Bool, true, false, true≢false, List, [], ◌∷◌, ◌++◌, Option, None, Some, length, get_or, if◌then◌else◌, sym, refl, ap, ◌∙◌, subst, ⊎_elim, arith, length-append}
-use Rattle.std.proofs.lemmas.List.Elements.{All-cons, All-nil, All-append, All-get_or}
+use Rattle.std.proofs.lemmas.List.Elements.{All-cons, All-nil, All-append}
 use mathlib.Core.Logic.{dite}
 use native.Mathlib.Decide.{ℕ_discrete}
 use Rattle.branch_tree.specs.declared.segment.Segment.{Segment}
 use Rattle.branch_tree.specs.Plan.{Plan}
 use Rattle.branch_tree.specs.Segments.{segments_in, segment_at, no_segment, is_child, children_from, children_of}
 use Rattle.shelf_core.specs.Views.{times}
-use Rattle.shelf_core.proofs.Lists.{times_here, times_else, times_append, bool_cases}
+use Rattle.shelf_core.proofs.Lists.{times_here, times_else, times_append}
 use Rattle.branch_workers.specs.Claims.{AreClaims, HasPushed, pushes}
 use Rattle.branch_workers.proofs.Sums.{at_most}
 

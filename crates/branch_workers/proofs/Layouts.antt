@@ -1,14 +1,13 @@
 -- The shelf and the lanes of a course.
-use Rattle.std.proofs.Common.{◌≡◌, ◌≢◌, ℕ, zero, suc, ◌+◌, ◌^◌, ◌<◌, ◌≤◌, All, true, List, [], ◌∷◌, ◌++◌, Option, None, Some, length, get_or, append-nil, refl, sym, ap, ◌∙◌, subst, arith}
+use Rattle.std.proofs.Common.{◌≡◌, ◌≢◌, ℕ, zero, suc, ◌<◌, ◌≤◌, All, List, [], ◌∷◌, Option, None, Some, length, append-nil, refl, sym, ap, ◌∙◌, subst, arith}
 use Rattle.std.proofs.lemmas.List.Elements.{All-nil, All-cons, All-from_get_or}
 use mathlib.Core.Logic.{dite}
 use native.Mathlib.Decide.{ℕ_discrete}
-use Rattle.branch_tree.specs.declared.branch.Branch.{Branch}
 use Rattle.branch_tree.specs.declared.segment.Segment.{Segment}
 use Rattle.branch_tree.specs.Plan.{Plan}
 use Rattle.branch_tree.specs.Segments.{segments_in, segment_at, no_segment, count_before}
 use Rattle.branch_tree.proofs.PartLemmas.{length-before}
-use Rattle.shelf_core.specs.Plan.{are_distinct, place_count}
+use Rattle.shelf_core.specs.Plan.{are_distinct}
 use Rattle.shelf_core.specs.Views.{times}
 use Rattle.shelf_core.specs.declared.plan.Key.{Key}
 use Rattle.shelf_core.proofs.Lists.{times_here, times_else}

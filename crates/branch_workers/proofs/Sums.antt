@@ -1,12 +1,12 @@
 -- How often numbers stand in a list, and what they weigh together.
-use Rattle.std.proofs.Common.{◌≡◌, ◌≢◌, ℕ, zero, suc, ◌+◌, ◌*◌, ◌<◌, ◌≤◌, All, List, [], ◌∷◌, ◌++◌, length, sum_by, sym, refl, ap, ◌∙◌, subst, ⊎_elim, arith}
+use Rattle.std.proofs.Common.{◌≡◌, ◌≢◌, ℕ, zero, suc, ◌+◌, ◌*◌, ◌<◌, ◌≤◌, All, List, [], ◌∷◌, ◌++◌, length, sum_by, sym, refl, ap, ◌∙◌, subst, arith}
 use Rattle.std.proofs.Math.Nat.{mul-suc, mul-zero, mul-one}
 use Rattle.std.proofs.lemmas.List.Elements.{All-head, All-tail}
 use Rattle.std.proofs.lemmas.List.Sums.{sum_by-cons}
 use mathlib.Core.Logic.{dite}
 use native.Mathlib.Decide.{ℕ_discrete}
 use Rattle.shelf_core.specs.Views.{times}
-use Rattle.shelf_core.proofs.Lists.{times_here, times_else, times_append, times_one}
+use Rattle.shelf_core.proofs.Lists.{times_here, times_else, times_append}
 
 -- f of each number below n, added up
 abbrev pub upto : ℕ → (ℕ → ℕ) → ℕ

@@ -1,8 +1,7 @@
 -- What holds of workers.
-use Rattle.std.specs.Prelude.{◌≡◌, ℕ, ◌<◌, ◌≤◌, ◌^◌, true, All, List, [], ◌∷◌, Option, None, Some, length, map, sum_by, slice_get}
+use Rattle.std.specs.Prelude.{◌≡◌, ℕ, ◌<◌, ◌≤◌, ◌^◌, true, All, List, [], ◌∷◌, Some, length, map, sum_by, slice_get}
 use Rattle.branch_tree.specs.Plan.{Plan}
 use Rattle.branch_tree.specs.Segments.{segments_in, segment_at, last_of}
-use Rattle.shelf_core.specs.Plan.{is_in}
 use Rattle.shelf_core.specs.Possible.{word_at}
 use Rattle.shelf_core.specs.Views.{times}
 use Rattle.shelf_core.specs.Words.{is_ready}
@@ -16,7 +15,7 @@ use Rattle.kernel_copy.specs.Courses.{CourseTold, IsCourse}
 use Rattle.kernel_copy.specs.Outcomes.{outcome_told, outcome_of}
 use Rattle.branch_workers.specs.Layout.{end_key}
 use Rattle.branch_workers.specs.Claims.{AreClaims, HasPushed}
-use Rattle.branch_workers.specs.Runs.{HasEnds, HasAllEnds}
+use Rattle.branch_workers.specs.Runs.{HasAllEnds}
 
 -- numbers that rise by one from 0
 abbrev pub AreNumbered : List ℕ → Type 0

@@ -1,4 +1,4 @@
-use Rattle.std.proofs.Common.{◌≡◌, List, ℕ, ap, ◌∙◌}
+use Rattle.std.proofs.Common.{ap, ◌∙◌}
 use Rattle.branch_deques.specs.declared.rule.LaneView.{LaneView}
 use Rattle.branch_deques.specs.Told.{EndTold}
 use Rattle.branch_workers.proofs.worker.next_segment.Goals as goal

@@ -1,6 +1,6 @@
-use Rattle.std.proofs.Common.{◌≡◌, ◌<◌, ◌++◌, ℕ, List, All, length, sym, ap, ◌∙◌, subst, arith}
+use Rattle.std.proofs.Common.{◌<◌, ◌++◌, ℕ, List, All, length, sym, ap, ◌∙◌, subst, arith}
 use Rattle.branch_tree.specs.Plan.{Plan}
-use Rattle.branch_tree.specs.Segments.{segments_in, children_of}
+use Rattle.branch_tree.specs.Segments.{children_of}
 use Rattle.branch_workers.proofs.worker.push_children.Goals as goal
 
 pub push_all-requires-clause-few : goal.push_all-requires-clause-few

@@ -1,5 +1,4 @@
-use Rattle.std.proofs.Common.{◌≡◌, ◌≤◌, ℕ, List, length, true, false, true≢false, sum_by, sym, ap, ◌∙◌, subst, arith}
-use Rattle.kernel_copy.specs.Courses.{CourseTold}
+use Rattle.std.proofs.Common.{ℕ, List, true≢false, sym, ◌∙◌, subst}
 use Rattle.branch_workers.specs.Workers.{IsAtWork}
 use Rattle.branch_workers.proofs.Standing.{ends_here, finishes_here}
 use Rattle.branch_workers.proofs.worker.run_worker.Goals as goal

@@ -1,12 +1,9 @@
-use Rattle.std.proofs.Common.{◌≡◌, ◌<◌, ◌≤◌, ◌+◌, ◌++◌, ◌∷◌, [], ◌^◌, ℕ, List, All, Some, length, sum_by, sym, ap, ◌∙◌, subst, arith}
+use Rattle.std.proofs.Common.{◌<◌, ◌++◌, ◌∷◌, [], ℕ, List, All, length, sym, ap, ◌∙◌, subst, arith}
 use Rattle.branch_tree.specs.Segments.{segments_in, children_of}
-use Rattle.shelf_core.specs.Views.{times}
-use Rattle.shelf_core.specs.After.{with_claim}
 use Rattle.shelf_core.specs.declared.seat.SeatView.{SeatView}
-use Rattle.checkpoint_shelf.specs.Told.{ShelfTold, SeatTold}
 use Rattle.kernel_copy.specs.Courses.{CourseTold}
 use Rattle.kernel_copy.specs.declared.run.Outcome.{Outcome}
-use Rattle.branch_workers.specs.Workers.{IsAtWork, HasEnded, own_of}
+use Rattle.branch_workers.specs.Workers.{IsAtWork}
 use Rattle.branch_workers.proofs.Children.{are_below}
 use Rattle.branch_workers.proofs.Standing.{claims_few, claimed_more, stays_at_work, fails, ran, stops_ended, pushes_few}
 use Rattle.branch_workers.proofs.worker.try_segment.Goals as goal
