@@ -14,7 +14,7 @@ use Rattle.bundle_round_trip.specs.Back.{branch_back, branches_back, bundle_back
 use Rattle.bundle_round_trip.proofs.Splits.{same-bytes}
 
 bytes-push : (n : ℕ) (bs : List BranchTold) (b : BranchTold) → branches_bytes n (bs ++ b ∷ []) ≡ branches_bytes n bs ++ branch_bytes (n + length bs) b
-bytes-push n [] b = let e : n ≡ n + length [] = omega arith in append-nil (branch_bytes n b) ∙ ap (λ k. branch_bytes k b) e
+bytes-push n [] b = let e : n ≡ n + length {A = BranchTold} [] = omega arith in append-nil (branch_bytes n b) ∙ ap (λ k. branch_bytes k b) e
 bytes-push n (c ∷ cs) b =
     let e : n + 1 + length cs ≡ n + length (c ∷ cs) = omega arith in
     ap (λ bs. branch_bytes n c ++ bs) (bytes-push (n + 1) cs b)

@@ -11,7 +11,7 @@ use Rattle.bundle_reader.specs.Order.{opens, is_directory, is_system, is_trading
 use Rattle.bundle_reader.specs.Bundle.{IsOpening, stand}
 
 stand-append : (s at : ℕ) (xs ys : List Feed) → stand s at xs ≡ true → stand s (at + length xs) ys ≡ true → stand s at (xs ++ ys) ≡ true
-stand-append s at [] ys h k = let e : at + length [] ≡ at = omega arith in subst (λ n. stand s n ys ≡ true) e k
+stand-append s at [] ys h k = let e : at + length {A = Feed} [] ≡ at = omega arith in subst (λ n. stand s n ys ≡ true) e k
 stand-append s at (x ∷ xs) ys h k =
     let parts = and_parts (opens s at x.what) (stand s (at + 1) xs) h in
     let e : at + length (x ∷ xs) ≡ at + 1 + length xs = omega arith in

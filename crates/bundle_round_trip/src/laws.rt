@@ -4,8 +4,9 @@ ghost use Rattle.std.specs.Prelude.{◌≡◌, ℕ, All};
 ghost use Rattle.kernel_copy.specs.Courses.{CourseTold, IsCourse};
 ghost use Rattle.kernel_copy.specs.Full.{full};
 ghost use Rattle.branch_bundle.specs.Bundle.{bundle_of};
-ghost use Rattle.bundle_reader.specs.Bundle.{HasFeed, IsBranch, IsSplit, bundle_bytes};
+ghost use Rattle.bundle_reader.specs.Bundle.{HasFeed, IsBranch, IsBundle, IsSplit, bundle_bytes};
 ghost use Rattle.bundle_round_trip.specs.Back.{branch_back, bundle_back};
+ghost use Rattle.bundle_round_trip.specs.Ranges.{IsInRange};
 
 use kernel_copy::laws::courses_stay_in_range;
 
@@ -21,6 +22,7 @@ pub fn bundles_come_back()
     ensures bytes { (c : CourseTold) → bundle_bytes (bundle_back c) ≡ bundle_of c }
     ensures split { (c : CourseTold) (b : ℕ) → IsSplit (branch_back c b).entries }
     ensures branches { (c : CourseTold) → IsCourse c → All (IsBranch (bundle_back c).stocks (bundle_back c).agents) (bundle_back c).branches }
+    ensures bundle { (c : CourseTold) → IsCourse c → IsInRange c → IsBundle (bundle_back c) }
 {
     feeds_are_of_their_kinds();
     courses_stay_in_range();

@@ -1,4 +1,4 @@
-use Rattle.bundle_round_trip.proofs.Kinds.{feed-full}
+use Rattle.bundle_round_trip.proofs.FeedKinds.{feed-full}
 use Rattle.bundle_round_trip.proofs.laws.feeds_are_of_their_kinds.Goals as goal
 
 pub returns : goal.returns
