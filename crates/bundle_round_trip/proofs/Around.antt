@@ -75,9 +75,28 @@ close-in time h = system-in time 67 h close-letter
 directory-in : (time k : ℕ) (s : Symbol) → time < 281474976710656 → k + 1 < 65536 → is_in_range (Text 8) (bytes s.0) ≡ true → IsFeedInRange (directory time k s)
 unfolding is_in_range is_good
 directory-in time k s early few text =
-    all-in directory_kinds (feed_wire (directory time k s)).values
-    (two (k + 1) few, (two 0 (omega arith), (six time early, (text, (refl, (refl, (four 100 (omega arith),
-    (refl, (refl, (refl, (refl, (refl, (refl, (refl, (refl, (four 0 (omega arith), (refl, tt)))))))))))))))))
+    all-in directory_kinds (feed_wire (directory time k s)).values (
+      two (k + 1) few,
+      (
+        two 0 (omega arith),
+        (
+          six time early,
+          (
+            text,
+            (
+              refl,
+              (
+                refl,
+                (
+                  four 100 (omega arith),
+                  (refl, (refl, (refl, (refl, (refl, (refl, (refl, (refl, (four 0 (omega arith), (refl, tt)))))))))),
+                ),
+              ),
+            ),
+          ),
+        ),
+      ),
+    )
 
 trading-in : (time k : ℕ) (s : Symbol) → time < 281474976710656 → k + 1 < 65536 → is_in_range (Text 8) (bytes s.0) ≡ true → IsFeedInRange (trading time k s)
 unfolding is_in_range is_good

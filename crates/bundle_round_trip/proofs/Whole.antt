@@ -54,9 +54,11 @@ frame-in c b is names l =
     let x = branch_at c.plan.branches b in
     let tree = course-tree c is in
     let few = course-few c is in
-    let name : IsNameLength (length x.name) = All-get_or (λ (y : Branch). IsNameLength (length y.name)) c.plan.branches b no_branch l names in
-    (branch-in b (parent_written c b) x.stop x.name (omega (arith, few, l)) (parent-in c b tree few l)
-    (omega (arith, tree.limits b l, is.limit, is.opening.limit)) (omega (arith, name.few)), name)
+    let name : IsNameLength (length x.name) = All-get_or (λ (y : Branch). IsNameLength (length y.name)) c.plan.branches b no_branch l names in (
+      branch-in b (parent_written c b) x.stop x.name (omega (arith, few, l)) (parent-in c b tree few l)
+          (omega (arith, tree.limits b l, is.limit, is.opening.limit)) (omega (arith, name.few)),
+      name,
+    )
 
 branch-ranges : (c : CourseTold) (b : ℕ) → IsCourse c → IsInRange c → StatesOf c → b < length c.plan.branches → All (InCourse c) (branch_list b (branch_back c b))
 branch-ranges c b is ranges states l =
