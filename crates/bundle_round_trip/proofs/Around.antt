@@ -1,11 +1,9 @@
 -- The frames around the entries of a branch are in their ranges.
-use Rattle.std.proofs.Common.{◌≡◌, ◌∙◌, ℕ, zero, suc, ◌+◌, ◌<◌, ◌≤◌, ◌^◌, ◌==◌, Bool, true, false, ◌&&◌, List, [], ◌∷◌, ◌++◌, length, All, Option, refl, ap, arith}
-use Rattle.std.specs.Prelude.{nat_lt}
+use Rattle.std.proofs.Common.{◌≡◌, ℕ, zero, suc, ◌+◌, ◌<◌, ◌≤◌, true, ◌&&◌, List, [], ◌∷◌, ◌++◌, length, All, Option, refl, ap, arith}
 use Rattle.std.proofs.lemmas.Bool.{lt-ltb}
 use Rattle.std.proofs.lemmas.List.Elements.{All-append, All-cons, All-get_or, All-head, All-nil, All-push, All-tail}
 use Rattle.market_types.specs.declared.feed.Feed.{Feed}
 use Rattle.market_types.specs.declared.order.Symbol.{Symbol}
-use Rattle.exchange_agent.specs.declared.told.StockRules.{StockRules}
 use Rattle.wire_fields.specs.declared.kind.Kind.TheVariants.{Byte, Letters, Number, Text}
 use Rattle.wire_fields.specs.Kinds.{is_good}
 use Rattle.wire_fields.specs.Values.{number, bytes, is_in_range}
@@ -19,7 +17,6 @@ use Rattle.market_opening.specs.Opening.{IsOpening, IsStock}
 use Rattle.market_floor.specs.Reaction.{no_rules}
 use Rattle.branch_bundle.specs.Feed.{directories, directory, opening_feed, symbol_at, system_event, trading, tradings}
 use Rattle.frame_reader.specs.Frames.{HasRanges}
-use Rattle.frame_reader.specs.declared.frame.Frame.{Frame}
 use Rattle.frame_reader.specs.declared.frame.Frame.TheVariants as frame
 use Rattle.bundle_reader.specs.Bundle.{feed_list}
 use Rattle.bundle_round_trip.proofs.Texts.{all-in, number-in, symbol-in}

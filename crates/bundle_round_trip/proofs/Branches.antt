@@ -1,9 +1,7 @@
 -- Each branch of the bundle that is read back is a branch as reading wants it.
-use Rattle.std.proofs.Common.{◌≡◌, ℕ, zero, suc, ◌+◌, ◌<◌, ◌≤◌, length, All, refl, sym, arith}
+use Rattle.std.proofs.Common.{ℕ, zero, suc, ◌+◌, ◌<◌, ◌≤◌, length, All, refl, sym, arith}
 use Rattle.std.proofs.lemmas.List.Elements.{All-nil, All-push}
-use Rattle.market_opening.specs.declared.opening.Opening.{Opening}
-use Rattle.branch_tree.specs.Plan.{Plan}
-use Rattle.kernel_copy.specs.Courses.{CourseTold, IsCourse}
+use Rattle.kernel_copy.specs.Courses.{CourseTold}
 use Rattle.kernel_copy.specs.Full.{full, full_run}
 use Rattle.kernel_copy.specs.Reached.{IsReached}
 use Rattle.bundle_reader.specs.Told.{BranchTold}

@@ -27,7 +27,7 @@ use Rattle.exchange_agent.specs.declared.cancel.Found.{Found}
 use Rattle.exchange_agent.specs.declared.settle.Taking.{Taking}
 use Rattle.exchange_agent.specs.declared.verdict.Verdict.{Verdict}
 use Rattle.exchange_agent.specs.declared.verdict.Verdict.TheVariants.{Ignored, Forgotten, Refused, Accepted}
-use Rattle.exchange_agent.specs.Cancel.{cancel_of, canceled, found_from, lowering_of, open_of, unheard}
+use Rattle.exchange_agent.specs.Cancel.{cancel_of, canceled, found_from, open_of, unheard}
 use Rattle.exchange_agent.specs.Changes.{Changed, changed_by}
 use Rattle.exchange_agent.specs.Enter.{entered_by, remainder, remembering, taking_of, verdict_of, way_from}
 use Rattle.exchange_agent.specs.Market.{market}
@@ -38,7 +38,6 @@ use Rattle.event_queue.specs.Waiting.{least}
 use Rattle.branch_tree.specs.declared.branch.Branch.{Branch}
 use Rattle.branch_tree.specs.Plan.{Plan, branch_at, stop_at}
 use Rattle.market_opening.specs.declared.opening.Opening.{Opening}
-use Rattle.market_floor.specs.Edited.{edited_floor}
 use Rattle.market_floor.specs.Floor.{FloorState, party_at}
 use Rattle.market_floor.specs.Reaction.{Reaction, decided_by, market_reaction, reaction, trader_reaction}
 use Rattle.market_floor.specs.Ruled.{all_changed, due, ruled}

@@ -1,12 +1,11 @@
 -- The bytes of all branches, and what is so of each.
-use Rattle.std.proofs.Common.{◌≡◌, ◌∙◌, ℕ, zero, suc, ◌+◌, List, [], ◌∷◌, ◌++◌, length, refl, ap, sym, append_assoc, All, arith}
+use Rattle.std.proofs.Common.{◌≡◌, ◌∙◌, ℕ, zero, suc, ◌+◌, List, [], ◌∷◌, ◌++◌, length, refl, ap, sym, append_assoc, arith}
 use Rattle.std.specs.List.{flat_map}
 use Rattle.std.proofs.lemmas.List.{append-nil, length_push}
-use Rattle.bundle_frames.specs.Frames.{branch_frame, closing_frames, end_frame, entry_frames, feed_frames, header_frame, message_frame}
-use Rattle.branch_tree.specs.Plan.{branch_at}
+use Rattle.bundle_frames.specs.Frames.{closing_frames, end_frame, entry_frames, feed_frames, header_frame, message_frame}
 use Rattle.kernel_copy.specs.Courses.{CourseTold}
 use Rattle.kernel_copy.specs.Full.{full_run}
-use Rattle.branch_bundle.specs.Bundle.{bundle_of, end_of_trace, head_of, header_of, parent_written, trace_of, traces_of}
+use Rattle.branch_bundle.specs.Bundle.{bundle_of, head_of, trace_of, traces_of}
 use Rattle.branch_bundle.specs.Feed.{opening_feed}
 use Rattle.bundle_reader.specs.Told.{BranchTold}
 use Rattle.bundle_reader.specs.Bundle.{branch_bytes, branches_bytes, bundle_bytes}

@@ -1,13 +1,12 @@
 -- The feed of an opening stands as reading wants it.
-use Rattle.std.proofs.Common.{◌≡◌, ◌∙◌, ℕ, zero, suc, ◌+◌, ◌*◌, ◌<◌, ◌≤◌, ◌==◌, Bool, true, false, ◌&&◌, List, [], ◌∷◌, ◌++◌, length, refl, ap, subst, sym, arith}
-use Rattle.std.specs.Prelude.{nat_le, if◌then◌else◌}
+use Rattle.std.proofs.Common.{◌≡◌, ◌∙◌, ℕ, zero, suc, ◌+◌, ◌<◌, ◌≤◌, ◌==◌, true, false, ◌&&◌, List, [], ◌∷◌, ◌++◌, length, refl, ap, subst, sym, arith}
 use Rattle.std.proofs.lemmas.Bool.{and_parts, le-leb, lt-leb, ne_eqb}
 use Rattle.std.proofs.lemmas.List.{length-append, length_push}
 use Rattle.market_types.specs.declared.feed.Feed.{Feed}
 use Rattle.market_types.specs.declared.feed.What.{What}
 use Rattle.market_opening.specs.declared.opening.Opening.{Opening}
-use Rattle.branch_bundle.specs.Feed.{directories, directory, opening_feed, symbol_at, system_event, trading, tradings}
-use Rattle.bundle_reader.specs.Order.{opens, is_directory, is_system, is_trading}
+use Rattle.branch_bundle.specs.Feed.{directories, directory, opening_feed, symbol_at, trading, tradings}
+use Rattle.bundle_reader.specs.Order.{opens, is_directory, is_trading}
 use Rattle.bundle_reader.specs.Bundle.{IsOpening, stand}
 
 stand-append : (s at : ℕ) (xs ys : List Feed) → stand s at xs ≡ true → stand s (at + length xs) ys ≡ true → stand s at (xs ++ ys) ≡ true

@@ -1,5 +1,5 @@
 -- Symbols may stand in a text field, and numbers in a field that is wide enough.
-use Rattle.std.proofs.Common.{◌≡◌, ◌∙◌, ℕ, zero, suc, ◌+◌, ◌-◌, ◌<◌, ◌≤◌, ◌^◌, ◌==◌, Bool, true, false, ◌&&◌, List, [], ◌∷◌, ◌++◌, length, drop, replicate, Ok, Err, refl, ap, sym, arith}
+use Rattle.std.proofs.Common.{◌≡◌, ◌∙◌, ℕ, zero, suc, ◌-◌, ◌<◌, ◌≤◌, ◌^◌, ◌==◌, Bool, true, false, ◌&&◌, List, [], ◌∷◌, ◌++◌, length, drop, replicate, Ok, Err, refl, ap, sym, arith}
 use Rattle.std.specs.Prelude.{nat_lt, if◌then◌else◌}
 use Rattle.std.specs.Char.{is_ascii_graphic}
 use Rattle.std.specs.Int.{is_in_range as is_between}
@@ -9,10 +9,9 @@ use Rattle.std.proofs.lemmas.Bool.Decides.{nat_tests}
 use Rattle.std.proofs.lemmas.List.{length-append, length-replicate}
 use Rattle.std.proofs.lemmas.List.Folds.{list_all-append}
 use Rattle.std.proofs.Math.Seq.{drop-append_seam}
-use Rattle.market_types.specs.declared.error.TypeError.{TypeError}
 use Rattle.market_types.specs.declared.error.TypeError.TheVariants.{BadSymbol}
 use Rattle.market_types.specs.declared.order.Symbol.{Symbol}
-use Rattle.market_types.specs.Readers.{is_symbol, padded, symbol_of}
+use Rattle.market_types.specs.Readers.{is_symbol, padded}
 use Rattle.market_opening.specs.Opening.{IsSymbol}
 use Rattle.wire_fields.specs.declared.kind.Kind.{Kind}
 use Rattle.wire_fields.specs.declared.kind.Kind.TheVariants.{Number, Text}

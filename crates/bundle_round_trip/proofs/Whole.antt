@@ -1,7 +1,6 @@
 -- What is written of a course whose fields are in their ranges is a bundle.
-use Rattle.std.proofs.Common.{◌≡◌, ◌∙◌, ℕ, zero, suc, ◌+◌, ◌<◌, ◌≤◌, inl, inr, List, [], ◌∷◌, ◌++◌, length, All, Some, refl, sym, ap, subst, append_assoc, arith}
+use Rattle.std.proofs.Common.{◌≡◌, ◌∙◌, ℕ, zero, suc, ◌+◌, ◌<◌, ◌≤◌, inl, inr, List, [], ◌∷◌, ◌++◌, length, All, Some, sym, ap, subst, append_assoc, arith}
 use Rattle.std.specs.List.{flat_map}
-use Rattle.std.specs.Prelude.{◌==◌, if◌then◌else◌}
 use Rattle.std.proofs.lemmas.Bool.{cases_eq, eq-eqb, ne_eqb}
 use Rattle.std.proofs.lemmas.List.{append-nil}
 use Rattle.std.proofs.lemmas.List.Elements.{All-append, All-cons, All-get_or, All-nil, All-weaker}
@@ -23,7 +22,7 @@ use Rattle.bundle_reader.specs.Told.{BranchTold}
 use Rattle.bundle_reader.specs.Bundle.{IsBundle, branch_list, branches_list, bundle_list, closing_list, entry_list, feed_list}
 use Rattle.bundle_round_trip.specs.AsRead.{as_read}
 use Rattle.bundle_round_trip.specs.Back.{branch_back, branches_back, bundle_back}
-use Rattle.bundle_round_trip.specs.Ranges.{IsInRange, IsRunInRange}
+use Rattle.bundle_round_trip.specs.Ranges.{IsInRange}
 use Rattle.bundle_round_trip.proofs.Around.{branch-in, close-in, end-in, header-in, opening-in}
 use Rattle.bundle_round_trip.proofs.Branches.{FeedsOf, StatesOf, branches-are}
 use Rattle.bundle_round_trip.proofs.Lists.{length-back}

@@ -1,8 +1,7 @@
 -- A frame whose fields are in their ranges is short.
-use Rattle.std.proofs.Common.{◌≡◌, ◌∙◌, ℕ, ◌+◌, ◌*◌, ◌≤◌, Bool, true, false, List, [], ◌∷◌, ◌++◌, length, Some, refl, arith}
+use Rattle.std.proofs.Common.{◌≡◌, ℕ, ◌+◌, ◌≤◌, true, List, [], ◌∷◌, length, Some, refl, arith}
 use Rattle.std.proofs.lemmas.Bool.{and_parts}
 use Rattle.std.proofs.lemmas.List.{length-append}
-use Rattle.market_types.specs.declared.feed.Feed.{Feed}
 use Rattle.market_types.specs.declared.feed.What.{What}
 use Rattle.market_types.specs.declared.feed.What.TheVariants as what
 use Rattle.market_types.specs.declared.message.Body.{Body}

@@ -1,4 +1,4 @@
-use Rattle.std.proofs.Common.{◌≡◌, ◌++◌, ◌∙◌, ℕ, List, sym, ap, add-one, append_assoc}
+use Rattle.std.proofs.Common.{◌++◌, ◌∙◌, ℕ, List, sym, ap, add-one, append_assoc}
 use Rattle.branch_bundle.specs.Bundle.{trace_of, traces_of}
 use Rattle.bundle_round_trip.proofs.writing.put_branches.Goals as goal
 
