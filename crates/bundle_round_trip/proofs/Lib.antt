@@ -1,0 +1,10 @@
+pub mod FeedKinds
+pub mod Splits
+pub mod Openings
+pub mod Closings
+pub mod Lists
+pub mod Branches
+pub mod Widths
+pub mod Texts
+pub mod Around
+pub mod Whole

@@ -1,0 +1,4 @@
+pub mod AsRead
+pub mod Back
+pub mod Ranges
+pub mod Worked

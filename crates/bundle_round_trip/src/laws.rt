@@ -1,0 +1,29 @@
+//! What reading answers of what was written.
+
+ghost use Rattle.std.specs.Prelude.{◌≡◌, ℕ, All};
+ghost use Rattle.kernel_copy.specs.Courses.{CourseTold, IsCourse};
+ghost use Rattle.kernel_copy.specs.Full.{full};
+ghost use Rattle.branch_bundle.specs.Bundle.{bundle_of};
+ghost use Rattle.bundle_reader.specs.Bundle.{HasFeed, IsBranch, IsBundle, IsSplit, bundle_bytes};
+ghost use Rattle.bundle_round_trip.specs.Back.{branch_back, bundle_back};
+ghost use Rattle.bundle_round_trip.specs.Ranges.{IsInRange};
+
+use kernel_copy::laws::courses_stay_in_range;
+
+/// Before each event of a run stand trading actions, after it messages on orders; a halt or a resume of a branch has at most
+/// the one trading action of its own time, and any other edit has no feed.
+pub fn feeds_are_of_their_kinds()
+    ensures { (c : CourseTold) (b e : ℕ) → All HasFeed (full c.opening c.plan b e).entries }
+{}
+
+/// The bundle that is written of a course is the bytes of a bundle that tells the branches' full runs with their feed as
+/// reading splits it.
+pub fn bundles_come_back()
+    ensures bytes { (c : CourseTold) → bundle_bytes (bundle_back c) ≡ bundle_of c }
+    ensures split { (c : CourseTold) (b : ℕ) → IsSplit (branch_back c b).entries }
+    ensures branches { (c : CourseTold) → IsCourse c → All (IsBranch (bundle_back c).stocks (bundle_back c).agents) (bundle_back c).branches }
+    ensures bundle { (c : CourseTold) → IsCourse c → IsInRange c → IsBundle (bundle_back c) }
+{
+    feeds_are_of_their_kinds();
+    courses_stay_in_range();
+}
