@@ -1,6 +1,6 @@
 -- The frames of edits and the messages of changes are in their ranges in each run of a course.
-use Rattle.std.proofs.Common.{◌≡◌, ◌∙◌, ℕ, zero, suc, ◌+◌, ◌-◌, ◌<◌, ◌≤◌, Bool, true, false, cond, ltb, inl, inr, List, [], ◌∷◌, ◌++◌, length, All, drop, take, refl, ap, sym, subst, slice_index, arith}
-use Rattle.std.specs.Prelude.{◌==◌, nat_le, nat_lt, if◌then◌else◌}
+use Rattle.std.proofs.Common.{◌≡◌, ◌∙◌, ℕ, zero, suc, ◌+◌, ◌-◌, ◌<◌, ◌≤◌, Bool, true, false, cond, ltb, inl, inr, List, [], ◌∷◌, ◌++◌, length, All, take, refl, ap, sym, subst, slice_index, arith}
+use Rattle.std.specs.Prelude.{◌==◌, nat_le, if◌then◌else◌}
 use Rattle.std.proofs.lemmas.Bool.{cases_lt, ltb-true}
 use Rattle.std.proofs.lemmas.Bool.Decides.{nat_tests}
 use Rattle.std.proofs.lemmas.List.{get_or_past}
@@ -32,7 +32,7 @@ use Rattle.branch_tree.specs.Paths.{path_of, path_within}
 use Rattle.branch_tree.specs.Plan.{branch_at, no_branch, parent_at, stop_at}
 use Rattle.branch_tree.specs.Planned.{IsTree}
 use Rattle.market_opening.specs.declared.opening.Opening.{Opening}
-use Rattle.market_opening.specs.Opening.{IsDated, IsOpening, IsStock}
+use Rattle.market_opening.specs.Opening.{IsDated, IsOpening}
 use Rattle.market_floor.specs.Edited.{edited_floor}
 use Rattle.market_floor.specs.Floor.{FloorState}
 use Rattle.market_floor.specs.Ruled.{all_changed, due, ruled}
@@ -47,7 +47,6 @@ use Rattle.kernel_copy.specs.Courses.{CourseTold, AreEdits, IsCourse}
 use Rattle.kernel_copy.specs.Full.{opening_run, edited_by, forks_of, full_along, full}
 use Rattle.kernel_copy.proofs.Opened.{opened-stocks}
 use Rattle.kernel_copy.proofs.Trees.{course-few, course-tree}
-use Rattle.branch_bundle.specs.Feed.{symbol_at}
 use Rattle.bundle_round_trip.proofs.Around.{byte-in, four, six, symbols-in, two}
 use Rattle.bundle_round_trip.proofs.Symbols.{change-symbols, edit-symbols, event-symbols, opened-symbols, opening_symbols, symbol-is, symbols}
 use Rattle.bundle_round_trip.proofs.Texts.{all-in, number-in}

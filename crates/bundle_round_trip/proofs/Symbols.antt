@@ -1,5 +1,5 @@
 -- Each stock keeps its symbol, whatever comes.
-use Rattle.std.proofs.Common.{◌≡◌, ◌∙◌, ℕ, zero, suc, ◌+◌, ◌-◌, Bool, true, false, cond, ltb, List, [], ◌∷◌, map, Option, Some, None, refl, ap, sym, length, slice_index, slice_set}
+use Rattle.std.proofs.Common.{◌≡◌, ◌∙◌, ℕ, zero, suc, ◌+◌, Bool, true, false, cond, ltb, List, [], ◌∷◌, map, Option, Some, None, refl, ap, sym, length, slice_index, slice_set}
 use Rattle.std.specs.Prelude.{◌==◌, nat_lt, if◌then◌else◌, slice_index_or}
 use Rattle.std.proofs.Math.ListN.{get_or-map}
 use Rattle.market_types.specs.declared.feed.What.TheVariants as what

@@ -23,7 +23,7 @@ use Rattle.bundle_reader.specs.Told.{BranchTold}
 use Rattle.bundle_reader.specs.Bundle.{IsBundle, branch_list, branches_list, bundle_list, closing_list, edit_part, entry_list, event_part, feed_list}
 use Rattle.bundle_round_trip.specs.AsRead.{as_read}
 use Rattle.bundle_round_trip.specs.Back.{branch_back, branches_back, bundle_back}
-use Rattle.bundle_round_trip.specs.Ranges.{IsEventInRange, IsInRange, IsRunInRange}
+use Rattle.bundle_round_trip.specs.Ranges.{IsEventInRange, IsInRange}
 use Rattle.bundle_round_trip.proofs.Around.{branch-in, close-in, end-in, header-in, messages-in, opening-in}
 use Rattle.bundle_round_trip.proofs.Branches.{FeedsOf, StatesOf, branches-are}
 use Rattle.bundle_round_trip.proofs.Lists.{length-back}

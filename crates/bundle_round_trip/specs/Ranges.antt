@@ -1,5 +1,5 @@
 -- Courses whose names and runs the fields of a bundle can hold.
-use Rattle.std.specs.Prelude.{◌<◌, ℕ, List, Option, Some, length, All}
+use Rattle.std.specs.Prelude.{◌<◌, ℕ, Option, Some, length, All}
 use Rattle.market_types.specs.declared.feed.Feed.{Feed}
 use Rattle.market_types.specs.Told.{EntryTold, event, edit}
 use Rattle.branch_tree.specs.declared.branch.Branch.{Branch}
