@@ -101,7 +101,7 @@ trading-in time k s early few text =
     all-in trading_kinds (feed_wire (trading time k s)).values
     (two (k + 1) few, (two 0 (omega arith), (six time early, (text, (refl, (refl, (refl, tt)))))))
 
-symbols-in : (o : Opening) (k : ℕ) → All IsStock o.stocks → k < length o.stocks → is_in_range (Text 8) (bytes (symbol_at o k).0) ≡ true
+pub symbols-in : (o : Opening) (k : ℕ) → All IsStock o.stocks → k < length o.stocks → is_in_range (Text 8) (bytes (symbol_at o k).0) ≡ true
 symbols-in o k h l =
     let s = All-get_or IsStock o.stocks k no_rules l h in
     symbol-in (symbol_at o k) s.symbol
@@ -118,7 +118,7 @@ tradings-in o (suc n) early few h le =
     All-push IsFeedInRange (tradings o n) (trading o.start n (symbol_at o n)) (tradings-in o n early few h (omega (arith, le)))
     (trading-in o.start n (symbol_at o n) early (omega (arith, few, le)) (symbols-in o n h (omega (arith, le))))
 
-messages-in : (stocks : Option ℕ) (xs : List Feed) → All IsFeedInRange xs → All (HasRanges stocks) (feed_list xs)
+pub messages-in : (stocks : Option ℕ) (xs : List Feed) → All IsFeedInRange xs → All (HasRanges stocks) (feed_list xs)
 messages-in stocks [] h = All-nil (HasRanges stocks)
 messages-in stocks (x ∷ xs) h =
     All-cons (HasRanges stocks) (frame.Message x) (feed_list xs) (All-head IsFeedInRange x xs h) (messages-in stocks xs (All-tail IsFeedInRange x xs h))

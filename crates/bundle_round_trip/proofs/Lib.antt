@@ -7,4 +7,6 @@ pub mod Branches
 pub mod Widths
 pub mod Texts
 pub mod Around
+pub mod Symbols
+pub mod Marks
 pub mod Whole

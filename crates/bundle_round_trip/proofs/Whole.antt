@@ -1,9 +1,10 @@
 -- What is written of a course whose fields are in their ranges is a bundle.
-use Rattle.std.proofs.Common.{◌≡◌, ◌∙◌, ℕ, zero, suc, ◌+◌, ◌<◌, ◌≤◌, inl, inr, List, [], ◌∷◌, ◌++◌, length, All, Some, sym, ap, subst, append_assoc, arith}
+use Rattle.std.proofs.Common.{Option, ◌≡◌, ◌∙◌, ℕ, zero, suc, ◌+◌, ◌<◌, ◌≤◌, inl, inr, List, [], ◌∷◌, ◌++◌, length, All, Some, sym, ap, subst, append_assoc, arith}
 use Rattle.std.specs.List.{flat_map}
 use Rattle.std.proofs.lemmas.Bool.{cases_eq, eq-eqb, ne_eqb}
 use Rattle.std.proofs.lemmas.List.{append-nil}
-use Rattle.std.proofs.lemmas.List.Elements.{All-append, All-cons, All-get_or, All-nil, All-weaker}
+use Rattle.std.proofs.lemmas.List.Elements.{All-append, All-cons, All-get_or, All-head, All-nil, All-tail, All-weaker}
+use Rattle.market_types.specs.Told.{EntryTold, event, edit}
 use Rattle.branch_tree.specs.declared.branch.Branch.{Branch}
 use Rattle.branch_tree.specs.Names.{IsNameLength}
 use Rattle.branch_tree.specs.Plan.{branch_at, no_branch}
@@ -19,13 +20,14 @@ use Rattle.frame_reader.specs.Frames.{HasRanges, payload}
 use Rattle.frame_reader.specs.declared.frame.Frame.{Frame}
 use Rattle.frame_reader.specs.declared.frame.Frame.TheVariants as frame
 use Rattle.bundle_reader.specs.Told.{BranchTold}
-use Rattle.bundle_reader.specs.Bundle.{IsBundle, branch_list, branches_list, bundle_list, closing_list, entry_list, feed_list}
+use Rattle.bundle_reader.specs.Bundle.{IsBundle, branch_list, branches_list, bundle_list, closing_list, edit_part, entry_list, event_part, feed_list}
 use Rattle.bundle_round_trip.specs.AsRead.{as_read}
 use Rattle.bundle_round_trip.specs.Back.{branch_back, branches_back, bundle_back}
-use Rattle.bundle_round_trip.specs.Ranges.{IsInRange}
-use Rattle.bundle_round_trip.proofs.Around.{branch-in, close-in, end-in, header-in, opening-in}
+use Rattle.bundle_round_trip.specs.Ranges.{IsEventInRange, IsInRange}
+use Rattle.bundle_round_trip.proofs.Around.{branch-in, close-in, end-in, header-in, messages-in, opening-in}
 use Rattle.bundle_round_trip.proofs.Branches.{FeedsOf, StatesOf, branches-are}
 use Rattle.bundle_round_trip.proofs.Lists.{length-back}
+use Rattle.bundle_round_trip.proofs.Marks.{IsMarkedInRange, marked-full}
 use Rattle.bundle_round_trip.proofs.Splits.{same-frames}
 use Rattle.bundle_round_trip.proofs.Widths.{frame-short}
 
@@ -40,6 +42,22 @@ list-push n (c ∷ cs) b =
 -- a frame of a course's bundle
 abbrev InCourse : CourseTold → Frame → Type 0
 InCourse c f = HasRanges (Some (length c.opening.stocks)) f
+
+entries-in : (stocks : Option ℕ) (xs : List EntryTold) → All IsMarkedInRange xs → All (IsEventInRange stocks) xs → All (HasRanges stocks) (flat_map entry_list xs)
+entries-in stocks [] marked events = All-nil (HasRanges stocks)
+entries-in stocks (event e ∷ xs) marked events =
+    let own = All-head (IsEventInRange stocks) (event e) xs events in
+    let here : Frame = frame.Event (event_part e) in
+    All-append (HasRanges stocks) (feed_list e.before ++ (here ∷ feed_list e.after)) (flat_map entry_list xs)
+    (All-append (HasRanges stocks) (feed_list e.before) (here ∷ feed_list e.after) (messages-in stocks e.before (All-head IsMarkedInRange (event e) xs marked))
+    (All-cons (HasRanges stocks) here (feed_list e.after) own.0 (messages-in stocks e.after own.1)))
+    (entries-in stocks xs (All-tail IsMarkedInRange (event e) xs marked) (All-tail (IsEventInRange stocks) (event e) xs events))
+entries-in stocks (edit d ∷ xs) marked events =
+    let own = All-head IsMarkedInRange (edit d) xs marked in
+    let here : Frame = frame.Edit (edit_part d) in
+    All-append (HasRanges stocks) (here ∷ feed_list d.feed) (flat_map entry_list xs)
+    (All-cons (HasRanges stocks) here (feed_list d.feed) own.0 (messages-in stocks d.feed own.1))
+    (entries-in stocks xs (All-tail IsMarkedInRange (edit d) xs marked) (All-tail (IsEventInRange stocks) (edit d) xs events))
 
 parent-in : (c : CourseTold) (b : ℕ) → IsTree c.plan.branches c.plan.limit → length c.plan.branches ≤ 128 → b < length c.plan.branches → parent_written c b < 65536
 parent-in c b tree few l = elim (cases_eq b 0) [
@@ -65,7 +83,7 @@ branch-ranges c b is ranges states l =
     let r = full_run o c.plan b in
     let run = ranges.runs b l in
     let first = frame.Branch (record { branch = b; parent = parent_written c b; stop = (branch_at c.plan.branches b).stop; name = (branch_at c.plan.branches b).name }) in
-    let entries : All (InCourse c) (flat_map entry_list (as_read r.entries)) = subst (λ (fs : List Frame). All (InCourse c) fs) (sym (same-frames r.entries)) run.entries in
+    let entries : All (InCourse c) (flat_map entry_list (as_read r.entries)) = subst (λ (fs : List Frame). All (InCourse c) fs) (sym (same-frames r.entries)) (entries-in (Some (length o.stocks)) r.entries (marked-full c b o.limit is l) run.events) in
     let time : r.state.time < 281474976710656 = omega (arith, (states b o.limit l).close, is.opening.close) in
     let last = frame.Message (system_event r.state.time 67) in
     let closing = closing_list (closing_at o r.state) in

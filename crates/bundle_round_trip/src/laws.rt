@@ -16,8 +16,9 @@ pub fn feeds_are_of_their_kinds()
     ensures { (c : CourseTold) (b e : ℕ) → All HasFeed (full c.opening c.plan b e).entries }
 {}
 
-/// The bundle that is written of a course is the bytes of a bundle that tells the branches' full runs with their feed as
-/// reading splits it.
+/// What is written of a course is the bytes of what tells the branches' full runs with their feed as reading splits it. That is
+/// a bundle, which reading answers, where each name has 1 to 32 bytes and the fields of events, of the messages behind them and
+/// of closings are in their ranges; all other fields are so in every course.
 pub fn bundles_come_back()
     ensures bytes { (c : CourseTold) → bundle_bytes (bundle_back c) ≡ bundle_of c }
     ensures split { (c : CourseTold) (b : ℕ) → IsSplit (branch_back c b).entries }

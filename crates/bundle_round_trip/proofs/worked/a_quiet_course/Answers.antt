@@ -1,7 +1,6 @@
-use Rattle.std.proofs.Common.{◌≡◌, ℕ, zero, suc, ◌<◌, ◌≤◌, ℤ, pos, false, List, [], ◌∷◌, length, All, Some, refl, sym, subst, arith}
+use Rattle.std.proofs.Common.{◌≡◌, ℕ, zero, suc, ◌<◌, pos, false, List, [], ◌∷◌, length, All, Some, refl, sym, subst, arith}
 use Rattle.std.specs.Int.{w64, w128}
 use Rattle.std.specs.Int.RustNames.{FitsSigned}
-use Rattle.std.specs.List.{flat_map}
 use Rattle.std.proofs.lemmas.Int.{fits_signed_from_abs}
 use Rattle.std.proofs.lemmas.List.Elements.{All-cons, All-nil}
 use Rattle.wire_fields.specs.Kinds.{is_good}
@@ -24,8 +23,8 @@ use Rattle.branch_bundle.specs.Worked.{quiet_course}
 use Rattle.frame_reader.specs.Frames.{HasRanges}
 use Rattle.frame_reader.specs.declared.frame.Frame.{Frame}
 use Rattle.frame_reader.specs.declared.frame.Frame.TheVariants as frame
-use Rattle.bundle_reader.specs.Bundle.{closing_list, entry_list}
-use Rattle.bundle_round_trip.specs.Ranges.{IsRunInRange}
+use Rattle.bundle_reader.specs.Bundle.{closing_list}
+use Rattle.bundle_round_trip.specs.Ranges.{IsEventInRange, IsRunInRange}
 use Rattle.bundle_round_trip.proofs.worked.a_quiet_course.Goals as goal
 
 abbrev IsNamed : Branch → Type 0
@@ -119,7 +118,7 @@ closing-in =
 
 run-of : (b : ℕ) → (full_run quiet_course.opening quiet_course.plan b).entries ≡ [] → closing_at quiet_course.opening (full_run quiet_course.opening quiet_course.plan b).state ≡ closing → IsRunInRange quiet_course b
 run-of b none is = record {
-  entries = subst (λ (xs : List EntryTold). All InRange (flat_map entry_list xs)) (sym none) (All-nil InRange);
+  events = subst (λ (xs : List EntryTold). All (IsEventInRange (Some 1)) xs) (sym none) (All-nil (IsEventInRange (Some 1)));
   closing = subst (λ (c : Closing). All InRange (closing_list c)) (sym is) closing-in;
 }
 
