@@ -32,6 +32,10 @@ const LATE_WATCHER: &str = "kind = \"watcher\"\nfirst = 2000\n";
 pub const BRANCHES: &str =
     "\n[[branch]]\nname = \"x\"\nparent = \"root\"\nat = 2\nedit = [{ kind = \"latency\", from = 0, to = 0, base = 50, jitter = 0 }]\n\n[[branch]]\nname = \"y\"\nparent = \"root\"\nat = 2\nedit = [{ kind = \"latency\", from = 0, to = 0, base = 7, jitter = 0 }]\n\n[[branch]]\nname = \"z\"\nparent = \"root\"\nat = 2\n";
 
+// A branch that injects a sell order behind the root's end.
+const INJECTED: &str =
+    "\n[[branch]]\nname = \"i\"\nparent = \"root\"\nat = 50\nedit = [{ kind = \"inject\", agent = 1, after = 100, message = \"4f5430303031303030303030303031530000006441424d2020202020000186a00001869f4142494459504e000000004e4e\" }]\n";
+
 /// The text of a study with these values.
 pub fn study(
     alloc: Global,
@@ -90,21 +94,23 @@ fn bundles_byte_for_byte(rt: HostRuntime) -> Result<(), Fail> {
     Ok(())
 }
 
-// What a run of three branches by so many workers past a gate writes, where it counts each shared event once.
-fn three_branches<R: Threads + Wait + Sync, G: Gate + Sync>(
+// What a run of a study by so many workers past a gate writes, where it has this size and so many events are counted.
+fn written<R: Threads + Wait + Sync, G: Gate + Sync>(
     rt: &R,
     alloc: Global,
+    text: &str,
     workers: &str,
     gate: &G,
+    expected: (usize, u64),
 ) -> Result<MemorySink, Fail> {
-    let text = study(alloc, KEY, 2000, 30, WATCHERS, BRANCHES)?;
-    let mut out = sink(alloc, 3255, 4096, &[])?;
+    let (size, counted) = expected;
+    let mut out = sink(alloc, size, 4096, &[])?;
     let mut notes = sink(alloc, 100, 64, &[])?;
     let held = library(alloc, text.as_bytes(), b"", &[])?;
     let words = ["run", "s", "--workers", workers];
     let probes = Vec::new(alloc);
     let ended = run_past(rt, alloc, &words, held, probes, gate, &mut out, &mut notes)?;
-    if ended == (Status::Ok, 18) && out.taken().len() == 3255 {
+    if ended == (Status::Ok, counted) && out.taken().len() == size {
         Ok(out)
     } else {
         Err(Fail::from("not its bytes or its steps"))
@@ -114,7 +120,8 @@ fn three_branches<R: Threads + Wait + Sync, G: Gate + Sync>(
 #[test]
 fn three_branches_share_two_events_among_any_workers(rt: HostRuntime) -> Result<(), Fail> {
     let alloc = rt.alloc();
-    let out = three_branches(&rt, alloc, "1", &OpenGate)?;
+    let text = study(alloc, KEY, 2000, 30, WATCHERS, BRANCHES)?;
+    let out = written(&rt, alloc, text.as_str(), "1", &OpenGate, (3255, 18))?;
     let bytes = out.taken();
     // the last branch changes nothing: behind its frame it is the root's trace
     assert!(rt; bytes.get(27..813) == bytes.get(2464..3250));
@@ -125,16 +132,34 @@ fn three_branches_share_two_events_among_any_workers(rt: HostRuntime) -> Result<
     assert!(rt; bytes.get(295..308) == Some(root.as_slice()));
     assert!(rt; bytes.get(1114..1127) == Some(x.as_slice()));
     assert!(rt; bytes.get(1933..1946) == Some(y.as_slice()));
-    for workers in ["3", "64"] {
-        let again = three_branches(&rt, alloc, workers, &OpenGate)?;
-        assert!(rt; again.taken() == bytes, "{workers} workers");
-    }
     // the segments of x and y are under way at once, each held until the other is passed
     for (held, until) in [(2, 3), (3, 2)] {
         let gate = HoldGate::new(held, until, 100_000_000);
-        let again = three_branches(&rt, alloc, "2", &gate)?;
+        let again = written(&rt, alloc, text.as_str(), "2", &gate, (3255, 18))?;
         assert!(rt; again.taken() == bytes, "{held} held");
         assert_eq!(rt; (gate.exceeded(), gate.passes()), (false, 5));
+    }
+    Ok(())
+}
+
+// Three branches, and an order that a branch injects once the root has closed.
+#[test]
+fn any_workers_write_the_same(rt: HostRuntime) -> Result<(), Fail> {
+    let alloc = rt.alloc();
+    for (branches, size, counted) in [(BRANCHES, 3255, 18), (INJECTED, 1926, 8)] {
+        let text = study(alloc, KEY, 2000, 30, WATCHERS, branches)?;
+        let alone = written(&rt, alloc, text.as_str(), "1", &OpenGate, (size, counted))?;
+        for workers in ["3", "64"] {
+            let out = written(
+                &rt,
+                alloc,
+                text.as_str(),
+                workers,
+                &OpenGate,
+                (size, counted),
+            )?;
+            assert!(rt; out.taken() == alone.taken(), "{workers} workers");
+        }
     }
     Ok(())
 }
