@@ -7,6 +7,7 @@ use market_types::{CodecError, Memory};
 use wire_fields::u16_at;
 
 /// Appends a frame: two bytes of length, the more significant first, and the payload.
+#[inline(always)]
 pub fn frame(payload: &[u8], out: &mut Vec<u8>) -> Result<(), Memory>
     requires { length payload.now ≤ 65535 }
     ensures appended { OnOk result (out.new.items ≡ out.old.items ++ framed payload.now) }
@@ -17,6 +18,7 @@ pub fn frame(payload: &[u8], out: &mut Vec<u8>) -> Result<(), Memory>
 }
 
 /// Appends a frame whose payload is given in two parts.
+#[inline(always)]
 pub fn frame_of_two(head: &[u8], rest: &[u8], out: &mut Vec<u8>) -> Result<(), Memory>
     requires { length head.now + length rest.now ≤ 65535 }
     ensures appended { OnOk result (out.new.items ≡ out.old.items ++ framed (head.now ++ rest.now)) }

@@ -33,6 +33,7 @@ pub enum Kind {
 
 impl Kind {
     /// How many bytes the field has.
+    #[inline(always)]
     pub fn width(&self) -> usize
         ensures { result ≡ width self.now }
     {

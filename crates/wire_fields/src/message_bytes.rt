@@ -28,6 +28,7 @@ impl<const N: usize> Model for MessageBytes<N> {
 
 impl<const N: usize> MessageBytes<N> {
     /// A message of a type's letter and its fields in order.
+    #[inline(always)]
     pub fn of(letter: u8, kinds: &[Kind], values: &[Value]) -> MessageBytes<N>
         requires widths { HaveWidths kinds.now values.now }
         requires room { 1 + total_width kinds.now ≤ N }

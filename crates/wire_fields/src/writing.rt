@@ -22,6 +22,7 @@ pub enum Value {
 }
 
 /// The letter of a side.
+#[inline(always)]
 pub fn side_letter(side: Side) -> u8
     ensures { result ≡ side_letter side }
 {
@@ -32,6 +33,7 @@ pub fn side_letter(side: Side) -> u8
 }
 
 /// A message that has exactly `N` bytes: its type's letter, and its fields in order.
+#[inline(always)]
 pub fn message<const N: usize>(letter: u8, kinds: &[Kind], values: &[Value]) -> [u8; N]
     requires widths { HaveWidths kinds.now values.now }
     requires size { 1 + total_width kinds.now ≡ N }
@@ -43,6 +45,7 @@ pub fn message<const N: usize>(letter: u8, kinds: &[Kind], values: &[Value]) -> 
 }
 
 /// Fields without a type's letter, one after another, that have exactly `N` bytes.
+#[inline(always)]
 pub fn fields<const N: usize>(kinds: &[Kind], values: &[Value]) -> [u8; N]
     requires widths { HaveWidths kinds.now values.now }
     requires size { total_width kinds.now ≡ N }
@@ -54,6 +57,7 @@ pub fn fields<const N: usize>(kinds: &[Kind], values: &[Value]) -> [u8; N]
 }
 
 // Writes a message into the first bytes of `out`: its type's letter, and its fields in order.
+#[inline(always)]
 pub(crate) fn write(out: &mut [u8], letter: u8, kinds: &[Kind], values: &[Value])
     requires widths { HaveWidths kinds.now values.now }
     requires room { 1 + total_width kinds.now ≤ length out.old }
@@ -65,6 +69,7 @@ pub(crate) fn write(out: &mut [u8], letter: u8, kinds: &[Kind], values: &[Value]
 }
 
 // Writes fields into the first bytes of `out`.
+#[inline(always)]
 fn write_fields(out: &mut [u8], kinds: &[Kind], values: &[Value])
     requires widths { HaveWidths kinds.now values.now }
     requires room { total_width kinds.now ≤ length out.old }
@@ -79,6 +84,7 @@ fn write_fields(out: &mut [u8], kinds: &[Kind], values: &[Value])
 }
 
 // Writes one field.
+#[inline(always)]
 fn put(out: &mut [u8], kind: &Kind, value: &Value)
     requires width { length out.old ≡ width kind.now }
     requires fits { HasWidth kind.now value.now }
@@ -96,6 +102,7 @@ fn put(out: &mut [u8], kind: &Kind, value: &Value)
 }
 
 // Writes as many of a number's last bytes as there is room for.
+#[inline(always)]
 fn put_number(out: &mut [u8], number: u64)
     requires { length out.old ≤ 8 }
     ensures { out.new ≡ number_bytes (length out.old) number }
