@@ -107,5 +107,11 @@ fn put_number(out: &mut [u8], number: u64)
     requires { length out.old ≤ 8 }
     ensures { out.new ≡ number_bytes (length out.old) number }
 {
-    out.copy_from_slice(&number.to_be_bytes()[8 - out.len()..]);
+    let bytes = number.to_be_bytes();
+    match out.len() {
+        8 => out.copy_from_slice(&bytes),
+        4 => out.copy_from_slice(&bytes[4..]),
+        2 => out.copy_from_slice(&bytes[6..]),
+        len => out.copy_from_slice(&bytes[8 - len..]),
+    }
 }
