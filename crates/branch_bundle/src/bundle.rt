@@ -99,28 +99,26 @@ fn put_ending<W: Ran>(
     Ok(())
 }
 
-// The trace of a branch.
-fn branch_bytes<W: Ran>(
-    alloc: Global,
+// Appends the trace of a branch. What stands in `out` after want of memory is left open.
+fn put_trace<W: Ran>(
+    out: &mut Vec<u8>,
     course: &Course,
     ran: &W,
     branch: u16,
-) -> Result<Vec<u8>, Memory>
+) -> Result<(), Memory>
     requires branch { branch < length course.now.plan.branches }
     requires ran { IsRunOf course.now (W.count ran.now) (W.entries_of ran.now) (W.closing_of ran.now) }
-    ensures { IfOk result (λ v. v.items ≡ trace_of course.now branch) }
+    ensures { OnOk result (out.new.items ≡ out.old.items ++ trace_of course.now branch) }
 {
     let last = last_segment(course, branch);
-    let mut out = Vec::new(alloc);
-    put_head(&mut out, course, branch)?;
-    put_opening(&mut out, course.opening())?;
-    put_entries(&mut out, course, ran, last)?;
-    put_ending(&mut out, course, ran, last)?;
-    Ok(out)
+    put_head(out, course, branch)?;
+    put_opening(out, course.opening())?;
+    put_entries(out, course, ran, last)?;
+    put_ending(out, course, ran, last)
 }
 
-/// Appends the trace of a branch, which is that of its full run. No other branch's bytes are held, and an empty `out` takes
-/// them over without a copy.
+/// Appends the trace of a branch, which is that of its full run. No other branch's bytes are held, and in an empty `out`
+/// they are made in place.
 ///
 /// # Errors
 /// Want of memory alone. The bytes are then as they were.
@@ -135,11 +133,15 @@ pub fn write_branch<W: Ran>(
     ensures appended { OnOk result (out.new.items ≡ out.old.items ++ trace_of course.now branch) }
     ensures refused { OnErr result (out.new.items ≡ out.old.items) }
 {
-    let bytes = branch_bytes(*out.allocator(), course, ran, branch)?;
     if out.is_empty() {
-        *out = bytes;
-        return Ok(());
+        let made = put_trace(out, course, ran, branch);
+        if made.is_err() {
+            out.clear();
+        }
+        return made;
     }
+    let mut bytes = Vec::new(*out.allocator());
+    put_trace(&mut bytes, course, ran, branch)?;
     out.extend_from_slice(&bytes)?;
     Ok(())
 }
