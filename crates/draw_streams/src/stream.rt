@@ -59,7 +59,7 @@ fn words_from(key: &[u8; 32], number: u64, first: u64) -> [u32; KEPT]
 {
     let mut generator = generator(key, number, first);
     let mut words = [0; KEPT];
-    for i in 0..KEPT {
+    'words: for i in 0..KEPT {
         words[i] = generator.next_word();
     }
     words
