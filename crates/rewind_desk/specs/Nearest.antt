@@ -1,5 +1,5 @@
 -- The nearest state that a closed shelf holds.
-use Rattle.std.specs.Prelude.{◌≡◌, ◌≤◌, ℕ, true, List, Option, None, Some, IfSome, is_some}
+use Rattle.std.specs.Prelude.{◌≡◌, ◌≤◌, ℕ, true, List, Option, None, Some, IfSome, is_some, nat_lt, if◌then◌else◌}
 use Rattle.std.specs.List.{list_any}
 use Rattle.shelf_core.specs.declared.plan.Key.{Key}
 use Rattle.checkpoint_shelf.specs.Told.{ClosedTold}
@@ -11,6 +11,12 @@ use Rattle.rewind_desk.specs.Best.{count_at, is_held, is_near, best_among}
 abbrev pub events_of : Option Near → ℕ
 events_of None = 0
 events_of (Some n) = n.events
+
+-- the one of two with more events; the later one where they have as many
+abbrev pub nearer_of : Option Near → Option Near → Option Near
+nearer_of a None = a
+nearer_of None (Some b) = Some b
+nearer_of (Some a) (Some b) = if nat_lt b.events a.events then Some a else Some b
 
 -- The shelf holds the course's state at this key, which has so many events, at most e.
 pub record IsHeld (shelf : ClosedTold CourseTold) (e : ℕ) (n : Near) : Type 0 where

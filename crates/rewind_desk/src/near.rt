@@ -1,10 +1,7 @@
 //! States that a closed shelf holds.
 
-ghost use Rattle.std.specs.Prelude.{◌≡◌, ◌++◌, ℕ, List};
-ghost use Rattle.shelf_core.specs.declared.plan.Key.{Key as KeyOf};
-ghost use Rattle.checkpoint_shelf.specs.Told.{ClosedTold};
-ghost use Rattle.kernel_copy.specs.Courses.{CourseTold};
-ghost use Rattle.rewind_desk.specs.Nearest.{IsNearest, events_of};
+ghost use Rattle.std.specs.Prelude.{◌≡◌};
+ghost use Rattle.rewind_desk.specs.Nearest.{events_of, nearer_of};
 
 use shelf_core::Key;
 
@@ -27,13 +24,15 @@ pub(crate) fn events_of(near: Option<Near>) -> u32
     }
 }
 
-// The nearest state under the keys of two lists, of which these are the nearest under each.
+// The one of two with more events; the later one where they have as many.
 pub(crate) fn nearer(before: Option<Near>, behind: Option<Near>) -> Option<Near>
-    ensures one { (result ≡ before) ⊎ (result ≡ behind) }
-    ensures both { (shelf : ClosedTold CourseTold) (e : ℕ) (xs ys : List KeyOf) → IsNearest shelf e xs before → IsNearest shelf e ys behind → IsNearest shelf e (xs ++ ys) result }
+    ensures { result ≡ nearer_of before behind }
 {
-    if behind.is_none() || events_of(behind) < events_of(before) {
+    let Some(b) = behind else {
         return before;
-    }
-    behind
+    };
+    let Some(a) = before else {
+        return behind;
+    };
+    if b.events < a.events { before } else { behind }
 }

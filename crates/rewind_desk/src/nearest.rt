@@ -26,12 +26,13 @@ fn near_at(
     let Some(kept) = shelf.get(key) else {
         return Ok(None);
     };
-    let key = kept.key();
-    let events = kept.resume(alloc)?.events();
+    let own = kept.key();
+    let kernel = kept.resume(alloc)?;
+    let events = kernel.events();
     if events > event {
         return Ok(None);
     }
-    Ok(Some(Near { key, events }))
+    Ok(Some(Near { key: own, events }))
 }
 
 // The nearest state under the keys of a segment.

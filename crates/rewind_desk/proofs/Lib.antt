@@ -1,0 +1,3 @@
+pub mod Bests
+pub mod Chained
+pub mod Arrivals
