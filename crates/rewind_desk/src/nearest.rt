@@ -88,8 +88,7 @@ pub(crate) fn last_segment(course: &Course, branch: u16) -> u32
     ensures last { result ≡ last_of course.now.plan.branches branch }
     ensures exists { result < length (segments_in course.now.plan) }
 {
-    let plan = course.plan();
-    let numbers = plan.segments_of(branch);
+    let numbers = course.plan().segments_of(branch);
     numbers[numbers.len() - 1]
 }
 

@@ -5,8 +5,8 @@ use Rattle.std.specs.Cmp.Lexicographic.{pointwise}
 use Rattle.command_words.specs.declared.mark.Mark.{Mark}
 use Rattle.branch_tree.specs.declared.branch.Branch.{Branch}
 use Rattle.rewind_targets.specs.declared.target.Target.{Target}
-use Rattle.rewind_targets.specs.declared.aim.Aimed.{Aimed}
-use Rattle.rewind_targets.specs.declared.aim.Aimed.TheVariants.{At, NoBranch}
+use Rattle.rewind_targets.specs.declared.aimed.Aimed.{Aimed}
+use Rattle.rewind_targets.specs.declared.aimed.Aimed.TheVariants.{At, NoBranch}
 use Rattle.rewind_targets.specs.declared.past.Past.{Past}
 
 -- a branch has this name, byte for byte
@@ -21,15 +21,15 @@ branch_of branches name = position_from (has_name name) 0 branches
 abbrev pub target_of : List Branch → Mark → Option Target
 target_of branches m = option_map (λ b. record { branch = b; event = m.event }) (branch_of branches m.branch)
 
--- a target before those of the marks behind it
-abbrev pub target_before : Target → Aimed → Aimed
-target_before t (At ts) = At (t ∷ ts)
-target_before t (NoBranch i) = NoBranch i
+-- targets before those of the marks behind them
+abbrev pub behind_targets : List Target → Aimed → Aimed
+behind_targets before (At ts) = At (before ++ ts)
+behind_targets before (NoBranch i) = NoBranch i
 
 -- a mark at this index, and what the marks behind it come to
 abbrev pub aimed_next : ℕ → Option Target → Aimed → Aimed
 aimed_next i None behind = NoBranch i
-aimed_next i (Some t) behind = target_before t behind
+aimed_next i (Some t) behind = behind_targets (t ∷ []) behind
 
 -- the targets of marks from this index on, or the first mark without one
 abbrev pub aimed_from : List Branch → ℕ → List Mark → Aimed

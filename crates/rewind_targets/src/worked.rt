@@ -4,7 +4,7 @@ ghost use Rattle.std.specs.Prelude.{◌≡◌, ◌∷◌, [], codes, None, Some}
 ghost use Rattle.branch_tree.specs.Worked.{nested};
 ghost use Rattle.rewind_targets.specs.Targets.{aimed_at, branch_of, past_of};
 
-use crate::aim::Aimed;
+use crate::aimed::Aimed;
 
 /// Marks in a tree of the branches `r`, `x` and `y`. A name that begins with another's is not that name.
 pub fn marks_in_a_tree()
