@@ -1,3 +1,4 @@
 pub mod Bests
 pub mod Chained
 pub mod Arrivals
+pub mod Lasts
