@@ -98,6 +98,11 @@ key-on c key e h k early =
     ∙ until-again o key.event e first under
     ∙ sym (full-begun o c.plan b e (omega (arith, until-grows o key.event first, under)))
 
+-- a segment's own run begins with the events before it
+pub started-events : (c : CourseTold) (s : ℕ) → IsCourse c → s < length (segments_in c.plan) → (started_at c.opening c.plan (segment_at c.plan s)).state.events ≡ from_count c.opening c.plan (segment_at c.plan s)
+unfolding started_at
+started-events c s h l = (segment-goes c.opening c.plan s (course-tree c h) l).counts
+
 -- the events before a segment's own are those of a state at a key of it at most
 pub key-from : (c : CourseTold) (key : Key) → IsCourse c → IsKeyOf c key → from_count c.opening c.plan (segment_at c.plan key.segment) ≤ count_at c key
 key-from c key h k =
@@ -109,11 +114,6 @@ key-from c key h k =
     let events = ap (λ (r : Run). r.state.events) after in
     let begin : (started_at o c.plan g).state.events ≡ from_count o c.plan g = started-events c key.segment h k.segment in
     omega (arith, events, begin, until-grows o key.event (started_at o c.plan g))
-
--- a segment's own run begins with the events before it
-pub started-events : (c : CourseTold) (s : ℕ) → IsCourse c → s < length (segments_in c.plan) → (started_at c.opening c.plan (segment_at c.plan s)).state.events ≡ from_count c.opening c.plan (segment_at c.plan s)
-unfolding started_at
-started-events c s h l = (segment-goes c.opening c.plan s (course-tree c h) l).counts
 
 -- and it has at most those of the segment's end
 pub key-end : (c : CourseTold) (key : Key) → IsCourse c → IsKeyOf c key → count_at c key ≤ (segment_end c.opening c.plan (segment_at c.plan key.segment)).state.events
@@ -141,21 +141,25 @@ parent-events c s q is = ap (λ (x : Option ℕ). (parent_end c.opening c.plan x
 -- the states of a chain have at most the events of its end
 chain-count : (n : ℕ) (c : CourseTold) (s : ℕ) (key : Key) → IsCourse c → s < length (segments_in c.plan) → s ≤ n → IsOn c.plan s key.segment → IsKeyOf c key
     → count_at c key ≤ (segment_end c.opening c.plan (segment_at c.plan s)).state.events
-chain-count n c s key h l most on k = elim (cases_eq s key.segment) [
+chain-count zero c s key h l most on k = elim (cases_eq s key.segment) [
   | inl same ↦ subst (λ (x : ℕ). count_at c key ≤ (segment_end c.opening c.plan (segment_at c.plan x)).state.events) (sym same) (key-end c key h k)
   | inr other ↦ elim (parent_cases (segment_at c.plan s).parent) [
     | inl none ↦ absurd (other (on-first c.plan s key.segment none on))
-    | inr some ↦ chain-count_more n c s some.0 key h l some.1 most (on-parent c.plan s some.0 key.segment (course-tree c h) l some.1 other on) k
+    | inr some ↦ let parent = has_parent c.plan s some.0 (course-tree c h) l some.1 in absurd (omega (arith, parent.earlier))
   ]
 ]
-
-chain-count_more : (n : ℕ) (c : CourseTold) (s q : ℕ) (key : Key) → IsCourse c → s < length (segments_in c.plan) → (segment_at c.plan s).parent ≡ Some q → s ≤ n → IsOn c.plan q key.segment → IsKeyOf c key
-    → count_at c key ≤ (segment_end c.opening c.plan (segment_at c.plan s)).state.events
-chain-count_more zero c s q key h l is most on k = let earlier = (has_parent c.plan s q (course-tree c h) l is).earlier in absurd (omega arith)
-chain-count_more (suc n) c s q key h l is most on k =
-    let earlier = (has_parent c.plan s q (course-tree c h) l is).earlier in
-    let less = chain-count n c q key h (omega arith) (omega arith) on k in
-    omega (arith, less, parent-events c s q is, segment-grows c.opening c.plan s (course-tree c h) l)
+chain-count (suc n) c s key h l most on k = elim (cases_eq s key.segment) [
+  | inl same ↦ subst (λ (x : ℕ). count_at c key ≤ (segment_end c.opening c.plan (segment_at c.plan x)).state.events) (sym same) (key-end c key h k)
+  | inr other ↦ elim (parent_cases (segment_at c.plan s).parent) [
+    | inl none ↦ absurd (other (on-first c.plan s key.segment none on))
+    | inr some ↦
+        let q = some.0 in
+        let t = course-tree c h in
+        let parent = has_parent c.plan s q t l some.1 in
+        let less = chain-count n c q key h (omega (arith, parent.earlier)) (omega (arith, parent.earlier)) (on-parent c.plan s q key.segment t l some.1 other on) k in
+        omega (arith, less, parent-events c s q some.1, segment-grows c.opening c.plan s t l)
+  ]
+]
 
 pub chain-end : (c : CourseTold) (s : ℕ) (key : Key) → IsCourse c → s < length (segments_in c.plan) → IsOn c.plan s key.segment → IsKeyOf c key
     → count_at c key ≤ (segment_end c.opening c.plan (segment_at c.plan s)).state.events
@@ -170,7 +174,7 @@ at-parent c s q e k h l is less going at =
     let p = has_parent c.plan s q t l is in
     let stop = parent-stop c s q h l is in
     let past = at.passed going (omega arith) in
-    let more = omega (arith, past, parent-events c s q is, segment-grows o c.plan s t l) in
+    let more : e < (segment_end o c.plan (segment_at c.plan s)).state.events = omega (arith, past, parent-events c s q is, segment-grows o c.plan s t l) in
     record {
       state = elim p.joins [
         | inl n ↦ at.state ∙ ap (λ (b : ℕ). (full o c.plan b e).state) n.branch
@@ -182,7 +186,7 @@ at-parent c s q e k h l is less going at =
       within = at.within;
       going = at.going;
       passed = λ n high. more;
-      ended = λ x over. absurd (cc (going, over));
+      ended = λ x over. cc (going, over);
     }
 
 -- the parent's end, reached or ended before

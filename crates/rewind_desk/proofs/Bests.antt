@@ -70,9 +70,10 @@ pub nearest-one : (shelf : ClosedTold CourseTold) (e : ℕ) (k : Key) (n : Near)
 nearest-one shelf e k n is h =
     let early : count_at shelf.course n.key ≤ e = omega (arith, h.events, h.early) in
     let near : is_near shelf e n.key ≡ true = ap (λ (t : Bool). t && nat_le (count_at shelf.course n.key) e) h.held ∙ le-leb (count_at shelf.course n.key) e early in
+    let same : count_at shelf.course n.key ≡ max (count_at shelf.course n.key) 0 = omega arith in
     subst (λ (x : Key). IsNearest shelf e (x ∷ []) (Some n)) is (record {
       some = sym (ap (λ (t : Bool). t || false) near);
-      most = h.events ∙ (omega arith : count_at shelf.course n.key ≡ max (count_at shelf.course n.key) 0)
+      most = h.events ∙ same
           ∙ sym (ap (λ (t : Bool). max (if t then count_at shelf.course n.key else 0) 0) near);
       held = h;
     })

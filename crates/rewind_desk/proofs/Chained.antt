@@ -1,5 +1,5 @@
 -- Chains of segments.
-use Rattle.std.proofs.Common.{◌≡◌, ◌≤◌, ◌<◌, ◌≢◌, ℕ, ◌+◌, Bool, true, false, ◌||◌, ◌==◌, ◌⊎◌, inl, inr, List, [], ◌∷◌, ◌++◌, Option, Some, None, option_map, unwrap_or, length, refl, sym, ap, ◌∙◌, arith, subst, suc, zero, append-nil}
+use Rattle.std.proofs.Common.{◌≡◌, ◌≤◌, ◌<◌, ℕ, ◌+◌, Bool, true, false, ◌||◌, ◌==◌, ◌⊎◌, inl, inr, List, [], ◌∷◌, ◌++◌, Option, Some, None, option_map, unwrap_or, length, refl, sym, ap, ◌∙◌, arith, subst, suc, zero, append-nil}
 use Rattle.std.specs.List.{list_any, flat_map}
 use Rattle.std.proofs.lemmas.Bool.{cases_eq, eq-eqb, ne_eqb, eqb-true, or_left, or_right}
 use Rattle.std.proofs.lemmas.Grind.{flat_map-append}
@@ -26,19 +26,23 @@ chain-some n p s q is = ap (λ (x : Option ℕ). unwrap_or (option_map (λ (q : 
 
 -- no more ancestors than its number says
 chain-fuel : (n m : ℕ) (p : Plan) (s : ℕ) → IsTree p.branches p.limit → s < length (segments_in p) → s ≤ n → s ≤ m → chain_within n p s ≡ chain_within m p s
-chain-fuel n m p s t l hn hm = elim (parent_cases (segment_at p s).parent) [
-  | inl none ↦ chain-none n p s none ∙ sym (chain-none m p s none)
-  | inr some ↦ chain-fuel_some n m p s some.0 t l some.1 hn hm
+chain-fuel zero m p s t l hn hm = elim (parent_cases (segment_at p s).parent) [
+  | inl none ↦ chain-none zero p s none ∙ sym (chain-none m p s none)
+  | inr some ↦ let k = has_parent p s some.0 t l some.1 in absurd (omega (arith, k.earlier))
 ]
-
-chain-fuel_some : (n m : ℕ) (p : Plan) (s q : ℕ) → IsTree p.branches p.limit → s < length (segments_in p) → (segment_at p s).parent ≡ Some q → s ≤ n → s ≤ m → chain_within n p s ≡ chain_within m p s
-chain-fuel_some zero m p s q t l is hn hm = let k = has_parent p s q t l is in absurd (omega (arith, k.earlier))
-chain-fuel_some (suc n) zero p s q t l is hn hm = let k = has_parent p s q t l is in absurd (omega (arith, k.earlier))
-chain-fuel_some (suc n) (suc m) p s q t l is hn hm =
-    let k = has_parent p s q t l is in
-    chain-some n p s q is
-    ∙ ap (λ (xs : List ℕ). xs ++ s ∷ []) (chain-fuel n m p q t (omega (arith, k.earlier)) (omega (arith, k.earlier)) (omega (arith, k.earlier)))
-    ∙ sym (chain-some m p s q is)
+chain-fuel (suc n) zero p s t l hn hm = elim (parent_cases (segment_at p s).parent) [
+  | inl none ↦ chain-none (suc n) p s none ∙ sym (chain-none zero p s none)
+  | inr some ↦ let k = has_parent p s some.0 t l some.1 in absurd (omega (arith, k.earlier))
+]
+chain-fuel (suc n) (suc m) p s t l hn hm = elim (parent_cases (segment_at p s).parent) [
+  | inl none ↦ chain-none (suc n) p s none ∙ sym (chain-none (suc m) p s none)
+  | inr some ↦
+      let q = some.0 in
+      let k = has_parent p s q t l some.1 in
+      chain-some n p s q some.1
+      ∙ ap (λ (xs : List ℕ). xs ++ s ∷ []) (chain-fuel n m p q t (omega (arith, k.earlier)) (omega (arith, k.earlier)) (omega (arith, k.earlier)))
+      ∙ sym (chain-some m p s q some.1)
+]
 
 -- the chain of a segment without a parent, and of one with a parent
 pub chain-first : (p : Plan) (s : ℕ) → (segment_at p s).parent ≡ None → chain_to p s ≡ s ∷ []

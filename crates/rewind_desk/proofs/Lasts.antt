@@ -42,22 +42,27 @@ own-most c s m (suc n) h l most within =
 
 all-most : (n : ℕ) (c : CourseTold) (s m : ℕ) → IsCourse c → s < length (segments_in c.plan) → s ≤ n → (segment_end c.opening c.plan (segment_at c.plan s)).state.events ≤ m
     → All (HasMost c m) (keys_to c.plan s)
-all-most n c s m h l low most =
+all-most zero c s m h l low most =
     let g = segment_at c.plan s in
     let rises = (planned-at c.plan s (course-tree c h) l).rises in
     let own = own-most c s m (g.stop + 1 - g.start) h l most (omega arith) in
     elim (parent_cases g.parent) [
       | inl none ↦ subst (λ (ks : List Key). All (HasMost c m) ks) (sym (keys-first c.plan s none)) own
-      | inr some ↦ subst (λ (ks : List Key). All (HasMost c m) ks) (sym (keys-chain c.plan s some.0 (course-tree c h) l some.1))
-          (All-append (HasMost c m) (keys_to c.plan some.0) (keys_of c.plan s) (before-most n c s some.0 m h l some.1 low most) own)
+      | inr some ↦ let parent = has_parent c.plan s some.0 (course-tree c h) l some.1 in absurd (omega (arith, parent.earlier))
     ]
-
-before-most : (n : ℕ) (c : CourseTold) (s q m : ℕ) → IsCourse c → s < length (segments_in c.plan) → (segment_at c.plan s).parent ≡ Some q → s ≤ n → (segment_end c.opening c.plan (segment_at c.plan s)).state.events ≤ m
-    → All (HasMost c m) (keys_to c.plan q)
-before-most zero c s q m h l is low most = let earlier = (has_parent c.plan s q (course-tree c h) l is).earlier in absurd (omega arith)
-before-most (suc n) c s q m h l is low most =
-    let earlier = (has_parent c.plan s q (course-tree c h) l is).earlier in
-    all-most n c q m h (omega arith) (omega arith) (omega (arith, most, parent-events c s q is, segment-grows c.opening c.plan s (course-tree c h) l))
+all-most (suc n) c s m h l low most =
+    let g = segment_at c.plan s in
+    let t = course-tree c h in
+    let rises = (planned-at c.plan s t l).rises in
+    let own = own-most c s m (g.stop + 1 - g.start) h l most (omega arith) in
+    elim (parent_cases g.parent) [
+      | inl none ↦ subst (λ (ks : List Key). All (HasMost c m) ks) (sym (keys-first c.plan s none)) own
+      | inr some ↦
+          let q = some.0 in
+          let parent = has_parent c.plan s q t l some.1 in
+          let before = all-most n c q m h (omega (arith, parent.earlier)) (omega (arith, parent.earlier)) (omega (arith, most, parent-events c s q some.1, segment-grows c.opening c.plan s t l)) in
+          subst (λ (ks : List Key). All (HasMost c m) ks) (sym (keys-chain c.plan s q t l some.1)) (All-append (HasMost c m) (keys_to c.plan q) (keys_of c.plan s) before own)
+    ]
 
 -- the last event of a branch is that of its last segment's end
 pub last-end : (c : CourseTold) (b : ℕ) → IsCourse c → b < length c.plan.branches → last_event c b ≡ (segment_end c.opening c.plan (segment_at c.plan (last_of c.plan.branches b))).state.events
