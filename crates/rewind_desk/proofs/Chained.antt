@@ -68,7 +68,6 @@ keys-chain p s q t l is =
     ∙ flat_map-append (keys_of p) (chain_to p q) (s ∷ [])
     ∙ ap (λ (ks : List Key). keys_to p q ++ ks) (append-nil (keys_of p s))
 
-
 -- a segment is on its own chain
 on-end : (k s : ℕ) (xs : List ℕ) → s ≡ k → list_any (λ (q : ℕ). q == k) (xs ++ s ∷ []) ≡ true
 on-end k s xs e = list_any-append (λ (q : ℕ). q == k) xs (s ∷ []) ∙ or_right (list_any (λ (q : ℕ). q == k) xs) (s == k || false) (or_left (s == k) false (eq-eqb s k e))

@@ -7,7 +7,7 @@ ghost use Rattle.rewind_desk.specs.Rewinds.{last_event, rewind_refusal};
 
 use crate::near::events_of;
 use crate::nearest::{last_segment, nearest_to};
-use crate::reach::reach;
+use crate::reach::{lesser, reach};
 use checkpoint_shelf::ClosedShelf;
 use kernel_copy::{Checkpoint, Course};
 use kernel_core::Kernel;
@@ -59,7 +59,7 @@ fn rewound<L: Ledger>(
 {
     let last = last_segment(course, branch);
     let near = nearest_to(alloc, course, shelf, last, event)?;
-    let most = event.min(course.opening().limit);
+    let most = lesser(event, course.opening().limit);
     let kernel = reach(alloc, course, shelf, near, last, most, steps)?;
     Ok(Rewound {
         kernel,

@@ -1,6 +1,6 @@
 //! From a state that a closed shelf holds on to another of its branch.
 
-ghost use Rattle.std.specs.Prelude.{◌≡◌, ◌<◌, ◌≤◌, ◌+◌, ◌-◌, ◌^◌, None, Some, IfOk, IfSome, length};
+ghost use Rattle.std.specs.Prelude.{◌≡◌, ◌<◌, ◌≤◌, ◌+◌, ◌-◌, ◌^◌, min, None, Some, IfOk, IfSome, length};
 ghost use Rattle.branch_tree.specs.Segments.{segments_in, segment_at};
 ghost use Rattle.kernel_core.specs.Step.{Fits};
 ghost use Rattle.kernel_core.specs.Until.{until};
@@ -17,6 +17,13 @@ use market_opening::Opening;
 use market_types::{Memory, Trace};
 use outside::{Ledger, Steps};
 use std::alloc::Global;
+
+// The lesser of two numbers.
+pub(crate) fn lesser(a: u32, b: u32) -> u32
+    ensures { result ≡ min a b }
+{
+    if a < b { a } else { b }
+}
 
 // Lets a kernel run until so many events stand.
 fn run_to<L: Ledger>(
@@ -146,16 +153,12 @@ pub(crate) fn reach<L: Ledger>(
     let Some(parent) = g.parent else {
         return from_opening(alloc, course, segment, event, steps);
     };
-    let kernel = reach(
-        alloc,
-        course,
-        shelf,
-        near,
-        parent,
-        event.min(g.start),
-        steps,
-    )?;
-    if event < g.start && kernel.end(course.opening()).is_none() {
+    let stop = lesser(event, g.start);
+    let kernel = reach(alloc, course, shelf, near, parent, stop, steps)?;
+    if event >= g.start {
+        return from_parent(alloc, course, parent, segment, event, kernel, steps);
+    }
+    if kernel.end(course.opening()).is_none() {
         return Ok(kernel);
     }
     from_parent(alloc, course, parent, segment, event, kernel, steps)
