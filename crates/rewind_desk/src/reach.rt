@@ -1,6 +1,6 @@
 //! From a state that a closed shelf holds on to another of its branch.
 
-ghost use Rattle.std.specs.Prelude.{◌≡◌, ◌<◌, ◌≤◌, ◌+◌, ◌-◌, ◌^◌, min, None, Some, IfOk, IfSome, length};
+ghost use Rattle.std.specs.Prelude.{◌≡◌, ◌≢◌, ◌<◌, ◌≤◌, ◌+◌, ◌-◌, ◌^◌, min, None, Some, IfOk, IfSome, IfNone, length};
 ghost use Rattle.branch_tree.specs.Segments.{segments_in, segment_at};
 ghost use Rattle.kernel_core.specs.Step.{Fits};
 ghost use Rattle.kernel_core.specs.Until.{until};
@@ -23,6 +23,23 @@ pub(crate) fn lesser(a: u32, b: u32) -> u32
     ensures { result ≡ min a b }
 {
     if a < b { a } else { b }
+}
+
+// A state, if it is one of this segment.
+fn own_of(near: Option<Near>, segment: u32) -> Option<Near>
+    ensures own { IfSome result (λ n. (near ≡ Some n) × (n.key.segment ≡ segment)) }
+    ensures other { IfNone result (IfSome near (λ n. n.key.segment ≢ segment)) }
+{
+    match near {
+        None => None,
+        Some(n) => {
+            if n.key.segment == segment {
+                Some(n)
+            } else {
+                None
+            }
+        }
+    }
 }
 
 // Lets a kernel run until so many events stand.
@@ -144,22 +161,24 @@ pub(crate) fn reach<L: Ledger>(
     ensures least { steps.old ≤ steps.new }
     ensures most { steps.new + events_of near ≤ steps.old + event }
 {
-    if let Some(near) = near {
-        if near.key.segment == segment {
-            return from_near(alloc, course, shelf, near, event, steps);
+    match own_of(near, segment) {
+        Some(own) => from_near(alloc, course, shelf, own, event, steps),
+        None => {
+            let g = course.segment(segment);
+            match g.parent {
+                None => from_opening(alloc, course, segment, event, steps),
+                Some(parent) => {
+                    let stop = lesser(event, g.start);
+                    let kernel = reach(alloc, course, shelf, near, parent, stop, steps)?;
+                    if event >= g.start {
+                        return from_parent(alloc, course, parent, segment, event, kernel, steps);
+                    }
+                    if kernel.end(course.opening()).is_none() {
+                        return Ok(kernel);
+                    }
+                    from_parent(alloc, course, parent, segment, event, kernel, steps)
+                }
+            }
         }
     }
-    let g = course.segment(segment);
-    let Some(parent) = g.parent else {
-        return from_opening(alloc, course, segment, event, steps);
-    };
-    let stop = lesser(event, g.start);
-    let kernel = reach(alloc, course, shelf, near, parent, stop, steps)?;
-    if event >= g.start {
-        return from_parent(alloc, course, parent, segment, event, kernel, steps);
-    }
-    if kernel.end(course.opening()).is_none() {
-        return Ok(kernel);
-    }
-    from_parent(alloc, course, parent, segment, event, kernel, steps)
 }
