@@ -87,7 +87,8 @@ fn from_near<L: Ledger>(
     };
     let kernel = kept.resume(alloc)?;
     let trace = Trace::new(alloc);
-    run_to(alloc, course.opening(), event, kernel, trace, steps)
+    let reached = run_to(alloc, course.opening(), event, kernel, trace, steps)?;
+    Ok(reached)
 }
 
 // The state after so many events of a segment that goes on from no other, from the opening.
@@ -107,9 +108,10 @@ fn from_opening<L: Ledger>(
     ensures least { steps.old ≤ steps.new }
     ensures most { steps.new ≤ steps.old + event }
 {
-    let o = course.opening();
-    let kernel = Kernel::open(alloc, o)?;
-    run_to(alloc, o, event, kernel, Trace::new(alloc), steps)
+    let kernel = Kernel::open(alloc, course.opening())?;
+    let trace = Trace::new(alloc);
+    let reached = run_to(alloc, course.opening(), event, kernel, trace, steps)?;
+    Ok(reached)
 }
 
 // The state after so many events of a segment, from its parent's end.
@@ -136,7 +138,8 @@ fn from_parent<L: Ledger>(
     let branch = course.segment(segment).branch;
     let mut trace = Trace::new(alloc);
     go_on(alloc, course, branch, parent, &mut kernel, &mut trace)?;
-    run_to(alloc, course.opening(), event, kernel, trace, steps)
+    let reached = run_to(alloc, course.opening(), event, kernel, trace, steps)?;
+    Ok(reached)
 }
 
 // The state of a segment's branch after so many events, at most those to the segment's stop, from the nearest state that the
@@ -162,11 +165,17 @@ pub(crate) fn reach<L: Ledger>(
     ensures most { steps.new + events_of near ≤ steps.old + event }
 {
     match own_of(near, segment) {
-        Some(own) => from_near(alloc, course, shelf, own, event, steps),
+        Some(own) => {
+            let near_by = from_near(alloc, course, shelf, own, event, steps)?;
+            Ok(near_by)
+        }
         None => {
             let g = course.segment(segment);
             match g.parent {
-                None => from_opening(alloc, course, segment, event, steps),
+                None => {
+                    let opened = from_opening(alloc, course, segment, event, steps)?;
+                    Ok(opened)
+                }
                 Some(parent) => {
                     let stop = lesser(event, g.start);
                     let kernel = reach(alloc, course, shelf, near, parent, stop, steps)?;
