@@ -142,6 +142,37 @@ fn from_parent<L: Ledger>(
     Ok(reached)
 }
 
+// The state after so many events of a segment, from the parent's branch after as many, or at the segment's start where that is
+// less: it goes on in the segment where the parent's run came to its end.
+fn onward<L: Ledger>(
+    alloc: Global,
+    course: &Course,
+    parent: u32,
+    segment: u32,
+    event: u32,
+    kernel: Kernel,
+    steps: &mut Steps<L>,
+) -> Result<Kernel, Memory>
+    requires segment { segment < length (segments_in course.now.plan) }
+    requires parent { (segment_at course.now.plan segment).parent ≡ Some parent }
+    requires at { IsAt course.now parent (min event (segment_at course.now.plan segment).start) kernel }
+    requires within { event ≤ (segment_at course.now.plan segment).stop }
+    requires count { steps.old + (event - kernel.events) < 2 ^ 64 }
+    ensures at { IfOk result (λ k. IsAt course.now segment event k) }
+    ensures ticks { IfOk result (λ k. steps.new + kernel.events ≡ steps.old + k.events) }
+    ensures least { steps.old ≤ steps.new }
+    ensures most { steps.new + kernel.events ≤ steps.old + event }
+{
+    let start = course.segment(segment).start;
+    if event >= start {
+        return from_parent(alloc, course, parent, segment, event, kernel, steps);
+    }
+    match kernel.end(course.opening()) {
+        None => Ok(kernel),
+        Some(_) => from_parent(alloc, course, parent, segment, event, kernel, steps),
+    }
+}
+
 // The state of a segment's branch after so many events, at most those to the segment's stop, from the nearest state that the
 // shelf holds of its chain, or else from the opening.
 pub(crate) fn reach<L: Ledger>(
@@ -179,13 +210,8 @@ pub(crate) fn reach<L: Ledger>(
                 Some(parent) => {
                     let stop = lesser(event, g.start);
                     let kernel = reach(alloc, course, shelf, near, parent, stop, steps)?;
-                    if event >= g.start {
-                        return from_parent(alloc, course, parent, segment, event, kernel, steps);
-                    }
-                    if kernel.end(course.opening()).is_none() {
-                        return Ok(kernel);
-                    }
-                    from_parent(alloc, course, parent, segment, event, kernel, steps)
+                    let gone_on = onward(alloc, course, parent, segment, event, kernel, steps)?;
+                    Ok(gone_on)
                 }
             }
         }
