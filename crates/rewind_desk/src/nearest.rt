@@ -21,7 +21,7 @@ fn near_at(
     event: u32,
 ) -> Result<Option<Near>, Memory>
     ensures nearest { IfOk result (λ found. IsNearest shelf.now event (key ∷ []) found) }
-    ensures key { IfOk result (λ found. IfSome found (λ n. n.key ≡ key)) }
+    ensures own { IfOk result (λ found. IfSome found (λ n. n.key.segment ≡ key.segment)) }
 {
     let Some(kept) = shelf.get(key) else {
         return Ok(None);
@@ -55,7 +55,8 @@ fn nearest_in(
             event: number,
         };
         let near = near_at(alloc, shelf, key, event)?;
-        found = nearer(found, near);
+        let next = nearer(found, near);
+        found = next;
     }
     Ok(found)
 }
@@ -77,7 +78,8 @@ pub(crate) fn nearest_to(
         None => Ok(own),
         Some(parent) => {
             let before = nearest_to(alloc, course, shelf, parent, event)?;
-            Ok(nearer(before, own))
+            let found = nearer(before, own);
+            Ok(found)
         }
     }
 }
