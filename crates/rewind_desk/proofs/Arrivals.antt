@@ -200,6 +200,21 @@ at-start c s q k h l is at =
     ∙ ap (λ (e : ℕ). (full o c.plan (segment_at c.plan q).branch e).state) (sym (parent-stop c s q h l is))
     ∙ sym (ap (λ (r : Run). r.state) (segment-ends o c.plan q t (omega arith)))
 
+-- a run that a kernel makes, in the words of a course
+pub run-made : (o q : Opening) (e : ℕ) (s t : State) (es : List EntryTold) (k : State) → o ≡ q → s ≡ t → es ≡ [] → k ≡ (until o e (record { state = s; entries = es })).state → k ≡ (until q e (afresh t)).state
+run-made o q e s t es k opening state none made =
+    made
+    ∙ ap (λ (x : Opening). let r : Run = record { state = s; entries = es } in (until x e r).state) opening
+    ∙ ap (λ (x : State). let r : Run = record { state = x; entries = es } in (until q e r).state) state
+    ∙ ap (λ (xs : List EntryTold). let r : Run = record { state = t; entries = xs } in (until q e r).state) none
+
+-- edits at a parent's end are no events
+pub fork-events : (c : CourseTold) (s q : ℕ) → IsCourse c → s < length (segments_in c.plan) → (segment_at c.plan s).parent ≡ Some q
+    → (started_from c.opening c.plan (segment_at c.plan s).branch (Some q)).state.events ≡ (segment_end c.opening c.plan (segment_at c.plan q)).state.events
+fork-events c s q h l is =
+    subst (λ (x : Option ℕ). (started_from c.opening c.plan (segment_at c.plan s).branch x).state.events ≡ (parent_end c.opening c.plan x).state.events) is
+    (segment-goes c.opening c.plan s (course-tree c h) l).counts
+
 -- from a parent's end on
 pub at-fork : (c : CourseTold) (s q e : ℕ) (r : Run) (k : State) → IsCourse c → s < length (segments_in c.plan) → (segment_at c.plan s).parent ≡ Some q → (segment_end c.opening c.plan (segment_at c.plan q)).state.events ≤ e
     → e ≤ (segment_at c.plan s).stop → r ≡ started_from c.opening c.plan (segment_at c.plan s).branch (Some q) → k ≡ (until c.opening e r).state → IsAt c s e k
