@@ -6,7 +6,7 @@ use Rattle.std.proofs.lemmas.Bool.{cases_lt, lt-ltb, le-ltb, lt-leb, le-leb}
 use Rattle.std.proofs.lemmas.List.Folds.{list_any-append}
 use Rattle.shelf_core.specs.declared.plan.Key.{Key}
 use Rattle.checkpoint_shelf.specs.Told.{ClosedTold}
-use Rattle.kernel_copy.specs.Courses.{CourseTold}
+use Rattle.kernel_copy.specs.Courses.{CheckpointTold, CourseTold, IsKeyOf}
 use Rattle.rewind_desk.specs.declared.near.Near.{Near}
 use Rattle.rewind_desk.specs.Best.{count_at, is_held, is_near, count_near, best_among, keys_from}
 use Rattle.rewind_desk.specs.Nearest.{events_of, nearer_of, IsHeld, IsNearest}
@@ -93,3 +93,21 @@ keys-more s start number h =
     let at : start + n ≡ number = omega arith in
     ap (λ (m : ℕ). keys_from s start m) one
     ∙ ap (λ (m : ℕ). let k : Key = record { segment = s; event = m } in keys_from s start n ++ k ∷ []) at
+
+-- what a checkpoint that the shelf lends says of its key
+pub near-is : (shelf : ClosedTold CourseTold) (e : ℕ) (key : Key) (kept : CheckpointTold) (n : Near) → is_held shelf key ≡ true → kept.key ≡ key → kept.course ≡ shelf.course
+    → n.key ≡ kept.key → n.events ≡ count_at kept.course kept.key → IsKeyOf kept.course n.key → n.events ≤ e → IsNearest shelf e (key ∷ []) (Some n)
+near-is shelf e key kept n held at of is count keyed early =
+    let same : n.key ≡ key = is ∙ at in
+    nearest-one shelf e key n same (record {
+      held = subst (λ (x : Key). is_held shelf x ≡ true) (sym same) held;
+      key = subst (λ (c : CourseTold). IsKeyOf c n.key) of keyed;
+      events = count ∙ ap (λ (c : CourseTold). count_at c kept.key) of ∙ ap (λ (x : Key). count_at shelf.course x) (sym is);
+      early = early;
+    })
+
+pub near-not : (shelf : ClosedTold CourseTold) (e : ℕ) (key : Key) (kept : CheckpointTold) (n : Near) → is_held shelf key ≡ true → kept.key ≡ key → kept.course ≡ shelf.course
+    → n.events ≡ count_at kept.course kept.key → e < n.events → IsNearest shelf e (key ∷ []) None
+near-not shelf e key kept n held at of count late =
+    let same : n.events ≡ count_at shelf.course key = count ∙ ap (λ (c : CourseTold). count_at c kept.key) of ∙ ap (λ (x : Key). count_at shelf.course x) at in
+    nearest-far shelf e key (far-late shelf e key held (omega arith))

@@ -2,7 +2,8 @@
 
 ghost use Rattle.std.specs.Prelude.{◌≡◌, ◌<◌, ◌∷◌, [], IfOk, IfSome, length};
 ghost use Rattle.branch_tree.specs.Segments.{segments_in, last_of};
-ghost use Rattle.rewind_desk.specs.Best.{keys_of, keys_to};
+ghost use Rattle.kernel_copy.specs.Courses.{IsKeyOf};
+ghost use Rattle.rewind_desk.specs.Best.{count_at, keys_of, keys_to};
 ghost use Rattle.rewind_desk.specs.Nearest.{IsNearest};
 ghost use Rattle.rewind_desk.specs.Reach.{IsOn};
 
@@ -12,6 +13,20 @@ use kernel_copy::{Checkpoint, Course};
 use market_types::Memory;
 use shelf_core::Key;
 use std::alloc::Global;
+
+// A state that the shelf holds, with the number of its events.
+fn counted(alloc: Global, kept: &Checkpoint) -> Result<Near, Memory>
+    ensures key { IfOk result (λ n. n.key ≡ kept.now.key) }
+    ensures events { IfOk result (λ n. n.events ≡ count_at kept.now.course kept.now.key) }
+    ensures of { IfOk result (λ n. IsKeyOf kept.now.course n.key) }
+{
+    let key = kept.key();
+    let kernel = kept.resume(alloc)?;
+    Ok(Near {
+        key,
+        events: kernel.events(),
+    })
+}
 
 // The state that the shelf holds under a key, where it has at most so many events.
 fn near_at(
@@ -23,16 +38,16 @@ fn near_at(
     ensures nearest { IfOk result (λ found. IsNearest shelf.now event (key ∷ []) found) }
     ensures own { IfOk result (λ found. IfSome found (λ n. n.key.segment ≡ key.segment)) }
 {
-    let Some(kept) = shelf.get(key) else {
-        return Ok(None);
-    };
-    let own = kept.key();
-    let kernel = kept.resume(alloc)?;
-    let events = kernel.events();
-    if events > event {
-        return Ok(None);
+    match shelf.get(key) {
+        None => Ok(None),
+        Some(kept) => {
+            let near = counted(alloc, kept)?;
+            if near.events > event {
+                return Ok(None);
+            }
+            Ok(Some(near))
+        }
     }
-    Ok(Some(Near { key: own, events }))
 }
 
 // The nearest state under the keys of a segment.
