@@ -10,3 +10,6 @@ pub mod Around
 pub mod Symbols
 pub mod Marks
 pub mod Whole
+pub mod Numbers
+pub mod Typed
+pub mod Each
