@@ -50,7 +50,9 @@ fn reply_numbers(reply: &Reply)
             four(*minimum);
         }
         Reply::Canceled {
-            time, decrement, ..
+            time,
+            decrement,
+            ..
         } => {
             eight(*time);
             four(*decrement);

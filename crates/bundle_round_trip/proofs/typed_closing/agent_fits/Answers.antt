@@ -14,10 +14,34 @@ returns c =
     let cash : FitsSigned w128 a.cash = search rules in
     let own_cash : FitsSigned w128 a.own_cash = search rules in
     let own_position : FitsSigned w64 a.own_position = search rules in (
-      all-in agent_kinds (agent_wire a).values
-      (c.two.ensures, (silence-in a.silenced, (c.eight.ensures, (c.four.ensures, (c.eight-2.ensures,
-      (high-in a.cash cash, (low-in a.cash, (high-in a.own_cash own_cash, (low-in a.own_cash,
-      (signed-in a.own_position own_position, (c.two-2.ensures, (c.four-2.ensures, tt)))))))))))),
+      all-in agent_kinds (agent_wire a).values (
+        c.two.ensures,
+        (
+          silence-in a.silenced,
+          (
+            c.eight.ensures,
+            (
+              c.four.ensures,
+              (
+                c.eight-2.ensures,
+                (
+                  high-in a.cash cash,
+                  (
+                    low-in a.cash,
+                    (
+                      high-in a.own_cash own_cash,
+                      (
+                        low-in a.own_cash,
+                        (signed-in a.own_position own_position, (c.two-2.ensures, (c.four-2.ensures, tt))),
+                      ),
+                    ),
+                  ),
+                ),
+              ),
+            ),
+          ),
+        ),
+      ),
       cash,
       own_cash,
       own_position,

@@ -7,6 +7,25 @@ use Rattle.bundle_round_trip.proofs.typed_closing.order_fits.Goals as goal
 pub returns : goal.returns
 returns c =
     let o = c.args.order.now in
-    all-in order_kinds (order_wire o).values
-    (c.eight.ensures, (c.two.ensures, (c.token.ensures, (side-in o.side, (c.four.ensures, (c.four-2.ensures, (c.two-2.ensures,
-    (c.four-3.ensures, (c.four-4.ensures, tt)))))))))
+    all-in order_kinds (order_wire o).values (
+      c.eight.ensures,
+      (
+        c.two.ensures,
+        (
+          c.token.ensures,
+          (
+            side-in o.side,
+            (
+              c.four.ensures,
+              (
+                c.four-2.ensures,
+                (
+                  c.two-2.ensures,
+                  (c.four-3.ensures, (c.four-4.ensures, tt)),
+                ),
+              ),
+            ),
+          ),
+        ),
+      ),
+    )

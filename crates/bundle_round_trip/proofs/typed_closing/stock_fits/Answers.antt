@@ -12,9 +12,25 @@ returns c =
     let s = c.args.stock.now in
     let fees : FitsSigned w128 s.fees = search rules in
     let offset : FitsSigned w64 s.offset = search rules in (
-      all-in stock_kinds (stock_wire s).values
-      (c.two.ensures, (c.one.ensures, (c.four.ensures, (c.eight.ensures, (high-in s.fees fees, (low-in s.fees,
-      (signed-in s.offset offset, (c.four-2.ensures, tt)))))))),
+      all-in stock_kinds (stock_wire s).values (
+        c.two.ensures,
+        (
+          c.one.ensures,
+          (
+            c.four.ensures,
+            (
+              c.eight.ensures,
+              (
+                high-in s.fees fees,
+                (
+                  low-in s.fees,
+                  (signed-in s.offset offset, (c.four-2.ensures, tt)),
+                ),
+              ),
+            ),
+          ),
+        ),
+      ),
       fees,
       offset,
     )

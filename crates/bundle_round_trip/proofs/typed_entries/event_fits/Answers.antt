@@ -14,9 +14,25 @@ pub returns : goal.returns
 returns c =
     let e = c.args.e.now in
     let fee : FitsSigned w64 e.fee = search rules in (
-      all-in event_kinds (event_wire (event_told e)).values
-      (c.four.ensures, (c.eight.ensures, (c.eight-2.ensures, (c.two.ensures, (c.two-2.ensures, (delivery-in e.put_back,
-      (c.eight-3.ensures, (signed-in e.fee fee, (letter-in e.body, tt))))))))),
+      all-in event_kinds (event_wire (event_told e)).values (
+        c.four.ensures,
+        (
+          c.eight.ensures,
+          (
+            c.eight-2.ensures,
+            (
+              c.two.ensures,
+              (
+                c.two-2.ensures,
+                (
+                  delivery-in e.put_back,
+                  (c.eight-3.ensures, (signed-in e.fee fee, (letter-in e.body, tt))),
+                ),
+              ),
+            ),
+          ),
+        ),
+      ),
       fee,
       c.body_numbers.ensures,
       subst (λ (ms : List Feed). All IsFeedTyped ms) c.as_slice.ensures c.feed_fits.ensures,

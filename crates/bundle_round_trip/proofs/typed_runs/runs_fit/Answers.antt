@@ -12,13 +12,13 @@ returns g c = λ spelled.
     let o = k.opening in
     record {
       names = names-in k.plan.branches spelled.names
-        (subst (λ (p : Plan). All (λ (b : Branch). length b.name ≤ 32) p.branches) c.plan.ensures.value
-        (subst (λ (bs : List Branch). All (λ (b : Branch). length b.name ≤ 32) bs) c.branches.ensures.value c.names_fit.ensures));
+          (subst (λ (p : Plan). All (λ (b : Branch). length b.name ≤ 32) p.branches) c.plan.ensures.value
+          (subst (λ (bs : List Branch). All (λ (b : Branch). length b.name ≤ 32) bs) c.branches.ensures.value c.names_fit.ensures));
       runs = λ b l.
-        let typed = c.branches_fit.ensures b l in
-        record {
-          events = events-in (Some (length o.stocks)) (full_run o k.plan b).entries
-            (c.courses_stay_in_range.ensures.entries k b o.limit c.plan.ensures.course l) typed.entries (spelled.texts b l);
-          closing = typed.closing;
-        };
+          let typed = c.branches_fit.ensures b l in
+          record {
+            events = events-in (Some (length o.stocks)) (full_run o k.plan b).entries
+                (c.courses_stay_in_range.ensures.entries k b o.limit c.plan.ensures.course l) typed.entries (spelled.texts b l);
+            closing = typed.closing;
+          };
     }
