@@ -1,5 +1,5 @@
 -- Fields are in their ranges by their numbers and their texts.
-use Rattle.std.proofs.Common.{◌≡◌, ◌∙◌, ℕ, ◌<◌, ◌≤◌, ◌/◌, ◌%◌, ◌^◌, Bool, true, false, ◌&&◌, ◌||◌, List, [], ◌∷◌, length, refl, arith}
+use Rattle.std.proofs.Common.{◌≡◌, ℕ, ◌<◌, ◌/◌, ◌%◌, ◌^◌, Bool, true, false, ◌||◌, List, [], ◌∷◌, length, refl, arith}
 use Rattle.std.specs.Prelude.{ℤ, codes, not}
 use Rattle.std.specs.List.{list_all}
 use Rattle.std.specs.Int.{cast_unsigned, w64, w128}
@@ -14,7 +14,7 @@ use Rattle.wire_fields.specs.declared.kind.Kind.{Kind}
 use Rattle.wire_fields.specs.declared.kind.Kind.TheVariants.{Bytes, Either, Number, OneOf}
 use Rattle.wire_fields.specs.declared.kind.Kind.TheVariants as kind
 use Rattle.wire_fields.specs.Kinds.{is_good}
-use Rattle.wire_fields.specs.Values.{FieldValue, number, bytes, is_in_range, side_letter}
+use Rattle.wire_fields.specs.Values.{FieldValue, bytes, is_in_range, side_letter}
 use Rattle.wire_fields.specs.Wire.{Wire, IsInRange, are_in_range}
 use Rattle.wire_fields.proofs.Digits.{IsBytes}
 use Rattle.wire_fields.proofs.Spelled.{read_in_range}

@@ -4,7 +4,7 @@ use Rattle.market_types.specs.Told.{EntryTold}
 use Rattle.branch_tree.specs.declared.segment.Segment.{Segment}
 use Rattle.branch_tree.specs.Segments.{segment_at}
 use Rattle.kernel_copy.specs.Courses.{CourseTold}
-use Rattle.kernel_copy.specs.Segmentwise.{parent_end, segment_end}
+use Rattle.kernel_copy.specs.Segmentwise.{parent_end}
 use Rattle.kernel_copy.proofs.Trees.{course-tree}
 use Rattle.kernel_copy.proofs.Walks.{segment-copy}
 use Rattle.bundle_round_trip.specs.Fields.{IsTyped}

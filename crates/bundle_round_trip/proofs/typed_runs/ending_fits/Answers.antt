@@ -1,4 +1,4 @@
-use Rattle.std.proofs.Common.{◌≡◌, ℕ, length, All, Some, ap, ◌∙◌, sym, subst, arith}
+use Rattle.std.proofs.Common.{◌≡◌, ℕ, length, All, Some, ◌∙◌, sym, subst}
 use Rattle.bundle_frames.specs.declared.closing.Closing.{Closing}
 use Rattle.bundle_frames.specs.declared.closing.ClosingAgent.{ClosingAgent}
 use Rattle.branch_tree.specs.Segments.{segment_at}
