@@ -13,3 +13,4 @@ pub mod Whole
 pub mod Numbers
 pub mod Typed
 pub mod Each
+pub mod Adds

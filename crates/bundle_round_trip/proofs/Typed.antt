@@ -25,6 +25,8 @@ use Rattle.kernel_copy.specs.Courses.{CourseTold}
 use Rattle.kernel_copy.specs.Segmentwise.{parent_end, segment_end, segment_entries, segment_run}
 use Rattle.bundle_round_trip.specs.Fields.{HasBodyNumbers, HasBodyTexts, HasEventTexts, HasTexts, IsFeedTyped, IsTyped}
 use Rattle.bundle_round_trip.specs.Ranges.{IsEventInRange}
+use Rattle.bundle_round_trip.proofs.Adds.{HasFeedTexts}
+use Rattle.bundle_round_trip.proofs.Marks.{IsMarkedInRange}
 use Rattle.bundle_round_trip.proofs.Numbers.{wire-in}
 
 -- ---- events
@@ -39,9 +41,6 @@ body-in (body.Quote quote) p q = p
 abbrev IsEarly : Feed → Type 0
 IsEarly m = m.time < 2 ^ 48
 
-abbrev HasFeedTexts : Feed → Type 0
-HasFeedTexts m = HasTexts (feed_wire m)
-
 abbrev IsSaid : Option ℕ → Feed → Type 0
 IsSaid stocks m = HasRanges stocks (frame.Message m)
 
@@ -52,18 +51,18 @@ messages-typed stocks (m ∷ ms) early typed texts =
     (wire-in (feed_wire m) (All-head IsFeedTyped m ms typed (All-head IsEarly m ms early)) (All-head HasFeedTexts m ms texts))
     (messages-typed stocks ms (All-tail IsEarly m ms early) (All-tail IsFeedTyped m ms typed) (All-tail HasFeedTexts m ms texts))
 
-pub events-in : (stocks : Option ℕ) (xs : List EntryTold) → All IsTimely xs → All IsTyped xs → All HasEventTexts xs → All (IsEventInRange stocks) xs
-events-in stocks [] timely typed texts = All-nil (IsEventInRange stocks)
-events-in stocks (event e ∷ xs) timely typed texts =
+pub events-in : (stocks : Option ℕ) (xs : List EntryTold) → All IsTimely xs → All IsMarkedInRange xs → All IsTyped xs → All HasEventTexts xs → All (IsEventInRange stocks) xs
+events-in stocks [] timely marked typed texts = All-nil (IsEventInRange stocks)
+events-in stocks (event e ∷ xs) timely marked typed texts =
     let early = All-head IsTimely (event e) xs timely in
     let own = All-head IsTyped (event e) xs typed in
     let text = All-head HasEventTexts (event e) xs texts in
-    let here : IsEventInRange stocks (event e) = ((own.0, own.1, body-in e.body own.2 text.0), messages-typed stocks e.after early.1 own.3 text.1) in
+    let here : IsEventInRange stocks (event e) = ((own.0, own.1, body-in e.body own.2 text), messages-typed stocks e.after early.1 own.3 (All-head IsMarkedInRange (event e) xs marked).1) in
     All-cons (IsEventInRange stocks) (event e) xs here
-    (events-in stocks xs (All-tail IsTimely (event e) xs timely) (All-tail IsTyped (event e) xs typed) (All-tail HasEventTexts (event e) xs texts))
-events-in stocks (edit d ∷ xs) timely typed texts =
+    (events-in stocks xs (All-tail IsTimely (event e) xs timely) (All-tail IsMarkedInRange (event e) xs marked) (All-tail IsTyped (event e) xs typed) (All-tail HasEventTexts (event e) xs texts))
+events-in stocks (edit d ∷ xs) timely marked typed texts =
     All-cons (IsEventInRange stocks) (edit d) xs tt
-    (events-in stocks xs (All-tail IsTimely (edit d) xs timely) (All-tail IsTyped (edit d) xs typed) (All-tail HasEventTexts (edit d) xs texts))
+    (events-in stocks xs (All-tail IsTimely (edit d) xs timely) (All-tail IsMarkedInRange (edit d) xs marked) (All-tail IsTyped (edit d) xs typed) (All-tail HasEventTexts (edit d) xs texts))
 
 -- ---- closings
 

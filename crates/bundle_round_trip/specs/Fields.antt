@@ -80,13 +80,12 @@ HasBodyTexts (body.Answer reply) = HasTexts (reply_wire reply)
 HasBodyTexts (body.Ask stock) = Unit {0}
 HasBodyTexts (body.Quote quote) = Unit {0}
 
--- so are those of an event's body and of the messages of its own feed
+-- so are those of an event's body
 abbrev pub HasEventTexts : EntryTold → Type 0
-HasEventTexts (event e) = HasBodyTexts e.body × All (λ (m : Feed). HasTexts (feed_wire m)) e.after
+HasEventTexts (event e) = HasBodyTexts e.body
 HasEventTexts (edit d) = Unit {0}
 
--- No name is empty, and the texts of orders, of replies and of the messages behind events are in their ranges in each
--- branch's full run.
+-- No name is empty, and the texts of orders and of replies are in their ranges in each branch's full run.
 pub record IsSpelledOut (c : CourseTold) : Type 0 where
   pub names : All (λ (b : Branch). 1 ≤ length b.name) c.plan.branches
   pub texts : (b : ℕ) → b < length c.plan.branches → All HasEventTexts (full_run c.opening c.plan b).entries

@@ -3,6 +3,7 @@ use Rattle.branch_tree.specs.declared.branch.Branch.{Branch}
 use Rattle.branch_tree.specs.Plan.{Plan}
 use Rattle.kernel_copy.specs.Courses.{CourseTold}
 use Rattle.kernel_copy.specs.Full.{full_run}
+use Rattle.bundle_round_trip.proofs.Marks.{marked-full}
 use Rattle.bundle_round_trip.proofs.Typed.{events-in, names-in}
 use Rattle.bundle_round_trip.proofs.typed_runs.runs_fit.Goals as goal
 
@@ -18,7 +19,7 @@ returns g c = λ spelled.
           let typed = c.branches_fit.ensures b l in
           record {
             events = events-in (Some (length o.stocks)) (full_run o k.plan b).entries
-                (c.courses_stay_in_range.ensures.entries k b o.limit c.plan.ensures.course l) typed.entries (spelled.texts b l);
+                (c.courses_stay_in_range.ensures.entries k b o.limit c.plan.ensures.course l) (marked-full k b o.limit c.plan.ensures.course l) typed.entries (spelled.texts b l);
             closing = typed.closing;
           };
     }
