@@ -23,7 +23,7 @@ use Rattle.bundle_reader.specs.Bundle.{closing_list}
 use Rattle.kernel_core.specs.Until.{Run, behind}
 use Rattle.kernel_copy.specs.Courses.{CourseTold}
 use Rattle.kernel_copy.specs.Segmentwise.{parent_end, segment_end, segment_entries, segment_run}
-use Rattle.bundle_round_trip.specs.Fields.{HasBodyNumbers, HasBodyTexts, HasEventTexts, HasTexts, IsFeedTyped, IsTyped}
+use Rattle.bundle_round_trip.specs.Fields.{HasBodyNumbers, HasBodyTexts, HasEventTexts, IsFeedTyped, IsTyped}
 use Rattle.bundle_round_trip.specs.Ranges.{IsEventInRange}
 use Rattle.bundle_round_trip.proofs.Adds.{HasFeedTexts}
 use Rattle.bundle_round_trip.proofs.Marks.{IsMarkedInRange}
