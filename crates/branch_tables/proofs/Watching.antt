@@ -1,5 +1,5 @@
 -- Probes that see traces one after another.
-use Rattle.std.proofs.Common.{◌≡◌, ◌∙◌, ℤ, ◌+◌, List, [], ◌∷◌, ◌++◌, map, refl, ap, ap₂, sym}
+use Rattle.std.proofs.Common.{◌≡◌, ◌∙◌, ℤ, List, [], ◌∷◌, ◌++◌, map, refl, ap, ap₂, sym}
 use Rattle.market_types.specs.Told.{EntryTold, event, edit}
 use Rattle.probe_desk.specs.Probe.{Meaning, seen, column_of}
 

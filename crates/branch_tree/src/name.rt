@@ -52,6 +52,7 @@ impl Name {
     /// How many bytes it has: 1 to 32.
     pub fn len(&self) -> usize
         ensures value { result ≡ length self.now }
+        ensures some { 1 ≤ result }
         ensures few { result ≤ 32 }
     {
         self.len

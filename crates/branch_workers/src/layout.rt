@@ -1,8 +1,7 @@
 //! The shelf of a course.
 
-ghost use Rattle.std.specs.Prelude.{◌≡◌, ◌<◌, ◌≤◌, IfOk, length, nat_lt};
+ghost use Rattle.std.specs.Prelude.{◌≡◌, ◌<◌, ◌≤◌, IfOk, length};
 ghost use Rattle.branch_tree.specs.Planned.{IsTree};
-ghost use Rattle.branch_tree.specs.Segments.{segments_in, segment_at, last_of};
 ghost use Rattle.checkpoint_shelf.specs.Plans.{PlanFits};
 ghost use Rattle.checkpoint_shelf.specs.Seats.{NewFrom};
 ghost use Rattle.branch_workers.specs.Layout.{fork_keys, layout};
@@ -10,21 +9,10 @@ ghost use Rattle.branch_workers.specs.Runs.{IsShelfOf};
 
 use branch_tree::BranchPlan;
 use checkpoint_shelf::{Key, Shelf, ShelfPlan, ShelfSeat};
-use kernel_copy::{Checkpoint, Course};
+use kernel_copy::{Checkpoint, Course, goes_on};
 use market_types::Memory;
 use plain_lists::Sequence;
 use std::alloc::Global;
-
-// Whether a segment isn't its branch's last.
-fn goes_on(plan: &BranchPlan, segment: u32) -> bool
-    requires tree { IsTree plan.now.branches plan.now.limit }
-    requires segment { segment < length (segments_in plan.now) }
-    ensures { result ≡ nat_lt segment (last_of plan.now.branches (segment_at plan.now segment).branch) }
-{
-    let branch = plan.segments()[segment as usize].branch;
-    let numbers = plan.segments_of(branch);
-    segment < numbers[numbers.len() - 1]
-}
 
 // The keys of the ends from which others go on.
 fn forks(alloc: Global, plan: &BranchPlan) -> Result<Sequence<Key>, Memory>

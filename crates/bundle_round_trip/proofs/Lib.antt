@@ -10,3 +10,7 @@ pub mod Around
 pub mod Symbols
 pub mod Marks
 pub mod Whole
+pub mod Numbers
+pub mod Typed
+pub mod Each
+pub mod Adds

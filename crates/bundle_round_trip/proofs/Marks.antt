@@ -1,5 +1,5 @@
 -- The frames of edits and the messages of changes are in their ranges in each run of a course.
-use Rattle.std.proofs.Common.{◌≡◌, ◌∙◌, ℕ, zero, suc, ◌+◌, ◌-◌, ◌<◌, ◌≤◌, Bool, true, false, cond, ltb, inl, inr, List, [], ◌∷◌, ◌++◌, length, All, take, refl, ap, sym, subst, slice_index, arith}
+use Rattle.std.proofs.Common.{◌≡◌, ◌∙◌, ℕ, zero, suc, ◌+◌, ◌-◌, ◌<◌, ◌≤◌, Bool, true, false, cond, ltb, inl, inr, List, [], ◌∷◌, ◌++◌, length, All, take, refl, sym, subst, slice_index, arith}
 use Rattle.std.specs.Prelude.{◌==◌, nat_le, if◌then◌else◌}
 use Rattle.std.proofs.lemmas.Bool.{cases_lt, ltb-true}
 use Rattle.std.proofs.lemmas.Bool.Decides.{nat_tests}
@@ -38,7 +38,7 @@ use Rattle.market_floor.specs.Floor.{FloorState}
 use Rattle.market_floor.specs.Ruled.{all_changed, due, ruled}
 use Rattle.kernel_core.specs.Open.{opened}
 use Rattle.kernel_core.specs.State.{State}
-use Rattle.kernel_core.specs.Step.{Happened, end_of, event_back, event_delivered, event_of}
+use Rattle.kernel_core.specs.Step.{Happened, end_of, event_back, event_delivered, event_of, in_force}
 use Rattle.kernel_core.specs.Until.{Run, advanced, advanced_by, until}
 use Rattle.kernel_core.specs.Edited.{IsEditOf, edited_from, edited_one, mark_of}
 use Rattle.kernel_core.proofs.Runs.{advanced_ended, advanced_going, event-events, going_below, next-time}
@@ -47,16 +47,17 @@ use Rattle.kernel_copy.specs.Courses.{CourseTold, AreEdits, IsCourse}
 use Rattle.kernel_copy.specs.Full.{opening_run, edited_by, forks_of, full_along, full}
 use Rattle.kernel_copy.proofs.Opened.{opened-stocks}
 use Rattle.kernel_copy.proofs.Trees.{course-few, course-tree}
-use Rattle.bundle_round_trip.proofs.Around.{byte-in, four, six, symbols-in, two}
-use Rattle.bundle_round_trip.proofs.Symbols.{change-symbols, edit-symbols, event-symbols, opened-symbols, opening_symbols, symbol-is, symbols}
+use Rattle.bundle_round_trip.proofs.Adds.{HasFeedTexts, reaction-texts, text-at}
+use Rattle.bundle_round_trip.proofs.Around.{byte-in, four, six, two}
+use Rattle.bundle_round_trip.proofs.Symbols.{change-symbols, edit-symbols, event-symbols, opened-symbols, opening_symbols, ruled-symbols, symbols}
 use Rattle.bundle_round_trip.proofs.Texts.{all-in, number-in}
 
 abbrev IsFeedInRange : Feed → Type 0
 IsFeedInRange m = IsInRange (feed_wire m)
 
--- the messages before an event; an edit with its messages
+-- the messages before an event, and the texts of those behind it; an edit with its messages
 abbrev pub IsMarkedInRange : EntryTold → Type 0
-IsMarkedInRange (event e) = All (λ (m : Feed). IsInRange (feed_wire m)) e.before
+IsMarkedInRange (event e) = All (λ (m : Feed). IsInRange (feed_wire m)) e.before × All HasFeedTexts e.after
 IsMarkedInRange (edited_entry d) = IsInRange (edit_wire d) × All (λ (m : Feed). IsInRange (feed_wire m)) d.feed
 
 -- ---- a trading action
@@ -92,9 +93,6 @@ turned-in true s time k letter early few state text = All-nil IsFeedInRange
 turned-in false s time k letter early few state text =
     All-cons IsFeedInRange (action time k letter (stock_at s k).symbol) [] (action-in time k letter (stock_at s k).symbol early few state text) (All-nil IsFeedInRange)
 
-text-at : (o : Opening) (s : Exchange) (k : ℕ) → IsOpening o → symbols s ≡ opening_symbols o → k < length o.stocks → is_in_range (Text 8) (bytes (stock_at s k).symbol.0) ≡ true
-text-at o s k is same l = ap (λ (x : Symbol). is_in_range (Text 8) (bytes x.0)) (symbol-is o s k same) ∙ symbols-in o k is.stocks l
-
 change-in : (o : Opening) (s : Exchange) (time k : ℕ) (c : Change) → IsOpening o → symbols s ≡ opening_symbols o → time < 281474976710656 → k < length o.stocks
     → All IsFeedInRange (changed_by s time k c).feed
 change-in o s time k (change.Tick bands) is same early l = All-nil IsFeedInRange
@@ -119,11 +117,16 @@ ruled-in o applied time f is same =
     all-in-range o (due o applied time) f.exchange is same
     (All-drop (IsDated o) applied (take (dated_by o.dated time) o.dated) (All-take (IsDated o) (dated_by o.dated time) o.dated is.dated.each))
 
-event-in : (o : Opening) (s : State) (m : Message) → IsOpening o → symbols s.floor.exchange ≡ opening_symbols o → All IsFeedInRange (event_of o s m).entry.before
+event-in : (o : Opening) (s : State) (m : Message) → IsOpening o → symbols s.floor.exchange ≡ opening_symbols o → IsMarkedInRange (event (event_of o s m).entry)
 unfolding event_of
 event-in o s m is same =
     let feed = ruled-in o s.applied m.time s.floor is same in
-    elim (ltb m.time (slice_index s.own m.to)) as (λ b. let h : Happened = cond b (event_back o s m (slice_index s.own m.to)) (event_delivered o s m) in All IsFeedInRange h.entry.before) [ true ↦ feed | false ↦ feed ]
+    let named : symbols (in_force o s m.time).state.floor.exchange ≡ opening_symbols o = ruled-symbols o s.applied m.time s.floor ∙ same in
+    let own = reaction-texts o (in_force o s m.time).state.floor m is named in
+    elim (ltb m.time (slice_index s.own m.to)) as (λ b. let h : Happened = cond b (event_back o s m (slice_index s.own m.to)) (event_delivered o s m) in IsMarkedInRange (event h.entry)) [
+      | true ↦ (feed, All-nil HasFeedTexts)
+      | false ↦ (feed, own)
+    ]
 
 -- ---- an edit
 

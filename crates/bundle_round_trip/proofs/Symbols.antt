@@ -1,7 +1,8 @@
 -- Each stock keeps its symbol, whatever comes.
-use Rattle.std.proofs.Common.{◌≡◌, ◌∙◌, ℕ, zero, suc, ◌+◌, Bool, true, false, cond, ltb, List, [], ◌∷◌, map, Option, Some, None, refl, ap, sym, length, slice_index, slice_set}
+use Rattle.std.proofs.Common.{◌≡◌, ◌∙◌, ℕ, zero, suc, ◌+◌, Bool, true, false, cond, ltb, List, [], ◌∷◌, map, Option, Some, None, refl, ap, sym, length, slice_index, slice_set, arith}
 use Rattle.std.specs.Prelude.{◌==◌, nat_lt, if◌then◌else◌, slice_index_or}
 use Rattle.std.proofs.Math.ListN.{get_or-map}
+use Rattle.std.proofs.lemmas.List.{length-map}
 use Rattle.market_types.specs.declared.feed.What.TheVariants as what
 use Rattle.market_types.specs.declared.message.Body.{Body}
 use Rattle.market_types.specs.declared.message.Body.TheVariants as body
@@ -59,6 +60,11 @@ symbol-is o x k same =
     sym (get_or-map of_stock x.stocks k no_stock)
     ∙ ap (λ (ss : List Symbol). slice_index_or ss k no_stock.symbol) same
     ∙ get_or-map of_rules o.stocks k no_rules
+
+pub count-is : (o : Opening) (x : Exchange) → symbols x ≡ opening_symbols o → length x.stocks ≡ length o.stocks
+count-is o x same =
+    let counts = ap (λ (ss : List Symbol). length ss) same in
+    omega (arith, counts, length-map x.stocks of_stock, length-map o.stocks of_rules)
 
 set-symbols : (xs : List Stock) (k : ℕ) (x : Stock) → x.symbol ≡ (slice_index_or xs k no_stock).symbol → map of_stock (slice_set xs k x) ≡ map of_stock xs
 set-symbols [] k x e = refl
@@ -143,7 +149,7 @@ all-symbols : (ds : List Dated) (s : Exchange) → symbols (all_changed ds s).st
 all-symbols [] s = refl
 all-symbols (d ∷ ds) s = all-symbols ds (changed_by s d.time d.stock d.change).state ∙ change-symbols s d.time d.stock d.change
 
-ruled-symbols : (o : Opening) (applied time : ℕ) (f : FloorState) → symbols (ruled o applied time f).floor.exchange ≡ symbols f.exchange
+pub ruled-symbols : (o : Opening) (applied time : ℕ) (f : FloorState) → symbols (ruled o applied time f).floor.exchange ≡ symbols f.exchange
 unfolding ruled
 ruled-symbols o applied time f = all-symbols (due o applied time) f.exchange
 

@@ -49,7 +49,7 @@ entries-in stocks (event e ∷ xs) marked events =
     let own = All-head (IsEventInRange stocks) (event e) xs events in
     let here : Frame = frame.Event (event_part e) in
     All-append (HasRanges stocks) (feed_list e.before ++ (here ∷ feed_list e.after)) (flat_map entry_list xs)
-    (All-append (HasRanges stocks) (feed_list e.before) (here ∷ feed_list e.after) (messages-in stocks e.before (All-head IsMarkedInRange (event e) xs marked))
+    (All-append (HasRanges stocks) (feed_list e.before) (here ∷ feed_list e.after) (messages-in stocks e.before (All-head IsMarkedInRange (event e) xs marked).0)
     (All-cons (HasRanges stocks) here (feed_list e.after) own.0 (messages-in stocks e.after own.1)))
     (entries-in stocks xs (All-tail IsMarkedInRange (event e) xs marked) (All-tail (IsEventInRange stocks) (event e) xs events))
 entries-in stocks (edit d ∷ xs) marked events =

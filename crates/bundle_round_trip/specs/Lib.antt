@@ -1,4 +1,5 @@
 pub mod AsRead
 pub mod Back
+pub mod Fields
 pub mod Ranges
 pub mod Worked

@@ -1,8 +1,12 @@
 //! What is written of a study is read back.
 #![tactic(auto)]
 
+mod fields;
 pub mod laws;
 mod reading;
+mod typed_closing;
+mod typed_entries;
+mod typed_runs;
 pub mod worked;
 mod writing;
 

@@ -5,9 +5,11 @@ ghost use Rattle.branch_bundle.specs.Bundle.{bundle_of};
 ghost use Rattle.branch_bundle.specs.Ran.{IsRunOf};
 ghost use Rattle.bundle_reader.specs.Reads.{Gives};
 ghost use Rattle.bundle_round_trip.specs.Back.{bundle_back};
+ghost use Rattle.bundle_round_trip.specs.Fields.{IsSpelledOut};
 ghost use Rattle.bundle_round_trip.specs.Ranges.{IsInRange};
 
 use crate::laws::bundles_come_back;
+use crate::typed_runs::runs_fit;
 use crate::writing::written;
 use branch_bundle::Ran;
 use bundle_reader::{Bundle, BundleError, read_bundle};
@@ -35,9 +37,10 @@ pub fn read_written(alloc: Global, course: &Course, bytes: &[u8]) -> Result<Bund
 /// Want of memory alone.
 pub fn round_trip<W: Ran>(alloc: Global, course: &Course, ran: &W) -> Result<Bundle, BundleError>
     requires ran { IsRunOf course.now (W.count ran.now) (W.entries_of ran.now) (W.closing_of ran.now) }
-    requires ranges { IsInRange course.now }
+    requires spelled { IsSpelledOut course.now }
     ensures { Gives (bundle_back course.now) result }
 {
+    runs_fit(course, ran);
     match written(alloc, course, ran) {
         Ok(bytes) => read_written(alloc, course, &bytes),
         Err(Memory) => Err(BundleError::Memory),

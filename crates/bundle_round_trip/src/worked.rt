@@ -2,6 +2,7 @@
 
 ghost use Rattle.std.specs.Prelude.{◌≡◌};
 ghost use Rattle.bundle_round_trip.specs.AsRead.{as_read};
+ghost use Rattle.bundle_round_trip.specs.Fields.{IsSpelledOut};
 ghost use Rattle.bundle_round_trip.specs.Ranges.{IsInRange};
 ghost use Rattle.bundle_round_trip.specs.Worked.{made, read};
 ghost use Rattle.branch_bundle.specs.Worked.{quiet_course};
@@ -11,7 +12,8 @@ pub fn a_moved_halt()
     ensures { as_read made ≡ read }
 {}
 
-/// The course of two branches without an event has its fields in their ranges.
+/// The course of two branches without an event has its fields in their ranges, and it is all that reading back asks for.
 pub fn a_quiet_course()
-    ensures { IsInRange quiet_course }
+    ensures ranges { IsInRange quiet_course }
+    ensures spelled { IsSpelledOut quiet_course }
 {}

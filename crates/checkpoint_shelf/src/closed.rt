@@ -1,5 +1,7 @@
 //! A shelf that no thread shares any more.
 
+ghost use Rattle.std.specs.Prelude.{◌≡◌};
+
 use crate::about::Held;
 use crate::kept::Kept;
 use crate::steps::{Inner, InnerSeat};
@@ -28,6 +30,15 @@ impl<C: Kept> Model for ClosedShelf<C> {
     ghost view = { λ s. record { plan = s.told.value.key.plan; course = s.told.value.key.course.value; system = closed_system s.told.value.key.plan s.told.value.key.seats (slots_items s.closed.words) s.last.value.me.0.seen } };
 
     ghost invariant = { λ s. (s.told.value.key.plan ≡ s.plan) × IsFull s.closed.words × IsFull s.closed.slots × IsClosed C.key_of C.course_of s.told.value.key (slots_items s.closed.words) (slots_items s.closed.slots) s.last.value.me.0.seen };
+}
+
+impl<C: Kept> ClosedShelf<C> {
+    /// What it was laid out for.
+    pub fn plan(&self) -> &ShelfPlan
+        ensures { result.now ≡ self.now.plan }
+    {
+        &self.plan
+    }
 }
 
 impl<C: Kept + Drop> Drop for ClosedShelf<C> {

@@ -1,6 +1,6 @@
-//! One stream that keeps its block of words.
+//! One stream that keeps a run of its words.
 
-ghost use Rattle.std.specs.Prelude.{◌≡◌};
+ghost use Rattle.std.specs.Prelude.{◌≡◌, ◌+◌, ◌<◌, ℕ, slice_index};
 ghost use Rattle.draw_streams.specs.Draw.{draw_of};
 ghost use Rattle.rand_chacha.specs.ChaCha.{key_of};
 
@@ -9,35 +9,59 @@ use rand_core::SeedableRng;
 use rand_core::utils::NextWord;
 use std::marker::Model;
 
+// So many words are kept: the blocks that the generator makes at a time.
+const KEPT: usize = 64;
+
+// The words of a block.
+const BLOCK: u64 = 16;
+
 /// A stream of draws, seen as its number. It keeps the words round its last draw, so that draws at
-/// places that follow one another are made from one block: an answer never depends on what is kept.
+/// places near one another are made from the same blocks, in any order: an answer never depends on
+/// what is kept.
 #[derive(Drop)]
 pub struct Stream {
     number: u64,
     key: [u8; 32],
-    words: ChaCha20Rng,
+    // The place of the first word that is kept.
+    first: u64,
+    // How many are: all, or none before the first draw.
+    count: u64,
+    words: [u32; KEPT],
 }
 
 impl Model for Stream {
-    ghost use Rattle.std.specs.Prelude.{◌≡◌, ℕ};
-    ghost use Rattle.rand_chacha.specs.ChaCha.{key_of};
+    ghost use Rattle.std.specs.Prelude.{◌≡◌, ◌+◌, ◌<◌, ◌≤◌, ℕ, slice_index};
+    ghost use Rattle.draw_streams.specs.Draw.{draw_of};
 
     ghost Value = { ℕ };
 
     ghost view = { λ s. s.number };
 
     ghost invariant = { λ s. record {
-      key : s.words.key ≡ key_of s.key;
-      stream : s.words.stream ≡ s.number;
+      within : s.count ≤ 64;
+      kept : (i : ℕ) → i < s.count → slice_index s.words i ≡ draw_of s.key s.number (s.first + i);
     } };
 }
 
-// The words of a stream under a key.
-fn words_of(key: &[u8; 32], number: u64) -> ChaCha20Rng
-    ensures { result ≡ record { key = key_of key.now; stream = number; word_pos = 0 } }
+// The generator at a place of a stream under a key.
+fn generator(key: &[u8; 32], number: u64, place: u64) -> ChaCha20Rng
+    ensures { result ≡ record { key = key_of key.now; stream = number; word_pos = place } }
 {
     let mut words = ChaCha20Rng::from_seed(*key);
     words.set_stream(number);
+    words.set_word_pos(u128::from(place));
+    words
+}
+
+// The words of a stream under a key from a place on.
+fn words_from(key: &[u8; 32], number: u64, first: u64) -> [u32; KEPT]
+    ensures { (i : ℕ) → i < 64 → slice_index result i ≡ draw_of key.now number (first + i) }
+{
+    let mut generator = generator(key, number, first);
+    let mut words = [0; KEPT];
+    'words: for i in 0..KEPT {
+        words[i] = generator.next_word();
+    }
     words
 }
 
@@ -46,11 +70,12 @@ impl Stream {
     pub fn new(number: u64) -> Stream
         ensures { result ≡ number }
     {
-        let key = [0; 32];
         Stream {
             number,
-            key,
-            words: words_of(&key, number),
+            key: [0; 32],
+            first: 0,
+            count: 0,
+            words: [0; KEPT],
         }
     }
 
@@ -59,14 +84,17 @@ impl Stream {
         ensures value { result ≡ draw_of key.now self.old place }
         ensures stream { self.new ≡ self.old }
     {
-        if self.key != *key {
-            self.words = words_of(key, self.number);
-            self.key = *key;
+        if self.key == *key && self.first <= place {
+            let ahead = place - self.first;
+            if ahead < self.count {
+                return self.words[ahead as usize];
+            }
         }
-        let place = u128::from(place);
-        if self.words.get_word_pos() != place {
-            self.words.set_word_pos(place);
-        }
-        self.words.next_word()
+        let ahead = place % BLOCK;
+        self.first = place - ahead;
+        self.words = words_from(key, self.number, self.first);
+        self.key = *key;
+        self.count = KEPT as u64;
+        self.words[ahead as usize]
     }
 }

@@ -78,6 +78,13 @@ impl Checkpoint {
         &self.course
     }
 
+    /// How many events the state has: fewer than its key's number says where its run ended before.
+    pub fn events(&self) -> u32
+        ensures { result ≡ self.now.state.events }
+    {
+        self.kernel.events()
+    }
+
     /// An equal kernel: the course's state at the key.
     ///
     /// # Errors

@@ -70,8 +70,8 @@ fn apply_all(
     Ok(())
 }
 
-// Whether a segment isn't its branch's last, so that others go on from its end.
-fn goes_on(plan: &BranchPlan, segment: u32) -> bool
+/// Whether a segment isn't its branch's last, so that others go on from its end.
+pub fn goes_on(plan: &BranchPlan, segment: u32) -> bool
     requires tree { IsTree plan.now.branches plan.now.limit }
     requires segment { segment < length (segments_in plan.now) }
     ensures { result ≡ nat_lt segment (last_of plan.now.branches (segment_at plan.now segment).branch) }

@@ -6,6 +6,7 @@
 //! dropped and counted, and takes no number. A message that is put back keeps its number.
 #![tactic(auto)]
 
+mod jitter;
 pub mod laws;
 mod mail;
 #[cfg(test)]

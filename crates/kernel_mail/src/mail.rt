@@ -10,9 +10,9 @@ ghost use Rattle.kernel_mail.specs.Post.{IsOrderly, joins, nothing_waits, put_ba
 ghost use Rattle.kernel_mail.specs.Send.{injected, message_of, sent, under_way};
 ghost use Rattle.kernel_mail.specs.Sendable.{IsGrouped};
 
-use draw_streams::draw;
+use crate::jitter::Jitter;
 use event_queue::Queue;
-use latency_model::{Groups, JITTER_STREAM};
+use latency_model::Groups;
 use market_opening::{Opening, Posting, group_number};
 use market_types::{AgentNo, Body, Inbound, MOST_WAITING, Memory, Message, Time};
 use std::alloc::Global;
@@ -24,6 +24,7 @@ pub struct Mail {
     queue: Queue,
     next_seq: u64,
     dropped: u64,
+    jitter: Jitter,
 }
 
 impl Model for Mail {
@@ -38,19 +39,27 @@ impl Model for Mail {
 }
 
 // How long the message of a number is under way, in nanoseconds.
-fn latency(o: &Opening, groups: &Groups, from: AgentNo, to: AgentNo, seq: u64) -> Time
+fn latency(
+    jitter: &mut Jitter,
+    o: &Opening,
+    groups: &Groups,
+    from: AgentNo,
+    to: AgentNo,
+    seq: u64,
+) -> Time
     requires fits { IsGrouped o.now groups.now }
     requires sender { from ≤ length o.now.traders }
     requires receiver { to ≤ length o.now.traders }
     ensures value { result ≡ under_way o.now groups.now from to seq }
     ensures bound { result < 2 ^ 60 }
 {
-    let word = draw(&o.key, JITTER_STREAM, seq);
+    let word = jitter.word(&o.key, seq);
     groups.delay(group_number(o, from), group_number(o, to), word)
 }
 
 // The message that a posting becomes.
 fn message_for(
+    jitter: &mut Jitter,
     o: &Opening,
     groups: &Groups,
     from: AgentNo,
@@ -65,7 +74,7 @@ fn message_for(
 {
     match posting {
         Posting::To { to, body, extra } => Message {
-            time: leave + extra + latency(o, groups, from, to, seq),
+            time: leave + extra + latency(jitter, o, groups, from, to, seq),
             seq,
             from,
             to,
@@ -92,6 +101,7 @@ impl Mail {
             queue,
             next_seq: 0,
             dropped: 0,
+            jitter: Jitter::new(),
         })
     }
 
@@ -105,6 +115,7 @@ impl Mail {
             queue,
             next_seq: self.next_seq,
             dropped: self.dropped,
+            jitter: Jitter::new(),
         })
     }
 
@@ -211,7 +222,8 @@ impl Mail {
         ensures sent { self.new ≡ sent o.now groups.now from leave self.old posting }
         ensures counted { self.new.next_seq + self.new.dropped ≡ self.old.next_seq + self.old.dropped + 1 }
     {
-        let m = message_for(o, groups, from, leave, posting, self.next_seq);
+        let seq = self.next_seq;
+        let m = message_for(&mut self.jitter, o, groups, from, leave, posting, seq);
         self.join(m);
     }
 

@@ -1,5 +1,5 @@
 -- What the code of each event makes is what the event leaves.
-use Rattle.std.proofs.Common.{◌≡◌, ◌≢◌, ℕ, zero, suc, ◌+◌, ◌<◌, ◌≤◌, Bool, true, false, List, [], ◌∷◌, Option, Some, None, slice_get, length, set, sym, refl, ap, ◌∙◌, subst, ⊎_elim, arith, ◌==◌, ◌&&◌, not, is_some, is_none, ◌⊎◌, nat_lt, true≢false, eq-eqb}
+use Rattle.std.proofs.Common.{◌≡◌, ◌≢◌, ℕ, zero, suc, ◌+◌, ◌<◌, ◌≤◌, Bool, true, false, List, [], ◌∷◌, Option, Some, None, slice_get, length, set, sym, refl, ap, ◌∙◌, subst, ⊎_elim, arith, ◌==◌, ◌&&◌, not, is_some, is_none, nat_lt, true≢false, eq-eqb}
 use Rattle.std.specs.List.{list_any}
 use lib.ListN.{length-map}
 use Rattle.shelf_core.specs.Plan.{same_key, place_in, segments_in}

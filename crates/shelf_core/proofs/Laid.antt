@@ -1,5 +1,5 @@
 -- The shelf is laid out.
-use Rattle.std.proofs.Common.{◌≡◌, ◌≢◌, ℕ, zero, suc, ◌+◌, true, false, List, [], ◌∷◌, ◌++◌, Option, Some, None, slice_get, length, map, replicate, sym, refl, ap, ◌∙◌, subst, arith, true≢false}
+use Rattle.std.proofs.Common.{◌≡◌, ℕ, zero, suc, true, false, List, [], ◌∷◌, ◌++◌, Option, Some, None, slice_get, length, map, replicate, sym, refl, ap, ◌∙◌, subst, arith, true≢false}
 use mathlib.Core.Logic.{dite}
 use native.Mathlib.Decide.{dec_le}
 use Rattle.shelf_core.specs.Plan.{sole_in, place_in, are_distinct, place_count}

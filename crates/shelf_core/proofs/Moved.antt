@@ -1,5 +1,5 @@
 -- The events that change a place's word.
-use Rattle.std.proofs.Common.{◌≡◌, ◌≢◌, ℕ, zero, suc, ◌+◌, ◌<◌, true, false, List, [], ◌∷◌, Some, None, slice_get, length, set, sym, refl, ap, ◌∙◌, subst, ⊎_elim, arith, true≢false, ◌==◌, ◌&&◌, if◌then◌else◌, ne_eqb, eq-eqb, ◌⊎◌}
+use Rattle.std.proofs.Common.{◌≡◌, ◌≢◌, ℕ, zero, suc, ◌+◌, ◌<◌, true, false, List, [], ◌∷◌, Some, None, slice_get, length, set, sym, refl, ap, ◌∙◌, subst, ⊎_elim, arith, true≢false, ◌==◌, ◌&&◌, if◌then◌else◌, ne_eqb, eq-eqb}
 use Rattle.std.proofs.Math.ListN.{length-set}
 use Rattle.shelf_core.specs.Plan.{is_in, place_in, sole_in, same_key}
 use Rattle.shelf_core.specs.Words.{is_held, value_under}

@@ -1,5 +1,5 @@
 -- Lists whose keys rise.
-use Rattle.std.proofs.Common.{◌≡◌, ◌≢◌, ℕ, zero, suc, ◌<◌, ◌≤◌, Bool, true, false, true≢false, List, [], ◌∷◌, Option, Some, None, slice_get, slice_index_or, length, sym, refl, ap, ◌∙◌, subst, ⊎_elim, arith, inl, inr, ◌⊎◌, ◌||◌}
+use Rattle.std.proofs.Common.{◌≡◌, ℕ, zero, suc, ◌<◌, ◌≤◌, Bool, true, false, true≢false, List, [], ◌∷◌, Option, Some, None, slice_get, slice_index_or, length, sym, refl, ap, ◌∙◌, subst, ⊎_elim, arith, inl, inr, ◌⊎◌, ◌||◌}
 use Rattle.std.specs.List.{list_all}
 use Rattle.std.specs.List.Sorted.{IsPartitionedBy, IsPartitionPoint}
 use Rattle.shelf_core.specs.Plan.{same_key, is_before, rise, index_of}

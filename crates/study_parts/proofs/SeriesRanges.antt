@@ -1,5 +1,5 @@
 -- The values of an accepted study's stocks.
-use Rattle.std.proofs.Common.{◌≡◌, ◌∙◌, ◌<◌, ◌≤◌, ◌+◌, ◌-◌, ◌/◌, ◌&&◌, nat_le, Bool, true, false, not, ℕ, pos, unsigned_abs, List, [], ◌∷◌, ◌++◌, take, length, get_or, map, Option, None, Some, Ok, All, unwrap_or, refl, sym, ap, subst, inl, inr, arith, codes, bytes_eq, if◌then◌else◌}
+use Rattle.std.proofs.Common.{◌≡◌, ◌∙◌, ◌<◌, ◌≤◌, ◌+◌, ◌/◌, ◌&&◌, nat_le, Bool, true, false, not, ℕ, pos, unsigned_abs, List, [], ◌∷◌, ◌++◌, take, length, get_or, map, Option, None, Some, Ok, All, unwrap_or, refl, sym, ap, subst, inl, inr, arith, codes, bytes_eq, if◌then◌else◌}
 use Rattle.std.specs.Prelude.{◌||◌, is_some, int_le}
 use Rattle.std.specs.Cmp.Lexicographic.{bytes_decides}
 use Rattle.std.specs.List.{list_any, enumerate_from, AllByRecursion}

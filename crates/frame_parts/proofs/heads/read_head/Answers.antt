@@ -1,4 +1,4 @@
-use Rattle.std.proofs.Common.{◌-◌, arith}
+use Rattle.std.proofs.Common.{arith}
 use Rattle.frame_parts.specs.Back.{head_kinds}
 use Rattle.frame_parts.proofs.Led.{cut_here, led_by_read, same_parts, no_parts}
 use Rattle.frame_parts.proofs.heads.read_head.Goals as goal

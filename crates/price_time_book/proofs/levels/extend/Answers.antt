@@ -1,4 +1,4 @@
-use Rattle.std.proofs.Common.{◌≡◌, ◌+◌, ◌<◌, ◌++◌, ◌∷◌, [], length, set, ap, ◌∙◌, rules}
+use Rattle.std.proofs.Common.{◌≡◌, ◌<◌, ◌++◌, ◌∷◌, [], length, set, ap, ◌∙◌, rules}
 use Rattle.price_time_book.proofs.Joins.{indexed_extend, others_extend}
 use Rattle.price_time_book.proofs.Firsts.{right_at}
 use Rattle.price_time_book.proofs.levels.extend.Goals as goal

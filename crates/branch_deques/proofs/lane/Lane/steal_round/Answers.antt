@@ -1,4 +1,4 @@
-use Rattle.std.proofs.Common.{◌≡◌, All, suc, take, drop, set, slice_index_or, ◌++◌, ◌∷◌, arith, sym, subst, ap, ◌∙◌, length, add-one, ◌+◌, ◌<◌}
+use Rattle.std.proofs.Common.{◌≡◌, All, suc, take, drop, set, slice_index_or, ◌++◌, ◌∷◌, arith, sym, subst, ap, ◌∙◌, length, add-one, ◌<◌}
 use Rattle.std.proofs.lemmas.Grind.{common_steps}
 use Rattle.std.proofs.lemmas.List.Elements.{All-append}
 use Rattle.std.proofs.Math.Seq.{take-suc-set}

@@ -1,4 +1,4 @@
-use Rattle.std.proofs.Common.{◌-◌, sym, ap, ◌∙◌, subst, refl, arith, rules}
+use Rattle.std.proofs.Common.{sym, ap, ◌∙◌, subst, refl, arith, rules}
 use Rattle.market_types.specs.Room.{Room}
 use Rattle.market_types.specs.declared.order.Side.TheVariants.{Buy, Sell}
 use Rattle.price_time_book.specs.declared.resting.Resting.{Resting}

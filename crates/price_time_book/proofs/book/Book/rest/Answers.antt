@@ -1,4 +1,4 @@
-use Rattle.std.proofs.Common.{◌≡◌, ◌+◌, None, ◌<◌, ◌≤◌, ◌-◌, ◌++◌, ◌∷◌, [], All, List, length, sym, ap, ◌∙◌, subst, refl, rules}
+use Rattle.std.proofs.Common.{◌≡◌, ◌+◌, None, ◌<◌, ◌≤◌, ◌++◌, ◌∷◌, [], All, List, length, sym, ap, ◌∙◌, subst, refl, rules}
 use Rattle.market_types.specs.Room.{Room}
 use Rattle.market_types.specs.declared.order.Side.{Side}
 use Rattle.market_types.specs.declared.order.Side.TheVariants.{Buy, Sell}

@@ -1,4 +1,4 @@
-use Rattle.std.proofs.Common.{◌≡◌, ◌≢◌, ◌<◌, ◌+◌, ◌++◌, ◌∷◌, List, [], length, get_or, take, sym, ap, ◌∙◌, arith, rules, add-one, length-append}
+use Rattle.std.proofs.Common.{◌≡◌, ◌≢◌, ◌<◌, ◌++◌, ◌∷◌, List, [], length, get_or, take, sym, ap, ◌∙◌, arith, rules, add-one, length-append}
 use Rattle.market_types.specs.Room.{Room}
 use Rattle.price_time_book.specs.declared.resting.Resting.{Resting}
 use Rattle.price_time_book.specs.Indexed.{nothing, open_orders}
