@@ -6,7 +6,7 @@ ghost use Rattle.kernel_core.specs.Until.{until};
 ghost use Rattle.shelf_core.specs.Made.{Stays};
 ghost use Rattle.shelf_core.specs.Plan.{is_in, is_sole};
 ghost use Rattle.shelf_core.specs.Views.{times};
-ghost use Rattle.kernel_copy.specs.Courses.{IsKeyOf, state_at};
+ghost use Rattle.kernel_copy.specs.Courses.{IsCourse, IsKeyOf, state_at};
 ghost use Rattle.kernel_copy.specs.Segmentwise.{segment_run, started_at};
 ghost use Rattle.branch_workers.specs.Layout.{key_at};
 ghost use Rattle.branch_workers.specs.Runs.{IsPassed, IsShelfOf, IsUnderway};
@@ -94,6 +94,7 @@ pub(crate) fn run_to<L: Ledger>(
     requires within { key.event ≤ (segment_at course.now.plan key.segment).stop }
     requires underway { IsUnderway course.now key.segment key.event (record { state = ran.old.kernel; entries = ran.old.entries.list }) }
     requires count { steps.old + course.now.opening.limit < 2 ^ 64 }
+    ensures course { IsCourse course.now }
     ensures ran { OnOk result (record { state = ran.new.kernel; entries = ran.new.entries.list } ≡ until course.now.opening key.event (started_at course.now.opening course.now.plan (segment_at course.now.plan key.segment))) }
     ensures underway { OnOk result (IsUnderway course.now key.segment key.event (record { state = ran.new.kernel; entries = ran.new.entries.list })) }
     ensures few { ran.new.kernel.events ≤ (segment_run course.now.opening course.now.plan (segment_at course.now.plan key.segment)).state.events }
@@ -145,7 +146,8 @@ fn pass<L: Ledger>(
     if ran.kernel.events() != key.event {
         return Ok(());
     }
-    put_copy(alloc, course, shelf, seat, key, &ran.kernel)
+    put_copy(alloc, course, shelf, seat, key, &ran.kernel)?;
+    Ok(())
 }
 
 // Lets a run of a segment that is at its beginning go on over the numbers of its grid, and puts copies of the states there on the
