@@ -101,13 +101,7 @@ pub(crate) fn run_to<L: Ledger>(
     ensures ticks { steps.new + ran.old.kernel.events ≡ steps.old + ran.new.kernel.events }
 {
     let _ = course.plan();
-    ran.kernel.run_until(
-        alloc,
-        course.opening(),
-        key.event,
-        &mut ran.entries,
-        steps,
-    )?;
+    ran.kernel.run_until(alloc, course.opening(), key.event, &mut ran.entries, steps)?;
     Ok(())
 }
 

@@ -69,12 +69,7 @@ fn grid(alloc: Global, plan: &BranchPlan, stride: u32) -> Result<Sequence<Key>, 
 }
 
 // What a course's shelf is laid out for.
-fn shelf_plan(
-    alloc: Global,
-    course: &Course,
-    stride: u32,
-    places: u32,
-) -> Result<ShelfPlan, Memory>
+fn shelf_plan(alloc: Global, course: &Course, stride: u32, places: u32) -> Result<ShelfPlan, Memory>
     requires stride { 0 < stride }
     requires places { places ≤ 128 }
     ensures value { IfOk result (λ p. p ≡ layout course.now.plan stride places) }
