@@ -4,12 +4,12 @@ use mathlib.Core.Logic.{dite}
 use native.Mathlib.Decide.{ℕ_discrete}
 use Rattle.branch_tree.specs.Segments.{segments_in, segment_at}
 use Rattle.kernel_core.specs.Step.{Fits}
-use Rattle.kernel_core.specs.Until.{Run, until, behind}
+use Rattle.kernel_core.specs.Until.{Run, until}
 use Rattle.kernel_core.specs.Step.{end_of}
 use Rattle.kernel_core.proofs.Runs.{advanced_by_ended}
 use Rattle.kernel_core.proofs.Stops.{until-grows, until-within, until-until, end_cases, going-events}
 use Rattle.kernel_copy.specs.Courses.{CourseTold, IsCourse, IsKeyOf, state_at}
-use Rattle.kernel_copy.specs.Segmentwise.{segment_end, segment_run, started_at, from_count, own_count, parent_end}
+use Rattle.kernel_copy.specs.Segmentwise.{segment_run, started_at, from_count}
 use Rattle.kernel_copy.proofs.Trees.{course-tree}
 use Rattle.kernel_copy.proofs.Walks.{segment-after, segment-starts, segment-copy, segment-grows, own-is, segment-within, planned-at}
 use Rattle.shelf_core.specs.Plan.{is_in, is_sole}

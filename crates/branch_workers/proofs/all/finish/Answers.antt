@@ -1,4 +1,4 @@
-use Rattle.std.proofs.Common.{◌≡◌, ◌-◌, List, All, Option, None, Some, IsSome, Vec, Global, length, map, slice_get, sym, ap, ◌∙◌, subst, arith}
+use Rattle.std.proofs.Common.{◌≡◌, ◌-◌, List, All, Option, None, IsSome, Vec, Global, length, map, slice_get, sym, ap, ◌∙◌, subst, arith}
 use Rattle.std.proofs.lemmas.List.{length-replicate}
 use Rattle.shelf_core.specs.Views.{spent_view}
 use Rattle.shelf_core.specs.declared.seat.SeatView.{SeatView}

@@ -1,4 +1,4 @@
-use Rattle.std.proofs.Common.{◌≡◌, ℕ, Bool, true, false, true≢false, not, Option, is_some, sym, ap, ◌∙◌}
+use Rattle.std.proofs.Common.{◌≡◌, ℕ, Bool, true, true≢false, not, Option, is_some, sym, ap, ◌∙◌}
 use Rattle.branch_workers.proofs.Grids.{sole_place}
 use Rattle.branch_workers.proofs.grid.put_copy.Goals as goal
 

@@ -1,5 +1,4 @@
 use Rattle.std.proofs.Common.{◌∙◌, arith}
-use Rattle.branch_workers.specs.Layout.{grid_of}
 use Rattle.branch_workers.proofs.Grids.{next_multiple, no_multiple}
 use Rattle.branch_workers.proofs.layout.add_grid.Goals.{then-event-stride-eq0+in_ok-push, else-event-stride-eq0}
 use Rattle.branch_workers.proofs.layout.add_grid.Goals as goal

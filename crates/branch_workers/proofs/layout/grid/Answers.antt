@@ -1,4 +1,4 @@
-use Rattle.std.proofs.Common.{ℕ, List, length, get_or, ap, arith}
+use Rattle.std.proofs.Common.{List, length, get_or, ap, arith}
 use Rattle.branch_tree.specs.declared.segment.Segment.{Segment}
 use Rattle.branch_tree.specs.Segments.{no_segment}
 use Rattle.kernel_copy.proofs.Walks.{planned-at}
