@@ -1,0 +1,4 @@
+pub mod Best
+pub mod Nearest
+pub mod Reach
+pub mod Rewinds
