@@ -1,16 +1,14 @@
 -- Chains of segments.
-use Rattle.std.proofs.Common.{◌≡◌, ◌≤◌, ◌<◌, ℕ, ◌+◌, Bool, true, false, ◌||◌, ◌==◌, ◌⊎◌, inl, inr, List, [], ◌∷◌, ◌++◌, Option, Some, None, option_map, unwrap_or, length, refl, sym, ap, ◌∙◌, arith, subst, suc, zero, append-nil}
-use Rattle.std.specs.List.{list_any, flat_map}
+use Rattle.std.proofs.Common.{◌≡◌, ◌≤◌, ◌<◌, ℕ, ◌+◌, Bool, true, false, ◌||◌, ◌==◌, ◌⊎◌, inl, inr, List, [], ◌∷◌, ◌++◌, Option, Some, None, option_map, unwrap_or, length, refl, sym, ap, ◌∙◌, arith, subst, suc, zero}
+use Rattle.std.specs.List.{list_any}
 use Rattle.std.proofs.lemmas.Bool.{cases_eq, eq-eqb, ne_eqb, eqb-true, or_left, or_right}
-use Rattle.std.proofs.lemmas.Grind.{flat_map-append}
 use Rattle.std.proofs.lemmas.List.Folds.{list_any-append}
-use Rattle.shelf_core.specs.declared.plan.Key.{Key}
 use Rattle.branch_tree.specs.Plan.{Plan}
 use Rattle.branch_tree.specs.Segments.{segments_in, segment_at}
 use Rattle.branch_tree.specs.Planned.{IsTree}
 use Rattle.kernel_copy.specs.Segmentwise.{chain_within, chain_to}
 use Rattle.kernel_copy.proofs.Walks.{has_parent}
-use Rattle.rewind_desk.specs.Best.{keys_of, keys_to}
+use Rattle.rewind_desk.specs.Best.{is_on}
 use Rattle.rewind_desk.specs.Reach.{IsOn}
 
 pub parent_cases : (x : Option ℕ) → (x ≡ None) ⊎ ((q : ℕ) × (x ≡ Some q))
@@ -58,16 +56,6 @@ chain-more_at (suc n) p s q e t l is =
 pub chain-more : (p : Plan) (s q : ℕ) → IsTree p.branches p.limit → s < length (segments_in p) → (segment_at p s).parent ≡ Some q → chain_to p s ≡ chain_to p q ++ s ∷ []
 chain-more p s q t l is = chain-more_at s p s q refl t l is
 
--- their keys
-pub keys-first : (p : Plan) (s : ℕ) → (segment_at p s).parent ≡ None → keys_to p s ≡ keys_of p s
-keys-first p s none = ap (λ (xs : List ℕ). flat_map (keys_of p) xs) (chain-first p s none) ∙ append-nil (keys_of p s)
-
-pub keys-chain : (p : Plan) (s q : ℕ) → IsTree p.branches p.limit → s < length (segments_in p) → (segment_at p s).parent ≡ Some q → keys_to p s ≡ keys_to p q ++ keys_of p s
-keys-chain p s q t l is =
-    ap (λ (xs : List ℕ). flat_map (keys_of p) xs) (chain-more p s q t l is)
-    ∙ flat_map-append (keys_of p) (chain_to p q) (s ∷ [])
-    ∙ ap (λ (ks : List Key). keys_to p q ++ ks) (append-nil (keys_of p s))
-
 -- a segment is on its own chain
 on-end : (k s : ℕ) (xs : List ℕ) → s ≡ k → list_any (λ (q : ℕ). q == k) (xs ++ s ∷ []) ≡ true
 on-end k s xs e = list_any-append (λ (q : ℕ). q == k) xs (s ∷ []) ∙ or_right (list_any (λ (q : ℕ). q == k) xs) (s == k || false) (or_left (s == k) false (eq-eqb s k e))
@@ -100,3 +88,40 @@ or_nothing false h = h
 
 pub on-first : (p : Plan) (s k : ℕ) → (segment_at p s).parent ≡ None → IsOn p s k → s ≡ k
 on-first p s k none h = eqb-true s k (or_nothing (s == k) (sym (ap (λ (xs : List ℕ). list_any (λ (q : ℕ). q == k) xs) (chain-first p s none)) ∙ h))
+
+or_rest : (x : Bool) (s k : ℕ) → (s ≡ k → ⊥) → (x || (s == k || false)) ≡ x
+or_rest true s k n = refl
+or_rest false s k n = ap (λ (t : Bool). t || false) (ne_eqb s k n)
+
+-- whether a segment is on a chain, by the chain's last segment and the parent's chain
+pub on-at : (p : Plan) (s k : ℕ) → IsTree p.branches p.limit → s < length (segments_in p) → s ≡ k → is_on p s k ≡ true
+on-at p s k t l e = subst (λ (x : ℕ). is_on p s x ≡ true) e (on-self p s t l)
+
+pub on-alone : (p : Plan) (s k : ℕ) → (segment_at p s).parent ≡ None → (s ≡ k → ⊥) → is_on p s k ≡ false
+on-alone p s k none n = ap (λ (xs : List ℕ). list_any (λ (q : ℕ). q == k) xs) (chain-first p s none) ∙ or_rest false s k n
+
+pub on-further : (p : Plan) (s q k : ℕ) → IsTree p.branches p.limit → s < length (segments_in p) → (segment_at p s).parent ≡ Some q → (s ≡ k → ⊥) → is_on p s k ≡ is_on p q k
+on-further p s q k t l is n =
+    ap (λ (xs : List ℕ). list_any (λ (q : ℕ). q == k) xs) (chain-more p s q t l is)
+    ∙ list_any-append (λ (q : ℕ). q == k) (chain_to p q) (s ∷ [])
+    ∙ or_rest (is_on p q k) s k n
+
+-- a chain's segments are at most its last, and so segments of the plan
+on-low : (n : ℕ) (p : Plan) (s k : ℕ) → IsTree p.branches p.limit → s < length (segments_in p) → s ≤ n → IsOn p s k → k ≤ s
+on-low zero p s k t l low on = elim (parent_cases (segment_at p s).parent) [
+  | inl none ↦ omega (arith, on-first p s k none on)
+  | inr some ↦ let parent = has_parent p s some.0 t l some.1 in absurd (omega (arith, parent.earlier))
+]
+on-low (suc n) p s k t l low on = elim (parent_cases (segment_at p s).parent) [
+  | inl none ↦ omega (arith, on-first p s k none on)
+  | inr some ↦ elim (cases_eq s k) [
+    | inl same ↦ omega arith
+    | inr other ↦
+        let q = some.0 in
+        let parent = has_parent p s q t l some.1 in
+        omega (arith, parent.earlier, on-low n p q k t (omega (arith, parent.earlier)) (omega (arith, parent.earlier)) (on-parent p s q k t l some.1 other on))
+  ]
+]
+
+pub on-below : (p : Plan) (s k : ℕ) → IsTree p.branches p.limit → s < length (segments_in p) → IsOn p s k → k < length (segments_in p)
+on-below p s k t l on = omega (arith, on-low s p s k t l (omega arith) on)

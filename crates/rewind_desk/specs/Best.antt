@@ -1,50 +1,50 @@
--- The most events, up to a number, of a state that a closed shelf holds of a branch.
-use Rattle.std.specs.Prelude.{ℕ, ◌+◌, ◌-◌, ◌&&◌, Bool, nat_le, if◌then◌else◌, max, List, [], ◌∷◌, ◌++◌, suc, zero}
-use Rattle.std.specs.List.{flat_map}
+-- The most events, up to a number, of a state of a branch that a closed shelf holds.
+use Rattle.std.specs.Prelude.{ℕ, ◌==◌, ◌&&◌, Bool, nat_le, if◌then◌else◌, max, List, [], ◌∷◌, ◌++◌}
+use Rattle.std.specs.List.{list_any}
 use Rattle.branch_tree.specs.Plan.{Plan}
 use Rattle.branch_tree.specs.Segments.{segment_at, last_of}
 use Rattle.shelf_core.specs.declared.plan.Key.{Key}
+use Rattle.shelf_core.specs.declared.plan.ShelfPlan.{ShelfPlan}
 use Rattle.shelf_core.specs.Words.{is_ready}
 use Rattle.shelf_core.specs.Possible.{word_at}
 use Rattle.checkpoint_shelf.specs.Told.{ClosedTold}
 use Rattle.kernel_copy.specs.Courses.{CourseTold, state_at}
 use Rattle.kernel_copy.specs.Segmentwise.{chain_to}
 
+-- the greatest count of those of these keys that pass a test; 0 where none does
+abbrev pub most_among : (Key → ℕ) → (Key → Bool) → List Key → ℕ
+most_among count test [] = 0
+most_among count test (k ∷ ks) = max (if test k then count k else 0) (most_among count test ks)
+
 -- how many events the course's state at a key has
 abbrev pub count_at : CourseTold → Key → ℕ
 count_at c k = (state_at c k).events
+
+-- a segment is on the chain that ends with another
+abbrev pub is_on : Plan → ℕ → ℕ → Bool
+is_on p s q = list_any (λ x. x == q) (chain_to p s)
+
+-- a key of a segment: its event number is one from the segment's start to its stop
+abbrev pub is_key_in : Plan → Key → Bool
+is_key_in p k = nat_le (segment_at p k.segment).start k.event && nat_le k.event (segment_at p k.segment).stop
+
+-- a key of a segment of the chain that ends with s, and its state has at most e events
+abbrev pub is_near : CourseTold → ℕ → ℕ → Key → Bool
+is_near c s e k = is_on c.plan s k.segment && (is_key_in c.plan k && nat_le (count_at c k) e)
+
+-- the keys for which a shelf is laid out: no others have a place
+abbrev pub keys_in : ShelfPlan → List Key
+keys_in plan = plan.forks ++ plan.grid
 
 -- the closed shelf holds a state under a key
 abbrev pub is_held : ClosedTold CourseTold → Key → Bool
 is_held shelf k = is_ready k (word_at shelf.system k)
 
--- it holds one under it that has at most e events
-abbrev pub is_near : ClosedTold CourseTold → ℕ → Key → Bool
-is_near shelf e k = is_held shelf k && nat_le (count_at shelf.course k) e
-
--- the events of that state; 0 where there is none
-abbrev pub count_near : ClosedTold CourseTold → ℕ → Key → ℕ
-count_near shelf e k = if is_near shelf e k then count_at shelf.course k else 0
-
--- the most events of such a state under one of these keys; 0 where there is none
-abbrev pub best_among : ClosedTold CourseTold → ℕ → List Key → ℕ
-best_among shelf e [] = 0
-best_among shelf e (k ∷ ks) = max (count_near shelf e k) (best_among shelf e ks)
-
--- so many keys of a segment from this event number on
-abbrev pub keys_from : ℕ → ℕ → ℕ → List Key
-keys_from s start zero = []
-keys_from s start (suc n) = keys_from s start n ++ record { segment = s; event = start + n } ∷ []
-
--- the keys of a segment: the event numbers from its start to its stop
-abbrev pub keys_of : Plan → ℕ → List Key
-keys_of p s = keys_from s (segment_at p s).start ((segment_at p s).stop + 1 - (segment_at p s).start)
-
--- the keys of the segments of a chain, which ends with this one
-abbrev pub keys_to : Plan → ℕ → List Key
-keys_to p s = flat_map (keys_of p) (chain_to p s)
+-- and under such a near one
+abbrev pub is_held_near : ClosedTold CourseTold → ℕ → ℕ → Key → Bool
+is_held_near shelf s e k = is_held shelf k && is_near shelf.course s e k
 
 -- The most events, not more than e, of a state that the closed shelf holds under a key of a segment of a branch's chain; 0
 -- where it holds none.
 abbrev pub best : ClosedTold CourseTold → ℕ → ℕ → ℕ
-best shelf b e = best_among shelf e (keys_to shelf.course.plan (last_of shelf.course.plan.branches b))
+best shelf b e = most_among (count_at shelf.course) (is_held_near shelf (last_of shelf.course.plan.branches b) e) (keys_in shelf.plan)

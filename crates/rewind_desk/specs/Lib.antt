@@ -1,4 +1,5 @@
 pub mod Best
-pub mod Nearest
 pub mod Reach
+pub mod Nearest
 pub mod Rewinds
+pub mod Sure

@@ -5,7 +5,8 @@ use Rattle.shelf_core.specs.declared.plan.Key.{Key}
 use Rattle.checkpoint_shelf.specs.Told.{ClosedTold}
 use Rattle.kernel_copy.specs.Courses.{CourseTold, IsKeyOf}
 use Rattle.rewind_desk.specs.declared.near.Near.{Near}
-use Rattle.rewind_desk.specs.Best.{count_at, is_held, is_near, best_among}
+use Rattle.rewind_desk.specs.Best.{most_among, count_at, is_held, is_held_near}
+use Rattle.rewind_desk.specs.Reach.{IsOn}
 
 -- the events of a state, if there is one; else 0
 abbrev pub events_of : Option Near → ℕ
@@ -25,9 +26,10 @@ pub record IsHeld (shelf : ClosedTold CourseTold) (e : ℕ) (n : Near) : Type 0 
   pub events : n.events ≡ count_at shelf.course n.key
   pub early : n.events ≤ e
 
--- It is one that the shelf holds under one of these keys, with the most events up to e; there is none exactly where the shelf
--- holds none.
-pub record IsNearest (shelf : ClosedTold CourseTold) (e : ℕ) (keys : List Key) (found : Option Near) : Type 0 where
-  pub some : is_some found ≡ list_any (is_near shelf e) keys
-  pub most : events_of found ≡ best_among shelf e keys
+-- It is one that the shelf holds under one of these keys of the chain that ends with s, with the most events up to e; there is
+-- none exactly where the shelf holds none.
+pub record IsNearest (shelf : ClosedTold CourseTold) (s e : ℕ) (keys : List Key) (found : Option Near) : Type 0 where
+  pub some : is_some found ≡ list_any (is_held_near shelf s e) keys
+  pub most : events_of found ≡ most_among (count_at shelf.course) (is_held_near shelf s e) keys
   pub held : IfSome found (IsHeld shelf e)
+  pub chain : IfSome found (λ n. IsOn shelf.course.plan s n.key.segment)

@@ -1,6 +1,5 @@
 -- States that are reached along a chain of segments.
-use Rattle.std.specs.Prelude.{◌≡◌, ◌≤◌, ◌<◌, ◌==◌, ℕ, true, Option, None, Some}
-use Rattle.std.specs.List.{list_any}
+use Rattle.std.specs.Prelude.{◌≡◌, ◌≤◌, ◌<◌, ℕ, true, None, Some}
 use Rattle.market_types.specs.declared.entry.End.{End}
 use Rattle.branch_tree.specs.Plan.{Plan}
 use Rattle.branch_tree.specs.Segments.{segment_at}
@@ -8,11 +7,12 @@ use Rattle.kernel_core.specs.State.{State}
 use Rattle.kernel_core.specs.Step.{end_of}
 use Rattle.kernel_copy.specs.Courses.{CourseTold}
 use Rattle.kernel_copy.specs.Full.{full}
-use Rattle.kernel_copy.specs.Segmentwise.{chain_to, segment_end}
+use Rattle.kernel_copy.specs.Segmentwise.{segment_end}
+use Rattle.rewind_desk.specs.Best.{is_on}
 
 -- a segment is on the chain that ends with another
 abbrev pub IsOn : Plan → ℕ → ℕ → Type 0
-IsOn p s k = list_any (λ q. q == k) (chain_to p s) ≡ true
+IsOn p s q = is_on p s q ≡ true
 
 -- It is the state of a segment's branch after e events. Where it isn't ended, all of them stand, and the segment's end has more
 -- if e is before its stop; where it is ended, it is the segment's end.

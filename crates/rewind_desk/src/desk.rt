@@ -6,7 +6,7 @@ ghost use Rattle.rewind_desk.specs.Best.{best};
 ghost use Rattle.rewind_desk.specs.Rewinds.{last_event, rewind_refusal};
 
 use crate::near::events_of;
-use crate::nearest::{last_segment, nearest_to};
+use crate::finding::{last_segment, nearest_to};
 use crate::reach::{lesser, reach};
 use checkpoint_shelf::ClosedShelf;
 use kernel_copy::{Checkpoint, Course};
@@ -58,7 +58,7 @@ fn rewound<L: Ledger>(
     ensures most { steps.new ≤ steps.old + (event - best shelf.now branch event) }
 {
     let last = last_segment(course, branch);
-    let near = nearest_to(alloc, course, shelf, last, event)?;
+    let near = nearest_to(course, shelf, last, event);
     let most = lesser(event, course.opening().limit);
     let kernel = reach(alloc, course, shelf, near, last, most, steps)?;
     Ok(Rewound {

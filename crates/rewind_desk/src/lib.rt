@@ -2,11 +2,11 @@
 #![tactic(auto)]
 
 mod desk;
+mod finding;
+pub mod laws;
 mod near;
-mod nearest;
 mod reach;
 
 pub use desk::{RewindError, Rewound, rewind};
+pub use finding::nearest;
 pub use kernel_copy::{Checkpoint, Course, Key};
-pub use near::Near;
-pub use nearest::nearest_state;

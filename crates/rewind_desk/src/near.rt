@@ -5,13 +5,12 @@ ghost use Rattle.rewind_desk.specs.Nearest.{events_of, nearer_of};
 
 use shelf_core::Key;
 
-/// A state that a closed shelf holds.
-#[derive(Clone, Copy, PartialEq, Eq, Debug)]
-pub struct Near {
-    /// Its key.
-    pub key: Key,
-    /// How many events it has: fewer than its key says where its run ended before.
-    pub events: u32,
+// A state that a closed shelf holds: its key, and how many events it has. These are fewer than its key says where its run ended
+// before.
+#[derive(Clone, Copy)]
+pub(crate) struct Near {
+    pub(crate) key: Key,
+    pub(crate) events: u32,
 }
 
 // How many events it has; 0 where there is none.

@@ -3,7 +3,7 @@ use Rattle.branch_tree.specs.Plan.{Plan}
 use Rattle.branch_tree.specs.Segments.{numbers_of, segments_in}
 use Rattle.branch_tree.proofs.PartLemmas.{last-at}
 use Rattle.kernel_copy.proofs.Keeping.{last-number}
-use Rattle.rewind_desk.proofs.nearest.last_segment.Goals as goal
+use Rattle.rewind_desk.proofs.finding.last_segment.Goals as goal
 
 pub returns-clause-last : goal.returns-clause-last
 returns-clause-last c =
