@@ -215,8 +215,8 @@ chain-near (suc m) c plan b e stride s h some laid sole whole l low on most =
     let t = course-tree c h in
     step-near c plan b e stride s h some laid sole whole l on
     (λ q is more.
-      let k = has_parent c.plan s q t l is in
-      chain-near m c plan b e stride q h some laid sole whole (omega (arith, k.earlier)) (omega (arith, k.earlier)) (λ x o. on x (on-more c.plan s q x t l is o)) more)
+    let k = has_parent c.plan s q t l is in
+    chain-near m c plan b e stride q h some laid sole whole (omega (arith, k.earlier)) (omega (arith, k.earlier)) (λ x o. on x (on-more c.plan s q x t l is o)) more)
     most
 
 pub sure-near : (c : CourseTold) (plan : ShelfPlan) (b e stride : ℕ) → IsCourse c → b < length c.plan.branches → e ≤ last_event c b → 0 < stride → IsLaidFor c.plan stride plan → AreAllSole plan

@@ -5,8 +5,8 @@ ghost use Rattle.kernel_copy.specs.Full.{full};
 ghost use Rattle.rewind_desk.specs.Best.{best};
 ghost use Rattle.rewind_desk.specs.Rewinds.{last_event, rewind_refusal};
 
-use crate::near::events_of;
 use crate::finding::{last_segment, nearest_to};
+use crate::near::events_of;
 use crate::reach::{lesser, reach};
 use checkpoint_shelf::ClosedShelf;
 use kernel_copy::{Checkpoint, Course};
