@@ -1,6 +1,6 @@
 //! Rewinds.
 
-ghost use Rattle.std.specs.Prelude.{◌≡◌, ◌≤◌, ◌+◌, ◌-◌, ◌<◌, ◌^◌, None, Some, Err, IfOk, IfErr, OnOk, length};
+ghost use Rattle.std.specs.Prelude.{◌≡◌, ◌≤◌, ◌+◌, ◌-◌, ◌<◌, ◌^◌, ◌⊎◌, None, Some, Err, IfOk, IfErr, OnOk, length};
 ghost use Rattle.kernel_copy.specs.Full.{full};
 ghost use Rattle.rewind_desk.specs.Best.{best};
 ghost use Rattle.rewind_desk.specs.Rewinds.{last_event, rewind_refusal};
@@ -37,7 +37,7 @@ pub enum RewindError {
 }
 
 // The state after so many events, or after the last where there are fewer, with the number of events of the nearest state.
-fn rewound<L: Ledger>(
+fn reached<L: Ledger>(
     alloc: Global,
     course: &Course,
     shelf: &ClosedShelf<Checkpoint>,
@@ -103,7 +103,7 @@ pub fn rewind<L: Ledger>(
     if usize::from(branch) >= course.plan().branches().len() {
         return Err(RewindError::NoBranch);
     }
-    match rewound(alloc, course, shelf, branch, event, steps) {
+    match reached(alloc, course, shelf, branch, event, steps) {
         Ok(rewound) => {
             let events = rewound.kernel.events();
             if events < event {

@@ -1,6 +1,6 @@
 //! What the nearest state is, and how near it surely is.
 
-ghost use Rattle.std.specs.Prelude.{◌≡◌, ◌<◌, ◌≤◌, ◌+◌, ◌×◌, ◌⊎◌, ℕ, true, Some, length};
+ghost use Rattle.std.specs.Prelude.{◌≡◌, ◌<◌, ◌≤◌, ◌+◌, ◌⊎◌, ℕ, true, Some, length};
 ghost use Rattle.branch_tree.specs.Segments.{last_of};
 ghost use Rattle.shelf_core.specs.declared.plan.Key.{Key};
 ghost use Rattle.shelf_core.specs.declared.plan.ShelfPlan.{ShelfPlan};

@@ -10,7 +10,7 @@ use Rattle.rewind_desk.specs.declared.near.Near.{Near}
 use Rattle.rewind_desk.specs.Nearest.{IsHeld}
 use Rattle.rewind_desk.specs.Reach.{IsAt}
 use Rattle.rewind_desk.proofs.Nears.{Arrived, arrived, held-at, last-within}
-use Rattle.rewind_desk.proofs.desk.rewound.Goals as goal
+use Rattle.rewind_desk.proofs.desk.reached.Goals as goal
 
 pub reach-requires-clause-within : goal.reach-requires-clause-within
 reach-requires-clause-within g c =
