@@ -215,6 +215,12 @@ fork-events c s q h l is =
     subst (λ (x : Option ℕ). (started_from c.opening c.plan (segment_at c.plan s).branch x).state.events ≡ (parent_end c.opening c.plan x).state.events) is
     (segment-goes c.opening c.plan s (course-tree c h) l).counts
 
+-- so a kernel that goes on from there has as many events as before
+pub go-events : (c : CourseTold) (s q : ℕ) (old new : State) (es : List EntryTold) → IsCourse c → s < length (segments_in c.plan) → (segment_at c.plan s).parent ≡ Some q
+    → old ≡ (segment_end c.opening c.plan (segment_at c.plan q)).state → record { state = new; entries = es } ≡ started_from c.opening c.plan (segment_at c.plan s).branch (Some q) → new.events ≡ old.events
+go-events c s q old new es h l is end started =
+    ap (λ (r : Run). r.state.events) started ∙ fork-events c s q h l is ∙ sym (ap (λ (x : State). x.events) end)
+
 -- from a parent's end on
 pub at-fork : (c : CourseTold) (s q e : ℕ) (r : Run) (k : State) → IsCourse c → s < length (segments_in c.plan) → (segment_at c.plan s).parent ≡ Some q → (segment_end c.opening c.plan (segment_at c.plan q)).state.events ≤ e
     → e ≤ (segment_at c.plan s).stop → r ≡ started_from c.opening c.plan (segment_at c.plan s).branch (Some q) → k ≡ (until c.opening e r).state → IsAt c s e k

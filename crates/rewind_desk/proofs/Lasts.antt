@@ -12,7 +12,7 @@ use Rattle.kernel_copy.specs.Courses.{CourseTold, IsCourse}
 use Rattle.kernel_copy.specs.Segmentwise.{segment_end}
 use Rattle.kernel_copy.proofs.Trees.{course-tree}
 use Rattle.kernel_copy.proofs.Walks.{full-last}
-use Rattle.rewind_desk.specs.Best.{best, count_at, is_held, is_held_near, is_key_in, is_near, is_on, keys_in}
+use Rattle.rewind_desk.specs.Best.{best, count_at, is_held, is_held_near, is_key_in, is_near, is_on, keys_in, most_among}
 use Rattle.rewind_desk.specs.Rewinds.{last_event}
 use Rattle.rewind_desk.proofs.Arrivals.{chain-end}
 use Rattle.rewind_desk.proofs.Bests.{key-of}
@@ -44,3 +44,9 @@ best-last shelf b e h l most =
     let m = last_event c b in
     most-same (count_at c) (is_held_near shelf s e) (is_held_near shelf s m) (keys_in shelf.plan)
     (λ k. ap (λ (t : Bool). is_held shelf k && t) (near-same c s e m k h (last-at c.plan b l).0 (omega (arith, last-end c b h l)) most))
+
+-- the nearest state of the chain of a branch's last segment is the branch's
+pub best-is : (shelf : ClosedTold CourseTold) (c : CourseTold) (b e s n : ℕ) → shelf.course ≡ c → s ≡ last_of c.plan.branches b
+    → n ≡ most_among (count_at shelf.course) (is_held_near shelf s e) (keys_in shelf.plan) → n ≡ best shelf b e
+best-is shelf c b e s n same last most =
+    most ∙ ap (λ (x : ℕ). most_among (count_at shelf.course) (is_held_near shelf x e) (keys_in shelf.plan)) (last ∙ ap (λ (k : CourseTold). last_of k.plan.branches b) (sym same))

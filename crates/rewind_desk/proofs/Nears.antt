@@ -39,6 +39,11 @@ held-at shelf c s e x (Some n) same h l most held on =
       early = omega (arith, count, held.early, chain-end c s n.key h l on key);
     }
 
+-- the chain of a near state, of a course that is the shelf's
+pub chain-of : (shelf : ClosedTold CourseTold) (c : CourseTold) (s : ℕ) (near : Option Near) → shelf.course ≡ c → IfSome near (λ (n : Near). IsOn shelf.course.plan s n.key.segment)
+    → IfSome near (λ (n : Near). IsOn c.plan s n.key.segment)
+chain-of shelf c s near same on = subst (λ (x : CourseTold). IfSome near (λ (n : Near). IsOn x.plan s n.key.segment)) same on
+
 -- a parent's end has at most the events up to its stop, which is the segment's start
 pub parent-within : (c : CourseTold) (s q : ℕ) → IsCourse c → s < length (segments_in c.plan) → (segment_at c.plan s).parent ≡ Some q
     → (segment_end c.opening c.plan (segment_at c.plan q)).state.events ≤ (segment_at c.plan s).start

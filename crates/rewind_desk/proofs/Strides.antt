@@ -1,9 +1,8 @@
 -- How near the states are that the workers surely leave.
-use Rattle.std.proofs.Common.{◌≡◌, ◌≢◌, ◌≤◌, ◌<◌, ℕ, ◌+◌, ◌-◌, ◌*◌, ◌/◌, ◌%◌, Bool, true, false, ◌||◌, ◌&&◌, ◌⊎◌, inl, inr, List, [], ◌∷◌, ◌++◌, Option, Some, None, All, length, refl, sym, ap, ◌∙◌, arith, subst, suc, zero}
+use Rattle.std.proofs.Common.{◌≡◌, ◌≢◌, ◌≤◌, ◌<◌, ℕ, ◌+◌, ◌-◌, ◌*◌, ◌/◌, ◌%◌, Bool, true, false, ◌||◌, ◌&&◌, ◌⊎◌, inl, inr, List, [], ◌∷◌, ◌++◌, Option, Some, None, get_or, length, refl, sym, ap, ◌∙◌, arith, subst, suc, zero}
 use Rattle.std.specs.Prelude.{nat_le}
 use Rattle.std.proofs.Math.Nat.{mul-mod_left, mod-lt}
 use Rattle.std.proofs.lemmas.Bool.{cases_eq, cases_lt, le-leb, or_left, or_right, ne_eqb}
-use Rattle.std.proofs.lemmas.List.Elements.{All-append, All-get_or}
 use Rattle.std.proofs.lemmas.List.Folds.{list_any-append}
 use Rattle.std.proofs.lemmas.Nat.{div-add-mod'}
 use Rattle.shelf_core.specs.declared.plan.Key.{Key}
@@ -35,28 +34,40 @@ use Rattle.rewind_desk.proofs.Chained.{on-more, on-self, parent_cases}
 use Rattle.rewind_desk.proofs.Lasts.{last-end}
 use Rattle.rewind_desk.proofs.Most.{and-true, most-fewer, most-least}
 
--- a segment that goes on from no other starts with the root
-parts-starts : (m limit branch number : ℕ) (parent : Option ℕ) (start : ℕ) (cuts : List ℕ) → (parent ≡ None → start ≡ m)
-    → All (λ (g : Segment). g.parent ≡ None → g.start ≡ m) (parts limit branch number parent start cuts)
+-- segments that go on from no other start at a number
+abbrev Start : ℕ → List Segment → Type 0
+Start m [] = Unit {0}
+Start m (g ∷ gs) = (g.parent ≡ None → g.start ≡ m) × Start m gs
+
+start-append : (m : ℕ) (xs ys : List Segment) → Start m xs → Start m ys → Start m (xs ++ ys)
+start-append m [] ys h k = k
+start-append m (g ∷ xs) ys h k = (h.0, start-append m xs ys h.1 k)
+
+start-at : (m : ℕ) (xs : List Segment) (s : ℕ) (d : Segment) → s < length xs → Start m xs → (get_or xs s d).parent ≡ None → (get_or xs s d).start ≡ m
+start-at m [] s d l h none = absurd (omega arith)
+start-at m (g ∷ xs) zero d l h none = h.0 none
+start-at m (g ∷ xs) (suc s) d l h none = start-at m xs s d (omega arith) h.1 none
+
+parts-starts : (m limit branch number : ℕ) (parent : Option ℕ) (start : ℕ) (cuts : List ℕ) → (parent ≡ None → start ≡ m) → Start m (parts limit branch number parent start cuts)
 parts-starts m limit branch number parent start [] h = (h, tt)
 parts-starts m limit branch number parent start (c ∷ cs) h = (h, parts-starts m limit branch (number + 1) (Some number) c cs (λ none. cc none))
 
 origin-starts : (bs : List Branch) (b : ℕ) → origin_of bs b ≡ None → stop_at bs b ≡ stop_at bs 0
 origin-starts bs b none = elim (cases_eq b 0) [
   | inl is ↦ ap (λ (x : ℕ). stop_at bs x) is
-  | inr other ↦ let some : None ≡ Some (fork_of bs b) = rw (ne_eqb b 0 other) at none in cc some
+  | inr other ↦ let some : Some (fork_of bs b) ≡ None = rw (ne_eqb b 0 other) at none in cc some
 ]
 
-before-starts : (bs : List Branch) (limit b : ℕ) → All (λ (g : Segment). g.parent ≡ None → g.start ≡ stop_at bs 0) (segments_before bs limit b)
+before-starts : (bs : List Branch) (limit b : ℕ) → Start (stop_at bs 0) (segments_before bs limit b)
 before-starts bs limit zero = tt
 before-starts bs limit (suc b) =
-    All-append (λ (g : Segment). g.parent ≡ None → g.start ≡ stop_at bs 0) (segments_before bs limit b) (segments_of bs limit b) (before-starts bs limit b)
+    start-append (stop_at bs 0) (segments_before bs limit b) (segments_of bs limit b) (before-starts bs limit b)
     (parts-starts (stop_at bs 0) limit b (count_before bs b) (origin_of bs b) (stop_at bs b) (cuts_of bs b) (origin-starts bs b))
 
+-- and so with the root, at 0
 first-start : (c : CourseTold) (s : ℕ) → IsCourse c → s < length (segments_in c.plan) → (segment_at c.plan s).parent ≡ None → (segment_at c.plan s).start ≡ 0
 first-start c s h l none =
-    All-get_or (λ (g : Segment). g.parent ≡ None → g.start ≡ stop_at c.plan.branches 0) (segments_in c.plan) s no_segment l (before-starts c.plan.branches c.plan.limit (length c.plan.branches)) none
-    ∙ h.rooted.stop
+    start-at (stop_at c.plan.branches 0) (segments_in c.plan) s no_segment l (before-starts c.plan.branches c.plan.limit (length c.plan.branches)) none ∙ h.rooted.stop
 
 -- where a segment's end stands
 end-at : (c : CourseTold) (s : ℕ) → IsCourse c → s < length (segments_in c.plan) → IsAt c s (segment_at c.plan s).stop (segment_end c.opening c.plan (segment_at c.plan s)).state

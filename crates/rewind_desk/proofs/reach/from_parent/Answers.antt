@@ -6,13 +6,43 @@ use Rattle.kernel_core.specs.State.{State}
 use Rattle.kernel_core.specs.Until.{Run, until}
 use Rattle.kernel_copy.specs.Courses.{CourseTold}
 use Rattle.kernel_copy.specs.Segmentwise.{started_from}
-use Rattle.rewind_desk.proofs.Arrivals.{at-fork, fork-events}
+use Rattle.rewind_desk.proofs.Arrivals.{at-fork, go-events}
 use Rattle.rewind_desk.proofs.reach.from_parent.Goals as goal
 
 pub go_on-requires-clause-segment : goal.go_on-requires-clause-segment
 go_on-requires-clause-segment g c =
     let is = ap (λ (x : Segment). x.parent) c.segment-branch.ensures.value ∙ c.requires.parent in
     omega (arith, (c.segment-branch.ensures.parent c.args.parent is).earlier)
+
+pub run_to-requires-clause-early : goal.run_to-requires-clause-early
+run_to-requires-clause-early g c =
+    let k : CourseTold = c.args.course.now in
+    let started = c.in_ok-go_on.ensures.state ∙ ap (λ (x : Segment). started_from k.opening k.plan x.branch (Some c.args.parent)) c.segment-branch.ensures.value in
+    omega (arith, c.requires.from, go-events k c.args.segment c.args.parent c.args.kernel c.go_on.new.kernel c.go_on.new.trace.list c.segment-branch.ensures.course c.requires.segment c.requires.parent c.requires.end started)
+
+pub run_to-requires-clause-count : goal.run_to-requires-clause-count
+run_to-requires-clause-count g c =
+    let k : CourseTold = c.args.course.now in
+    let started = c.in_ok-go_on.ensures.state ∙ ap (λ (x : Segment). started_from k.opening k.plan x.branch (Some c.args.parent)) c.segment-branch.ensures.value in
+    omega (arith, c.requires.count, go-events k c.args.segment c.args.parent c.args.kernel c.go_on.new.kernel c.go_on.new.trace.list c.segment-branch.ensures.course c.requires.segment c.requires.parent c.requires.end started)
+
+pub returns-in_err-reached-clause-most : goal.returns-in_err-reached-clause-most
+returns-in_err-reached-clause-most g c =
+    let k : CourseTold = c.args.course.now in
+    let started = c.in_ok-go_on.ensures.state ∙ ap (λ (x : Segment). started_from k.opening k.plan x.branch (Some c.args.parent)) c.segment-branch.ensures.value in
+    omega (arith, c.run_to.ensures.most, go-events k c.args.segment c.args.parent c.args.kernel c.go_on.new.kernel c.go_on.new.trace.list c.segment-branch.ensures.course c.requires.segment c.requires.parent c.requires.end started)
+
+pub returns-clause-ticks : goal.returns-clause-ticks
+returns-clause-ticks g c =
+    let k : CourseTold = c.args.course.now in
+    let started = c.in_ok-go_on.ensures.state ∙ ap (λ (x : Segment). started_from k.opening k.plan x.branch (Some c.args.parent)) c.segment-branch.ensures.value in
+    omega (arith, c.in_ok-reached.ensures.ticks, go-events k c.args.segment c.args.parent c.args.kernel c.go_on.new.kernel c.go_on.new.trace.list c.segment-branch.ensures.course c.requires.segment c.requires.parent c.requires.end started)
+
+pub returns-clause-most : goal.returns-clause-most
+returns-clause-most g c =
+    let k : CourseTold = c.args.course.now in
+    let started = c.in_ok-go_on.ensures.state ∙ ap (λ (x : Segment). started_from k.opening k.plan x.branch (Some c.args.parent)) c.segment-branch.ensures.value in
+    omega (arith, c.run_to.ensures.most, go-events k c.args.segment c.args.parent c.args.kernel c.go_on.new.kernel c.go_on.new.trace.list c.segment-branch.ensures.course c.requires.segment c.requires.parent c.requires.end started)
 
 pub returns-clause-at : goal.returns-clause-at
 returns-clause-at g c =
