@@ -1,5 +1,5 @@
 -- What a closed shelf holds of a branch has at most the events of its full run.
-use Rattle.std.proofs.Common.{◌≡◌, ◌≤◌, ◌<◌, ℕ, Bool, true, false, ◌&&◌, inl, inr, length, refl, sym, ap, ◌∙◌, arith}
+use Rattle.std.proofs.Common.{◌≡◌, ◌≤◌, ◌<◌, ◌+◌, ℕ, Bool, true, false, ◌&&◌, inl, inr, length, refl, sym, ap, ◌∙◌, arith, subst}
 use Rattle.std.specs.Prelude.{nat_le}
 use Rattle.std.proofs.lemmas.Bool.{le-leb}
 use Rattle.shelf_core.specs.declared.plan.Key.{Key}
@@ -50,3 +50,14 @@ pub best-is : (shelf : ClosedTold CourseTold) (c : CourseTold) (b e s n : ℕ) �
     → n ≡ most_among (count_at shelf.course) (is_held_near shelf s e) (keys_in shelf.plan) → n ≡ best shelf b e
 best-is shelf c b e s n same last most =
     most ∙ ap (λ (x : ℕ). most_among (count_at shelf.course) (is_held_near shelf x e) (keys_in shelf.plan)) (last ∙ ap (λ (k : CourseTold). last_of k.plan.branches b) (sym same))
+
+-- where the last event came before the one that is looked for, the counter rose from the nearest state to the last event
+pub past-rose : (shelf : ClosedTold CourseTold) (c : CourseTold) (b e from old new events : ℕ) → shelf.course ≡ c → IsCourse c → b < length c.plan.branches → events < e → events ≡ last_event c b
+    → from ≡ best shelf b e → new + from ≡ old + events → new + best shelf b (last_event c b) ≡ old + last_event c b
+past-rose shelf c b e from old new events same h l less whole best ticks =
+    let course : IsCourse shelf.course = subst (λ (x : CourseTold). IsCourse x) (sym same) h in
+    let under : b < length shelf.course.plan.branches = subst (λ (x : CourseTold). b < length x.plan.branches) (sym same) l in
+    let one : last_event shelf.course b ≡ last_event c b = ap (λ (x : CourseTold). last_event x b) same in
+    let last = best-last shelf b e course under (omega (arith, one, whole)) in
+    let here : best shelf b (last_event shelf.course b) ≡ best shelf b (last_event c b) = ap (λ (n : ℕ). best shelf b n) one in
+    omega (arith, whole, best, ticks, last, here)

@@ -12,7 +12,7 @@ pub returns-in-None : goal.returns-in-None
 returns-in-None t c =
     let p = c.args.course.now.plan in
     let none : (segment_at p c.args.last).parent ≡ None = sym (ap (λ (x : Segment). x.parent) c.segment.ensures.value) ∙ c.in-None.is in
-    sym (on-alone p c.args.last c.args.segment none (λ e. absurd (cc (e, c.if-last-segment.false))))
+    sym (on-alone p c.args.last c.args.segment none c.if-last-segment.false)
 
 pub returns-in-Some : goal.returns-in-Some
 returns-in-Some t c =
@@ -20,4 +20,4 @@ returns-in-Some t c =
     let q = c.in-Some.parent in
     let some : (segment_at p c.args.last).parent ≡ Some q = sym (ap (λ (x : Segment). x.parent) c.segment.ensures.value) ∙ c.in-Some.is in
     c.is_on_chain.ensures
-    ∙ sym (on-further p c.args.last q c.args.segment (course-tree c.args.course.now c.segment.ensures.course) c.requires some (λ e. absurd (cc (e, c.if-last-segment.false))))
+    ∙ sym (on-further p c.args.last q c.args.segment (course-tree c.args.course.now c.segment.ensures.course) c.requires some c.if-last-segment.false)
