@@ -54,10 +54,10 @@ best-is shelf c b e s n same last most =
 -- where the last event came before the one that is looked for, the counter rose from the nearest state to the last event
 pub past-rose : (shelf : ClosedTold CourseTold) (c : CourseTold) (b e from old new events : ℕ) → shelf.course ≡ c → IsCourse c → b < length c.plan.branches → events < e → events ≡ last_event c b
     → from ≡ best shelf b e → new + from ≡ old + events → new + best shelf b (last_event c b) ≡ old + last_event c b
-past-rose shelf c b e from old new events same h l less whole best ticks =
+past-rose shelf c b e from old new events same h l less whole nearest ticks =
     let course : IsCourse shelf.course = subst (λ (x : CourseTold). IsCourse x) (sym same) h in
     let under : b < length shelf.course.plan.branches = subst (λ (x : CourseTold). b < length x.plan.branches) (sym same) l in
     let one : last_event shelf.course b ≡ last_event c b = ap (λ (x : CourseTold). last_event x b) same in
     let last = best-last shelf b e course under (omega (arith, one, whole)) in
     let here : best shelf b (last_event shelf.course b) ≡ best shelf b (last_event c b) = ap (λ (n : ℕ). best shelf b n) one in
-    omega (arith, whole, best, ticks, last, here)
+    omega (arith, whole, nearest, ticks, last, here)

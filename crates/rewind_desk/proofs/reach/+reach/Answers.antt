@@ -48,4 +48,4 @@ reach-requires g t c κs within =
     let least : min c.args.event (segment_at k.plan s).start ≡ c.lesser-stop.result = omega (arith, start, c.lesser-stop.ensures) in
     let held = subst (λ (x : ℕ). IfSome near (IsHeld c.args.shelf.now x)) least
     (held-at c.args.shelf.now k q c.args.event (segment_at k.plan s).start near c.requires.shelf course lq (parent-within k s q course c.requires.segment is) c.requires.held on) in
-    (omega (arith, earlier, c.decreases), within, c.requires.shelf, lq, omega (arith, least, parent-stop k s q course c.requires.segment is), held, on, omega (arith, least, c.requires.count))
+    (omega (arith, earlier, c.decreases), (within, (c.requires.shelf, (lq, (omega (arith, least, parent-stop k s q course c.requires.segment is), (held, (on, omega (arith, least, c.requires.count))))))))
