@@ -1,25 +1,22 @@
 -- Where a run stands in a segment.
-use Rattle.std.proofs.Common.{◌≡◌, ◌≤◌, ◌<◌, ℕ, ◌+◌, ◌-◌, inl, inr, List, [], ◌∷◌, ◌++◌, Option, Some, None, length, refl, sym, ap, ◌∙◌, arith, subst, suc, zero, append-nil}
+use Rattle.std.proofs.Common.{◌≡◌, ◌≤◌, ◌<◌, ℕ, ◌-◌, inl, inr, List, [], Option, Some, None, length, refl, sym, ap, ◌∙◌, arith, subst, suc, zero, append-nil}
 use Rattle.std.proofs.lemmas.Bool.{cases_eq, cases_lt}
-use Rattle.market_types.specs.declared.entry.End.{End}
 use Rattle.market_types.specs.Told.{EntryTold}
 use Rattle.shelf_core.specs.declared.plan.Key.{Key}
 use Rattle.checkpoint_shelf.specs.Told.{ClosedTold}
-use Rattle.branch_tree.specs.Plan.{Plan}
 use Rattle.branch_tree.specs.Segments.{segments_in, segment_at, last_of}
-use Rattle.branch_tree.specs.Planned.{IsTree}
 use Rattle.branch_tree.proofs.PartLemmas.{last-at}
 use Rattle.market_opening.specs.declared.opening.Opening.{Opening}
 use Rattle.kernel_core.specs.State.{State}
 use Rattle.kernel_core.specs.Step.{end_of}
 use Rattle.kernel_core.specs.Until.{Run, advanced, advanced_by, behind, until}
 use Rattle.kernel_core.proofs.Runs.{advanced_by_ended, advanced_by-grows}
-use Rattle.kernel_core.proofs.Stops.{advanced-events, end_cases, going-events, until-again, until-behind, until-grows, until-until, until-within}
+use Rattle.kernel_core.proofs.Stops.{advanced-events, going-events, until-again, until-behind, until-grows, until-until, until-within}
 use Rattle.kernel_copy.specs.Courses.{CourseTold, IsCourse, IsKeyOf}
 use Rattle.kernel_copy.specs.Full.{opening_run, begun, reach, full}
 use Rattle.kernel_copy.specs.Segmentwise.{afresh, from_count, parent_end, segment_end, started_at, started_from}
 use Rattle.kernel_copy.proofs.Trees.{course-tree}
-use Rattle.kernel_copy.proofs.Walks.{full-begun, full-last, has_parent, planned-at, segment-after, segment-before, segment-ends, segment-goes, segment-grows, segment-within, started-first, started-goes}
+use Rattle.kernel_copy.proofs.Walks.{full-begun, has_parent, planned-at, segment-after, segment-before, segment-ends, segment-goes, segment-grows, started-first, started-goes}
 use Rattle.rewind_desk.specs.declared.near.Near.{Near}
 use Rattle.rewind_desk.specs.Best.{count_at}
 use Rattle.rewind_desk.specs.Nearest.{IsHeld}

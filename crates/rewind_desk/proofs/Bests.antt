@@ -1,5 +1,5 @@
 -- The nearest state under the keys of lists.
-use Rattle.std.proofs.Common.{◌≡◌, ◌≤◌, ◌<◌, ℕ, ◌+◌, Bool, true, false, ◌||◌, ◌&&◌, inl, inr, List, [], ◌∷◌, ◌++◌, Option, Some, None, IfSome, refl, sym, ap, ◌∙◌, arith, subst, length}
+use Rattle.std.proofs.Common.{◌≡◌, ◌≤◌, ◌<◌, ℕ, Bool, true, false, ◌||◌, ◌&&◌, inl, inr, List, [], ◌∷◌, ◌++◌, Option, Some, None, IfSome, refl, sym, ap, ◌∙◌, arith, subst, length}
 use Rattle.std.specs.Prelude.{max, is_some, nat_le, nat_lt, if◌then◌else◌}
 use Rattle.std.specs.List.{list_any}
 use Rattle.std.proofs.lemmas.Bool.{cases_lt, lt-ltb, le-ltb, lt-leb, le-leb, leb-true}
@@ -11,7 +11,7 @@ use Rattle.checkpoint_shelf.specs.Told.{ClosedTold}
 use Rattle.kernel_copy.specs.Courses.{CheckpointTold, CourseTold, IsCourse, IsKeyOf}
 use Rattle.kernel_copy.proofs.Trees.{course-tree}
 use Rattle.rewind_desk.specs.declared.near.Near.{Near}
-use Rattle.rewind_desk.specs.Best.{most_among, count_at, is_on, is_key_in, is_near, is_held, is_held_near}
+use Rattle.rewind_desk.specs.Best.{count_at, is_on, is_key_in, is_near, is_held, is_held_near}
 use Rattle.rewind_desk.specs.Nearest.{events_of, nearer_of, IsHeld, IsNearest}
 use Rattle.rewind_desk.specs.Reach.{IsOn}
 use Rattle.rewind_desk.proofs.Chained.{on-below}

@@ -1,5 +1,5 @@
 -- What a closed shelf holds of a branch has at most the events of its full run.
-use Rattle.std.proofs.Common.{◌≡◌, ◌≤◌, ◌<◌, ◌+◌, ℕ, Bool, true, false, ◌&&◌, inl, inr, length, refl, sym, ap, ◌∙◌, arith, subst}
+use Rattle.std.proofs.Common.{◌≡◌, ◌≤◌, ◌<◌, ◌+◌, ℕ, Bool, ◌&&◌, inl, inr, length, sym, ap, ◌∙◌, arith, subst}
 use Rattle.std.specs.Prelude.{nat_le}
 use Rattle.std.proofs.lemmas.Bool.{le-leb}
 use Rattle.shelf_core.specs.declared.plan.Key.{Key}
@@ -16,7 +16,7 @@ use Rattle.rewind_desk.specs.Best.{best, count_at, is_held, is_held_near, is_key
 use Rattle.rewind_desk.specs.Rewinds.{last_event}
 use Rattle.rewind_desk.proofs.Arrivals.{chain-end}
 use Rattle.rewind_desk.proofs.Bests.{key-of}
-use Rattle.rewind_desk.proofs.Most.{and-false, most-same}
+use Rattle.rewind_desk.proofs.Most.{most-same}
 
 -- past the events of a chain's end there are no more states than up to it
 near-same : (c : CourseTold) (s e m : ℕ) (k : Key) → IsCourse c → s < length (segments_in c.plan) → (segment_end c.opening c.plan (segment_at c.plan s)).state.events ≤ m → m ≤ e

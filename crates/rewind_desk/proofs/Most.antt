@@ -1,10 +1,8 @@
 -- The greatest count among keys that pass a test.
-use Rattle.std.proofs.Common.{◌≡◌, ◌≤◌, ℕ, Bool, true, false, ◌||◌, ◌&&◌, ◌⊎◌, inl, inr, List, [], ◌∷◌, ◌++◌, refl, sym, ap, ◌∙◌, arith, true≢false}
+use Rattle.std.proofs.Common.{◌≡◌, ◌≤◌, ℕ, Bool, true, false, ◌||◌, ◌&&◌, inl, inr, List, [], ◌∷◌, ◌++◌, refl, sym, ap, ◌∙◌, arith, true≢false}
 use Rattle.std.specs.Prelude.{max, if◌then◌else◌}
-use Rattle.std.specs.List.{list_any}
 use Rattle.shelf_core.specs.declared.plan.Key.{Key}
 use Rattle.shelf_core.specs.Plan.{is_in, same_key}
-use Rattle.shelf_core.proofs.Lists.{bool_cases}
 use Rattle.shelf_core.proofs.Plans.{key_is, key_self, or_either}
 use Rattle.rewind_desk.specs.Best.{most_among}
 

@@ -1,7 +1,7 @@
 -- The nearest state is the most of all that the shelf holds.
-use Rattle.std.proofs.Common.{◌≡◌, ◌≢◌, ◌≤◌, ◌<◌, ℕ, ◌+◌, ◌%◌, Bool, true, false, ◌||◌, ◌&&◌, ◌⊎◌, inl, inr, List, [], ◌∷◌, ◌++◌, Option, Some, None, refl, sym, ap, ◌∙◌, arith, subst, true≢false}
-use Rattle.std.specs.Prelude.{max, nat_le, if◌then◌else◌, length}
-use Rattle.std.specs.List.{list_any, position_from}
+use Rattle.std.proofs.Common.{◌≡◌, ◌≤◌, ℕ, ◌+◌, Bool, true, ◌||◌, ◌&&◌, ◌⊎◌, inl, inr, List, [], ◌∷◌, Option, Some, None, refl, sym, ap, ◌∙◌, arith, true≢false}
+use Rattle.std.specs.Prelude.{max, nat_le, if◌then◌else◌}
+use Rattle.std.specs.List.{position_from}
 use Rattle.std.proofs.lemmas.Bool.{cases_lt, leb-true, or_left, or_right}
 use Rattle.std.proofs.lemmas.List.Folds.{list_any-append}
 use Rattle.shelf_core.specs.declared.plan.Key.{Key}
@@ -9,7 +9,7 @@ use Rattle.shelf_core.specs.declared.plan.ShelfPlan.{ShelfPlan}
 use Rattle.shelf_core.specs.declared.words.PlaceWord.{PlaceWord}
 use Rattle.shelf_core.specs.Plan.{index_of, is_in, place_of, place_in, same_key}
 use Rattle.shelf_core.specs.Words.{is_ready}
-use Rattle.shelf_core.specs.Possible.{word_at, word_in}
+use Rattle.shelf_core.specs.Possible.{word_in}
 use Rattle.shelf_core.proofs.Lists.{bool_cases}
 use Rattle.shelf_core.proofs.Plans.{and_left, and_right, place_cases}
 use Rattle.branch_tree.specs.Segments.{last_of}

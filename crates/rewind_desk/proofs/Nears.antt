@@ -1,5 +1,5 @@
 -- The nearest state along a chain.
-use Rattle.std.proofs.Common.{◌≡◌, ◌≤◌, ◌<◌, ◌≢◌, ℕ, ◌+◌, ◌-◌, inl, inr, Option, Some, None, IfSome, length, refl, sym, ap, ◌∙◌, arith, subst}
+use Rattle.std.proofs.Common.{◌≡◌, ◌≤◌, ◌<◌, ◌≢◌, ℕ, inl, inr, Option, Some, None, IfSome, length, refl, sym, ap, ◌∙◌, arith, subst}
 use Rattle.std.specs.Prelude.{min}
 use Rattle.std.proofs.lemmas.Bool.{cases_lt}
 use Rattle.checkpoint_shelf.specs.Told.{ClosedTold}
@@ -9,13 +9,12 @@ use Rattle.branch_tree.specs.Segments.{segments_in, segment_at, last_of}
 use Rattle.branch_tree.proofs.PartLemmas.{last-at}
 use Rattle.kernel_core.specs.State.{State}
 use Rattle.kernel_core.specs.Step.{end_of}
-use Rattle.kernel_core.specs.Until.{Run}
 use Rattle.kernel_core.proofs.Stops.{end_cases}
 use Rattle.kernel_copy.specs.Courses.{CourseTold, IsCourse, IsKeyOf}
 use Rattle.kernel_copy.specs.Full.{full}
 use Rattle.kernel_copy.specs.Segmentwise.{segment_end}
 use Rattle.kernel_copy.proofs.Trees.{course-tree}
-use Rattle.kernel_copy.proofs.Walks.{has_parent, segment-starts, segment-within}
+use Rattle.kernel_copy.proofs.Walks.{segment-starts, segment-within}
 use Rattle.rewind_desk.specs.declared.near.Near.{Near}
 use Rattle.rewind_desk.specs.Best.{count_at}
 use Rattle.rewind_desk.specs.Nearest.{events_of, IsHeld}

@@ -1,8 +1,7 @@
 -- Why a rewind is refused.
-use Rattle.std.proofs.Common.{◌≡◌, ◌≤◌, ◌<◌, ℕ, Option, Some, None, length, refl, sym, ap, ◌∙◌, arith}
+use Rattle.std.proofs.Common.{◌≡◌, ◌≤◌, ◌<◌, ℕ, Some, None, length, refl, sym, ap, arith}
 use Rattle.std.proofs.lemmas.Bool.{le-leb, lt-leb, lt-ltb, le-ltb}
 use Rattle.kernel_copy.specs.Courses.{CourseTold}
-use Rattle.rewind_desk.specs.declared.desk.RewindError.{RewindError}
 use Rattle.rewind_desk.specs.declared.desk.RewindError.TheVariants.{NoBranch, NoEvent}
 use Rattle.rewind_desk.specs.Rewinds.{last_event, rewind_refusal}
 

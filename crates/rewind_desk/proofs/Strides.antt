@@ -1,5 +1,5 @@
 -- How near the states are that the workers surely leave.
-use Rattle.std.proofs.Common.{◌≡◌, ◌≢◌, ◌≤◌, ◌<◌, ℕ, ◌+◌, ◌-◌, ◌*◌, ◌/◌, ◌%◌, Bool, true, false, ◌||◌, ◌&&◌, ◌⊎◌, inl, inr, List, [], ◌∷◌, ◌++◌, Option, Some, None, get_or, length, refl, sym, ap, ◌∙◌, arith, subst, suc, zero}
+use Rattle.std.proofs.Common.{◌≡◌, ◌≤◌, ◌<◌, ℕ, ◌+◌, ◌-◌, ◌*◌, ◌/◌, ◌%◌, true, ◌&&◌, ◌⊎◌, inl, inr, List, [], ◌∷◌, ◌++◌, Option, Some, None, get_or, length, refl, sym, ap, ◌∙◌, arith, suc, zero}
 use Rattle.std.specs.Prelude.{nat_le}
 use Rattle.std.proofs.Math.Nat.{mul-mod_left, mod-lt}
 use Rattle.std.proofs.lemmas.Bool.{cases_eq, cases_lt, le-leb, or_left, or_right, ne_eqb}
@@ -12,23 +12,23 @@ use Rattle.shelf_core.proofs.Plans.{and_left, and_right}
 use Rattle.checkpoint_shelf.specs.Told.{ClosedTold}
 use Rattle.branch_tree.specs.declared.branch.Branch.{Branch}
 use Rattle.branch_tree.specs.declared.segment.Segment.{Segment}
-use Rattle.branch_tree.specs.Plan.{Plan, stop_at}
+use Rattle.branch_tree.specs.Plan.{stop_at}
 use Rattle.branch_tree.specs.Segments.{cuts_of, count_before, last_of, no_segment, origin_of, fork_of, parts, segments_before, segments_in, segments_of, segment_at}
 use Rattle.branch_tree.proofs.PartLemmas.{last-at}
 use Rattle.kernel_core.specs.State.{State}
 use Rattle.kernel_core.specs.Step.{end_of}
-use Rattle.kernel_core.specs.Until.{Run, until}
+use Rattle.kernel_core.specs.Until.{Run}
 use Rattle.kernel_core.proofs.Runs.{advanced_by_ended}
 use Rattle.kernel_core.proofs.Stops.{end_cases}
 use Rattle.kernel_copy.specs.Courses.{CourseTold, IsCourse, IsKeyOf, state_at}
-use Rattle.kernel_copy.specs.Segmentwise.{from_count, segment_end}
+use Rattle.kernel_copy.specs.Segmentwise.{segment_end}
 use Rattle.kernel_copy.proofs.Trees.{course-tree}
-use Rattle.kernel_copy.proofs.Walks.{has_parent, planned-at, segment-ends, segment-grows, segment-next, segment-starts}
+use Rattle.kernel_copy.proofs.Walks.{has_parent, planned-at, segment-ends, segment-next, segment-starts}
 use Rattle.rewind_desk.specs.Best.{best, count_at, is_held, is_held_near, is_near, is_on, is_key_in, keys_in}
 use Rattle.rewind_desk.specs.Reach.{IsAt, IsOn}
 use Rattle.rewind_desk.specs.Rewinds.{last_event}
 use Rattle.rewind_desk.specs.Sure.{end_events, is_sure, is_sure_near, sure, HoldsSure, IsLaidFor, AreAllSole, IsWholeAtForks}
-use Rattle.rewind_desk.proofs.Arrivals.{at-full, parent-events, parent-stop}
+use Rattle.rewind_desk.proofs.Arrivals.{at-full, parent-stop}
 use Rattle.rewind_desk.proofs.Bests.{key-in}
 use Rattle.rewind_desk.proofs.Chained.{on-more, on-self, parent_cases}
 use Rattle.rewind_desk.proofs.Lasts.{last-end}

@@ -1,15 +1,14 @@
-use Rattle.std.proofs.Common.{◌≡◌, ◌≤◌, ◌+◌, ◌-◌, ℕ, Option, Some, IfSome, sym, ap, ◌∙◌, arith, subst}
+use Rattle.std.proofs.Common.{◌≡◌, ◌≤◌, ℕ, IfSome, sym, ap, ◌∙◌, arith, subst}
 use Rattle.std.specs.Prelude.{min}
-use Rattle.branch_tree.specs.Segments.{last_of, segment_at, segments_in}
+use Rattle.branch_tree.specs.Segments.{segment_at}
 use Rattle.branch_tree.proofs.PartLemmas.{last-at}
 use Rattle.market_opening.specs.declared.opening.Opening.{Opening}
 use Rattle.kernel_copy.specs.Courses.{CourseTold}
 use Rattle.kernel_copy.specs.Segmentwise.{segment_end}
-use Rattle.rewind_desk.specs.declared.near.Near.{Near}
 use Rattle.rewind_desk.specs.Nearest.{IsHeld}
-use Rattle.rewind_desk.specs.Reach.{IsAt, IsOn}
+use Rattle.rewind_desk.specs.Reach.{IsAt}
 use Rattle.rewind_desk.proofs.Lasts.{best-is}
-use Rattle.rewind_desk.proofs.Nears.{Arrived, arrived, chain-of, held-at, last-within}
+use Rattle.rewind_desk.proofs.Nears.{arrived, chain-of, held-at, last-within}
 use Rattle.rewind_desk.proofs.desk.reached.Goals as goal
 
 pub reach-requires-clause-within : goal.reach-requires-clause-within

@@ -1,4 +1,4 @@
-use Rattle.std.proofs.Common.{◌≡◌, sym, ap, ◌∙◌, arith}
+use Rattle.std.proofs.Common.{sym, ap, ◌∙◌, arith}
 use Rattle.kernel_copy.specs.Courses.{CourseTold}
 use Rattle.rewind_desk.specs.Best.{is_on}
 use Rattle.rewind_desk.proofs.Bests.{kept-count, kept-near, nearest-free, nearest-late, nearest-off}

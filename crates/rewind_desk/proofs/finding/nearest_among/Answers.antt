@@ -1,5 +1,5 @@
-use Rattle.std.proofs.Common.{◌≡◌, ℕ, ◌+◌, List, [], ◌∷◌, ◌++◌, Option, get_or, take, sym, subst}
-use Rattle.std.proofs.lemmas.List.{take_all, take_more}
+use Rattle.std.proofs.Common.{◌+◌, List, [], ◌∷◌, Option, get_or, take, sym, subst}
+use Rattle.std.proofs.lemmas.List.{take_more}
 use Rattle.shelf_core.specs.declared.plan.Key.{Key}
 use Rattle.rewind_desk.specs.declared.near.Near.{Near}
 use Rattle.rewind_desk.specs.Nearest.{IsNearest, nearer_of}

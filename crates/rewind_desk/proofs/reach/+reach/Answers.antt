@@ -1,10 +1,10 @@
-use Rattle.std.proofs.Common.{◌≡◌, ◌≤◌, ◌<◌, ℕ, None, Some, IfSome, length, sym, ap, ◌∙◌, arith, subst}
+use Rattle.std.proofs.Common.{◌≡◌, ◌<◌, ℕ, None, Some, IfSome, length, sym, ap, ◌∙◌, arith, subst}
 use Rattle.std.specs.Prelude.{min}
 use Rattle.branch_tree.specs.declared.segment.Segment.{Segment}
 use Rattle.branch_tree.specs.Segments.{segment_at, segments_in}
 use Rattle.kernel_copy.specs.Courses.{CourseTold}
 use Rattle.kernel_copy.proofs.Trees.{course-tree}
-use Rattle.rewind_desk.specs.Nearest.{IsHeld, events_of}
+use Rattle.rewind_desk.specs.Nearest.{IsHeld}
 use Rattle.rewind_desk.proofs.Arrivals.{parent-stop}
 use Rattle.rewind_desk.proofs.Nears.{held-at, none-before, on-before, parent-within}
 use Rattle.rewind_desk.proofs.reach.+reach.Goals as goal

@@ -1,4 +1,4 @@
-use Rattle.std.proofs.Common.{◌≡◌, ◌≤◌, ℕ, ◌<◌, None, Some, sym, ap, ◌∙◌, arith, subst}
+use Rattle.std.proofs.Common.{◌≡◌, ℕ, ◌<◌, None, sym, ap, ◌∙◌, arith, subst}
 use Rattle.std.specs.Prelude.{min}
 use Rattle.branch_tree.specs.declared.segment.Segment.{Segment}
 use Rattle.branch_tree.specs.Segments.{segment_at}
