@@ -3,3 +3,4 @@ pub mod Reach
 pub mod Nearest
 pub mod Rewinds
 pub mod Sure
+pub mod Worked

@@ -1,5 +1,5 @@
 -- The states that the workers of a course surely leave on a shelf.
-use Rattle.std.specs.Prelude.{◌≡◌, ◌≢◌, ◌<◌, ◌%◌, ℕ, Bool, true, ◌&&◌, ◌||◌, nat_le, Some}
+use Rattle.std.specs.Prelude.{◌≡◌, ◌≢◌, ◌<◌, ◌%◌, ℕ, Bool, true, ◌&&◌, ◌||◌, nat_le, Some, length}
 use Rattle.branch_tree.specs.Plan.{Plan}
 use Rattle.branch_tree.specs.Segments.{segments_in, segment_at, last_of}
 use Rattle.shelf_core.specs.declared.plan.Key.{Key}
@@ -10,7 +10,6 @@ use Rattle.kernel_copy.specs.Courses.{CourseTold}
 use Rattle.kernel_copy.specs.Segmentwise.{segment_end}
 use Rattle.rewind_desk.specs.Best.{most_among, count_at, is_near, keys_in, is_held}
 use Rattle.rewind_desk.specs.Reach.{IsOn}
-use Rattle.std.specs.Prelude.{length}
 
 -- how many events a segment's end has
 abbrev pub end_events : CourseTold → ℕ → ℕ

@@ -6,6 +6,7 @@ mod finding;
 pub mod laws;
 mod near;
 mod reach;
+pub mod worked;
 
 pub use desk::{RewindError, Rewound, rewind};
 pub use finding::nearest;
