@@ -98,7 +98,7 @@ lacks-event word last s probes arguments reads writes old new taken rose among =
     prefix = nothing_taken taken (output probes (no_event word last s));
     complete = λ s r w. absurd s;
   };
-  named = λ fetched. record { word = word; last = last; study = s; come = refl; said = refl };
+  named = λ fetched. record { word = word; last = last; study = s; is = refl; said = refl };
   argument = record { word = word; last = last; among = among; said = refl };
   fault = λ e. cc;
   steady = λ e. cc;

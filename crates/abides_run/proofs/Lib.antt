@@ -7,3 +7,4 @@ pub mod Finishing
 pub mod Holding
 pub mod Performing
 pub mod Speaking
+pub mod Strides

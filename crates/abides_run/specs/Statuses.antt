@@ -36,7 +36,7 @@ pub record IsPast (come : Verdict) (name : List ℕ) : Type 0 where
   pub word : List ℕ
   pub last : ℕ
   pub study : StudyTold
-  pub come : come ≡ no_event word last study
+  pub is : come ≡ no_event word last study
   pub said : name ≡ past_event word last
 
 -- What a status's line names, where words and files come to this verdict and these files are fetched: a file or an argument.
