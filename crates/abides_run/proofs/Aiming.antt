@@ -1,10 +1,10 @@
 -- What the marks of a rewind come to, and how many steps lead there.
-use Rattle.std.proofs.Common.{◌≡◌, ◌<◌, ◌≤◌, ◌+◌, ℕ, zero, suc, Bool, true, false, List, [], ◌∷◌, ◌++◌, length, map, get_or, Option, Some, None, IfSome, option_map, All, nat_lt, if◌then◌else◌, sum_by, refl, sym, ap, ◌∙◌, subst, ⊎_elim, inl, inr, arith, length-append}
+use Rattle.std.proofs.Common.{◌≡◌, ◌<◌, ◌≤◌, ◌+◌, ℕ, zero, suc, Bool, true, false, List, [], ◌∷◌, ◌++◌, length, map, get_or, Option, Some, None, IfSome, option_map, All, nat_lt, if◌then◌else◌, sum_by, take, refl, sym, ap, ◌∙◌, subst, ⊎_elim, inl, inr, arith, length-append}
 use Rattle.std.specs.List.{position_from}
 use Rattle.std.proofs.Math.Seq.{get_or-append_seam}
 use Rattle.std.proofs.lemmas.List.{get_or_append_left, get_or-map, length-map}
 use Rattle.std.proofs.lemmas.List.Elements.{All-cons, All-head, All-nil, All-tail, All-weaker}
-use Rattle.std.proofs.lemmas.List.Sums.{sum_by-le}
+use Rattle.std.proofs.lemmas.List.Sums.{sum_by-cons, sum_by-le, sum_by_more, sum_by_more_le}
 use Rattle.command_words.specs.Ranges.{AreMarks, IsMark}
 use Rattle.command_words.specs.declared.mark.Mark.{Mark}
 use Rattle.branch_tree.specs.declared.branch.Branch.{Branch}
@@ -43,7 +43,10 @@ within-if n e None few h = tt
 within-if n e (Some k) few h = record { branch = h; event = few }
 
 target-within : (bs : List Branch) (m : Mark) → IsMark m → IfSome (target_of bs m) (IsWithin (length bs))
-target-within bs m is = within-if (length bs) m.event (branch_of bs m.branch) is.event (position-within (has_name m.branch) 0 bs)
+target-within bs m is =
+    let all : 0 + length bs ≡ length bs = omega arith in
+    within-if (length bs) m.event (branch_of bs m.branch) is.event
+    (subst (λ (n : ℕ). IfSome (branch_of bs m.branch) (λ k. k < n)) all (position-within (has_name m.branch) 0 bs))
 
 aimed-more : (n i count : ℕ) (o : Option Target) (behind : Aimed) → IfSome o (IsWithin n) → AreAimed n (i + 1) count behind
     → AreAimed n i (suc count) (aimed_next i o behind)
@@ -137,7 +140,7 @@ word-is ms i d less = sym (get_or-map (λ (m : Mark). m.word) ms i d [] less)
 -- sums of fewer are less
 pub sum-fewer : {X : Type 0} (f g : X → ℕ) (xs : List X) → ((x : X) → f x ≤ g x) → sum_by f xs ≤ sum_by g xs
 sum-fewer f g [] h = omega arith
-sum-fewer f g (x ∷ xs) h = omega (arith, h x, sum-fewer f g xs h)
+sum-fewer f g (x ∷ xs) h = omega (arith, sum_by-cons f x xs, sum_by-cons g x xs, h x, sum-fewer f g xs h)
 
 -- a rewind makes few steps
 pub few-steps : (shelf : ClosedTold CourseTold) (n : ℕ) (ts : List Target) → All (IsWithin n) ts → length ts ≤ 64 → sum_by (steps_from shelf) ts ≤ 639999936
@@ -145,3 +148,20 @@ few-steps shelf n ts within few =
     let each : All (λ (t : Target). steps_from shelf t ≤ 9999999) ts =
     All-weaker (IsWithin n) (λ (t : Target). steps_from shelf t ≤ 9999999) (λ t w. omega (arith, w.event)) ts within in
     omega (arith, sum_by-le (steps_from shelf) 9999999 ts each, few)
+
+-- one item's steps more, and no more than all of them
+pub steps-more : {X : Type 0} (f : X → ℕ) (xs : List X) (i : ℕ) (d : X) (a b n : ℕ) → i < length xs → b ≤ a + sum_by f (take i xs) → n ≤ b + f (get_or xs i d)
+    → n ≤ a + sum_by f (take (i + 1) xs)
+steps-more f xs i d a b n less before own = omega (arith, before, own, sum_by_more f xs i d less)
+
+pub steps-within : {X : Type 0} (f : X → ℕ) (xs : List X) (i : ℕ) (d : X) (a b n : ℕ) → i < length xs → b ≤ a + sum_by f (take i xs) → n ≤ b + f (get_or xs i d)
+    → n ≤ a + sum_by f xs
+steps-within f xs i d a b n less before own = omega (arith, before, own, sum_by_more_le f xs i d less)
+
+-- each target's branch has a last event among these
+pub below-lasts : (c : CourseTold) (ms : List Mark) (ts : List Target) (lasts : List ℕ) → All IsMark ms → aimed_at c.plan.branches ms ≡ At ts → lasts ≡ lasts_of c
+    → All (λ (t : Target). t.branch < length lasts) ts
+below-lasts c ms ts lasts h is same =
+    All-weaker (IsWithin (length c.plan.branches)) (λ (t : Target). t.branch < length lasts)
+    (λ t w. omega (arith, w.branch, ap (λ (xs : List ℕ). length xs) same, lasts-length c (length c.plan.branches)))
+    ts (targets-within c.plan.branches ms ts h is).1

@@ -1,5 +1,5 @@
 -- Workers leave on their shelf what they surely leave.
-use Rattle.std.proofs.Common.{◌≡◌, ◌<◌, ◌≤◌, ◌+◌, ℕ, Bool, true, false, List, [], ◌∷◌, ◌++◌, length, get_or, Some, nat_lt, if◌then◌else◌, ◌||◌, refl, sym, ap, ◌∙◌, subst, inl, inr, ◌⊎◌, arith}
+use Rattle.std.proofs.Common.{◌≡◌, ◌<◌, ◌≤◌, ◌+◌, ◌-◌, ℕ, suc, ◌&&◌, sum_by, Bool, true, false, List, [], ◌∷◌, ◌++◌, length, get_or, Some, nat_lt, if◌then◌else◌, ◌||◌, refl, sym, ap, ◌∙◌, subst, inl, inr, ◌⊎◌, arith}
 use Rattle.std.proofs.lemmas.Bool.{and_parts}
 use Rattle.branch_tree.specs.declared.segment.Segment.{Segment}
 use Rattle.branch_tree.specs.Plan.{Plan}
@@ -14,8 +14,12 @@ use Rattle.checkpoint_shelf.specs.Told.{ClosedTold}
 use Rattle.kernel_copy.specs.Courses.{CourseTold}
 use Rattle.branch_workers.specs.Layout.{end_key, fork_keys, forks_from, layout}
 use Rattle.branch_workers.specs.Workers.{RanOnce}
-use Rattle.rewind_desk.specs.Best.{is_held, keys_in}
-use Rattle.rewind_desk.specs.Sure.{HoldsSure, end_events, is_sure}
+use Rattle.rewind_desk.specs.Best.{best, is_held, keys_in}
+use Rattle.rewind_desk.specs.Sure.{HoldsSure, end_events, is_sure, sure}
+use Rattle.rewind_targets.specs.declared.target.Target.{Target}
+use Rattle.study_accept.specs.Accepted.{StudyTold}
+use Rattle.abides_run.specs.Rewinds.{steps_from, steps_to}
+use Rattle.abides_run.proofs.Aiming.{sum-fewer}
 use Rattle.std.specs.Prelude.{nat_le}
 
 or_right : (a b : Bool) → b ≡ true → (a || b) ≡ true
@@ -47,7 +51,7 @@ record AreFrom (p : Plan) (n : ℕ) (gs : List Segment) : Type 0 where
 
 from-next : (p : Plan) (n : ℕ) (g : Segment) (gs : List Segment) → AreFrom p n (g ∷ gs) → AreFrom p (n + 1) gs
 from-next p n g gs f = record {
-  each = λ j less. let up : n + (1 + j) ≡ n + 1 + j = omega arith in f.each (1 + j) (omega (arith, less)) ∙ ap (λ (k : ℕ). segment_at p k) up;
+  each = λ j less. let up : n + suc j ≡ n + 1 + j = omega arith in f.each (suc j) (omega (arith, less)) ∙ ap (λ (k : ℕ). segment_at p k) up;
   all = omega (arith, f.all);
 }
 
@@ -74,7 +78,8 @@ forks-end p k n (g ∷ gs) f h =
     ] refl h
 
 fork-is-end : (p : Plan) (k : Key) → is_in k (fork_keys p) ≡ true → IsEnd p k
-fork-is-end p k h = forks-end p k 0 (segments_in p) (record { each = λ j less. refl; all = refl }) h
+fork-is-end p k h =
+    forks-end p k 0 (segments_in p) (record { each = λ j less. let up : j ≡ 0 + j = omega arith in ap (λ (i : ℕ). segment_at p i) up; all = omega arith }) h
 
 module _ (shelf : ClosedTold CourseTold) (stride places workers : ℕ) (laid : shelf.plan ≡ layout shelf.course.plan stride places)
     (ran : RanOnce shelf.course (layout shelf.course.plan stride places) workers shelf.system) where
@@ -98,3 +103,19 @@ module _ (shelf : ClosedTold CourseTold) (stride places workers : ℕ) (laid : s
   -- each state that the workers surely leave is held
   pub holds-sure : HoldsSure shelf
   holds-sure k inside sure = sure-held shelf.plan laid k inside sure
+
+-- No more steps lead from the nearest states to targets than from the states that are sure to be kept.
+pub saved-steps : (shelf : ClosedTold CourseTold) (s : StudyTold) (places workers : ℕ) (ts : List Target)
+    → ((x : ClosedTold CourseTold) (b e : ℕ) → HoldsSure x → sure x.course x.plan b e ≤ best x b e)
+    → shelf.plan ≡ layout s.course.plan s.stride places → shelf.course ≡ s.course → RanOnce s.course (layout s.course.plan s.stride places) workers shelf.system
+    → sum_by (steps_from shelf) ts ≤ sum_by (steps_to s places) ts
+saved-steps shelf s places workers ts law laid same ran =
+    let is : shelf.plan ≡ layout shelf.course.plan s.stride places = laid ∙ ap (λ (c : CourseTold). layout c.plan s.stride places) (sym same) in
+    let ran_here : RanOnce shelf.course (layout shelf.course.plan s.stride places) workers shelf.system =
+    subst (λ (c : CourseTold). RanOnce c (layout c.plan s.stride places) workers shelf.system) (sym same) ran in
+    let held = holds-sure shelf s.stride places workers is ran_here in
+    sum-fewer (steps_from shelf) (steps_to s places) ts (λ t.
+    let least = law shelf t.branch t.event held in
+    let told : sure shelf.course shelf.plan t.branch t.event ≡ sure s.course (layout s.course.plan s.stride places) t.branch t.event =
+    ap (λ (c : CourseTold). sure c shelf.plan t.branch t.event) same ∙ ap (λ (p : ShelfPlan). sure s.course p t.branch t.event) laid in
+    omega (arith, least, told))

@@ -1,10 +1,11 @@
 -- What is done with a study ends as its parts end.
-use Rattle.std.proofs.Common.{◌≡◌, ◌⊎◌, ◌≤◌, ◌+◌, ℕ, List, Option, Ok, Err, [], append-nil, refl, sym, subst, inl, inr, arith}
+use Rattle.std.proofs.Common.{◌≡◌, ◌⊎◌, ◌≤◌, ◌+◌, ℕ, List, Option, Ok, Err, [], append-nil, refl, sym, ap, ◌∙◌, subst, inl, inr, arith}
+use Rattle.command_words.specs.declared.mark.Mark.{Mark}
 use Rattle.outside.specs.Rose.{Rose}
 use Rattle.outside.specs.Taken.{appended, TookPrefix}
 use Rattle.study_accept.specs.Accepted.{StudyTold}
 use Rattle.abides_run.specs.declared.request.Task.{Task}
-use Rattle.abides_run.specs.declared.request.Task.TheVariants.{Run, Check, Table, Lines}
+use Rattle.abides_run.specs.declared.request.Task.TheVariants.{Rewind}
 use Rattle.abides_run.specs.Fetched.{arguments_of}
 use Rattle.abides_run.specs.Output.{Probes, written, simulated, allowed}
 use Rattle.abides_run.specs.Verdict.{Verdict, accepted, verdict_on_task, IsStudy, output, distinct, allowance}
@@ -178,3 +179,14 @@ task_finishes probes t u s writes now old new before after st told name is same 
     (subst (λ (v : Verdict). Finished v probes (arguments_of u) was seen told name) (sym come)
     (subst (λ (x : Status). Finished (accepted u s) probes (arguments_of u) was seen x name) (sym same)
     (performed_finishes probes u s (arguments_of u) was seen st name (p reads))))
+
+-- the same of a rewind, which ends as its parts say
+pub rewind_finishes : (probes : Probes) (t : Task) (marks shown : List Mark) (places : ℕ) (s : StudyTold) (writes now old new : ℕ) (before after : Option (List ℕ)) (st : Status) (name : List ℕ)
+    → t ≡ Rewind marks places → shown ≡ marks
+    → ((reads : ℕ) (given : Probes) → Finished (verdict_on_task (Rewind shown places) s) given (arguments_of (Rewind shown places)) (record { reads = reads; writes = writes; taken = before; steps = old }) (record { reads = reads; writes = now; taken = after; steps = new }) st name)
+    → (reads : ℕ) → Finished (verdict_on_task t s) probes (arguments_of t) (record { reads = reads; writes = writes; taken = before; steps = old }) (record { reads = reads; writes = now; taken = after; steps = new }) st name
+rewind_finishes probes t marks shown places s writes now old new before after st name is same f reads =
+    let was : Seen = record { reads = reads; writes = writes; taken = before; steps = old } in
+    let seen : Seen = record { reads = reads; writes = now; taken = after; steps = new } in
+    let whole : Rewind shown places ≡ t = ap (λ (ms : List Mark). Rewind ms places) same ∙ sym is in
+    subst (λ (x : Task). Finished (verdict_on_task x s) probes (arguments_of x) was seen st name) whole (f reads probes)

@@ -6,7 +6,7 @@ ghost use Rattle.bundle_frames.specs.Frames.{end_frame};
 ghost use Rattle.branch_bundle.specs.Ran.{IsRunOf};
 ghost use Rattle.branch_tree.specs.Segments.{last_of, segments_in};
 ghost use Rattle.command_words.specs.Ranges.{AreMarks};
-ghost use Rattle.kernel_core.specs.Step.{Fits};
+ghost use Rattle.kernel_copy.specs.Courses.{IsCourse};
 ghost use Rattle.rewind_desk.specs.Rewinds.{last_event};
 ghost use Rattle.rewind_targets.specs.Targets.{aimed_at, past_of};
 ghost use Rattle.study_accept.specs.Accepted.{study_told};
@@ -14,7 +14,7 @@ ghost use Rattle.abides_run.specs.Fetched.{arguments_of};
 ghost use Rattle.abides_run.specs.Notes.{past_event};
 ghost use Rattle.abides_run.specs.Output.{Probes};
 ghost use Rattle.abides_run.specs.Performed.{Finished, IsStride, Sent};
-ghost use Rattle.abides_run.specs.Rewinds.{IsThere, lasts_of, rewinds_of, steps_from, target_frames, target_state};
+ghost use Rattle.abides_run.specs.Rewinds.{IsThere, lasts_of, rewinds_of, steps_from, target_frames, target_state, word_at};
 ghost use Rattle.abides_run.specs.Verdict.{verdict_on_task};
 ghost use Rattle.abides_run.specs.declared.request.Task.TheVariants as task;
 
@@ -83,9 +83,9 @@ fn target_bytes(
 ) -> Result<Vec<u8>, Memory>
     requires branch { target.branch < length course.now.plan.branches }
     requires state { kernel.now ≡ target_state course.now target }
-    requires fits { Fits course.now.opening kernel.now }
     ensures { IfOk result (λ v. v.items ≡ target_frames course.now target) }
 {
+    courses_stay_in_range();
     let b = &course.plan().branches()[usize::from(target.branch)];
     let _ = b.name.len();
     let parent = if target.branch == 0 { u16::MAX } else { b.parent };
@@ -111,7 +111,6 @@ fn rewound_bytes<L: Ledger>(
     ensures least { steps.old ≤ steps.new }
     ensures most { steps.new ≤ steps.old + steps_from shelf.now target }
 {
-    courses_stay_in_range();
     let rewound = match rewind(alloc, course, shelf, target.branch, target.event, steps) {
         Ok(rewound) => rewound,
         Err(RewindError::Memory) => return Err(Memory),
@@ -205,6 +204,14 @@ fn no_event(alloc: Global, word: &str, last: u32) -> Ending
     }
 }
 
+// A mark's argument as it is written.
+fn word_of<'a>(marks: &[Mark<'a>], index: usize) -> &'a str
+    requires { index < length marks.now }
+    ensures { result.now ≡ word_at marks.now index }
+{
+    marks[index].word.as_str()
+}
+
 // Has workers simulate each segment of a study once, while so many grid places keep states, and then writes the states of
 // these targets of the marks.
 fn rewind_targets<R: Threads + Wait + Sync, O: Sink, G: Gate + Sync, D: Ledger + Send>(
@@ -219,6 +226,7 @@ fn rewind_targets<R: Threads + Wait + Sync, O: Sink, G: Gate + Sync, D: Ledger +
     gate: &G,
     steps: &mut Steps<D>,
 ) -> Ending
+    requires course { IsCourse study.now.course.value }
     requires stride { IsStride study.now.stride }
     requires marks { AreMarks marks.now }
     requires targets { aimed_at study.now.course.value.plan.branches marks.now ≡ Aimed.At targets.now }
@@ -243,7 +251,7 @@ fn rewind_targets<R: Threads + Wait + Sync, O: Sink, G: Gate + Sync, D: Ledger +
         Err(Memory) => return nameless(alloc, Status::Memory),
     };
     if let Some(past) = first_past(&lasts, targets) {
-        return no_event(alloc, marks[past.index].word.as_str(), past.last);
+        return no_event(alloc, word_of(marks, past.index), past.last);
     }
     match send_rewinds(alloc, course, &worked.shelf, targets, out, steps) {
         Ok(()) => nameless(alloc, Status::Ok),
@@ -289,9 +297,7 @@ pub fn rewind_study<R: Threads + Wait + Sync, O: Sink, G: Gate + Sync, D: Ledger
             gate,
             steps,
         ),
-        Ok(Aimed::NoBranch(index)) => {
-            named(alloc, Status::NoBranch, marks[index].word.as_str())
-        }
+        Ok(Aimed::NoBranch(index)) => named(alloc, Status::NoBranch, word_of(marks, index)),
         Err(Memory) => nameless(alloc, Status::Memory),
     }
 }
