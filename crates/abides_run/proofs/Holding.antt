@@ -67,11 +67,11 @@ forks-end p k n (g ∷ gs) f h =
     elim (nat_lt n (last_of p.branches g.branch)) as (λ b. nat_lt n (last_of p.branches g.branch) ≡ b → is_in k (if b then here ∷ more else more) ≡ true → IsEnd p k) [
       | true ↦ λ e i. elim (or_either (same_key here k) (is_in k more) i) [
         | inl same ↦ record {
-            segment = n;
-            below = omega (arith, f.all);
-            unfinished = let less : n < last_of p.branches g.branch = grind (arith, e) in subst (λ (x : Segment). n < last_of p.branches x.branch) is less;
-            key = sym (key_is here k same) ∙ ap (λ (x : Segment). record { segment = n; event = x.stop }) is;
-          }
+          segment = n;
+          below = omega (arith, f.all);
+          unfinished = let less : n < last_of p.branches g.branch = grind (arith, e) in subst (λ (x : Segment). n < last_of p.branches x.branch) is less;
+          key = sym (key_is here k same) ∙ ap (λ (x : Segment). record { segment = n; event = x.stop }) is;
+        }
         | inr rest ↦ forks-end p k (n + 1) gs (from-next p n g gs f) rest
       ]
       | false ↦ λ e i. forks-end p k (n + 1) gs (from-next p n g gs f) i

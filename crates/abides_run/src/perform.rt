@@ -51,7 +51,16 @@ fn run_study<R: Threads + Wait + Sync, O: Sink, G: Gate + Sync, D: Ledger + Send
 {
     outcomes_are_a_run();
     let course = &study.course;
-    let worked = match work(rt, alloc, course, study.stride, NO_PLACES, workers, gate, steps) {
+    let worked = match work(
+        rt,
+        alloc,
+        course,
+        study.stride,
+        NO_PLACES,
+        workers,
+        gate,
+        steps,
+    ) {
         Ok(worked) => worked,
         Err(Memory) => return Status::Memory,
     };
@@ -83,7 +92,16 @@ fn table_study<R: Threads + Wait + Sync, O: Sink, G: Gate + Sync, D: Ledger + Se
 {
     outcomes_are_a_run();
     let course = &study.course;
-    let worked = match work(rt, alloc, course, study.stride, NO_PLACES, workers, gate, steps) {
+    let worked = match work(
+        rt,
+        alloc,
+        course,
+        study.stride,
+        NO_PLACES,
+        workers,
+        gate,
+        steps,
+    ) {
         Ok(worked) => worked,
         Err(Memory) => return Status::Memory,
     };
@@ -120,7 +138,16 @@ fn tell_study<R: Threads + Wait + Sync, O: Sink, G: Gate + Sync, D: Ledger + Sen
     outcomes_are_a_run();
     let course = &study.course;
     let before = steps.count();
-    let worked = match work(rt, alloc, course, study.stride, NO_PLACES, workers, gate, steps) {
+    let worked = match work(
+        rt,
+        alloc,
+        course,
+        study.stride,
+        NO_PLACES,
+        workers,
+        gate,
+        steps,
+    ) {
         Ok(worked) => worked,
         Err(Memory) => return Status::Memory,
     };

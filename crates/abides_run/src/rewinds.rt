@@ -88,9 +88,19 @@ fn target_bytes(
     courses_stay_in_range();
     let b = &course.plan().branches()[usize::from(target.branch)];
     let _ = b.name.len();
-    let parent = if target.branch == 0 { u16::MAX } else { b.parent };
+    let parent = if target.branch == 0 {
+        u16::MAX
+    } else {
+        b.parent
+    };
     let mut out = Vec::new(alloc);
-    put_branch(&mut out, target.branch, parent, target.event, b.name.as_slice())?;
+    put_branch(
+        &mut out,
+        target.branch,
+        parent,
+        target.event,
+        b.name.as_slice(),
+    )?;
     let state = state_frames(alloc, course.opening(), kernel)?;
     out.extend_from_slice(&state)?;
     Ok(out)
@@ -242,7 +252,16 @@ fn rewind_targets<R: Threads + Wait + Sync, O: Sink, G: Gate + Sync, D: Ledger +
     outcomes_are_a_run();
     sure_states_are_held();
     let course = &study.course;
-    let worked = match work(rt, alloc, course, study.stride, places, workers, gate, steps) {
+    let worked = match work(
+        rt,
+        alloc,
+        course,
+        study.stride,
+        places,
+        workers,
+        gate,
+        steps,
+    ) {
         Ok(worked) => worked,
         Err(Memory) => return nameless(alloc, Status::Memory),
     };

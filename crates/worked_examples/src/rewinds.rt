@@ -48,21 +48,42 @@ fn rewinds_of_three_branches(rt: HostRuntime) -> Result<(), Fail> {
     let text = study(alloc, KEY, 2000, 30, WATCHERS, BRANCHES)?;
     for (line, size, total, counted) in [
         ("rewind s root:0 x:2 root:6", 1308, 12_617, 22),
-        ("rewind s root:0 x:2 --places=0 --workers 3 root:6", 1308, 12_617, 22),
+        (
+            "rewind s root:0 x:2 --places=0 --workers 3 root:6",
+            1308,
+            12_617,
+            22,
+        ),
         ("rewind --places 128 s x:0000006", 420, 2749, 22),
         ("rewind s y:5 z:5 root:3", 1444, 12_977, 25),
     ] {
         let (out, steps) = written(&rt, alloc, text.as_str(), line)?;
         let bytes = out.taken();
-        assert_eq!(rt; (bytes.len(), sum(bytes), steps), (size, total, counted), "{line}");
+        assert_eq!(rt;
+            (bytes.len(), sum(bytes), steps),
+            (size, total, counted),
+            "{line}"
+        );
     }
     let (out, _) = written(&rt, alloc, text.as_str(), "rewind s root:0 x:2 root:6")?;
     let bytes = out.taken();
     // each branch with the event as its stop, and behind it the counters: how the state ended and how many events it has
     for (at, branch, counters) in [
-        (0, b"\0\x0eb\0\0\xff\xff\0\0\0\0\x04root".as_slice(), b"\0\x42c-\0\0\0\0".as_slice()),
-        (418, b"\0\x0bb\0\x01\0\0\0\0\0\x02\x01x", b"\0\x42c-\0\0\0\x02"),
-        (885, b"\0\x0eb\0\0\xff\xff\0\0\0\x06\x04root", b"\0\x42cC\0\0\0\x06"),
+        (
+            0,
+            b"\0\x0eb\0\0\xff\xff\0\0\0\0\x04root".as_slice(),
+            b"\0\x42c-\0\0\0\0".as_slice(),
+        ),
+        (
+            418,
+            b"\0\x0bb\0\x01\0\0\0\0\0\x02\x01x",
+            b"\0\x42c-\0\0\0\x02",
+        ),
+        (
+            885,
+            b"\0\x0eb\0\0\xff\xff\0\0\0\x06\x04root",
+            b"\0\x42cC\0\0\0\x06",
+        ),
     ] {
         let rest = bytes.get(at..).and_then(|rest| rest.strip_prefix(branch));
         assert!(rt; rest.is_some_and(|rest| rest.starts_with(counters)), "{at}");
@@ -113,9 +134,24 @@ fn what_is_not_there_is_refused_in_order(rt: HostRuntime) -> Result<(), Fail> {
             18,
             "no event: z:9999999, last event 6\n",
         ),
-        (["root:7", "w:1", "v:1"], Status::NoBranch, 0, "no branch: w:1\n"),
-        (["x:1", "xx:1", "root:7"], Status::NoBranch, 0, "no branch: xx:1\n"),
-        (["roo:1", "x:1", "y:1"], Status::NoBranch, 0, "no branch: roo:1\n"),
+        (
+            ["root:7", "w:1", "v:1"],
+            Status::NoBranch,
+            0,
+            "no branch: w:1\n",
+        ),
+        (
+            ["x:1", "xx:1", "root:7"],
+            Status::NoBranch,
+            0,
+            "no branch: xx:1\n",
+        ),
+        (
+            ["roo:1", "x:1", "y:1"],
+            Status::NoBranch,
+            0,
+            "no branch: roo:1\n",
+        ),
         (
             ["x:1", "w:1", "root:"],
             Status::Usage,
