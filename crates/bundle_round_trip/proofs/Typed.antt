@@ -1,5 +1,5 @@
 -- What types and texts give together.
-use Rattle.std.proofs.Common.{◌≡◌, ℕ, ◌<◌, ◌≤◌, ◌^◌, List, [], ◌∷◌, ◌++◌, length, map, All, Option, None, Some, sym, subst}
+use Rattle.std.proofs.Common.{◌≡◌, ℕ, ◌<◌, ◌^◌, List, [], ◌∷◌, ◌++◌, length, map, All, Option, None, Some, sym, subst}
 use Rattle.std.proofs.lemmas.List.Elements.{All-append, All-cons, All-head, All-map, All-nil, All-tail}
 use Rattle.market_types.specs.declared.feed.Feed.{Feed}
 use Rattle.market_types.specs.declared.message.Body.{Body}
@@ -16,8 +16,6 @@ use Rattle.bundle_frames.specs.declared.closing.ClosingStock.{ClosingStock}
 use Rattle.frame_parts.specs.Bodies.{HasRanges as HasBodyRanges}
 use Rattle.frame_reader.specs.Frames.{HasRanges}
 use Rattle.frame_reader.specs.declared.frame.Frame.TheVariants as frame
-use Rattle.branch_tree.specs.declared.branch.Branch.{Branch}
-use Rattle.branch_tree.specs.Names.{IsNameLength}
 use Rattle.branch_tree.specs.Segments.{segment_at}
 use Rattle.bundle_reader.specs.Bundle.{closing_list}
 use Rattle.kernel_core.specs.Until.{Run, behind}
@@ -99,13 +97,3 @@ pub entries-behind : (c : CourseTold) (s : ℕ) →
 entries-behind c s copy before own =
     let g = segment_at c.plan s in
     subst (λ (r : Run). All IsTyped r.entries) (sym copy) (All-append IsTyped (parent_end c.opening c.plan g.parent).entries (segment_entries c.opening c.plan g) before own)
-
--- ---- names
-
-pub names-in : (bs : List Branch) → All (λ (b : Branch). 1 ≤ length b.name) bs → All (λ (b : Branch). length b.name ≤ 32) bs → All (λ (b : Branch). IsNameLength (length b.name)) bs
-names-in [] some few = All-nil (λ (b : Branch). IsNameLength (length b.name))
-names-in (b ∷ bs) some few =
-    let P : Branch → Type 0 = λ x. 1 ≤ length x.name in
-    let Q : Branch → Type 0 = λ x. length x.name ≤ 32 in
-    All-cons (λ (x : Branch). IsNameLength (length x.name)) b bs (record { some = All-head P b bs some; few = All-head Q b bs few })
-    (names-in bs (All-tail P b bs some) (All-tail Q b bs few))
