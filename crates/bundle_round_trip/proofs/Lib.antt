@@ -14,3 +14,10 @@ pub mod Numbers
 pub mod Typed
 pub mod Each
 pub mod Adds
+pub mod Spellings
+pub mod Replies
+pub mod Tokens
+pub mod Senders
+pub mod Reactions
+pub mod Steps
+pub mod Injected

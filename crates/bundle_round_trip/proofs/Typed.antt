@@ -99,13 +99,3 @@ pub entries-behind : (c : CourseTold) (s : ℕ) →
 entries-behind c s copy before own =
     let g = segment_at c.plan s in
     subst (λ (r : Run). All IsTyped r.entries) (sym copy) (All-append IsTyped (parent_end c.opening c.plan g.parent).entries (segment_entries c.opening c.plan g) before own)
-
--- ---- names
-
-pub names-in : (bs : List Branch) → All (λ (b : Branch). 1 ≤ length b.name) bs → All (λ (b : Branch). length b.name ≤ 32) bs → All (λ (b : Branch). IsNameLength (length b.name)) bs
-names-in [] some few = All-nil (λ (b : Branch). IsNameLength (length b.name))
-names-in (b ∷ bs) some few =
-    let P : Branch → Type 0 = λ x. 1 ≤ length x.name in
-    let Q : Branch → Type 0 = λ x. length x.name ≤ 32 in
-    All-cons (λ (x : Branch). IsNameLength (length x.name)) b bs (record { some = All-head P b bs some; few = All-head Q b bs few })
-    (names-in bs (All-tail P b bs some) (All-tail Q b bs few))

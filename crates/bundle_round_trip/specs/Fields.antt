@@ -18,7 +18,6 @@ use Rattle.frame_parts.specs.Bodies.{HasRanges}
 use Rattle.frame_reader.specs.Frames.{HasRanges as HasFrameRanges}
 use Rattle.bundle_reader.specs.Bundle.{closing_list}
 use Rattle.market_closing.specs.Closing.{closing_at}
-use Rattle.branch_tree.specs.declared.branch.Branch.{Branch}
 use Rattle.kernel_copy.specs.Courses.{CourseTold}
 use Rattle.kernel_copy.specs.Full.{full_run}
 
@@ -84,8 +83,3 @@ HasBodyTexts (body.Quote quote) = Unit {0}
 abbrev pub HasEventTexts : EntryTold → Type 0
 HasEventTexts (event e) = HasBodyTexts e.body
 HasEventTexts (edit d) = Unit {0}
-
--- No name is empty, and the texts of orders and of replies are in their ranges in each branch's full run.
-pub record IsSpelledOut (c : CourseTold) : Type 0 where
-  pub names : All (λ (b : Branch). 1 ≤ length b.name) c.plan.branches
-  pub texts : (b : ℕ) → b < length c.plan.branches → All HasEventTexts (full_run c.opening c.plan b).entries

@@ -3,7 +3,10 @@ use Rattle.std.specs.Prelude.{ℕ, ◌+◌, pos, false, List, [], ◌∷◌, cod
 use Rattle.market_types.specs.declared.feed.Feed.{Feed}
 use Rattle.market_types.specs.declared.feed.What.TheVariants.{Trading}
 use Rattle.market_types.specs.declared.message.Body.TheVariants.{Wake}
+use Rattle.market_types.specs.declared.order.Inbound.TheVariants.{Cancel}
 use Rattle.market_types.specs.Told.{EntryTold, EventTold, EditTold, event, edit}
+use Rattle.market_rules.specs.declared.edit.Edit.{Edit}
+use Rattle.market_rules.specs.declared.edit.Edit.TheVariants.{Inject}
 
 -- a halt of the stock of a number at a time
 abbrev pub halt_at : ℕ → ℕ → Feed
@@ -51,3 +54,9 @@ read =
     edit (edit_of 114 (halt_at 1000 0 ∷ [])) ∷ event (wakeup_behind (halt_at 1200 1 ∷ []))
     ∷ edit (edit_of 116 []) ∷ event (wakeup_behind two_halts)
     ∷ edit (edit_of 104 (halt_at 1000 2 ∷ [])) ∷ event (wakeup_behind two_halts) ∷ []
+
+-- ---- orders that are injected
+
+-- an edit that injects the cancel of an order with this token
+abbrev pub canceling : List ℕ → Edit
+canceling token = Inject 1 100 (Cancel (record { token = record { 0 = token }; shares = 0 }))

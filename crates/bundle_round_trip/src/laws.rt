@@ -6,7 +6,9 @@ ghost use Rattle.kernel_copy.specs.Full.{full};
 ghost use Rattle.branch_bundle.specs.Bundle.{bundle_of};
 ghost use Rattle.bundle_reader.specs.Bundle.{HasFeed, IsBranch, IsBundle, IsSplit, bundle_bytes};
 ghost use Rattle.bundle_round_trip.specs.Back.{branch_back, bundle_back};
+ghost use Rattle.bundle_round_trip.specs.Fields.{HasEventTexts};
 ghost use Rattle.bundle_round_trip.specs.Ranges.{IsInRange};
+ghost use Rattle.bundle_round_trip.specs.Spelled.{AreMessagesSpelled};
 
 use kernel_copy::laws::courses_stay_in_range;
 
@@ -14,6 +16,12 @@ use kernel_copy::laws::courses_stay_in_range;
 /// the one trading action of its own time, and any other edit has no feed.
 pub fn feeds_are_of_their_kinds()
     ensures { (c : CourseTold) (b e : ℕ) → All HasFeed (full c.opening c.plan b e).entries }
+{}
+
+/// The texts of each event's order or reply are in their ranges, where those of the orders are that the branches' edits inject:
+/// traders send symbols of the opening's stocks and tokens of their own, and the exchange replies with what it was sent.
+pub fn texts_stay_in_range()
+    ensures { (c : CourseTold) (b e : ℕ) → IsCourse c → AreMessagesSpelled c → All HasEventTexts (full c.opening c.plan b e).entries }
 {}
 
 /// What is written of a course is the bytes of what tells the branches' full runs with their feed as reading splits it. That is

@@ -5,8 +5,8 @@ ghost use Rattle.branch_bundle.specs.Bundle.{bundle_of};
 ghost use Rattle.branch_bundle.specs.Ran.{IsRunOf};
 ghost use Rattle.bundle_reader.specs.Reads.{Gives};
 ghost use Rattle.bundle_round_trip.specs.Back.{bundle_back};
-ghost use Rattle.bundle_round_trip.specs.Fields.{IsSpelledOut};
 ghost use Rattle.bundle_round_trip.specs.Ranges.{IsInRange};
+ghost use Rattle.bundle_round_trip.specs.Spelled.{AreMessagesSpelled};
 
 use crate::laws::bundles_come_back;
 use crate::typed_runs::runs_fit;
@@ -31,13 +31,13 @@ pub fn read_written(alloc: Global, course: &Course, bytes: &[u8]) -> Result<Bund
     read_bundle(alloc, bytes)
 }
 
-/// Writes the bundle of a study and reads it.
+/// Writes the bundle of a study and reads it. The orders that its edits inject are ones that a message can hold.
 ///
 /// # Errors
 /// Want of memory alone.
 pub fn round_trip<W: Ran>(alloc: Global, course: &Course, ran: &W) -> Result<Bundle, BundleError>
     requires ran { IsRunOf course.now (W.count ran.now) (W.entries_of ran.now) (W.closing_of ran.now) }
-    requires spelled { IsSpelledOut course.now }
+    requires spelled { AreMessagesSpelled course.now }
     ensures { Gives (bundle_back course.now) result }
 {
     runs_fit(course, ran);

@@ -1,15 +1,18 @@
 //! What the fields of a run are by their types.
 
 ghost use Rattle.std.specs.Prelude.{◌≡◌, ◌<◌, ◌≤◌, ℕ, All, Some, length};
+ghost use Rattle.branch_tree.specs.Names.{IsNameLength};
 ghost use Rattle.branch_tree.specs.Segments.{last_of, segment_at, segments_in};
 ghost use Rattle.market_closing.specs.Closing.{closing_at};
 ghost use Rattle.kernel_copy.specs.Segmentwise.{segment_end};
 ghost use Rattle.branch_bundle.specs.Ran.{IsRunOf};
 ghost use Rattle.frame_reader.specs.Frames.{HasRanges};
 ghost use Rattle.bundle_reader.specs.Bundle.{closing_list};
-ghost use Rattle.bundle_round_trip.specs.Fields.{IsSpelledOut, IsTyped, IsTypedRun};
+ghost use Rattle.bundle_round_trip.specs.Fields.{IsTyped, IsTypedRun};
 ghost use Rattle.bundle_round_trip.specs.Ranges.{IsInRange};
+ghost use Rattle.bundle_round_trip.specs.Spelled.{AreMessagesSpelled};
 
+use crate::laws::texts_stay_in_range;
 use crate::typed_closing::closing_fits;
 use crate::typed_entries::entries_fit;
 use branch_bundle::Ran;
@@ -79,19 +82,21 @@ fn branches_fit<W: Ran>(course: &Course, ran: &W)
 
 // The names of branches.
 fn names_fit(branches: &[Branch])
-    ensures { All (λ b. length b.name ≤ 32) branches.now }
+    ensures { All (λ b. IsNameLength (length b.name)) branches.now }
 {
     for i in 0..branches.len() {
         let _ = branches[i].name.len();
     }
 }
 
-/// What a run holds has its fields in their ranges, as far as its texts have: all numbers are so by their types.
+/// What a run holds has its fields in their ranges where the orders have that edits inject: numbers and names are so by their
+/// types, and all other texts are the market's.
 pub(crate) fn runs_fit<W: Ran>(course: &Course, ran: &W)
     requires { IsRunOf course.now (W.count ran.now) (W.entries_of ran.now) (W.closing_of ran.now) }
-    ensures { IsSpelledOut course.now → IsInRange course.now }
+    ensures { AreMessagesSpelled course.now → IsInRange course.now }
 {
     courses_stay_in_range();
+    texts_stay_in_range();
     names_fit(course.plan().branches());
     branches_fit(course, ran);
 }

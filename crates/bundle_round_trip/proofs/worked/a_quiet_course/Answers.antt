@@ -24,8 +24,8 @@ use Rattle.frame_reader.specs.Frames.{HasRanges}
 use Rattle.frame_reader.specs.declared.frame.Frame.{Frame}
 use Rattle.frame_reader.specs.declared.frame.Frame.TheVariants as frame
 use Rattle.bundle_reader.specs.Bundle.{closing_list}
-use Rattle.bundle_round_trip.specs.Fields.{HasEventTexts}
 use Rattle.bundle_round_trip.specs.Ranges.{IsEventInRange, IsRunInRange}
+use Rattle.bundle_round_trip.specs.Spelled.{HasMessageTexts}
 use Rattle.bundle_round_trip.proofs.worked.a_quiet_course.Goals as goal
 
 abbrev IsNamed : Branch → Type 0
@@ -137,22 +137,11 @@ returns-clause-ranges c =
       runs = λ b l. run-at b l;
     }
 
-abbrev IsSome : Branch → Type 0
-IsSome b = 1 ≤ length b.name
-
-texts-of : (b : ℕ) → (full_run quiet_course.opening quiet_course.plan b).entries ≡ [] → All HasEventTexts (full_run quiet_course.opening quiet_course.plan b).entries
-texts-of b none = subst (λ (xs : List EntryTold). All HasEventTexts xs) (sym none) (All-nil HasEventTexts)
-
-texts-at : (b : ℕ) → b < 2 → All HasEventTexts (full_run quiet_course.opening quiet_course.plan b).entries
-texts-at zero l = texts-of 0 root-entries
-texts-at (suc zero) l = texts-of 1 fork-entries
-texts-at (suc (suc b)) l = absurd (omega (arith, l))
+abbrev IsSpelled : Branch → Type 0
+IsSpelled b = All HasMessageTexts b.edits
 
 pub returns-clause-spelled : goal.returns-clause-spelled
 returns-clause-spelled c =
     let root = branch_at quiet_course.plan.branches 0 in
     let fork = branch_at quiet_course.plan.branches 1 in
-    record {
-      names = All-cons IsSome root (fork ∷ []) (omega arith) (All-cons IsSome fork [] (omega arith) (All-nil IsSome));
-      texts = λ b l. texts-at b l;
-    }
+    All-cons IsSpelled root (fork ∷ []) (All-nil HasMessageTexts) (All-cons IsSpelled fork [] (All-nil HasMessageTexts) (All-nil IsSpelled))
