@@ -1,22 +1,19 @@
 -- The edits that a study's entries say inject orders that a message can hold.
-use Rattle.std.proofs.Common.{◌≡◌, ℕ, Bool, true, false, List, [], ◌∷◌, map, All, Option, Some, None, IfSome, codes, if◌then◌else◌}
+use Rattle.std.proofs.Common.{Bool, true, false, List, [], ◌∷◌, map, All, Option, Some, None, IfSome, codes, if◌then◌else◌}
 use Rattle.std.specs.Prelude.{◌&&◌, option_map, unsigned_abs, slice_index_or, negsuc, pos}
 use Rattle.std.specs.List.{cons_option, filter_map}
 use Rattle.std.proofs.lemmas.List.Elements.{All-cons, All-map, All-nil}
 use Rattle.toml.specs.Data.{Data, Members}
-use Rattle.market_types.specs.declared.order.Inbound.{Inbound}
 use Rattle.market_rules.specs.declared.edit.Edit.{Edit}
-use Rattle.market_rules.specs.declared.edit.Edit.TheVariants.{Agent, Fee, Halt, Inject, Latency, Resume, Series, Silence, Tick}
-use Rattle.ouch_codec.specs.Inbound.{inbound_wire}
+use Rattle.market_rules.specs.declared.edit.Edit.TheVariants.{Agent, Fee, Halt, Inject, Resume, Series, Silence, Tick}
 use Rattle.branch_tree.specs.declared.branch.Branch.{Branch}
 use Rattle.study_file.specs.Values.{has_between, list_at, number_at, string_at}
 use Rattle.study_tables.specs.StockRules.{band_in, has_bands, has_fees}
 use Rattle.study_refusals.specs.ChangeRules.{is_kind}
 use Rattle.study_branches.specs.Branches.{branch_of, branches_of, root_branch}
-use Rattle.study_branches.specs.EditRules.{◌>>=◌, agent_in, edit_in, fee_in, group_in, has_param, inject_in, is_param_value, kind_of_trader, latency_in, message_in, natural_in, param_named, series_in, silence_in, stock_in, tick_in, trader_in}
+use Rattle.study_branches.specs.EditRules.{◌>>=◌, agent_in, edit_in, fee_in, group_in, has_param, inject_in, is_param_value, kind_of_trader, latency_in, message_in, natural_in, param_named, series_in, stock_in, tick_in, trader_in}
 use Rattle.study_branches.specs.Entries.{branch_entries, edits_in, entry_of}
 use Rattle.study_branches.specs.Scope.{Scope, scope_of}
-use Rattle.bundle_round_trip.specs.Fields.{HasTexts}
 use Rattle.bundle_round_trip.specs.Spelled.{HasMessageTexts}
 use Rattle.accepted_round_trip.proofs.Orders.{message-spelled}
 

@@ -1,19 +1,19 @@
 -- An order that bytes spell has its texts in their ranges.
-use Rattle.std.proofs.Common.{◌≡◌, ◌∙◌, ℕ, ◌+◌, ◌<◌, Bool, true, false, ◌&&◌, List, [], ◌∷◌, length, Option, Some, None, IfSome, Ok, Err, refl, sym, ap, inl, inr, arith}
+use Rattle.std.proofs.Common.{◌≡◌, ℕ, ◌+◌, Bool, true, false, List, [], ◌∷◌, length, Option, Some, None, IfSome, Ok, Err, refl, sym, arith}
 use Rattle.std.specs.Prelude.{◌==◌, if◌then◌else◌, is_none, option_map, slice_index, unwrap_or, Result}
 use Rattle.std.proofs.lemmas.Bool.{and_parts, eqb-true}
 use Rattle.hex.specs.Hex.{decode_of}
 use Rattle.hex.specs.declared.error.FromHexError.{FromHexError}
 use Rattle.hex.proofs.HexLemmas.{decode_of-ok}
 use Rattle.market_types.specs.declared.error.CodecError.{CodecError}
-use Rattle.market_types.specs.declared.error.CodecError.TheVariants.{BadField, UnknownType, WrongLength}
+use Rattle.market_types.specs.declared.error.CodecError.TheVariants.{BadField, WrongLength}
 use Rattle.market_types.specs.declared.order.Inbound.{Inbound}
 use Rattle.market_types.specs.declared.order.Inbound.TheVariants as inbound
 use Rattle.wire_fields.specs.declared.kind.Kind.{Kind}
 use Rattle.wire_fields.specs.declared.kind.Kind.TheVariants.{Letters}
 use Rattle.wire_fields.specs.Back.{side_in}
 use Rattle.wire_fields.specs.Values.{FieldValue, bytes, is_in_range}
-use Rattle.wire_fields.specs.Wire.{Wire, are_in_range, bad_at, fault, fault_of, refusal, total_width, values_at, wire_at, wire_in}
+use Rattle.wire_fields.specs.Wire.{are_in_range, bad_at, fault, fault_of, refusal, total_width, values_at, wire_at}
 use Rattle.wire_fields.proofs.Digits.{IsBytes}
 use Rattle.wire_fields.proofs.Spelled.{value_again, values_read}
 use Rattle.ouch_codec.specs.Inbound.{inbound_layout, inbound_wire}

@@ -1,6 +1,6 @@
 -- What a floor gives to the mail has its texts in their ranges, and it keeps what that needs.
-use Rattle.std.proofs.Common.{◌≡◌, ℕ, zero, suc, ◌+◌, ◌-◌, ◌<◌, ◌≤◌, Bool, true, false, List, [], ◌∷◌, length, map, All, pos, refl, sym, ap, subst, arith}
-use Rattle.std.specs.Prelude.{◌==◌, if◌then◌else◌, slice_index_or}
+use Rattle.std.proofs.Common.{◌≡◌, ℕ, ◌+◌, ◌-◌, ◌<◌, ◌≤◌, true, List, [], ◌∷◌, length, map, All, refl, sym, subst, arith}
+use Rattle.std.specs.Prelude.{◌==◌, slice_index_or}
 use Rattle.std.proofs.lemmas.List.Elements.{All-cons, All-head, All-map, All-nil, All-set, All-tail, All-weaker}
 use Rattle.market_types.specs.declared.message.Message.{Message}
 use Rattle.market_rules.specs.declared.changes.Change.TheVariants as change
@@ -21,10 +21,10 @@ use Rattle.exchange_agent.specs.declared.told.StockRules.{StockRules}
 use Rattle.exchange_agent.specs.Changes.{changed_by}
 use Rattle.exchange_agent.specs.Market.{market}
 use Rattle.exchange_agent.specs.Open.{listed}
-use Rattle.exchange_agent.specs.State.{State, Stock}
+use Rattle.exchange_agent.specs.State.{State}
 use Rattle.market_opening.specs.declared.opening.Opening.{Opening}
 use Rattle.market_opening.specs.declared.posting.Posting.{Posting}
-use Rattle.market_opening.specs.Opening.{IsOpening, IsTraderOf, cash_of}
+use Rattle.market_opening.specs.Opening.{IsTraderOf, cash_of}
 use Rattle.market_opening.specs.Postings.{body_of}
 use Rattle.market_floor.specs.Edited.{edited_floor}
 use Rattle.market_floor.specs.Floor.{FloorState, floor_at_opening, nobody, parties_from, party_at, with_party}
@@ -32,7 +32,7 @@ use Rattle.market_floor.specs.Posted.{to_exchange, to_receiver}
 use Rattle.market_floor.specs.Reaction.{Reaction, decided_by, market_reaction, no_rules, reaction, sight_at, trader_reaction}
 use Rattle.market_floor.specs.Ruled.{all_changed, due, ruled}
 use Rattle.bundle_round_trip.specs.Fields.{HasBodyTexts}
-use Rattle.bundle_round_trip.proofs.Replies.{HasReplyTexts, HasToken, HasTokens, all-at, change-tokens, if-both, market-spelled}
+use Rattle.bundle_round_trip.proofs.Replies.{HasToken, HasTokens, all-at, change-tokens, if-both, market-spelled}
 use Rattle.bundle_round_trip.proofs.Senders.{HasSendingTexts, IsName, reacted-spelled}
 
 -- the symbols of an opening's stocks, of which there are some, may stand in a symbol's field

@@ -1,7 +1,6 @@
 -- What the exchange replies has its texts in their ranges, where those of what it handles and the tokens of its orders have.
-use Rattle.std.proofs.Common.{◌≡◌, ℕ, zero, suc, ◌+◌, ◌-◌, Bool, true, false, List, [], ◌∷◌, ◌++◌, All, Option, Some, None, find, refl}
+use Rattle.std.proofs.Common.{ℕ, zero, suc, ◌+◌, ◌-◌, Bool, true, false, List, [], ◌∷◌, All, Option, Some, None, find}
 use Rattle.std.specs.Prelude.{◌==◌, nat_lt, if◌then◌else◌, slice_index_or, IfSome}
-use Rattle.std.proofs.lemmas.Bool.{cases_Bool}
 use Rattle.std.proofs.lemmas.List.Elements.{All-append, All-cons, All-from_recursion, All-head, All-nil, All-push, All-set, All-tail, recursion_from_All}
 use Rattle.market_types.specs.declared.message.Body.{Body}
 use Rattle.market_types.specs.declared.message.Body.TheVariants as body
@@ -13,7 +12,7 @@ use Rattle.market_rules.specs.declared.changes.Change.{Change}
 use Rattle.market_rules.specs.declared.changes.Change.TheVariants as change
 use Rattle.price_time_book.specs.declared.resting.Fill.{Fill}
 use Rattle.price_time_book.specs.declared.resting.Resting.{Resting}
-use Rattle.price_time_book.specs.Matched.{Matching, after_fill, fill_of, matched}
+use Rattle.price_time_book.specs.Matched.{Matching, matched}
 use Rattle.price_time_book.specs.Orders.{changed, order_of, reduced}
 use Rattle.price_time_book.proofs.Stays.{all-fills, each-changed}
 use Rattle.exchange_agent.specs.declared.cancel.Found.{Found}

@@ -1,5 +1,5 @@
 -- What a trader sends has its texts in their ranges, where the symbol of its stock has.
-use Rattle.std.proofs.Common.{◌≡◌, ℕ, ◌+◌, Bool, true, false, List, [], ◌∷◌, ◌++◌, map, length, All, Option, Some, None, refl, inl, inr}
+use Rattle.std.proofs.Common.{◌≡◌, ℕ, ◌+◌, true, false, List, [], ◌∷◌, map, length, All, Option, Some, None, refl, inl, inr}
 use Rattle.std.specs.Prelude.{◌==◌, nat_lt, if◌then◌else◌}
 use Rattle.std.proofs.lemmas.Bool.{cases_Bool}
 use Rattle.std.proofs.lemmas.List.Elements.{All-append, All-cons, All-head, All-nil, All-tail, All-weaker}
@@ -66,6 +66,7 @@ ordered-texts symbol w o name = elim (cases_Bool (nat_lt (length o.own) most_own
   | inl few ↦ rw few (at-texts (sent_price w.price) symbol w o name)
   | inr full ↦ rw full none
 ]
+
 orders-texts : (symbol : Symbol) (ws : List Wish) (o : Orders) → IsName symbol → All HasSendingTexts (all_ordered symbol ws o).sends
 orders-texts symbol [] o name = none
 orders-texts symbol (w ∷ ws) o name =

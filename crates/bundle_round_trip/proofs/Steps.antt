@@ -1,5 +1,5 @@
 -- Each event of a run has its texts in their ranges, where those of the messages have that edits inject.
-use Rattle.std.proofs.Common.{◌≡◌, ℕ, zero, suc, ◌+◌, ◌-◌, ◌<◌, ◌≤◌, Bool, true, false, cond, ltb, List, [], ◌∷◌, ◌++◌, length, Option, Some, None, option_map, is_some, slice_index, All, refl, sym, arith}
+use Rattle.std.proofs.Common.{◌≡◌, ℕ, zero, suc, ◌+◌, ◌-◌, true, false, cond, ltb, List, [], ◌∷◌, ◌++◌, Option, Some, None, option_map, is_some, slice_index, All, refl}
 use Rattle.std.proofs.lemmas.List.Elements.{All-append, All-cons, All-head, All-nil, All-tail}
 use Rattle.market_types.specs.declared.entry.End.{End}
 use Rattle.market_types.specs.declared.message.Message.{Message}
@@ -13,7 +13,7 @@ use Rattle.event_queue.proofs.Kept.{all-joined, all-least, all-without}
 use Rattle.market_opening.specs.declared.opening.Opening.{Opening}
 use Rattle.market_opening.specs.declared.posting.Posting.{Posting}
 use Rattle.market_opening.specs.declared.posting.Posting.TheVariants.{To, WakeAt}
-use Rattle.kernel_mail.specs.Post.{Post, nothing_waits, put_back, taken}
+use Rattle.kernel_mail.specs.Post.{Post, nothing_waits, taken}
 use Rattle.kernel_mail.specs.Send.{all_sent, message_of, order_at, sent}
 use Rattle.kernel_mail.proofs.Posts.{all-joins}
 use Rattle.market_floor.specs.Reaction.{reaction}

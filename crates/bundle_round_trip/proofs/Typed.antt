@@ -1,5 +1,5 @@
 -- What types and texts give together.
-use Rattle.std.proofs.Common.{◌≡◌, ℕ, ◌<◌, ◌≤◌, ◌^◌, List, [], ◌∷◌, ◌++◌, length, map, All, Option, None, Some, sym, subst}
+use Rattle.std.proofs.Common.{◌≡◌, ℕ, ◌<◌, ◌^◌, List, [], ◌∷◌, ◌++◌, length, map, All, Option, None, Some, sym, subst}
 use Rattle.std.proofs.lemmas.List.Elements.{All-append, All-cons, All-head, All-map, All-nil, All-tail}
 use Rattle.market_types.specs.declared.feed.Feed.{Feed}
 use Rattle.market_types.specs.declared.message.Body.{Body}
@@ -16,8 +16,6 @@ use Rattle.bundle_frames.specs.declared.closing.ClosingStock.{ClosingStock}
 use Rattle.frame_parts.specs.Bodies.{HasRanges as HasBodyRanges}
 use Rattle.frame_reader.specs.Frames.{HasRanges}
 use Rattle.frame_reader.specs.declared.frame.Frame.TheVariants as frame
-use Rattle.branch_tree.specs.declared.branch.Branch.{Branch}
-use Rattle.branch_tree.specs.Names.{IsNameLength}
 use Rattle.branch_tree.specs.Segments.{segment_at}
 use Rattle.bundle_reader.specs.Bundle.{closing_list}
 use Rattle.kernel_core.specs.Until.{Run, behind}

@@ -1,5 +1,5 @@
 -- Numbers and texts among a message's fields: what types bound, and what they leave.
-use Rattle.std.specs.Prelude.{◌<◌, ◌≤◌, ◌^◌, ℕ, Bool, true, false, IsTrue, not, ◌&&◌, ◌||◌, List, [], ◌∷◌, length, All, Some}
+use Rattle.std.specs.Prelude.{◌<◌, ◌^◌, ℕ, Bool, true, false, IsTrue, not, ◌&&◌, ◌||◌, List, [], ◌∷◌, length, All, Some}
 use Rattle.std.specs.Int.{w64}
 use Rattle.std.specs.Int.RustNames.{FitsSigned}
 use Rattle.market_types.specs.declared.feed.Feed.{Feed}

@@ -1,4 +1,4 @@
-use Rattle.std.proofs.Common.{◌≡◌, true, codes, replicate, refl}
+use Rattle.std.proofs.Common.{codes, replicate, refl}
 use Rattle.wire_fields.specs.Kinds.{is_good}
 use Rattle.wire_fields.specs.Values.{is_in_range}
 use Rattle.bundle_round_trip.specs.Spelled.{HasMessageTexts}
