@@ -6,25 +6,46 @@ use Rattle.study_file.specs.Tables.{table_of}
 use Rattle.study_tables.specs.declared.refusal.Refusal.{Refusal}
 use Rattle.study_accept.specs.Accepted.{StudyTold, study_of, study_told}
 use Rattle.study_accept.specs.declared.study.Study.{Study}
+use Rattle.command_words.specs.declared.mark.Mark.{Mark}
+use Rattle.rewind_targets.specs.declared.aimed.Aimed.{Aimed}
+use Rattle.rewind_targets.specs.declared.aimed.Aimed.TheVariants.{At, NoBranch}
+use Rattle.rewind_targets.specs.declared.past.Past.{Past}
+use Rattle.rewind_targets.specs.Targets.{aimed_at, past_of}
 use Rattle.large_study.specs.LargeStudy.{large_study}
 use Rattle.abides_run.specs.declared.ending.Ending.{Ending}
 use Rattle.abides_run.specs.declared.found.Found.{Found}
 use Rattle.abides_run.specs.declared.request.Request.{Request}
 use Rattle.abides_run.specs.declared.request.Request.TheVariants.{File, Large}
 use Rattle.abides_run.specs.declared.request.Task.{Task}
-use Rattle.abides_run.specs.declared.request.Task.TheVariants.{Lines}
+use Rattle.abides_run.specs.declared.request.Task.TheVariants.{Run, Check, Table, Lines, Rewind}
 use Rattle.abides_run.specs.Words.{asked_of, IsLarge}
-use Rattle.abides_run.specs.Verdict.{Verdict, Files, no_file, file_too_long, accepted, most_bytes, series_of, judged, verdict_on_series, verdict_on_table, verdict_on_bytes, verdict_on_study, verdict_on_text, verdict_on_large, verdict_for, verdict, IsAsked, large_limit}
+use Rattle.abides_run.specs.Verdict.{Verdict, Files, no_file, file_too_long, accepted, verdict_on_past, verdict_on_aimed, verdict_on_task, most_bytes, series_of, judged, verdict_on_series, verdict_on_table, verdict_on_bytes, verdict_on_study, verdict_on_text, verdict_on_large, verdict_for, verdict, IsAsked, large_limit}
+use Rattle.abides_run.specs.Rewinds.{lasts_of}
 use Rattle.abides_run.specs.Fetched.{named, series_after, series_behind, fetched_for, fetched}
 use Rattle.abides_run.specs.Statuses.{status_of, Names}
 use Rattle.abides_run.specs.Ends.{Ends, Fetches, IsSought}
 use Rattle.abides_run.specs.declared.status.Status.{Status}
 use Rattle.abides_run.specs.declared.status.Status.TheVariants as status
 
+past_asked : (marks : List Mark) (places : ℕ) (s : StudyTold) (past : Option Past) → IsAsked (verdict_on_past marks places s past)
+past_asked marks places s None = tt
+past_asked marks places s (Some past) = tt
+
+aimed_asked : (marks : List Mark) (places : ℕ) (s : StudyTold) (aimed : Aimed) → IsAsked (verdict_on_aimed marks places s aimed)
+aimed_asked marks places s (NoBranch i) = tt
+aimed_asked marks places s (At targets) = past_asked marks places s (past_of (lasts_of s.course) targets)
+
+task_asked : (task : Task) (s : StudyTold) → IsAsked (verdict_on_task task s)
+task_asked Run s = tt
+task_asked Check s = tt
+task_asked Table s = tt
+task_asked (Lines bytes) s = tt
+task_asked (Rewind marks places) s = aimed_asked marks places s (aimed_at s.course.plan.branches marks)
+
 -- whatever the files hold, the words asked for them
 judged_asked : (task : Task) (r : Result StudyTold Refusal) → IsAsked (judged task r)
 judged_asked task (Err r) = tt
-judged_asked task (Ok s) = tt
+judged_asked task (Ok s) = task_asked task s
 
 series_asked : (task : Task) (table : Members) (name : List ℕ) (answer : Content) → IsAsked (verdict_on_series task table name answer)
 series_asked task table name absent = tt
@@ -60,6 +81,8 @@ series_ends task table name answer status.TooLong told f = record {
 series_ends task table name answer (status.Refused rule place) told f = absurd f
 series_ends task table name answer status.ReadFault told f = record { cause = series_asked task table name answer; named = inl f }
 series_ends task table name answer status.WriteFault told f = absurd f
+series_ends task table name answer status.NoBranch told f = absurd f
+series_ends task table name answer status.NoEvent told f = absurd f
 series_ends task table name answer status.Memory told f = record { cause = tt; named = tt }
 
 pub series_unfetched : (files : Option Files) (table : Members) (name : List ℕ) (st : Status) (told : List ℕ) → Some name ≡ series_of table
@@ -87,8 +110,8 @@ series_unnamed (Some library) table is =
 -- the study that the tables say, with the bytes of its series file
 pub study_read : (files : Option Files) (bytes : List ℕ) (table : Members) (series : Option (List ℕ)) (s : StudyTold) → table_of bytes ≡ Some table
     → IfSome files (λ library. (task : Task) → verdict_on_table library task table (series_of table) ≡ judged task (study_of table series))
-    → ((task : Task) → judged task (study_of table series) ≡ accepted task s)
-    → IfSome files (λ library. (task : Task) → verdict_on_bytes library task (table_of bytes) ≡ accepted task s)
+    → ((task : Task) → judged task (study_of table series) ≡ verdict_on_task task s)
+    → IfSome files (λ library. (task : Task) → verdict_on_bytes library task (table_of bytes) ≡ verdict_on_task task s)
 study_read None bytes table series s has with_series says = tt
 study_read (Some library) bytes table series s has with_series says =
     λ task. ap (λ (t : Option Members). verdict_on_bytes library task t) has ∙ with_series task ∙ says task
@@ -155,6 +178,8 @@ study_ends library task study answer status.TooLong told f = record {
 study_ends library task study answer (status.Refused rule place) told f = absurd f
 study_ends library task study answer status.ReadFault told f = record { cause = study_asked library task study answer; named = inl f }
 study_ends library task study answer status.WriteFault told f = absurd f
+study_ends library task study answer status.NoBranch told f = absurd f
+study_ends library task study answer status.NoEvent told f = absurd f
 study_ends library task study answer status.Memory told f = record { cause = tt; named = tt }
 
 pub study_unfetched : (files : Option Files) (task : Task) (study : List ℕ) (st : Status) (told : List ℕ)
@@ -165,8 +190,8 @@ study_unfetched (Some library) task study st told f = study_ends library task st
 
 pub study_found : (files : Option Files) (task : Task) (study bytes : List ℕ) (s : StudyTold)
     → IfSome files (λ library. content (held library study) most_bytes ≡ whole bytes)
-    → IfSome files (λ library. (t : Task) → verdict_on_bytes library t (table_of bytes) ≡ accepted t s)
-    → IfSome files (λ library. verdict_on_study library task study (content (held library study) most_bytes) ≡ accepted task s)
+    → IfSome files (λ library. (t : Task) → verdict_on_bytes library t (table_of bytes) ≡ verdict_on_task t s)
+    → IfSome files (λ library. verdict_on_study library task study (content (held library study) most_bytes) ≡ verdict_on_task task s)
 study_found None task study bytes s has says = tt
 study_found (Some library) task study bytes s has says = ap (λ (a : Content). verdict_on_study library task study a) has ∙ says task
 
@@ -179,6 +204,8 @@ names_more come other names status.TooLong name n = n
 names_more come other names (status.Refused rule place) name n = tt
 names_more come other names status.ReadFault name n = inr n
 names_more come other names status.WriteFault name n = tt
+names_more come other names status.NoBranch name n = n
+names_more come other names status.NoEvent name n = n
 names_more come other names status.Memory name n = tt
 
 bytes_end : (library : Files) (task : Task) (study bytes : List ℕ) (st : Status) (name : List ℕ)
@@ -246,9 +273,9 @@ text_read text table has = ap (λ (t : Option Members). verdict_on_text (Lines (
 
 -- the search for a file's study, or for a large study, is the search for what the words ask for
 pub file_finds : (r : Result Found Ending) (files : Option Files) (words : List (List ℕ)) (task : Task) (study : List ℕ) → Some (File task study) ≡ asked_of words
-    → IfOk r (λ f. IfSome files (λ library. verdict_on_study library task study (content (held library study) most_bytes) ≡ accepted f.task (study_told f.study)))
-    → IfOk r (λ f. IfSome files (λ library. verdict library words ≡ accepted f.task (study_told f.study)))
-file_finds (Ok f) files words task study asks says = file_found files words task study (accepted f.task (study_told f.study)) asks says
+    → IfOk r (λ f. IfSome files (λ library. verdict_on_study library task study (content (held library study) most_bytes) ≡ verdict_on_task f.task (study_told f.study)))
+    → IfOk r (λ f. IfSome files (λ library. verdict library words ≡ verdict_on_task f.task (study_told f.study)))
+file_finds (Ok f) files words task study asks says = file_found files words task study (verdict_on_task f.task (study_told f.study)) asks says
 file_finds (Err e) files words task study asks says = tt
 
 pub file_misses : (r : Result Found Ending) (files : Option Files) (words : List (List ℕ)) (task : Task) (study : List ℕ) → Some (File task study) ≡ asked_of words
@@ -258,9 +285,9 @@ file_misses (Ok f) files words task study asks ends = tt
 file_misses (Err e) files words task study asks ends = file_unfound files words task study e.status (string_bytes e.name) asks ends
 
 pub large_finds : (r : Result Found Ending) (files : Option Files) (words : List (List ℕ)) (number : ℕ) → Some (Large number) ≡ asked_of words
-    → IfOk r (λ f. verdict_on_large (large_study number large_limit) ≡ accepted f.task (study_told f.study))
-    → IfOk r (λ f. IfSome files (λ library. verdict library words ≡ accepted f.task (study_told f.study)))
-large_finds (Ok f) files words number asks says = large_found files words number (accepted f.task (study_told f.study)) asks says
+    → IfOk r (λ f. verdict_on_large (large_study number large_limit) ≡ verdict_on_task f.task (study_told f.study))
+    → IfOk r (λ f. IfSome files (λ library. verdict library words ≡ verdict_on_task f.task (study_told f.study)))
+large_finds (Ok f) files words number asks says = large_found files words number (verdict_on_task f.task (study_told f.study)) asks says
 large_finds (Err e) files words number asks says = tt
 
 pub large_misses : (r : Result Found Ending) (files : Option Files) (words : List (List ℕ)) (number : ℕ) → Some (Large number) ≡ asked_of words

@@ -1,6 +1,10 @@
+pub mod Aiming
 pub mod Answered
 pub mod Bundles
 pub mod Come
 pub mod Fetching
+pub mod Finishing
+pub mod Holding
 pub mod Performing
 pub mod Speaking
+pub mod Strides

@@ -1,27 +1,34 @@
 -- What is done with a study ends as its parts end.
-use Rattle.std.proofs.Common.{◌≡◌, ◌≤◌, ◌+◌, ℕ, List, Option, Ok, Err, [], append-nil, refl, sym, subst, inl, inr, arith}
+use Rattle.std.proofs.Common.{◌≡◌, ◌⊎◌, ◌≤◌, ◌+◌, ℕ, List, Option, Ok, Err, [], append-nil, refl, sym, ap, ◌∙◌, subst, inl, inr, arith}
+use Rattle.command_words.specs.declared.mark.Mark.{Mark}
+use Rattle.outside.specs.Rose.{Rose}
 use Rattle.outside.specs.Taken.{appended, TookPrefix}
 use Rattle.study_accept.specs.Accepted.{StudyTold}
 use Rattle.abides_run.specs.declared.request.Task.{Task}
-use Rattle.abides_run.specs.declared.request.Task.TheVariants.{Run, Check, Table, Lines}
-use Rattle.abides_run.specs.Output.{counts_line, study_bundle, study_events, study_lines, study_table, Probes, written, simulated}
-use Rattle.abides_run.specs.Statuses.{Counts}
-use Rattle.abides_run.specs.Performed.{Performed, Sent, IsUnsent}
+use Rattle.abides_run.specs.declared.request.Task.TheVariants.{Rewind}
+use Rattle.abides_run.specs.Fetched.{arguments_of}
+use Rattle.abides_run.specs.Output.{Probes, written, simulated, allowed}
+use Rattle.abides_run.specs.Verdict.{Verdict, accepted, verdict_on_task, IsStudy, output, distinct, allowance}
+use Rattle.abides_run.specs.Statuses.{Cause, Counts, IsRefusal, IsStill, Names, NamesOne}
+use Rattle.abides_run.specs.Headline.{Seen, Fulfilled}
+use Rattle.abides_run.specs.Performed.{Finished, IsFinal, Performed, Sent, IsUnsent}
 use Rattle.abides_run.specs.declared.status.Status.{Status}
 use Rattle.abides_run.specs.declared.status.Status.TheVariants as status
 use Rattle.abides_run.proofs.Answered.{nothing_taken}
 
--- all steps were counted before anything was sent
-unsent_counts : (events old new : ℕ) (took_before took : Option (List ℕ)) (st : Status) → IsUnsent st → new ≡ old + events
-    → Counts events old new took_before took st
-unsent_counts events old new took_before took status.Ok u all = absurd u
-unsent_counts events old new took_before took status.Usage u all = absurd u
-unsent_counts events old new took_before took status.NoStudy u all = absurd u
-unsent_counts events old new took_before took status.TooLong u all = absurd u
-unsent_counts events old new took_before took (status.Refused rule place) u all = absurd u
-unsent_counts events old new took_before took status.ReadFault u all = absurd u
-unsent_counts events old new took_before took status.WriteFault u all = all
-unsent_counts events old new took_before took status.Memory u all = (omega (arith, all), omega (arith, all), λ n. all)
+-- enough steps were counted before anything was sent, and no more than may be
+unsent_counts : (events more old new : ℕ) (took_before took : Option (List ℕ)) (st : Status) → IsUnsent st → old + events ≤ new → new ≤ old + events + more
+    → Counts events more old new took_before took st
+unsent_counts events more old new took_before took status.Ok u least most = absurd u
+unsent_counts events more old new took_before took status.Usage u least most = absurd u
+unsent_counts events more old new took_before took status.NoStudy u least most = absurd u
+unsent_counts events more old new took_before took status.TooLong u least most = absurd u
+unsent_counts events more old new took_before took (status.Refused rule place) u least most = absurd u
+unsent_counts events more old new took_before took status.ReadFault u least most = absurd u
+unsent_counts events more old new took_before took status.WriteFault u least most = (least, most)
+unsent_counts events more old new took_before took status.NoBranch u least most = absurd u
+unsent_counts events more old new took_before took status.NoEvent u least most = absurd u
+unsent_counts events more old new took_before took status.Memory u least most = (omega (arith, least), most, λ n. least)
 
 unsent_other : (st : Status) → IsUnsent st → ¬ (st ≡ status.Ok)
 unsent_other st u e = subst IsUnsent e u
@@ -31,13 +38,13 @@ whole_taken : (old new : Option (List ℕ)) (bytes : List ℕ) → new ≡ appen
 whole_taken old new bytes took = record { part = bytes; rest = []; split = append-nil bytes; took = took }
 
 -- the bytes were sent
-pub sent_all : (bytes : List ℕ) (events reads writes now old new : ℕ) (before after : Option (List ℕ)) → new ≡ old + events
+pub sent_all : (bytes : List ℕ) (events more reads writes now old new : ℕ) (before after : Option (List ℕ)) → old + events ≤ new → new ≤ old + events + more
     → Sent bytes writes now before after (Ok tt)
-    → Performed bytes events (record { reads = reads; writes = writes; taken = before; steps = old }) (record { reads = reads; writes = now; taken = after; steps = new }) status.Ok
-sent_all bytes events reads writes now old new before after all s = record {
+    → Performed bytes events more (record { reads = reads; writes = writes; taken = before; steps = old }) (record { reads = reads; writes = now; taken = after; steps = new }) status.Ok
+sent_all bytes events more reads writes now old new before after least most s = record {
   ended = inl refl;
   whole = λ e. s.whole;
-  counter = all;
+  counter = (least, most);
   cut = whole_taken before after bytes s.whole;
   fault = λ e. cc;
   steady = λ e. s.steady;
@@ -45,13 +52,13 @@ sent_all bytes events reads writes now old new before after all s = record {
 }
 
 -- they were not, or not all
-pub sent_some : (bytes : List ℕ) (events reads writes now old new : ℕ) (before after : Option (List ℕ)) (st : Status) → new ≡ old + events
+pub sent_some : (bytes : List ℕ) (events more reads writes now old new : ℕ) (before after : Option (List ℕ)) (st : Status) → old + events ≤ new → new ≤ old + events + more
     → Sent bytes writes now before after (Err st)
-    → Performed bytes events (record { reads = reads; writes = writes; taken = before; steps = old }) (record { reads = reads; writes = now; taken = after; steps = new }) st
-sent_some bytes events reads writes now old new before after st all s = record {
+    → Performed bytes events more (record { reads = reads; writes = writes; taken = before; steps = old }) (record { reads = reads; writes = now; taken = after; steps = new }) st
+sent_some bytes events more reads writes now old new before after st least most s = record {
   ended = inr s.unsent;
   whole = λ e. absurd (unsent_other st s.unsent e);
-  counter = unsent_counts events old new before after st s.unsent all;
+  counter = unsent_counts events more old new before after st s.unsent least most;
   cut = s.cut;
   fault = s.fault;
   steady = λ e. absurd (unsent_other st s.unsent e);
@@ -59,9 +66,9 @@ sent_some bytes events reads writes now old new before after st all s = record {
 }
 
 -- memory was wanting before anything was sent
-pub wanting : (bytes : List ℕ) (events reads writes old new : ℕ) (taken : Option (List ℕ)) → old ≤ new → new ≤ old + events
-    → Performed bytes events (record { reads = reads; writes = writes; taken = taken; steps = old }) (record { reads = reads; writes = writes; taken = taken; steps = new }) status.Memory
-wanting bytes events reads writes old new taken least most = record {
+pub wanting : (bytes : List ℕ) (events more reads writes old new : ℕ) (taken : Option (List ℕ)) → old ≤ new → new ≤ old + events + more
+    → Performed bytes events more (record { reads = reads; writes = writes; taken = taken; steps = old }) (record { reads = reads; writes = writes; taken = taken; steps = new }) status.Memory
+wanting bytes events more reads writes old new taken least most = record {
   ended = inr tt;
   whole = λ e. cc;
   counter = (least, most, λ n. absurd (n refl));
@@ -71,30 +78,115 @@ wanting bytes events reads writes old new taken least most = record {
   never_falls = omega arith;
 }
 
--- a run was asked for
-pub run_performed : (probes : Probes) (t : Task) (s : StudyTold) (writes now old new : ℕ) (before after : Option (List ℕ)) (st : Status) → t ≡ Run
-    → ((reads : ℕ) → Performed (study_bundle s.course) (study_events s.course) (record { reads = reads; writes = writes; taken = before; steps = old }) (record { reads = reads; writes = now; taken = after; steps = new }) st)
-    → (reads : ℕ) → Performed (written probes t s) (simulated t s) (record { reads = reads; writes = writes; taken = before; steps = old }) (record { reads = reads; writes = now; taken = after; steps = new }) st
-run_performed probes t s writes now old new before after st is p =
-    subst (λ (x : Task). (reads : ℕ) → Performed (written probes x s) (simulated x s) (record { reads = reads; writes = writes; taken = before; steps = old }) (record { reads = reads; writes = now; taken = after; steps = new }) st) (sym is) p
+-- What is done with an accepted study ends with 0, 7 or 10.
+unsent_cause : (come : Verdict) (st : Status) → IsStudy come → IsUnsent st → Cause come st
+unsent_cause come status.Ok s u = absurd u
+unsent_cause come status.Usage s u = absurd u
+unsent_cause come status.NoStudy s u = absurd u
+unsent_cause come status.TooLong s u = absurd u
+unsent_cause come (status.Refused rule place) s u = absurd u
+unsent_cause come status.ReadFault s u = absurd u
+unsent_cause come status.WriteFault s u = s
+unsent_cause come status.NoBranch s u = absurd u
+unsent_cause come status.NoEvent s u = absurd u
+unsent_cause come status.Memory s u = tt
 
--- a check was asked for
-pub check_performed : (probes : Probes) (t : Task) (s : StudyTold) (writes now old new : ℕ) (before after : Option (List ℕ)) (st : Status) → t ≡ Check
-    → ((reads : ℕ) → Performed (counts_line s.course) 0 (record { reads = reads; writes = writes; taken = before; steps = old }) (record { reads = reads; writes = now; taken = after; steps = new }) st)
-    → (reads : ℕ) → Performed (written probes t s) (simulated t s) (record { reads = reads; writes = writes; taken = before; steps = old }) (record { reads = reads; writes = now; taken = after; steps = new }) st
-check_performed probes t s writes now old new before after st is p =
-    subst (λ (x : Task). (reads : ℕ) → Performed (written probes x s) (simulated x s) (record { reads = reads; writes = writes; taken = before; steps = old }) (record { reads = reads; writes = now; taken = after; steps = new }) st) (sym is) p
+performed_cause : (come : Verdict) (st : Status) → IsStudy come → (st ≡ status.Ok) ⊎ IsUnsent st → Cause come st
+performed_cause come st s (inl ok) = subst (λ (x : Status). Cause come x) (sym ok) s
+performed_cause come st s (inr u) = unsent_cause come st s u
 
--- a table was asked for
-pub table_performed : (probes : Probes) (t : Task) (s : StudyTold) (writes now old new : ℕ) (before after : Option (List ℕ)) (st : Status) → t ≡ Table
-    → ((reads : ℕ) → Performed (study_table probes s.course) (study_events s.course) (record { reads = reads; writes = writes; taken = before; steps = old }) (record { reads = reads; writes = now; taken = after; steps = new }) st)
-    → (reads : ℕ) → Performed (written probes t s) (simulated t s) (record { reads = reads; writes = writes; taken = before; steps = old }) (record { reads = reads; writes = now; taken = after; steps = new }) st
-table_performed probes t s writes now old new before after st is p =
-    subst (λ (x : Task). (reads : ℕ) → Performed (written probes x s) (simulated x s) (record { reads = reads; writes = writes; taken = before; steps = old }) (record { reads = reads; writes = now; taken = after; steps = new }) st) (sym is) p
+unsent_wanting : (st : Status) (old new : ℕ) → IsUnsent st → (st ≡ status.WriteFault → Rose old new) → ¬ (Rose old new) → st ≡ status.Memory
+unsent_wanting status.Ok old new u fault r = absurd u
+unsent_wanting status.Usage old new u fault r = absurd u
+unsent_wanting status.NoStudy old new u fault r = absurd u
+unsent_wanting status.TooLong old new u fault r = absurd u
+unsent_wanting (status.Refused rule place) old new u fault r = absurd u
+unsent_wanting status.ReadFault old new u fault r = absurd u
+unsent_wanting status.WriteFault old new u fault r = absurd (r (fault refl))
+unsent_wanting status.NoBranch old new u fault r = absurd u
+unsent_wanting status.NoEvent old new u fault r = absurd u
+unsent_wanting status.Memory old new u fault r = refl
 
--- lines were asked for
-pub lines_performed : (probes : Probes) (t : Task) (bytes : ℕ) (s : StudyTold) (writes now old new : ℕ) (before after : Option (List ℕ)) (st : Status) → t ≡ Lines bytes
-    → ((reads : ℕ) → Performed (study_lines bytes s.course) (study_events s.course) (record { reads = reads; writes = writes; taken = before; steps = old }) (record { reads = reads; writes = now; taken = after; steps = new }) st)
-    → (reads : ℕ) → Performed (written probes t s) (simulated t s) (record { reads = reads; writes = writes; taken = before; steps = old }) (record { reads = reads; writes = now; taken = after; steps = new }) st
-lines_performed probes t bytes s writes now old new before after st is p =
-    subst (λ (x : Task). (reads : ℕ) → Performed (written probes x s) (simulated x s) (record { reads = reads; writes = writes; taken = before; steps = old }) (record { reads = reads; writes = now; taken = after; steps = new }) st) (sym is) p
+performed_complete : (st : Status) (old new : ℕ) → (st ≡ status.Ok) ⊎ IsUnsent st → (st ≡ status.WriteFault → Rose old new) → ¬ (Rose old new)
+    → (st ≡ status.Ok) ⊎ (st ≡ status.Memory)
+performed_complete st old new (inl ok) fault r = inl ok
+performed_complete st old new (inr u) fault r = inr (unsent_wanting st old new u fault r)
+
+performed_fulfils : (probes : Probes) (task : Task) (s : StudyTold) (before after : Seen) (st : Status)
+    → Performed (written probes task s) (simulated task s) (allowed task s) before after st
+    → Fulfilled (accepted task s) (written probes task s) (simulated task s) (allowed task s) before after st
+performed_fulfils probes task s before after st p = record {
+  output = p.whole;
+  counter = p.counter;
+  cause = performed_cause (accepted task s) st tt p.ended;
+  exact = λ n r. absurd (n tt);
+  prefix = p.cut;
+  complete = λ n r w. performed_complete st before.writes after.writes p.ended p.fault w;
+}
+
+-- what such a status says
+record IsDone (st : Status) : Type 0 where
+  final : IsFinal st
+  going : ¬ IsRefusal st
+  moving : ¬ IsStill st
+  names : (come : Verdict) (fetched : List (List ℕ)) (name : List ℕ) → Names come fetched st name
+  argument : (arguments : List (List ℕ)) (name : List ℕ) → NamesOne arguments st name
+
+unsent_done : (st : Status) → IsUnsent st → IsDone st
+unsent_done status.Ok u = absurd u
+unsent_done status.Usage u = absurd u
+unsent_done status.NoStudy u = absurd u
+unsent_done status.TooLong u = absurd u
+unsent_done (status.Refused rule place) u = absurd u
+unsent_done status.ReadFault u = absurd u
+unsent_done status.WriteFault u = record { final = tt; going = λ r. r; moving = λ r. r; names = λ come fetched name. tt; argument = λ arguments name. tt }
+unsent_done status.NoBranch u = absurd u
+unsent_done status.NoEvent u = absurd u
+unsent_done status.Memory u = record { final = tt; going = λ r. r; moving = λ r. r; names = λ come fetched name. tt; argument = λ arguments name. tt }
+
+performed_done : (st : Status) → (st ≡ status.Ok) ⊎ IsUnsent st → IsDone st
+performed_done st (inl ok) =
+    subst IsDone (sym ok) (record { final = tt; going = λ r. r; moving = λ r. r; names = λ come fetched name. tt; argument = λ arguments name. tt })
+performed_done st (inr u) = unsent_done st u
+
+-- what was done with an accepted study
+pub performed_finishes : (probes : Probes) (task : Task) (s : StudyTold) (arguments : List (List ℕ)) (before after : Seen) (st : Status) (name : List ℕ)
+    → Performed (written probes task s) (simulated task s) (allowed task s) before after st
+    → Finished (accepted task s) probes arguments before after st name
+performed_finishes probes task s arguments before after st name p =
+    let done = performed_done st p.ended in record {
+      final = done.final;
+      fulfilled = performed_fulfils probes task s before after st p;
+      named = λ fetched. done.names (accepted task s) fetched name;
+      argument = done.argument arguments name;
+      fault = p.fault;
+      steady = p.steady;
+      refused = λ r. absurd (done.going r);
+      unmoved = λ r. absurd (done.moving r);
+      out_still = λ r. absurd (done.going r);
+      never_falls = p.never_falls;
+    }
+
+-- A task whose verdict is that the study is accepted was performed, and its status told with a name.
+pub task_finishes : (probes : Probes) (t u : Task) (s : StudyTold) (writes now old new : ℕ) (before after : Option (List ℕ)) (st told : Status) (name : List ℕ)
+    → t ≡ u → told ≡ st → verdict_on_task u s ≡ accepted u s
+    → ((reads : ℕ) → Performed (written probes u s) (simulated u s) (allowed u s) (record { reads = reads; writes = writes; taken = before; steps = old }) (record { reads = reads; writes = now; taken = after; steps = new }) st)
+    → (reads : ℕ) → Finished (verdict_on_task t s) probes (arguments_of t) (record { reads = reads; writes = writes; taken = before; steps = old }) (record { reads = reads; writes = now; taken = after; steps = new }) told name
+task_finishes probes t u s writes now old new before after st told name is same come p reads =
+    let was : Seen = record { reads = reads; writes = writes; taken = before; steps = old } in
+    let seen : Seen = record { reads = reads; writes = now; taken = after; steps = new } in
+    subst (λ (x : Task). Finished (verdict_on_task x s) probes (arguments_of x) was seen told name) (sym is)
+    (subst (λ (v : Verdict). Finished v probes (arguments_of u) was seen told name) (sym come)
+    (subst (λ (x : Status). Finished (accepted u s) probes (arguments_of u) was seen x name) (sym same)
+    (performed_finishes probes u s (arguments_of u) was seen st name (p reads))))
+
+-- the same of a rewind, which ends as its parts say
+pub rewind_finishes : (probes : Probes) (t : Task) (marks shown : List Mark) (places : ℕ) (s : StudyTold) (writes now old new : ℕ) (before after : Option (List ℕ)) (st : Status) (name : List ℕ)
+    → t ≡ Rewind marks places → shown ≡ marks
+    → ((reads : ℕ) (given : Probes) → Finished (verdict_on_task (Rewind shown places) s) given (arguments_of (Rewind shown places)) (record { reads = reads; writes = writes; taken = before; steps = old }) (record { reads = reads; writes = now; taken = after; steps = new }) st name)
+    → (reads : ℕ) → Finished (verdict_on_task t s) probes (arguments_of t) (record { reads = reads; writes = writes; taken = before; steps = old }) (record { reads = reads; writes = now; taken = after; steps = new }) st name
+rewind_finishes probes t marks shown places s writes now old new before after st name is same f reads =
+    let was : Seen = record { reads = reads; writes = writes; taken = before; steps = old } in
+    let seen : Seen = record { reads = reads; writes = now; taken = after; steps = new } in
+    let whole : Rewind shown places ≡ t = ap (λ (ms : List Mark). Rewind ms places) same ∙ sym is in
+    subst (λ (x : Task). Finished (verdict_on_task x s) probes (arguments_of x) was seen st name) whole (f reads probes)

@@ -8,16 +8,17 @@ use Rattle.abides_run.specs.declared.request.Request.{Request}
 use Rattle.abides_run.specs.declared.request.Request.TheVariants.{File, Large}
 use Rattle.abides_run.specs.declared.request.Task.{Task}
 use Rattle.abides_run.specs.Words.{asked_of}
-use Rattle.abides_run.specs.Verdict.{Files, series_of, verdict}
-use Rattle.abides_run.specs.Fetched.{named, series_after, fetched, files_of}
-use Rattle.abides_run.specs.Statuses.{Speaks, SpeaksFor}
-use Rattle.abides_run.specs.Ends.{Ends}
-use Rattle.abides_run.specs.Headline.{Named}
-use Rattle.abides_run.specs.Performed.{IsUnsent}
+use Rattle.abides_run.specs.Verdict.{Verdict, Files, series_of, verdict}
+use Rattle.abides_run.specs.Output.{Probes}
+use Rattle.abides_run.specs.Fetched.{named, series_after, fetched, files_of, arguments_in}
+use Rattle.abides_run.specs.Statuses.{NamesOne, Speaks, SpeaksFor}
+use Rattle.abides_run.specs.Ends.{Ends, IsSought}
+use Rattle.abides_run.specs.Headline.{Named, Seen}
+use Rattle.abides_run.specs.Performed.{Finished, IsFinal}
 use Rattle.abides_run.specs.declared.status.Status.{Status}
 use Rattle.abides_run.specs.declared.status.Status.TheVariants as status
 use Rattle.abides_run.proofs.Fetching.{IsNamedEnd}
-use Rattle.abides_run.proofs.Answered.{ended_named, noted_named, performed_named}
+use Rattle.abides_run.proofs.Answered.{ended_named, finished_named, noted_named}
 
 -- a status names the one file that there is
 speaks_itself : (want : Status) (name : List ℕ) → Speaks (name ∷ []) want name
@@ -28,6 +29,8 @@ speaks_itself status.TooLong name = inl refl
 speaks_itself (status.Refused rule place) name = tt
 speaks_itself status.ReadFault name = inl refl
 speaks_itself status.WriteFault name = tt
+speaks_itself status.NoBranch name = tt
+speaks_itself status.NoEvent name = tt
 speaks_itself status.Memory name = tt
 
 pub named_speaks : (want st : Status) (name told : List ℕ) → IsNamedEnd want name st told → Speaks (name ∷ []) st told
@@ -64,6 +67,8 @@ speaks_more other files status.TooLong name s = inr s
 speaks_more other files (status.Refused rule place) name s = tt
 speaks_more other files status.ReadFault name s = inr s
 speaks_more other files status.WriteFault name s = tt
+speaks_more other files status.NoBranch name s = tt
+speaks_more other files status.NoEvent name s = tt
 speaks_more other files status.Memory name s = tt
 
 -- further files behind the one
@@ -78,6 +83,8 @@ speaks_first first files (status.Refused rule place) name s = tt
 speaks_first first files status.ReadFault name (inl is) = inl is
 speaks_first first files status.ReadFault name (inr none) = absurd none
 speaks_first first files status.WriteFault name s = tt
+speaks_first first files status.NoBranch name s = tt
+speaks_first first files status.NoEvent name s = tt
 speaks_first first files status.Memory name s = tt
 
 -- a study's file, or the series file that it names where these are its bytes
@@ -111,30 +118,54 @@ words_speak words st name (inl wanting) = ([], wanting_speaks (files_of (asked_o
 words_speak words st name (inr why) = ([], subst (λ (x : Status). Speaks (files_of (asked_of words) []) x name) (sym why.0) tt)
 
 -- what is done with a study ends with a status that speaks of no file
-unsent_speaks : (files : List (List ℕ)) (st : Status) (name : List ℕ) → IsUnsent st → Speaks files st name
-unsent_speaks files status.Ok name u = tt
-unsent_speaks files status.Usage name u = tt
-unsent_speaks files status.NoStudy name u = absurd u
-unsent_speaks files status.TooLong name u = absurd u
-unsent_speaks files (status.Refused rule place) name u = tt
-unsent_speaks files status.ReadFault name u = absurd u
-unsent_speaks files status.WriteFault name u = tt
-unsent_speaks files status.Memory name u = tt
+final_speaks : (files : List (List ℕ)) (st : Status) (name : List ℕ) → IsFinal st → Speaks files st name
+final_speaks files status.Ok name f = tt
+final_speaks files status.Usage name f = tt
+final_speaks files status.NoStudy name f = absurd f
+final_speaks files status.TooLong name f = absurd f
+final_speaks files (status.Refused rule place) name f = tt
+final_speaks files status.ReadFault name f = absurd f
+final_speaks files status.WriteFault name f = tt
+final_speaks files status.NoBranch name f = tt
+final_speaks files status.NoEvent name f = tt
+final_speaks files status.Memory name f = tt
 
-pub performed_speaks : (words : List (List ℕ)) (st : Status) (name : List ℕ) → (st ≡ status.Ok) ⊎ IsUnsent st → SpeaksFor words st name
-performed_speaks words st name (inl ok) = ([], subst (λ (x : Status). Speaks (files_of (asked_of words) []) x name) (sym ok) tt)
-performed_speaks words st name (inr u) = ([], unsent_speaks (files_of (asked_of words) []) st name u)
-
-pub performed_is_named : (files : Option Files) (words : List (List ℕ)) (st : Status) (name : List ℕ) → (st ≡ status.Ok) ⊎ IsUnsent st → Named files words st name
-performed_is_named files words st name ended = record {
-  told = performed_named files words st name ended;
-  always = performed_speaks words st name ended;
+-- something was done with the study, or what is asked for of it isn't there
+pub finished_is_named : (files : Option Files) (words : List (List ℕ)) (probes : Probes) (arguments : List (List ℕ)) (come : Verdict) (before after : Seen) (st : Status) (name : List ℕ)
+    → IfSome files (λ library. verdict library words ≡ come) → arguments ≡ arguments_in (asked_of words)
+    → Finished come probes arguments before after st name → Named files words st name
+finished_is_named files words probes arguments come before after st name is given f = record {
+  told = finished_named files words probes arguments come before after st name is f;
+  always = ([], final_speaks (files_of (asked_of words) []) st name f.final);
+  argument = subst (λ (words : List (List ℕ)). NamesOne words st name) given f.argument;
 }
+
+-- the search for a study ends with a status that speaks of no argument
+sought_one : (arguments : List (List ℕ)) (st : Status) (name : List ℕ) → IsSought st → NamesOne arguments st name
+sought_one arguments status.Ok name s = tt
+sought_one arguments status.Usage name s = tt
+sought_one arguments status.NoStudy name s = tt
+sought_one arguments status.TooLong name s = tt
+sought_one arguments (status.Refused rule place) name s = tt
+sought_one arguments status.ReadFault name s = tt
+sought_one arguments status.WriteFault name s = tt
+sought_one arguments status.NoBranch name s = absurd s
+sought_one arguments status.NoEvent name s = absurd s
+sought_one arguments status.Memory name s = tt
+
+early_one : (arguments : List (List ℕ)) (st : Status) (name : List ℕ) → (st ≡ status.Usage) ⊎ IsSought st → NamesOne arguments st name
+early_one arguments st name (inl faulty) = subst (λ (x : Status). NamesOne arguments x name) (sym faulty) tt
+early_one arguments st name (inr sought) = sought_one arguments st name sought
 
 -- the search ended without a study
 pub ended_is_named : (files : Option Files) (words : List (List ℕ)) (st : Status) (name : List ℕ)
-    → IfSome files (λ library. Ends (verdict library words) (fetched library words) st name) → SpeaksFor words st name → Named files words st name
-ended_is_named files words st name ends speaks = record { told = ended_named files words st name ends; always = speaks }
+    → (st ≡ status.Usage) ⊎ IsSought st → IfSome files (λ library. Ends (verdict library words) (fetched library words) st name) → SpeaksFor words st name
+    → Named files words st name
+ended_is_named files words st name early ends speaks = record {
+  told = ended_named files words st name ends;
+  always = speaks;
+  argument = early_one (arguments_in (asked_of words)) st name early;
+}
 
 -- the status stays, or memory was wanting for its line
 pub noted_stays : (files : Option Files) (words : List (List ℕ)) (name : List ℕ) (now st : Status)
@@ -143,4 +174,5 @@ noted_stays files words name now st (inl same) n = subst (λ (x : Status). Named
 noted_stays files words name now st (inr (wanting, other)) n = record {
   told = noted_named files words name now st (inr (wanting, other)) n.told;
   always = ([], wanting_speaks (files_of (asked_of words) []) now name wanting);
+  argument = subst (λ (x : Status). NamesOne (arguments_in (asked_of words)) x name) (sym wanting) tt;
 }

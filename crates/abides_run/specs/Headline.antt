@@ -3,10 +3,10 @@ use Rattle.std.specs.Prelude.{◌≡◌, ◌⊎◌, ◌≤◌, ℕ, List, Option
 use Rattle.outside.specs.Rose.{Rose}
 use Rattle.outside.specs.Taken.{appended, TookPrefix}
 use Rattle.abides_run.specs.Words.{asked_of, IsLarge}
-use Rattle.abides_run.specs.Verdict.{Verdict, Files, verdict, IsStudy, output, distinct}
+use Rattle.abides_run.specs.Verdict.{Verdict, Files, verdict, IsStudy, output, distinct, allowance}
 use Rattle.abides_run.specs.Output.{Probes}
-use Rattle.abides_run.specs.Fetched.{fetched}
-use Rattle.abides_run.specs.Statuses.{Cause, Counts, IsRefusal, Names, SpeaksFor, status_of}
+use Rattle.abides_run.specs.Fetched.{arguments_in, fetched}
+use Rattle.abides_run.specs.Statuses.{Cause, Counts, IsRefusal, IsStill, Names, SpeaksFor, NamesOne, status_of}
 use Rattle.abides_run.specs.Notes.{note}
 use Rattle.abides_run.specs.declared.status.Status.{Status}
 use Rattle.abides_run.specs.declared.status.Status.TheVariants.{Ok, Usage, ReadFault, WriteFault, Memory}
@@ -19,13 +19,14 @@ pub record Seen : Type 0 where
   pub taken : Option (List ℕ)
   pub steps : ℕ
 
--- What holds where words and files come to this verdict, of which these bytes are to be written and so many events are
--- to be simulated.
-pub record Fulfilled (come : Verdict) (bytes : List ℕ) (events : ℕ) (before after : Seen) (status : Status) : Type 0 where
+-- What holds where words and files come to this verdict, of which these bytes are to be written, and so many events and at
+-- most so many more are to be simulated.
+pub record Fulfilled (come : Verdict) (bytes : List ℕ) (events more : ℕ) (before after : Seen) (status : Status) : Type 0 where
   -- At status 0 out took the output and nothing else.
   pub output : status ≡ Ok → after.taken ≡ appended before.taken bytes
-  -- How many steps were counted: for a run each event of the study's segments once.
-  pub counter : Counts events before.steps after.steps before.taken after.taken status
+  -- How many steps were counted: for a run each event of the study's segments once, and no more. For a rewind they are as many
+  -- at least, and at most those besides that lead to its targets from the states that are sure to be kept.
+  pub counter : Counts events more before.steps after.steps before.taken after.taken status
   -- Each status has its cause, and without a study and with no fault each cause its status.
   pub cause : Cause come status
   pub exact : ¬ IsStudy come → ¬ (Rose before.reads after.reads) → (status ≡ status_of come) ⊎ (status ≡ Memory)
@@ -37,7 +38,7 @@ pub record Fulfilled (come : Verdict) (bytes : List ℕ) (events : ℕ) (before 
 
 -- What holds of all but the note. The files are there where the library tells them.
 pub record Answered (files : Option Files) (words : List (List ℕ)) (probes : Probes) (before after : Seen) (status : Status) : Type 0 where
-  pub told : IfSome files (λ held. Fulfilled (verdict held words) (output probes (verdict held words)) (distinct (verdict held words)) before after status)
+  pub told : IfSome files (λ held. Fulfilled (verdict held words) (output probes (verdict held words)) (distinct (verdict held words)) (allowance (verdict held words)) before after status)
   -- Faulty words are told as such, and the library is not asked: its count stands.
   pub usage : status ≡ Usage → asked_of words ≡ None
   pub not_asked : asked_of words ≡ None → (status ≡ Usage) ⊎ (status ≡ Memory)
@@ -48,21 +49,24 @@ pub record Answered (files : Option Files) (words : List (List ℕ)) (probes : P
   pub read_fault : status ≡ ReadFault → Rose before.reads after.reads
   pub write_fault : status ≡ WriteFault → Rose before.writes after.writes
   pub steady : status ≡ Ok → (after.reads ≡ before.reads) × (after.writes ≡ before.writes)
-  -- At a refusal nothing is taken, and the counter and out's count stand.
+  -- At a refusal nothing is taken and out's count stands; and the counter, but where an event isn't there.
   pub refused : IsRefusal status → after.taken ≡ before.taken
-  pub unmoved : IsRefusal status → after.steps ≡ before.steps
+  pub unmoved : IsStill status → after.steps ≡ before.steps
   pub out_still : IsRefusal status → after.writes ≡ before.writes
   pub reads_never_fall : before.reads ≤ after.reads
   pub writes_never_fall : before.writes ≤ after.writes
 
--- The file that the note's line names.
+-- The file or the argument that the note's line names.
 pub record Named (files : Option Files) (words : List (List ℕ)) (status : Status) (name : List ℕ) : Type 0 where
-  -- where the library tells its files, the one that is missing or too long, or one that was fetched
+  -- where the library tells its files, the one that is missing or too long, or one that was fetched; the first argument whose
+  -- branch isn't there, or whose event isn't, with the last event of its branch
   pub told : IfSome files (λ held. Names (verdict held words) (fetched held words) status name)
   -- in any case the study's, or the series file's that a study names
   pub always : SpeaksFor words status name
+  -- or one of the arguments
+  pub argument : NamesOne (arguments_in (asked_of words)) status name
 
--- What holds of the note, where the status speaks of a file with this name: the counts of failed writes to the notes, and
+-- What holds of the note, where the status speaks of this name: the counts of failed writes to the notes, and
 -- what the notes have taken, before and after.
 pub record Noted (name : List ℕ) (faults_before faults_after : ℕ) (before after : Option (List ℕ)) (status : Status) : Type 0 where
   -- The line for the status, and nothing at status 0.

@@ -1,4 +1,5 @@
 pub mod Words
+pub mod Rewinds
 pub mod Output
 pub mod Verdict
 pub mod Fetched

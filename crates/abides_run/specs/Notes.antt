@@ -2,13 +2,18 @@
 use Rattle.std.specs.Prelude.{ℕ, List, [], ◌∷◌, ◌++◌, codes}
 use Rattle.std.specs.Fmt.{decimal}
 use Rattle.abides_run.specs.declared.status.Status.{Status}
-use Rattle.abides_run.specs.declared.status.Status.TheVariants.{Ok, Usage, NoStudy, TooLong, Refused, ReadFault, WriteFault, Memory}
+use Rattle.abides_run.specs.declared.status.Status.TheVariants.{Ok, Usage, NoStudy, TooLong, Refused, ReadFault, WriteFault, NoBranch, NoEvent, Memory}
 
 -- the line for a broken rule
 abbrev pub refused_line : ℕ → ℕ → List ℕ
 refused_line rule place = codes "study refused: rule " ++ decimal rule ++ codes ", place " ++ decimal place ++ 10 ∷ []
 
--- the line for a status, where this is the name of the file that it speaks of
+-- a rewind's argument, with the number of the last event of the branch that it names
+abbrev pub past_event : List ℕ → ℕ → List ℕ
+past_event word last = word ++ codes ", last event " ++ decimal last
+
+-- the line for a status, where this is the name that it speaks of: a file's, a rewind's argument, or an argument with the last
+-- event of its branch
 abbrev pub note : List ℕ → Status → List ℕ
 note name Ok = []
 note name Usage = codes "usage: abides COMMAND STUDY [MORE...] [--workers N] [--places N]\n"
@@ -17,4 +22,6 @@ note name TooLong = codes "file too long: " ++ name ++ 10 ∷ []
 note name (Refused rule place) = refused_line rule place
 note name ReadFault = codes "read failed: " ++ name ++ 10 ∷ []
 note name WriteFault = codes "write failed\n"
+note name NoBranch = codes "no branch: " ++ name ++ 10 ∷ []
+note name NoEvent = codes "no event: " ++ name ++ 10 ∷ []
 note name Memory = codes "out of memory\n"

@@ -9,8 +9,9 @@ use Rattle.study_accept.specs.Accepted.{StudyTold}
 use Rattle.probe_desk.specs.Probe.{Meaning}
 use Rattle.branch_tables.specs.Tables as tables
 use Rattle.large_lines.specs.Report.{big_lines_of}
+use Rattle.abides_run.specs.Rewinds.{rewinds_of, steps_to_all, targets_of}
 use Rattle.abides_run.specs.declared.request.Task.{Task}
-use Rattle.abides_run.specs.declared.request.Task.TheVariants.{Run, Check, Table, Lines}
+use Rattle.abides_run.specs.declared.request.Task.TheVariants.{Run, Check, Table, Lines, Rewind}
 
 -- the bundle of a study: the trace of each branch
 unfoldable pub study_bundle : CourseTold → List ℕ
@@ -46,6 +47,7 @@ written probes Run s = study_bundle s.course
 written probes Check s = counts_line s.course
 written probes Table s = study_table probes s.course
 written probes (Lines bytes) s = study_lines bytes s.course
+written probes (Rewind marks places) s = rewinds_of s.course (targets_of s.course marks)
 
 -- a check simulates nothing
 abbrev pub simulated : Task → StudyTold → ℕ
@@ -53,3 +55,12 @@ simulated Run s = study_events s.course
 simulated Check s = 0
 simulated Table s = study_events s.course
 simulated (Lines bytes) s = study_events s.course
+simulated (Rewind marks places) s = study_events s.course
+
+-- how many steps may be made besides: those of a rewind from kept states on
+abbrev pub allowed : Task → StudyTold → ℕ
+allowed Run s = 0
+allowed Check s = 0
+allowed Table s = 0
+allowed (Lines bytes) s = 0
+allowed (Rewind marks places) s = steps_to_all s places (targets_of s.course marks)

@@ -2,10 +2,16 @@
 use Rattle.std.specs.Prelude.{◌≡◌, ◌⊎◌, ◌≤◌, ℕ, List, Option, Result, OnOk, OnErr, IfErr}
 use Rattle.outside.specs.Rose.{Rose}
 use Rattle.outside.specs.Taken.{appended, TookPrefix}
-use Rattle.abides_run.specs.Statuses.{Counts}
-use Rattle.abides_run.specs.Headline.{Seen}
+use Rattle.abides_run.specs.Output.{Probes}
+use Rattle.abides_run.specs.Verdict.{Verdict, output, distinct, allowance}
+use Rattle.abides_run.specs.Statuses.{Counts, IsRefusal, IsStill, Names, NamesOne}
+use Rattle.abides_run.specs.Headline.{Fulfilled, Seen}
 use Rattle.abides_run.specs.declared.status.Status.{Status}
-use Rattle.abides_run.specs.declared.status.Status.TheVariants.{Ok, Usage, NoStudy, TooLong, Refused, ReadFault, WriteFault, Memory}
+use Rattle.abides_run.specs.declared.status.Status.TheVariants.{Ok, Usage, NoStudy, TooLong, Refused, ReadFault, WriteFault, NoBranch, NoEvent, Memory}
+
+-- a study's stride: a copy is kept each so many events
+abbrev pub IsStride : ℕ → Type 0
+IsStride stride = (100 ≤ stride) × (stride ≤ 1000000)
 
 -- a status with which bytes are not all sent
 abbrev pub IsUnsent : Status → Type 0
@@ -16,6 +22,8 @@ IsUnsent TooLong = ⊥
 IsUnsent (Refused rule place) = ⊥
 IsUnsent ReadFault = ⊥
 IsUnsent WriteFault = Unit {0}
+IsUnsent NoBranch = ⊥
+IsUnsent NoEvent = ⊥
 IsUnsent Memory = Unit {0}
 
 -- These bytes were made and sent to a sink; or a first part of them, and why no more. The counts are those of the sink's
@@ -28,12 +36,39 @@ pub record Sent (bytes : List ℕ) (faults_before faults_after : ℕ) (before af
   pub steady : OnOk result (faults_after ≡ faults_before)
   pub never_falls : faults_before ≤ faults_after
 
--- All of these bytes were written once so many events were simulated, or why not.
-pub record Performed (bytes : List ℕ) (events : ℕ) (before after : Seen) (status : Status) : Type 0 where
+-- All of these bytes were written once so many events and at most so many more were simulated, or why not.
+pub record Performed (bytes : List ℕ) (events more : ℕ) (before after : Seen) (status : Status) : Type 0 where
   pub ended : (status ≡ Ok) ⊎ IsUnsent status
   pub whole : status ≡ Ok → after.taken ≡ appended before.taken bytes
-  pub counter : Counts events before.steps after.steps before.taken after.taken status
+  pub counter : Counts events more before.steps after.steps before.taken after.taken status
   pub cut : TookPrefix before.taken after.taken bytes
   pub fault : status ≡ WriteFault → Rose before.writes after.writes
   pub steady : status ≡ Ok → after.writes ≡ before.writes
+  pub never_falls : before.writes ≤ after.writes
+
+-- a status that comes once a study was found
+abbrev pub IsFinal : Status → Type 0
+IsFinal Ok = Unit {0}
+IsFinal Usage = ⊥
+IsFinal NoStudy = ⊥
+IsFinal TooLong = ⊥
+IsFinal (Refused rule place) = ⊥
+IsFinal ReadFault = ⊥
+IsFinal WriteFault = Unit {0}
+IsFinal NoBranch = Unit {0}
+IsFinal NoEvent = Unit {0}
+IsFinal Memory = Unit {0}
+
+-- What was asked for with these arguments was done with a study that was found, which comes to this verdict; or why not. The
+-- name is that of which the status speaks.
+pub record Finished (come : Verdict) (probes : Probes) (arguments : List (List ℕ)) (before after : Seen) (status : Status) (name : List ℕ) : Type 0 where
+  pub final : IsFinal status
+  pub fulfilled : Fulfilled come (output probes come) (distinct come) (allowance come) before after status
+  pub named : (fetched : List (List ℕ)) → Names come fetched status name
+  pub argument : NamesOne arguments status name
+  pub fault : status ≡ WriteFault → Rose before.writes after.writes
+  pub steady : status ≡ Ok → after.writes ≡ before.writes
+  pub refused : IsRefusal status → after.taken ≡ before.taken
+  pub unmoved : IsStill status → after.steps ≡ before.steps
+  pub out_still : IsRefusal status → after.writes ≡ before.writes
   pub never_falls : before.writes ≤ after.writes

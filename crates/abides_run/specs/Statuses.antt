@@ -1,10 +1,12 @@
 -- What each status of a run says.
 use Rattle.std.specs.Prelude.{◌≡◌, ℕ, ◌+◌, ◌≤◌, List, Option}
-use Rattle.abides_run.specs.Verdict.{Verdict, usage, no_file, file_too_long, refused, accepted, IsStudy, IsAsked}
+use Rattle.study_accept.specs.Accepted.{StudyTold}
+use Rattle.abides_run.specs.Verdict.{Verdict, usage, no_file, file_too_long, refused, no_branch, no_event, accepted, IsStudy, IsAsked}
 use Rattle.abides_run.specs.Words.{asked_of}
 use Rattle.abides_run.specs.Fetched.{IsAmong, files_of}
+use Rattle.abides_run.specs.Notes.{past_event}
 use Rattle.abides_run.specs.declared.status.Status.{Status}
-use Rattle.abides_run.specs.declared.status.Status.TheVariants.{Ok, Usage, NoStudy, TooLong, Refused, ReadFault, WriteFault, Memory}
+use Rattle.abides_run.specs.declared.status.Status.TheVariants.{Ok, Usage, NoStudy, TooLong, Refused, ReadFault, WriteFault, NoBranch, NoEvent, Memory}
 
 -- the status where nothing fails and memory is there
 abbrev pub status_of : Verdict → Status
@@ -12,6 +14,8 @@ status_of usage = Usage
 status_of (no_file name) = NoStudy
 status_of (file_too_long name) = TooLong
 status_of (refused rule place) = Refused rule place
+status_of (no_branch word) = NoBranch
+status_of (no_event word last study) = NoEvent
 status_of (accepted task study) = Ok
 
 -- What words and files say of each status. Only want of memory may always come.
@@ -23,10 +27,20 @@ Cause come TooLong = status_of come ≡ TooLong
 Cause come (Refused rule place) = status_of come ≡ Refused rule place
 Cause come ReadFault = IsAsked come
 Cause come WriteFault = IsStudy come
+Cause come NoBranch = status_of come ≡ NoBranch
+Cause come NoEvent = status_of come ≡ NoEvent
 Cause come Memory = Unit {0}
 
--- The file that a status's line names, where words and files come to this verdict and these files are fetched. Which of the
--- reads failed, no file tells.
+-- The name is that of an argument whose event is past the last of its branch, and says which event that is.
+pub record IsPast (come : Verdict) (name : List ℕ) : Type 0 where
+  pub word : List ℕ
+  pub last : ℕ
+  pub study : StudyTold
+  pub is : come ≡ no_event word last study
+  pub said : name ≡ past_event word last
+
+-- What a status's line names, where words and files come to this verdict and these files are fetched: a file or an argument.
+-- Which of the reads failed, no file tells.
 abbrev pub Names : Verdict → List (List ℕ) → Status → List ℕ → Type 0
 Names come fetched Ok name = Unit {0}
 Names come fetched Usage name = Unit {0}
@@ -35,6 +49,8 @@ Names come fetched TooLong name = come ≡ file_too_long name
 Names come fetched (Refused rule place) name = Unit {0}
 Names come fetched ReadFault name = IsAmong name fetched
 Names come fetched WriteFault name = Unit {0}
+Names come fetched NoBranch name = come ≡ no_branch name
+Names come fetched NoEvent name = IsPast come name
 Names come fetched Memory name = Unit {0}
 
 -- A status whose line names a file names one of these.
@@ -46,6 +62,8 @@ Speaks files TooLong name = IsAmong name files
 Speaks files (Refused rule place) name = Unit {0}
 Speaks files ReadFault name = IsAmong name files
 Speaks files WriteFault name = Unit {0}
+Speaks files NoBranch name = Unit {0}
+Speaks files NoEvent name = Unit {0}
 Speaks files Memory name = Unit {0}
 
 -- The file is the study that the words ask for, or the series file that a study of some bytes names: so it is for each
@@ -53,20 +71,42 @@ Speaks files Memory name = Unit {0}
 abbrev pub SpeaksFor : List (List ℕ) → Status → List ℕ → Type 0
 SpeaksFor words status name = (bytes : List ℕ) × Speaks (files_of (asked_of words) bytes) status name
 
--- The rise of the counter at each status, where so many steps are to be counted, and out had taken this before and has
--- taken this now. No byte goes out before all steps are made.
-abbrev pub Counts : ℕ → ℕ → ℕ → Option (List ℕ) → Option (List ℕ) → Status → Type 0
-Counts distinct old new took_before took Ok = new ≡ old + distinct
-Counts distinct old new took_before took Usage = new ≡ old
-Counts distinct old new took_before took NoStudy = new ≡ old
-Counts distinct old new took_before took TooLong = new ≡ old
-Counts distinct old new took_before took (Refused rule place) = new ≡ old
-Counts distinct old new took_before took ReadFault = new ≡ old
-Counts distinct old new took_before took WriteFault = new ≡ old + distinct
-Counts distinct old new took_before took Memory =
-    (old ≤ new) × (new ≤ old + distinct) × (¬ (took ≡ took_before) → new ≡ old + distinct)
+-- the name is one of these arguments, and says which event is the last
+pub record IsPastAmong (words : List (List ℕ)) (name : List ℕ) : Type 0 where
+  pub word : List ℕ
+  pub last : ℕ
+  pub among : IsAmong word words
+  pub said : name ≡ past_event word last
 
--- a status that comes before the first step
+-- A status whose line names an argument names one of these, whether the library tells its files or not.
+abbrev pub NamesOne : List (List ℕ) → Status → List ℕ → Type 0
+NamesOne words Ok name = Unit {0}
+NamesOne words Usage name = Unit {0}
+NamesOne words NoStudy name = Unit {0}
+NamesOne words TooLong name = Unit {0}
+NamesOne words (Refused rule place) name = Unit {0}
+NamesOne words ReadFault name = Unit {0}
+NamesOne words WriteFault name = Unit {0}
+NamesOne words NoBranch name = IsAmong name words
+NamesOne words NoEvent name = IsPastAmong words name
+NamesOne words Memory name = Unit {0}
+
+-- The rise of the counter at each status, where at least so many steps are to be counted and at most so many more, and out
+-- had taken this before and has taken this now. No byte goes out before the least of them are made.
+abbrev pub Counts : ℕ → ℕ → ℕ → ℕ → Option (List ℕ) → Option (List ℕ) → Status → Type 0
+Counts least more old new took_before took Ok = (old + least ≤ new) × (new ≤ old + least + more)
+Counts least more old new took_before took Usage = new ≡ old
+Counts least more old new took_before took NoStudy = new ≡ old
+Counts least more old new took_before took TooLong = new ≡ old
+Counts least more old new took_before took (Refused rule place) = new ≡ old
+Counts least more old new took_before took ReadFault = new ≡ old
+Counts least more old new took_before took WriteFault = (old + least ≤ new) × (new ≤ old + least + more)
+Counts least more old new took_before took NoBranch = new ≡ old
+Counts least more old new took_before took NoEvent = new ≡ old + least
+Counts least more old new took_before took Memory =
+    (old ≤ new) × (new ≤ old + least + more) × (¬ (took ≡ took_before) → old + least ≤ new)
+
+-- a status that comes before the first byte
 abbrev pub IsRefusal : Status → Type 0
 IsRefusal Ok = ⊥
 IsRefusal Usage = Unit {0}
@@ -75,4 +115,19 @@ IsRefusal TooLong = Unit {0}
 IsRefusal (Refused rule place) = Unit {0}
 IsRefusal ReadFault = Unit {0}
 IsRefusal WriteFault = ⊥
+IsRefusal NoBranch = Unit {0}
+IsRefusal NoEvent = Unit {0}
 IsRefusal Memory = ⊥
+
+-- one that comes before the first step
+abbrev pub IsStill : Status → Type 0
+IsStill Ok = ⊥
+IsStill Usage = Unit {0}
+IsStill NoStudy = Unit {0}
+IsStill TooLong = Unit {0}
+IsStill (Refused rule place) = Unit {0}
+IsStill ReadFault = Unit {0}
+IsStill WriteFault = ⊥
+IsStill NoBranch = Unit {0}
+IsStill NoEvent = ⊥
+IsStill Memory = ⊥

@@ -5,19 +5,27 @@ use Rattle.outside.specs.Files.{Content, absent, too_long, whole, held, content}
 use Rattle.study_file.specs.Tables.{table_of, text_at}
 use Rattle.study_tables.specs.declared.refusal.Refusal.{Refusal}
 use Rattle.study_accept.specs.Accepted.{StudyTold, study_of}
+use Rattle.command_words.specs.declared.mark.Mark.{Mark}
+use Rattle.rewind_targets.specs.declared.aimed.Aimed.{Aimed}
+use Rattle.rewind_targets.specs.declared.aimed.Aimed.TheVariants.{At, NoBranch}
+use Rattle.rewind_targets.specs.declared.past.Past.{Past}
+use Rattle.rewind_targets.specs.Targets.{aimed_at, past_of}
 use Rattle.large_study.specs.LargeStudy.{large_study}
 use Rattle.abides_run.specs.declared.request.Request.{Request}
 use Rattle.abides_run.specs.declared.request.Request.TheVariants.{File, Large}
 use Rattle.abides_run.specs.declared.request.Task.{Task}
-use Rattle.abides_run.specs.declared.request.Task.TheVariants.{Lines}
+use Rattle.abides_run.specs.declared.request.Task.TheVariants.{Run, Check, Table, Lines, Rewind}
 use Rattle.abides_run.specs.Words.{asked_of}
-use Rattle.abides_run.specs.Output.{Probes, written, simulated}
+use Rattle.abides_run.specs.Rewinds.{lasts_of, word_at}
+use Rattle.abides_run.specs.Output.{Probes, written, simulated, allowed, study_events}
 
 pub data Verdict : Type 0 where
   usage : Verdict
   no_file : List ℕ → Verdict
   file_too_long : List ℕ → Verdict
   refused : ℕ → ℕ → Verdict
+  no_branch : List ℕ → Verdict
+  no_event : List ℕ → ℕ → StudyTold → Verdict
   accepted : Task → StudyTold → Verdict
 
 -- a study file or a series file may have so many bytes
@@ -32,10 +40,28 @@ Files = List (List ℕ × List ℕ)
 abbrev pub series_of : Members → Option (List ℕ)
 series_of table = text_at (codes "series") table
 
+-- a target may be the first that is past its branch's last event
+abbrev pub verdict_on_past : List Mark → ℕ → StudyTold → Option Past → Verdict
+verdict_on_past marks places study None = accepted (Rewind marks places) study
+verdict_on_past marks places study (Some past) = no_event (word_at marks past.index) past.last study
+
+-- a mark may be the first that names no branch, or each has a target
+abbrev pub verdict_on_aimed : List Mark → ℕ → StudyTold → Aimed → Verdict
+verdict_on_aimed marks places study (NoBranch i) = no_branch (word_at marks i)
+verdict_on_aimed marks places study (At targets) = verdict_on_past marks places study (past_of (lasts_of study.course) targets)
+
+-- a study that breaks no rule may lack what a rewind's marks name
+abbrev pub verdict_on_task : Task → StudyTold → Verdict
+verdict_on_task Run study = accepted Run study
+verdict_on_task Check study = accepted Check study
+verdict_on_task Table study = accepted Table study
+verdict_on_task (Lines bytes) study = accepted (Lines bytes) study
+verdict_on_task (Rewind marks places) study = verdict_on_aimed marks places study (aimed_at study.course.plan.branches marks)
+
 -- the first broken rule of all, or a study
 abbrev pub judged : Task → Result StudyTold Refusal → Verdict
 judged task (Err refusal) = refused refusal.rule refusal.place
-judged task (Ok study) = accepted task study
+judged task (Ok study) = verdict_on_task task study
 
 -- the series file was asked for under its name
 abbrev pub verdict_on_series : Task → Members → List ℕ → Content → Verdict
@@ -80,12 +106,14 @@ verdict_for files (Some (Large number)) = verdict_on_large (large_study number l
 abbrev pub verdict : Files → List (List ℕ) → Verdict
 verdict files words = verdict_for files (asked_of words)
 
--- they come to a study
+-- they come to a study, and to what is asked for of it
 abbrev pub IsStudy : Verdict → Type 0
 IsStudy usage = ⊥
 IsStudy (no_file name) = ⊥
 IsStudy (file_too_long name) = ⊥
 IsStudy (refused rule place) = ⊥
+IsStudy (no_branch word) = ⊥
+IsStudy (no_event word last study) = ⊥
 IsStudy (accepted task study) = Unit {0}
 
 -- the words ask for a study
@@ -94,6 +122,8 @@ IsAsked usage = ⊥
 IsAsked (no_file name) = Unit {0}
 IsAsked (file_too_long name) = Unit {0}
 IsAsked (refused rule place) = Unit {0}
+IsAsked (no_branch word) = Unit {0}
+IsAsked (no_event word last study) = Unit {0}
 IsAsked (accepted task study) = Unit {0}
 
 -- what is to be written, which is nothing where there is no study
@@ -102,12 +132,26 @@ output probes usage = []
 output probes (no_file name) = []
 output probes (file_too_long name) = []
 output probes (refused rule place) = []
+output probes (no_branch word) = []
+output probes (no_event word last study) = []
 output probes (accepted task study) = written probes task study
 
--- how many steps are to be counted
+-- How many steps are to be counted: that a branch lacks an event is seen once its study was simulated.
 abbrev pub distinct : Verdict → ℕ
 distinct usage = 0
 distinct (no_file name) = 0
 distinct (file_too_long name) = 0
 distinct (refused rule place) = 0
+distinct (no_branch word) = 0
+distinct (no_event word last study) = study_events study.course
 distinct (accepted task study) = simulated task study
+
+-- how many more may be
+abbrev pub allowance : Verdict → ℕ
+allowance usage = 0
+allowance (no_file name) = 0
+allowance (file_too_long name) = 0
+allowance (refused rule place) = 0
+allowance (no_branch word) = 0
+allowance (no_event word last study) = 0
+allowance (accepted task study) = allowed task study

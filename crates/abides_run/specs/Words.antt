@@ -1,26 +1,28 @@
 -- What the words of a command line ask for.
-use Rattle.std.specs.Prelude.{ℕ, List, Option, Some, None, map, option_map, option_and_then, string_bytes}
+use Rattle.std.specs.Prelude.{◌≤◌, ℕ, List, Option, Some, None, map, option_map, string_bytes}
 use Rattle.std.specs.declared.string.String.{String}
 use Rattle.std.specs.declared.alloc.Global.{Global}
 use Rattle.command_words.specs.declared.asked.Command.{Command}
 use Rattle.command_words.specs.declared.asked.Command.TheVariants.{Run, Table, Check, Rewind, Big}
 use Rattle.command_words.specs.declared.asked.Asked.{Asked}
 use Rattle.command_words.specs.Asked as line
+use Rattle.command_words.specs.Ranges.{AreMarks}
 use Rattle.abides_run.specs.declared.request.Request.{Request}
 use Rattle.abides_run.specs.declared.request.Request.TheVariants.{File, Large}
+use Rattle.abides_run.specs.declared.request.Task.{Task}
 use Rattle.abides_run.specs.declared.request.Task.TheVariants as task
 
 -- the bytes of each word
 abbrev pub texts : List (String Global) → List (List ℕ)
 texts words = map string_bytes words
 
--- what a command asks for; those that the program does not have ask for nothing
-abbrev pub request_of : Command → Option Request
-request_of (Run study) = Some (File task.Run study)
-request_of (Check study) = Some (File task.Check study)
-request_of (Table study) = Some (File task.Table study)
-request_of (Rewind study marks) = None
-request_of (Big number) = Some (Large number)
+-- what a command asks for, of which so many grid places keep states
+abbrev pub request_of : Command → ℕ → Request
+request_of (Run study) places = File task.Run study
+request_of (Check study) places = File task.Check study
+request_of (Table study) places = File task.Table study
+request_of (Rewind study marks) places = File (task.Rewind marks places) study
+request_of (Big number) places = Large number
 
 -- the large study of a number is asked for, which is in no file
 abbrev pub IsLarge : Option Request → Type 0
@@ -30,8 +32,21 @@ IsLarge (Some (Large number)) = Unit {0}
 
 -- what the words ask for, where they are a command line
 abbrev pub asked_of : List (List ℕ) → Option Request
-asked_of words = option_and_then (λ (asked : Asked). request_of asked.command) (line.asked_of words)
+asked_of words = option_map (λ (asked : Asked). request_of asked.command asked.places) (line.asked_of words)
 
 -- how many workers are to do it
 abbrev pub workers_of : List (List ℕ) → Option ℕ
 workers_of words = option_map (λ (asked : Asked). asked.workers) (line.asked_of words)
+
+-- the ranges of a task: those of a rewind's marks, and at most 128 grid places
+abbrev pub IsTask : Task → Type 0
+IsTask task.Run = Unit {0}
+IsTask task.Check = Unit {0}
+IsTask task.Table = Unit {0}
+IsTask (task.Lines bytes) = Unit {0}
+IsTask (task.Rewind marks places) = AreMarks marks × (places ≤ 128)
+
+-- those of what is asked for
+abbrev pub IsRequest : Request → Type 0
+IsRequest (File wanted study) = IsTask wanted
+IsRequest (Large number) = Unit {0}

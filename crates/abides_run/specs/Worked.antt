@@ -4,6 +4,8 @@ use Rattle.market_opening.specs.Worked.{market, watcher}
 use Rattle.market_rules.specs.declared.edit.Edit.TheVariants.{Latency}
 use Rattle.branch_tree.specs.declared.branch.Branch.{Branch}
 use Rattle.kernel_copy.specs.Courses.{CourseTold}
+use Rattle.study_accept.specs.Accepted.{StudyTold}
+use Rattle.command_words.specs.declared.mark.Mark.{Mark}
 
 abbrev pub root : Branch
 root = record { name = codes "root"; parent = 0; stop = 0; edits = [] }
@@ -26,6 +28,13 @@ three_branches = record {
     limit = 100;
   };
 }
+
+abbrev pub three_branches_study : StudyTold
+three_branches_study = record { course = three_branches; stride = 10000 }
+
+-- a mark that is written so
+abbrev pub mark_at : List ℕ → List ℕ → ℕ → Mark
+mark_at word branch event = record { word = word; branch = branch; event = event }
 
 -- a study file that names a series file
 abbrev pub study_with_series : List ℕ

@@ -1,12 +1,36 @@
-//! How a search for a study ends without one.
+//! How a run ends.
+
+ghost use Rattle.std.specs.Prelude.{◌≡◌, ◌⊎◌, string_bytes};
 
 use crate::status::Status;
+use std::alloc::Global;
 
-/// A status, and the name of the file that its line speaks of, if any.
+/// A status, and what its line names.
 #[derive(Drop)]
 pub struct Ending {
     /// How the run ends.
     pub status: Status,
-    /// The name of the file; empty where the line names none.
+    /// What its line names: a file, or an argument of a rewind, behind which the last event of its branch may stand. Empty where
+    /// it names nothing.
     pub name: String,
+}
+
+/// An end whose line names nothing.
+pub fn nameless(alloc: Global, status: Status) -> Ending
+    ensures { result.status ≡ status }
+{
+    Ending {
+        status,
+        name: String::new(alloc),
+    }
+}
+
+/// An end whose line names this, where there is memory for the name.
+pub fn named(alloc: Global, status: Status, name: &str) -> Ending
+    ensures { (result.status ≡ Status.Memory) ⊎ ((result.status ≡ status) × (string_bytes result.name ≡ name.now)) }
+{
+    match String::from_str(alloc, name) {
+        Ok(name) => Ending { status, name },
+        Err(_) => nameless(alloc, Status::Memory),
+    }
 }

@@ -8,13 +8,14 @@ ghost use Rattle.study_file.specs.Tables.{table_of};
 ghost use Rattle.study_accept.specs.Accepted.{study_told, study_of};
 ghost use Rattle.abides_run.specs.declared.request.Task.{Task as TaskTold};
 ghost use Rattle.large_study.specs.LargeStudy.{large_study};
-ghost use Rattle.abides_run.specs.Words.{texts, asked_of, workers_of, IsLarge};
-ghost use Rattle.abides_run.specs.Verdict.{verdict, verdict_on_study, verdict_on_bytes, verdict_on_table, verdict_on_large, accepted, judged, large_limit, most_bytes, series_of};
-ghost use Rattle.abides_run.specs.Fetched.{fetched as fetched_names, series_after, series_behind, named as named_file};
+ghost use Rattle.abides_run.specs.Words.{texts, asked_of, workers_of, IsLarge, IsTask};
+ghost use Rattle.abides_run.specs.Verdict.{verdict, verdict_on_study, verdict_on_bytes, verdict_on_table, verdict_on_large, verdict_on_task, judged, large_limit, most_bytes, series_of};
+ghost use Rattle.abides_run.specs.Fetched.{arguments_in, arguments_of, fetched as fetched_names, series_after, series_behind, named as named_file};
 ghost use Rattle.abides_run.specs.Statuses.{Speaks, SpeaksFor};
 ghost use Rattle.abides_run.specs.Ends.{Ends, Fetches, IsSought};
+ghost use Rattle.abides_run.specs.Performed.{IsStride};
 
-use crate::ending::Ending;
+use crate::ending::{Ending, named, nameless};
 use crate::found::Found;
 use crate::request::{Job, Request, Task};
 use crate::status::Status;
@@ -31,26 +32,6 @@ const MOST_BYTES: u64 = 16_777_216;
 
 // Each branch of the large study has at most so many events.
 const LARGE_LIMIT: u32 = 20_000;
-
-// An end whose line names no file.
-fn nameless(alloc: Global, status: Status) -> Ending
-    ensures { result.status ≡ status }
-{
-    Ending {
-        status,
-        name: String::new(alloc),
-    }
-}
-
-// An end whose line names this file, where there is memory for the name.
-fn named(alloc: Global, status: Status, name: &str) -> Ending
-    ensures { (result.status ≡ Status.Memory) ⊎ ((result.status ≡ status) × (string_bytes result.name ≡ name.now)) }
-{
-    match String::from_str(alloc, name) {
-        Ok(name) => Ending { status, name },
-        Err(_) => nameless(alloc, Status::Memory),
-    }
-}
 
 // The bytes that the library holds under a name.
 fn fetch_file<L: Library>(alloc: Global, name: &str, library: &mut L) -> Result<Vec<u8>, Ending>
@@ -104,7 +85,8 @@ fn fetch_series<L: Library>(
 // The study that a table says, with the bytes of its series file where it names one.
 fn accept_study(alloc: Global, raw: &RawStudy, series: Option<&[u8]>) -> Result<Study, Ending>
     ensures study { IfOk result (λ s. (task : TaskTold) →
-        judged task (study_of (table_view raw.now.table) (option_map (λ text. text.now) series.entry)) ≡ accepted task (study_told s)) }
+        judged task (study_of (table_view raw.now.table) (option_map (λ text. text.now) series.entry)) ≡ verdict_on_task task (study_told s)) }
+    ensures stride { IfOk result (λ s. IsStride s.stride) }
     ensures ended { IfErr result (λ e. (task : TaskTold) (fetched : List (List ℕ)) (name : List ℕ) →
         Ends (judged task (study_of (table_view raw.now.table) (option_map (λ text. text.now) series.entry))) fetched e.status name) }
     ensures speaks { IfErr result (λ e. (files : List (List ℕ)) (name : List ℕ) → Speaks files e.status name) }
@@ -139,7 +121,8 @@ fn tables(alloc: Global, bytes: &[u8]) -> Result<RawStudy, Ending>
 // The study that bytes say, with its series file from the library where they name one.
 fn read_study<L: Library>(alloc: Global, bytes: &[u8], library: &mut L) -> Result<Study, Ending>
     ensures study { IfOk result (λ s. IfSome (L.files library.old) (λ files. (task : TaskTold) →
-        verdict_on_bytes files task (table_of bytes.now) ≡ accepted task (study_told s))) }
+        verdict_on_bytes files task (table_of bytes.now) ≡ verdict_on_task task (study_told s))) }
+    ensures stride { IfOk result (λ s. IsStride s.stride) }
     ensures ended { IfErr result (λ e. IfSome (L.files library.old) (λ files. (task : TaskTold) →
         Ends (verdict_on_bytes files task (table_of bytes.now)) (series_after (table_of bytes.now)) e.status (string_bytes e.name))) }
     ensures speaks { IfErr result (λ e. Speaks (series_after (table_of bytes.now)) e.status (string_bytes e.name)) }
@@ -155,18 +138,20 @@ fn read_study<L: Library>(alloc: Global, bytes: &[u8], library: &mut L) -> Resul
 }
 
 // The study that a file says and what is to be done with it, or how the search ends without one.
-fn find_file<L: Library>(
+fn find_file<'a, L: Library>(
     alloc: Global,
-    task: Task,
+    task: Task<'a>,
     workers: u32,
     name: &str,
     library: &mut L,
-) -> Result<Found, Ending>
+) -> Result<Found<'a>, Ending>
     ensures study { IfOk result (λ f. IfSome (L.files library.old) (λ files.
-        verdict_on_study files task name.now (content (held files name.now) most_bytes) ≡ accepted f.task (study_told f.study))) }
+        verdict_on_study files task.entry name.now (content (held files name.now) most_bytes) ≡ verdict_on_task f.task (study_told f.study))) }
+    ensures task { IfOk result (λ f. f.task ≡ task.entry) }
+    ensures stride { IfOk result (λ f. IsStride f.study.stride) }
     ensures workers { IfOk result (λ f. f.workers ≡ workers) }
     ensures ended { IfErr result (λ e. IfSome (L.files library.old) (λ files.
-        Ends (verdict_on_study files task name.now (content (held files name.now) most_bytes))
+        Ends (verdict_on_study files task.entry name.now (content (held files name.now) most_bytes))
         (name.now ∷ series_behind (content (held files name.now) most_bytes)) e.status (string_bytes e.name))) }
     ensures speaks { IfErr result (λ e. (bytes : List ℕ) × Speaks (name.now ∷ series_after (table_of bytes)) e.status (string_bytes e.name)) }
     ensures sought { IfErr result (λ e. IsSought e.status) }
@@ -196,8 +181,10 @@ fn large_text(alloc: Global, number: u32) -> Result<String, Ending>
 }
 
 // The study of a text that is in no file, and that its lines are to be told; or how the search ends without one.
-fn read_text(alloc: Global, workers: u32, text: &str) -> Result<Found, Ending>
-    ensures study { IfOk result (λ f. verdict_on_large text.now ≡ accepted f.task (study_told f.study)) }
+fn read_text<'a>(alloc: Global, workers: u32, text: &str) -> Result<Found<'a>, Ending>
+    ensures study { IfOk result (λ f. verdict_on_large text.now ≡ verdict_on_task f.task (study_told f.study)) }
+    ensures task { IfOk result (λ f. (arguments_of f.task ≡ []) × IsTask f.task) }
+    ensures stride { IfOk result (λ f. IsStride f.study.stride) }
     ensures workers { IfOk result (λ f. f.workers ≡ workers) }
     ensures ended { IfErr result (λ e. (fetched : List (List ℕ)) (name : List ℕ) → Ends (verdict_on_large text.now) fetched e.status name) }
     ensures speaks { IfErr result (λ e. (files : List (List ℕ)) (name : List ℕ) → Speaks files e.status name) }
@@ -214,8 +201,10 @@ fn read_text(alloc: Global, workers: u32, text: &str) -> Result<Found, Ending>
 }
 
 // The large study of a number, or how the search ends without one. No file is fetched.
-fn find_large(alloc: Global, workers: u32, number: u32) -> Result<Found, Ending>
-    ensures study { IfOk result (λ f. verdict_on_large (large_study number large_limit) ≡ accepted f.task (study_told f.study)) }
+fn find_large<'a>(alloc: Global, workers: u32, number: u32) -> Result<Found<'a>, Ending>
+    ensures study { IfOk result (λ f. verdict_on_large (large_study number large_limit) ≡ verdict_on_task f.task (study_told f.study)) }
+    ensures task { IfOk result (λ f. (arguments_of f.task ≡ []) × IsTask f.task) }
+    ensures stride { IfOk result (λ f. IsStride f.study.stride) }
     ensures workers { IfOk result (λ f. f.workers ≡ workers) }
     ensures ended { IfErr result (λ e. (fetched : List (List ℕ)) (name : List ℕ) → Ends (verdict_on_large (large_study number large_limit)) fetched e.status name) }
     ensures speaks { IfErr result (λ e. (files : List (List ℕ)) (name : List ℕ) → Speaks files e.status name) }
@@ -227,23 +216,26 @@ fn find_large(alloc: Global, workers: u32, number: u32) -> Result<Found, Ending>
 }
 
 /// The study that the words ask for, what is to be done with it and by how many workers, or how the search ends without one.
-pub fn find_study<L: Library>(
+pub fn find_study<'a, L: Library>(
     alloc: Global,
-    words: &[String],
+    words: &'a [String],
     library: &mut L,
-) -> Result<Found, Ending>
-    ensures study { IfOk result (λ f. IfSome (L.files library.old) (λ files. verdict files (texts words.now) ≡ accepted f.task (study_told f.study))) }
-    ensures asked { OnOk result (¬ (asked_of (texts words.now) ≡ None)) }
-    ensures workers { IfOk result (λ f. workers_of (texts words.now) ≡ Some f.workers) }
+) -> Result<Found<'a>, Ending>
+    ensures study { IfOk result (λ f. IfSome (L.files library.old) (λ files. verdict files (texts words.entry.now) ≡ verdict_on_task f.task (study_told f.study))) }
+    ensures asked { OnOk result (¬ (asked_of (texts words.entry.now) ≡ None)) }
+    ensures stride { IfOk result (λ f. IsStride f.study.stride) }
+    ensures workers { IfOk result (λ f. workers_of (texts words.entry.now) ≡ Some f.workers) }
     ensures range { IfOk result (λ f. (0 < f.workers) × (f.workers ≤ 64)) }
+    ensures arguments { IfOk result (λ f. arguments_of f.task ≡ arguments_in (asked_of (texts words.entry.now))) }
+    ensures ranges { IfOk result (λ f. IsTask f.task) }
     ensures ended { IfErr result (λ e. IfSome (L.files library.old) (λ files.
-        Ends (verdict files (texts words.now)) (fetched_names files (texts words.now)) e.status (string_bytes e.name))) }
-    ensures speaks { IfErr result (λ e. SpeaksFor (texts words.now) e.status (string_bytes e.name)) }
+        Ends (verdict files (texts words.entry.now)) (fetched_names files (texts words.entry.now)) e.status (string_bytes e.name))) }
+    ensures speaks { IfErr result (λ e. SpeaksFor (texts words.entry.now) e.status (string_bytes e.name)) }
     ensures sought { IfErr result (λ e. (e.status ≡ Status.Usage) ⊎ IsSought e.status) }
-    ensures usage { IfErr result (λ e. e.status ≡ Status.Usage → asked_of (texts words.now) ≡ None) }
-    ensures not_asked { IfErr result (λ e. asked_of (texts words.now) ≡ None → (e.status ≡ Status.Usage) ⊎ (e.status ≡ Status.Memory)) }
+    ensures usage { IfErr result (λ e. e.status ≡ Status.Usage → asked_of (texts words.entry.now) ≡ None) }
+    ensures not_asked { IfErr result (λ e. asked_of (texts words.entry.now) ≡ None → (e.status ≡ Status.Usage) ⊎ (e.status ≡ Status.Memory)) }
     ensures unasked { IfErr result (λ e. e.status ≡ Status.Usage → L.faults library.new ≡ L.faults library.old) }
-    ensures unread { IsLarge (asked_of (texts words.now)) → L.faults library.new ≡ L.faults library.old }
+    ensures unread { IsLarge (asked_of (texts words.entry.now)) → L.faults library.new ≡ L.faults library.old }
     ensures fault { IfErr result (λ e. e.status ≡ Status.ReadFault → Rose (L.faults library.old) (L.faults library.new)) }
     ensures steady { OnOk result (L.faults library.new ≡ L.faults library.old) }
     ensures rises { L.faults library.old ≤ L.faults library.new }

@@ -5,9 +5,9 @@ use study_accept::Study;
 
 /// An accepted study, what is to be done with it, and by how many workers.
 #[derive(Drop)]
-pub struct Found {
+pub struct Found<'a> {
     /// What is to be done.
-    pub task: Task,
+    pub task: Task<'a>,
     /// The study.
     pub study: Study,
     /// How many workers: 1 to 64.

@@ -7,6 +7,7 @@ mod found;
 mod notes;
 mod perform;
 mod request;
+mod rewinds;
 mod send;
 mod status;
 mod top;

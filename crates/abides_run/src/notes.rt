@@ -31,11 +31,13 @@ pub fn note_text(alloc: Global, name: &str, status: Status) -> Result<String, Al
         Status::Refused { rule, place } => refused_text(alloc, rule, place),
         Status::ReadFault => format!(in alloc; "read failed: {name}\n"),
         Status::WriteFault => String::from_str(alloc, "write failed\n"),
+        Status::NoBranch => format!(in alloc; "no branch: {name}\n"),
+        Status::NoEvent => format!(in alloc; "no event: {name}\n"),
         Status::Memory => String::from_str(alloc, "out of memory\n"),
     }
 }
 
-/// Writes the line for a status, where the words name this study. Where there is no memory for the line, that is the
+/// Writes the line for a status, which speaks of this name. Where there is no memory for the line, that is the
 /// status. A line that cannot be written is dropped.
 pub fn write_note<N: Sink>(alloc: Global, name: &str, status: Status, notes: &mut N) -> Status
     ensures kept { (result ≡ status) ⊎ ((result ≡ Status.Memory) × ¬ (status ≡ Status.Ok)) }

@@ -2,12 +2,17 @@
 
 ghost use Rattle.std.specs.Prelude.{◌≡◌, ◌+◌, ◌++◌, ◌∷◌, ◌<◌, ◌≤◌, ◌^◌, [], ℕ, IfOk, codes, length, map, string_bytes};
 ghost use Rattle.std.specs.Fmt.{decimal};
-ghost use Rattle.abides_run.specs.Output.{counts_line, simulated, study_bundle, study_events, study_lines, study_table, written};
-ghost use Rattle.abides_run.specs.Performed.{Performed};
+ghost use Rattle.abides_run.specs.Fetched.{arguments_of};
+ghost use Rattle.abides_run.specs.Output.{counts_line, study_bundle, study_events, study_lines, study_table};
+ghost use Rattle.abides_run.specs.Performed.{Finished, IsStride, Performed};
+ghost use Rattle.abides_run.specs.Verdict.{verdict_on_task};
+ghost use Rattle.abides_run.specs.Words.{IsTask};
 ghost use Rattle.study_accept.specs.Accepted.{study_told};
 
+use crate::ending::{Ending, nameless};
 use crate::found::Found;
 use crate::request::Task;
+use crate::rewinds::rewind_study;
 use crate::send::{send, send_bundle};
 use crate::status::Status;
 use branch_bundle::laws::outcomes_are_a_run;
@@ -19,28 +24,43 @@ use outside::{Gate, Ledger, Sink, Steps};
 use plain_lists::Memory;
 use probe_desk::Probe;
 use std::alloc::{AllocError, Global};
-use std::sync::{Arc, Wait};
+use std::sync::Wait;
 use std::thread::Threads;
+use study_accept::Study;
+
+// Nothing that is asked for here but a rewind goes on from a state on the way.
+const NO_PLACES: u32 = 0;
 
 // Has workers simulate each segment of a study once, and then writes the bundle.
 fn run_study<R: Threads + Wait + Sync, O: Sink, G: Gate + Sync, D: Ledger + Send>(
     rt: &R,
     alloc: Global,
-    course: &Arc<Course>,
+    study: &Study,
     workers: u32,
     out: &mut O,
     gate: &G,
     steps: &mut Steps<D>,
 ) -> Status
+    requires stride { IsStride study.now.stride }
     requires workers { (0 < workers) × (workers ≤ 64) }
     requires steps { steps.old ≤ 2 ^ 63 }
-    ensures { (reads : ℕ) → Performed (study_bundle course.now.value) (study_events course.now.value)
+    ensures { (reads : ℕ) → Performed (study_bundle study.now.course.value) (study_events study.now.course.value) 0
         (record { reads = reads; writes = O.faults out.old; taken = O.taken out.old; steps = steps.old })
         (record { reads = reads; writes = O.faults out.new; taken = O.taken out.new; steps = steps.new })
         result }
 {
     outcomes_are_a_run();
-    let worked = match work(rt, alloc, course, workers, gate, steps) {
+    let course = &study.course;
+    let worked = match work(
+        rt,
+        alloc,
+        course,
+        study.stride,
+        NO_PLACES,
+        workers,
+        gate,
+        steps,
+    ) {
         Ok(worked) => worked,
         Err(Memory) => return Status::Memory,
     };
@@ -54,23 +74,34 @@ fn run_study<R: Threads + Wait + Sync, O: Sink, G: Gate + Sync, D: Ledger + Send
 fn table_study<R: Threads + Wait + Sync, O: Sink, G: Gate + Sync, D: Ledger + Send>(
     rt: &R,
     alloc: Global,
-    course: &Arc<Course>,
+    study: &Study,
     workers: u32,
     probes: &mut [Box<dyn Probe>],
     out: &mut O,
     gate: &G,
     steps: &mut Steps<D>,
 ) -> Status
+    requires stride { IsStride study.now.stride }
     requires workers { (0 < workers) × (workers ≤ 64) }
     requires steps { steps.old ≤ 2 ^ 63 }
-    ensures { (reads : ℕ) → Performed (study_table (record { meanings = map (λ p. meaning p) probes.old; titles = map (λ p. title p) probes.old }) course.now.value)
-        (study_events course.now.value)
+    ensures { (reads : ℕ) → Performed (study_table (record { meanings = map (λ p. meaning p) probes.old; titles = map (λ p. title p) probes.old }) study.now.course.value)
+        (study_events study.now.course.value) 0
         (record { reads = reads; writes = O.faults out.old; taken = O.taken out.old; steps = steps.old })
         (record { reads = reads; writes = O.faults out.new; taken = O.taken out.new; steps = steps.new })
         result }
 {
     outcomes_are_a_run();
-    let worked = match work(rt, alloc, course, workers, gate, steps) {
+    let course = &study.course;
+    let worked = match work(
+        rt,
+        alloc,
+        course,
+        study.stride,
+        NO_PLACES,
+        workers,
+        gate,
+        steps,
+    ) {
         Ok(worked) => worked,
         Err(Memory) => return Status::Memory,
     };
@@ -90,22 +121,33 @@ fn tell_study<R: Threads + Wait + Sync, O: Sink, G: Gate + Sync, D: Ledger + Sen
     rt: &R,
     alloc: Global,
     bytes: usize,
-    course: &Arc<Course>,
+    study: &Study,
     workers: u32,
     out: &mut O,
     gate: &G,
     steps: &mut Steps<D>,
 ) -> Status
+    requires stride { IsStride study.now.stride }
     requires workers { (0 < workers) × (workers ≤ 64) }
     requires steps { steps.old ≤ 2 ^ 63 }
-    ensures { (reads : ℕ) → Performed (study_lines bytes course.now.value) (study_events course.now.value)
+    ensures { (reads : ℕ) → Performed (study_lines bytes study.now.course.value) (study_events study.now.course.value) 0
         (record { reads = reads; writes = O.faults out.old; taken = O.taken out.old; steps = steps.old })
         (record { reads = reads; writes = O.faults out.new; taken = O.taken out.new; steps = steps.new })
         result }
 {
     outcomes_are_a_run();
+    let course = &study.course;
     let before = steps.count();
-    let worked = match work(rt, alloc, course, workers, gate, steps) {
+    let worked = match work(
+        rt,
+        alloc,
+        course,
+        study.stride,
+        NO_PLACES,
+        workers,
+        gate,
+        steps,
+    ) {
         Ok(worked) => worked,
         Err(Memory) => return Status::Memory,
     };
@@ -154,7 +196,7 @@ fn counts_of(alloc: Global, course: &Course) -> Result<String, AllocError>
 
 // Writes a study's counts.
 fn check_study<O: Sink>(alloc: Global, course: &Course, out: &mut O) -> Status
-    ensures { (reads steps : ℕ) → Performed (counts_line course.now) 0
+    ensures { (reads steps : ℕ) → Performed (counts_line course.now) 0 0
         (record { reads = reads; writes = O.faults out.old; taken = O.taken out.old; steps = steps })
         (record { reads = reads; writes = O.faults out.new; taken = O.taken out.new; steps = steps })
         result }
@@ -173,27 +215,42 @@ fn check_study<O: Sink>(alloc: Global, course: &Course, out: &mut O) -> Status
 pub fn perform<R: Threads + Wait + Sync, O: Sink, G: Gate + Sync, D: Ledger + Send>(
     rt: &R,
     alloc: Global,
-    found: &Found,
+    found: &Found<'_>,
     probes: &mut [Box<dyn Probe>],
     out: &mut O,
     gate: &G,
     steps: &mut Steps<D>,
-) -> Status
+) -> Ending
+    requires stride { IsStride found.now.study.stride }
+    requires task { IsTask found.now.task }
     requires workers { (0 < found.now.workers) × (found.now.workers ≤ 64) }
     requires steps { steps.old ≤ 2 ^ 63 }
-    ensures { (reads : ℕ) → Performed
-        (written (record { meanings = map (λ p. meaning p) probes.old; titles = map (λ p. title p) probes.old }) found.now.task (study_told found.now.study))
-        (simulated found.now.task (study_told found.now.study))
+    ensures { (reads : ℕ) → Finished (verdict_on_task found.now.task (study_told found.now.study))
+        (record { meanings = map (λ p. meaning p) probes.old; titles = map (λ p. title p) probes.old })
+        (arguments_of found.now.task)
         (record { reads = reads; writes = O.faults out.old; taken = O.taken out.old; steps = steps.old })
         (record { reads = reads; writes = O.faults out.new; taken = O.taken out.new; steps = steps.new })
-        result }
+        result.status (string_bytes result.name) }
 {
-    let course = &found.study.course;
+    let study = &found.study;
     let workers = found.workers;
-    match found.task {
-        Task::Run => run_study(rt, alloc, course, workers, out, gate, steps),
-        Task::Check => check_study(alloc, course, out),
-        Task::Table => table_study(rt, alloc, course, workers, probes, out, gate, steps),
-        Task::Lines(bytes) => tell_study(rt, alloc, bytes, course, workers, out, gate, steps),
+    match &found.task {
+        Task::Run => {
+            let status = run_study(rt, alloc, study, workers, out, gate, steps);
+            nameless(alloc, status)
+        }
+        Task::Check => nameless(alloc, check_study(alloc, &study.course, out)),
+        Task::Table => {
+            let status = table_study(rt, alloc, study, workers, probes, out, gate, steps);
+            nameless(alloc, status)
+        }
+        Task::Lines(bytes) => {
+            let status = tell_study(rt, alloc, *bytes, study, workers, out, gate, steps);
+            nameless(alloc, status)
+        }
+        Task::Rewind(marks, places) => {
+            let marks = marks.as_slice();
+            rewind_study(rt, alloc, study, marks, *places, workers, out, gate, steps)
+        }
     }
 }

@@ -1,10 +1,10 @@
 //! What a command line asks for.
 
-use command_words::Text;
+use command_words::{Mark, Sequence, Text};
 
 /// What is to be done with a study.
-#[derive(Clone, Copy, PartialEq, Eq, Debug)]
-pub enum Task {
+#[derive(Drop)]
+pub enum Task<'a> {
     /// Its bundle is written.
     Run,
     /// Its counts are written, and nothing is simulated.
@@ -13,13 +13,15 @@ pub enum Task {
     Table,
     /// Six lines that tell of its run are written. Its text has so many bytes.
     Lines(usize),
+    /// The states at these marks are written, 1 to 64 of them, while so many grid places, 0 to 128, keep states.
+    Rewind(Sequence<Mark<'a>>, u32),
 }
 
 /// A study, and what is to be done with it.
 #[derive(Drop)]
 pub enum Request<'a> {
     /// A task, and the name of the study's file, which is not empty.
-    File(Task, Text<'a>),
+    File(Task<'a>, Text<'a>),
     /// The lines that tell of the run of the large study of a number.
     Large(u32),
 }

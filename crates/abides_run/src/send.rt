@@ -72,8 +72,8 @@ fn send_branches<O: Sink, W: Ran>(
     Ok(())
 }
 
-// Sends the end of a bundle.
-fn send_end<O: Sink>(alloc: Global, branches: u16, out: &mut O) -> Result<(), Status>
+/// Sends the frame with which a bundle ends, and the states of a rewind.
+pub fn send_end<O: Sink>(alloc: Global, branches: u16, out: &mut O) -> Result<(), Status>
     ensures { Sent (end_frame branches) (O.faults out.old) (O.faults out.new) (O.taken out.old) (O.taken out.new) result }
 {
     let mut bytes = Vec::new(alloc);

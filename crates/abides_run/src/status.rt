@@ -9,6 +9,8 @@ pub enum Status {
     Refused { rule: u32, place: u32 },
     ReadFault,
     WriteFault,
+    NoBranch,
+    NoEvent,
     Memory,
 }
 
@@ -28,6 +30,8 @@ impl Status {
             Status::Refused { .. } => 5,
             Status::ReadFault => 6,
             Status::WriteFault => 7,
+            Status::NoBranch => 8,
+            Status::NoEvent => 9,
             Status::Memory => 10,
         }
     }

@@ -36,23 +36,21 @@ fn answer<R: Threads + Wait + Sync, L: Library, O: Sink, G: Gate + Sync, D: Ledg
     ensures files { L.files library.new ≡ L.files library.old }
 {
     match find_study(alloc, words, library) {
-        Ok(found) => Ending {
-            status: perform(rt, alloc, &found, probes, out, gate, steps),
-            name: String::new(alloc),
-        },
+        Ok(found) => perform(rt, alloc, &found, probes, out, gate, steps),
         Err(ending) => ending,
     }
 }
 
 /// Does what the words ask for: the study's file and the series file that it names come from the library, the bundle, the
-/// line of counts, the table or the lines of a large study go to `out`, and the line for the status to `notes`. The words are
+/// line of counts, the table, the lines of a large study or the states of a rewind go to `out`, and the line for the status to
+/// `notes`. The words are
 /// the command line without the program's name; each simulated event ticks `steps` once. So many workers as the words say
 /// simulate the study's segments, each in a thread of its own where `rt` can make one; each passes the gate before the first
 /// step of a segment. It may wait.
 ///
 /// What is promised of it are the fields of two records. `Answered` has the output, the rise of the counter, the cause of
 /// each status and the status of each cause, what stands at a refusal, and that want of memory is the only other end.
-/// `Noted` has the line of the status, with the name of the file that the status speaks of, and `Named` whose name that is.
+/// `Noted` has the line of the status, with the file or the argument that the status speaks of, and `Named` which that is.
 pub fn run<
     R: Threads + Wait + Sync,
     L: Library,

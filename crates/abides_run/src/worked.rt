@@ -3,11 +3,12 @@
 ghost use Rattle.std.specs.Prelude.{◌≡◌, ◌∷◌, [], ℕ, List, Some, None, codes, length};
 ghost use Rattle.outside.specs.Files.{absent, too_long, whole};
 ghost use Rattle.abides_run.specs.Output.{counts_line, study_bundle, study_events};
-ghost use Rattle.abides_run.specs.Worked.{empty_course, empty_run, three_branches, study_with_series};
+ghost use Rattle.abides_run.specs.Worked.{empty_course, empty_run, mark_at, three_branches, three_branches_study, study_with_series};
+ghost use Rattle.abides_run.specs.Rewinds.{lasts_of};
 ghost use Rattle.abides_run.specs.Words.{asked_of};
-ghost use Rattle.abides_run.specs.Verdict.{verdict, usage, no_file, file_too_long, refused, verdict_on_study, verdict_on_bytes};
+ghost use Rattle.abides_run.specs.Verdict.{verdict, usage, no_file, file_too_long, refused, no_branch, no_event, accepted, verdict_on_study, verdict_on_task};
 ghost use Rattle.abides_run.specs.Fetched.{fetched};
-ghost use Rattle.abides_run.specs.Notes.{note};
+ghost use Rattle.abides_run.specs.Notes.{note, past_event};
 ghost use Rattle.abides_run.specs.declared.request.Request.TheVariants.{File, Large};
 ghost use Rattle.abides_run.specs.declared.request.Task.TheVariants as task;
 
@@ -28,8 +29,8 @@ pub fn shared_events_are_counted_once()
     ensures counts { counts_line three_branches ≡ codes "accepted: agents 3, stocks 1, branches 4, segments 5\n" }
 {}
 
-/// The words `run s`, `check s` and `table s` ask for the study `s`, and `big 7` for the large study of the number 7; with no
-/// name, an empty one, a further word, or a command that the program does not have they ask for nothing.
+/// The words `run s`, `check s`, `table s` and `rewind s root:1` ask for the study `s`, and `big 7` for the large study of the
+/// number 7; with no name, an empty one, a further word, or a command that the program does not have they ask for nothing.
 pub fn asked_words()
     ensures run { asked_of (codes "run" ∷ codes "s" ∷ []) ≡ Some (File task.Run (codes "s")) }
     ensures check { asked_of (codes "check" ∷ codes "s" ∷ codes "--workers=64" ∷ []) ≡ Some (File task.Check (codes "s")) }
@@ -38,7 +39,8 @@ pub fn asked_words()
     ensures further { asked_of (codes "run" ∷ codes "s" ∷ codes "t" ∷ []) ≡ None }
     ensures other { asked_of (codes "ran" ∷ codes "s" ∷ []) ≡ None }
     ensures table { asked_of (codes "table" ∷ codes "s" ∷ []) ≡ Some (File task.Table (codes "s")) }
-    ensures rewind { asked_of (codes "rewind" ∷ codes "s" ∷ codes "root:1" ∷ []) ≡ None }
+    ensures rewind { asked_of (codes "rewind" ∷ codes "s" ∷ codes "root:1" ∷ codes "--places=3" ∷ [])
+        ≡ Some (File (task.Rewind (record { word = codes "root:1"; branch = codes "root"; event = 1 } ∷ []) 3) (codes "s")) }
     ensures big { asked_of (codes "big" ∷ codes "7" ∷ []) ≡ Some (Large 7) }
     ensures big_words { asked_of (codes "big" ∷ codes "seven" ∷ []) ≡ None }
     ensures many_workers { asked_of (codes "run" ∷ codes "s" ∷ codes "--workers=65" ∷ []) ≡ None }
@@ -56,6 +58,23 @@ pub fn order_of_refusals()
     ensures large { fetched ((codes "7", study_with_series) ∷ []) (codes "big" ∷ codes "7" ∷ []) ≡ [] }
     ensures fetched { fetched ((codes "s", study_with_series) ∷ []) (codes "run" ∷ codes "s" ∷ []) ≡ codes "s" ∷ codes "t" ∷ [] }
     ensures first_rule { verdict ((codes "s", study_with_series) ∷ (codes "t", []) ∷ []) (codes "run" ∷ codes "s" ∷ []) ≡ refused 1 1 }
+{}
+
+/// Each run of the three branches has six events. A mark that names no branch comes before one whose event is past the last,
+/// and the last event itself is there.
+pub fn marks_of_three_branches()
+    ensures lasts { lasts_of three_branches ≡ 6 ∷ 6 ∷ 6 ∷ 6 ∷ [] }
+    ensures past { verdict_on_task (task.Rewind (mark_at (codes "root:6") (codes "root") 6 ∷ mark_at (codes "z:7") (codes "z") 7 ∷ mark_at (codes "y:8") (codes "y") 8 ∷ []) 16) three_branches_study
+        ≡ no_event (codes "z:7") 6 three_branches_study }
+    ensures unnamed { verdict_on_task (task.Rewind (mark_at (codes "z:7") (codes "z") 7 ∷ mark_at (codes "w:1") (codes "w") 1 ∷ []) 16) three_branches_study ≡ no_branch (codes "w:1") }
+    ensures there { verdict_on_task (task.Rewind (mark_at (codes "root:6") (codes "root") 6 ∷ []) 16) three_branches_study
+        ≡ accepted (task.Rewind (mark_at (codes "root:6") (codes "root") 6 ∷ []) 16) three_branches_study }
+{}
+
+/// The lines of refused rewinds.
+pub fn lines_of_refused_rewinds()
+    ensures no_branch { note (codes "w:1") Status.NoBranch ≡ codes "no branch: w:1\n" }
+    ensures no_event { note (past_event (codes "root:7") 6) Status.NoEvent ≡ codes "no event: root:7, last event 6\n" }
 {}
 
 /// The line for a missing file.

@@ -1,11 +1,10 @@
 -- What holds once all workers handed back what they have.
-use Rattle.std.proofs.Common.{◌≡◌, ◌≢◌, ℕ, zero, suc, ◌<◌, ◌≤◌, max, All, Bool, true, false, true≢false, List, [], ◌∷◌, ◌++◌, Option, None, Some, IsSome, is_some, Vec, Global, length, map, replicate, set, sum_by, slice_get, take, ◌||◌, sym, refl, ap, ◌∙◌, subst, arith}
+use Rattle.std.proofs.Common.{◌≡◌, ◌≢◌, ℕ, zero, suc, ◌<◌, ◌≤◌, max, All, Bool, true, false, true≢false, List, [], ◌∷◌, ◌++◌, Option, None, Some, IsSome, is_some, Vec, Global, length, map, replicate, set, sum_by, slice_get, take, ◌||◌, ⊎_elim, sym, refl, ap, ◌∙◌, subst, arith}
 use Rattle.std.proofs.lemmas.List.{length-map, length-replicate, take_all, take_more}
 use Rattle.std.proofs.lemmas.List.Sums.{sum_by-append, sum_by-cons}
 use Rattle.std.proofs.lemmas.List.Elements.{All-nil, All-cons, All-head, All-tail}
 use mathlib.Core.Logic.{dite}
 use native.Mathlib.Decide.{ℕ_discrete}
-use Rattle.branch_tree.specs.Plan.{Plan}
 use Rattle.branch_tree.specs.Segments.{segments_in}
 use Rattle.shelf_core.specs.Plan.{same_key, is_in, place_in}
 use Rattle.shelf_core.specs.Possible.{word_in, word_at}
@@ -22,18 +21,21 @@ use Rattle.shelf_core.specs.declared.words.ClaimWord.{ClaimWord}
 use Rattle.shelf_core.specs.declared.words.ClaimWord.TheVariants.{Open, Taken}
 use Rattle.shelf_core.specs.declared.words.PlaceWord.{PlaceWord}
 use Rattle.shelf_core.specs.declared.words.PlaceWord.TheVariants.{Free, Writing, Ready, Lent}
+use Rattle.shelf_core.proofs.Plans.{key_is, or_either}
 use Rattle.shelf_core.proofs.Lists.{there, not_some, some_same, set_here, set_else, times_here, times_else, times_append}
+use Rattle.checkpoint_shelf.specs.Plans.{PlanFits, KeyBelow}
 use Rattle.checkpoint_shelf.specs.Told.{SeatTold}
 use Rattle.checkpoint_shelf.specs.Seats.{all_in}
 use Rattle.kernel_copy.specs.declared.run.Outcome.{Outcome}
 use Rattle.kernel_copy.specs.Segmentwise.{distinct}
 use Rattle.kernel_copy.specs.Courses.{CourseTold}
 use Rattle.kernel_copy.specs.Outcomes.{OutcomeTold, outcome_told, outcome_of, outcomes_before}
-use Rattle.branch_workers.specs.Layout.{end_key, layout}
-use Rattle.branch_workers.specs.Runs.{HasAllEnds}
+use Rattle.branch_workers.specs.Layout.{end_key, key_at}
+use Rattle.branch_workers.specs.Runs.{HasAllStates}
 use Rattle.branch_workers.specs.Workers.{own_of, HasFinished, HaveFinished, RanOnce}
 use Rattle.branch_workers.specs.Order.{placed, placed_all}
 use Rattle.branch_workers.proofs.Sums.{weighs_most, weighs_all, each_once}
+use Rattle.branch_workers.proofs.Grids.{enough_places}
 use Rattle.branch_workers.proofs.Joined.{joined_fact, added_up}
 use Rattle.branch_workers.proofs.Standing.{own_distinct}
 
@@ -65,27 +67,43 @@ in_right : (key : Key) (xs ys : List Key) → is_in key ys ≡ true → is_in ke
 in_right key [] ys e = e
 in_right key (x ∷ xs) ys e = or_right (same_key x key) (is_in key (xs ++ ys)) (in_right key xs ys e)
 
-ends_join : (p : Plan) (v w : SeatView) → HasAllEnds p v → HasAllEnds p w → HasAllEnds p (joined_with w v)
-ends_join p v w hv hw s pos = dite (ℕ_discrete (times s v.claims) 0)
+states_join : (c : CourseTold) (plan : ShelfPlan) (v w : SeatView) → HasAllStates c plan v → HasAllStates c plan w → HasAllStates c plan (joined_with w v)
+states_join c plan v w hv hw s pos = dite (ℕ_discrete (times s v.claims) 0)
     (λ (z : times s v.claims ≡ 0).
     let t = times_append s v.claims w.claims in
     let e = hw s (omega arith) in record {
-      parent = λ q is. in_right (end_key p q) v.found w.found (e.parent q is);
-      fork = λ l. in_right (end_key p s) v.known w.known (e.fork l);
+      parent = λ q is. in_right (end_key c.plan q) v.found w.found (e.parent q is);
+      fork = λ l. in_right (end_key c.plan s) v.known w.known (e.fork l);
+      grid = λ n there sole passed. in_right (key_at s n) v.known w.known (e.grid n there sole passed);
     })
     (λ (nz : times s v.claims ≢ 0).
     let e = hv s (omega arith) in record {
-      parent = λ q is. in_left (end_key p q) v.found w.found (e.parent q is);
-      fork = λ l. in_left (end_key p s) v.known w.known (e.fork l);
+      parent = λ q is. in_left (end_key c.plan q) v.found w.found (e.parent q is);
+      fork = λ l. in_left (end_key c.plan s) v.known w.known (e.fork l);
+      grid = λ n there sole passed. in_left (key_at s n) v.known w.known (e.grid n there sole passed);
     })
 
+-- A system is laid out for a plan with the course's segments.
+pub record IsLaidFor (c : CourseTold) (plan : ShelfPlan) (s : System) : Type 0 where
+  pub laid : s.plan ≡ Some plan
+  pub segments : plan.segments ≡ length (segments_in c.plan)
+  pub fits : PlanFits plan
+
+-- Each key of a list is of one of so many segments, where all are.
+key_below : (n : ℕ) (keys : List Key) (key : Key) → All (KeyBelow n) keys → is_in key keys ≡ true → key.segment < n
+key_below n [] key all e = absurd (true≢false (sym e))
+key_below n (k ∷ keys) key all e = ⊎_elim
+    (λ (same : same_key k key ≡ true). subst (λ (x : Key). x.segment < n) (key_is k key same) (All-head (KeyBelow n) k keys all).0)
+    (λ (rest : is_in key keys ≡ true). key_below n keys key (All-tail (KeyBelow n) k keys all) rest)
+    (or_either (same_key k key) (is_in key keys) e)
+
 -- Facts of each finished worker's view.
-each_view : (c : CourseTold) (Fact : SeatView → Type 0) (of : (v : SeatView) (os : List Outcome) → HasFinished c v os → Fact v) (seats : List (SeatTold CourseTold)) (lists : List (List Outcome))
-    → HaveFinished c seats lists → (i : ℕ) (v : SeatView) → slice_get (views_of seats) i ≡ Some v → Fact v
-each_view c Fact of [] lists h i v e = absurd (not_some v e)
-each_view c Fact of (s ∷ seats) [] h i v e = absurd h
-each_view c Fact of (s ∷ seats) (os ∷ lists) h zero v e = subst Fact (some_same s.view v e) (of s.view os h.0)
-each_view c Fact of (s ∷ seats) (os ∷ lists) h (suc i) v e = each_view c Fact of seats lists h.1 i v e
+each_view : (c : CourseTold) (plan : ShelfPlan) (Fact : SeatView → Type 0) (of : (v : SeatView) (os : List Outcome) → HasFinished c plan v os → Fact v) (seats : List (SeatTold CourseTold)) (lists : List (List Outcome))
+    → HaveFinished c plan seats lists → (i : ℕ) (v : SeatView) → slice_get (views_of seats) i ≡ Some v → Fact v
+each_view c plan Fact of [] lists h i v e = absurd (not_some v e)
+each_view c plan Fact of (s ∷ seats) [] h i v e = absurd h
+each_view c plan Fact of (s ∷ seats) (os ∷ lists) h zero v e = subst Fact (some_same s.view v e) (of s.view os h.0)
+each_view c plan Fact of (s ∷ seats) (os ∷ lists) h (suc i) v e = each_view c plan Fact of seats lists h.1 i v e
 
 rest_ready : (key : Key) (o : Option PlaceWord) → is_held key o ≡ true → ((w : PlaceWord) → o ≡ Some w → is_at_rest w ≡ true) → is_ready key o ≡ true
 rest_ready key None held rests = absurd (true≢false (sym held))
@@ -106,9 +124,9 @@ all_of_times n (x ∷ xs) h = All-cons (λ g. g < n) x xs
     (λ (one : x ≡ g). let t = ap (λ (y : ℕ). times g (y ∷ xs)) one ∙ times_here g xs in omega arith)
     (λ (ne : x ≢ g). let t = times_else g x xs ne in omega arith))))
 
-module _ (c : CourseTold) (s : System) (v : SeatView) (h : Orderly s) (settled : IsSettled s v) (at : slice_get s.views 0 ≡ Some v) (laid : s.plan ≡ Some (layout c.plan)) where
+module _ (c : CourseTold) (plan : ShelfPlan) (s : System) (v : SeatView) (h : Orderly s) (settled : IsSettled s v) (at : slice_get s.views 0 ≡ Some v) (laid : IsLaidFor c plan s) where
   as_many : length s.claims ≡ length (segments_in c.plan)
-  as_many = let shape : IsLaid (layout c.plan) s = subst (λ (plan : Option ShelfPlan). HasShape plan s) laid h.shape in shape.claims
+  as_many = let shape : IsLaid plan s = subst (λ (o : Option ShelfPlan). HasShape o s) laid.laid h.shape in shape.claims ∙ laid.segments
 
   claims_below : All (λ g. g < length (segments_in c.plan)) v.claims
   claims_below = all_of_times (length (segments_in c.plan)) v.claims (λ g pos. let l = h.segments 0 v at g pos in let m = as_many in omega arith)
@@ -129,7 +147,7 @@ module _ (c : CourseTold) (s : System) (v : SeatView) (h : Orderly s) (settled :
   claims_most =
       let m = weighs_most (own_of c) (length (segments_in c.plan)) v.claims claims_below claims_once in let d = own_distinct c in omega arith
 
-  module _ (done : length (segments_in c.plan) ≤ v.done_seen) (ends : HasAllEnds c.plan v) where
+  module _ (done : length (segments_in c.plan) ≤ v.done_seen) (states : HasAllStates c plan v) where
     many : length (segments_in c.plan) ≤ length v.claims
     many = let a = h.sound.seen.number 0 v at in let b = settled.done in let e = h.sound.counts.within 0 v at in omega arith
 
@@ -143,18 +161,26 @@ module _ (c : CourseTold) (s : System) (v : SeatView) (h : Orderly s) (settled :
     taker_of g Open one e = let t : times g v.claims ≡ 0 = h.sound.claims.claimed g Open e 0 v at in absurd (omega arith)
     taker_of g (Taken n) one e = (n, e, h.sound.claims.takers g (Taken n) e)
 
-    pub ran_once : (workers : ℕ) → length s.views ≡ workers → RanOnce c.plan workers s
+    -- What the seat knows stands on its place.
+    stands : (key : Key) → is_in key v.known ≡ true → is_ready key (word_at s key) ≡ true
+    stands key known =
+        let kept = h.sound.known 0 v at key known in
+        rest_ready key (word_at s key) kept.there (λ w e. word_rests s v (place_in s.plan key) w settled e)
+
+    grid_segment : (g e : ℕ) → is_in (key_at g e) plan.grid ≡ true → g < length (segments_in c.plan)
+    grid_segment g e there = let b = key_below plan.segments plan.grid (key_at g e) laid.fits.grid there in let n = laid.segments in omega arith
+
+    pub ran_once : (workers : ℕ) → length s.views ≡ workers → RanOnce c plan workers s
     ran_once workers count = record {
+      laid = laid.laid;
       view = v;
       there = at;
       claimed = claimed_once;
       takers = λ g l. let w = word_of g l in let t = taker_of g w.0 (claimed_once g l) w.1 in (t.0, t.1, (let m = t.2 in omega arith));
-      ends = ends;
-      forks = λ g l u.
-          let key = end_key c.plan g in
-          let known : is_in key v.known ≡ true = (ends g (let one = claimed_once g l in omega arith)).fork u in
-          let kept = h.sound.known 0 v at key known in
-          rest_ready key (word_at s key) kept.there (λ w e. word_rests s v (place_in s.plan key) w settled e);
+      states = states;
+      forks = λ g l u. stands (end_key c.plan g) ((states g (let one = claimed_once g l in omega arith)).fork u);
+      grid = λ g e there sole passed. stands (key_at g e) ((states g (let one = claimed_once g (grid_segment g e there) in omega arith)).grid e there sole passed);
+      alone = λ many g e there. enough_places plan (key_at g e) many there;
     }
 
 -- Outcomes in slots.
@@ -200,38 +226,38 @@ abbrev flat : List (List Outcome) → List ℕ
 flat [] = []
 flat (os ∷ lists) = segments_of os ++ flat lists
 
-good_lists : (c : CourseTold) (slots : List (Option Outcome)) (done : List ℕ) (seats : List (SeatTold CourseTold)) (lists : List (List Outcome)) → HaveFinished c seats lists
+good_lists : (c : CourseTold) (plan : ShelfPlan) (slots : List (Option Outcome)) (done : List ℕ) (seats : List (SeatTold CourseTold)) (lists : List (List Outcome)) → HaveFinished c plan seats lists
     → All (λ (os : List Outcome). All (λ (o : Outcome). o.segment < length slots) os) lists → Good c slots done → Good c (placed_all slots lists) (done ++ flat lists)
-good_lists c slots done [] [] h below good = λ g pos. good g (let t = times_append g done [] in omega arith)
-good_lists c slots done [] (os ∷ lists) h below good = absurd h
-good_lists c slots done (s ∷ seats) [] h below good = absurd h
-good_lists c slots done (s ∷ seats) (os ∷ lists) h below good =
+good_lists c plan slots done [] [] h below good = λ g pos. good g (let t = times_append g done [] in omega arith)
+good_lists c plan slots done [] (os ∷ lists) h below good = absurd h
+good_lists c plan slots done (s ∷ seats) [] h below good = absurd h
+good_lists c plan slots done (s ∷ seats) (os ∷ lists) h below good =
     let one = good_all c slots done os (All-head (λ (xs : List Outcome). All (λ (o : Outcome). o.segment < length slots) xs) os lists below) h.0.told good in
     let long = length_placed slots os in
-    let rest = good_lists c (placed slots os) (done ++ segments_of os) seats lists h.1
+    let rest = good_lists c plan (placed slots os) (done ++ segments_of os) seats lists h.1
     (Rattle.std.proofs.lemmas.List.Elements.All-weaker (λ (xs : List Outcome). All (λ (o : Outcome). o.segment < length slots) xs) (λ (xs : List Outcome). All (λ (o : Outcome). o.segment < length (placed slots os)) xs)
     (λ xs a. Rattle.std.proofs.lemmas.List.Elements.All-weaker (λ (x : Outcome). x.segment < length slots) (λ (x : Outcome). x.segment < length (placed slots os)) (λ x l. omega arith) xs a) lists (All-tail (λ (xs : List Outcome). All (λ (o : Outcome). o.segment < length slots) xs) os lists below)) one in
     λ g pos. rest g (
     let a = times_append g (done ++ segments_of os) (flat lists) in let b = times_append g done (segments_of os) in
     let d = times_append g done (flat (os ∷ lists)) in let e = times_append g (segments_of os) (flat lists) in omega arith)
 
-flat_times : (c : CourseTold) (g : ℕ) (seats : List (SeatTold CourseTold)) (lists : List (List Outcome)) → HaveFinished c seats lists → times g (flat lists) ≡ sum_by (λ (v : SeatView). times g v.claims) (views_of seats)
-flat_times c g [] [] h = refl
-flat_times c g [] (os ∷ lists) h = absurd h
-flat_times c g (s ∷ seats) [] h = absurd h
-flat_times c g (s ∷ seats) (os ∷ lists) h =
-    let r = flat_times c g seats lists h.1 in let a = times_append g (segments_of os) (flat lists) in
+flat_times : (c : CourseTold) (plan : ShelfPlan) (g : ℕ) (seats : List (SeatTold CourseTold)) (lists : List (List Outcome)) → HaveFinished c plan seats lists → times g (flat lists) ≡ sum_by (λ (v : SeatView). times g v.claims) (views_of seats)
+flat_times c plan g [] [] h = refl
+flat_times c plan g [] (os ∷ lists) h = absurd h
+flat_times c plan g (s ∷ seats) [] h = absurd h
+flat_times c plan g (s ∷ seats) (os ∷ lists) h =
+    let r = flat_times c plan g seats lists h.1 in let a = times_append g (segments_of os) (flat lists) in
     let e = ap (λ (xs : List ℕ). times g xs) h.0.segments in let b = sum_by-cons (λ (v : SeatView). times g v.claims) s.view (views_of seats) in omega arith
 
 -- Each worker's outcomes are of segments of the plan.
-pub lists_below : (c : CourseTold) (n : ℕ) (seats : List (SeatTold CourseTold)) (lists : List (List Outcome)) → HaveFinished c seats lists
+pub lists_below : (c : CourseTold) (plan : ShelfPlan) (n : ℕ) (seats : List (SeatTold CourseTold)) (lists : List (List Outcome)) → HaveFinished c plan seats lists
     → n ≡ length (segments_in c.plan) → All (λ (os : List Outcome). All (λ (o : Outcome). o.segment < n) os) lists
-lists_below c n [] [] h is = All-nil (λ (xs : List Outcome). All (λ (o : Outcome). o.segment < n) xs)
-lists_below c n [] (os ∷ lists) h is = absurd h
-lists_below c n (s ∷ seats) [] h is = absurd h
-lists_below c n (s ∷ seats) (os ∷ lists) h is = All-cons (λ (xs : List Outcome). All (λ (o : Outcome). o.segment < n) xs) os lists
+lists_below c plan n [] [] h is = All-nil (λ (xs : List Outcome). All (λ (o : Outcome). o.segment < n) xs)
+lists_below c plan n [] (os ∷ lists) h is = absurd h
+lists_below c plan n (s ∷ seats) [] h is = absurd h
+lists_below c plan n (s ∷ seats) (os ∷ lists) h is = All-cons (λ (xs : List Outcome). All (λ (o : Outcome). o.segment < n) xs) os lists
     (unmapped os (subst (λ (xs : List ℕ). All (λ g. g < n) xs) (sym h.0.segments) (subst (λ (m : ℕ). All (λ g. g < m) s.view.claims) (sym is) h.0.below)))
-    (lists_below c n seats lists h.1 is)
+    (lists_below c plan n seats lists h.1 is)
   where
     unmapped : (xs : List Outcome) → All (λ g. g < n) (segments_of xs) → All (λ (o : Outcome). o.segment < n) xs
     unmapped [] a = All-nil (λ (o : Outcome). o.segment < n)
@@ -272,8 +298,8 @@ told_in_order c list each = ap (λ (xs : List Outcome). map outcome_told xs) (sy
         ∙ ap (λ (x : OutcomeTold). outcomes_before c k ++ x ∷ []) here.2
 
 -- All workers finished: what their joined view has, and what their outcomes tell.
-module _ (c : CourseTold) (s : System) (first : SeatTold CourseTold) (seats : List (SeatTold CourseTold)) (lists : List (List Outcome)) (h : Orderly s)
-    (settled : IsSettled s (all_in (views_of (first ∷ seats)))) (at : slice_get s.views 0 ≡ Some (all_in (views_of (first ∷ seats)))) (laid : s.plan ≡ Some (layout c.plan)) where
+module _ (c : CourseTold) (plan : ShelfPlan) (s : System) (first : SeatTold CourseTold) (seats : List (SeatTold CourseTold)) (lists : List (List Outcome)) (h : Orderly s)
+    (settled : IsSettled s (all_in (views_of (first ∷ seats)))) (at : slice_get s.views 0 ≡ Some (all_in (views_of (first ∷ seats)))) (laid : IsLaidFor c plan s) where
   joined : SeatView
   joined = all_in (views_of (first ∷ seats))
 
@@ -281,38 +307,38 @@ module _ (c : CourseTold) (s : System) (first : SeatTold CourseTold) (seats : Li
   events_sum = added_up (λ v. events_of c v) (λ v w. sum_by-append (own_of c) v.claims w.claims) first.view (views_of seats) ∙ sum_map (λ v. events_of c v) (first ∷ seats)
 
   pub all_most : sum_by (λ (x : SeatTold CourseTold). sum_by (own_of c) x.view.claims) (first ∷ seats) ≤ distinct c.opening c.plan
-  all_most = let m = claims_most c s (all_in (views_of (first ∷ seats))) h settled at laid in let e = events_sum in omega arith
+  all_most = let m = claims_most c plan s (all_in (views_of (first ∷ seats))) h settled at laid in let e = events_sum in omega arith
 
-  module _ (fin : HaveFinished c (first ∷ seats) lists) where
-    all_ends : HasAllEnds c.plan (all_in (views_of (first ∷ seats)))
-    all_ends = joined_fact (λ v. HasAllEnds c.plan v) (ends_join c.plan) first.view (views_of seats) (each_view c (λ v. HasAllEnds c.plan v) (λ v os f. f.ends) (first ∷ seats) lists fin)
+  module _ (fin : HaveFinished c plan (first ∷ seats) lists) where
+    all_states : HasAllStates c plan (all_in (views_of (first ∷ seats)))
+    all_states = joined_fact (λ v. HasAllStates c plan v) (states_join c plan) first.view (views_of seats) (each_view c plan (λ v. HasAllStates c plan v) (λ v os f. f.states) (first ∷ seats) lists fin)
 
     all_done : length (segments_in c.plan) ≤ (all_in (views_of (first ∷ seats))).done_seen
     all_done = joined_fact (λ v. length (segments_in c.plan) ≤ v.done_seen) (λ v w a b. max_more (length (segments_in c.plan)) v.done_seen w.done_seen a) first.view (views_of seats)
-        (each_view c (λ v. length (segments_in c.plan) ≤ v.done_seen) (λ v os f. f.done) (first ∷ seats) lists fin)
+        (each_view c plan (λ v. length (segments_in c.plan) ≤ v.done_seen) (λ v os f. f.done) (first ∷ seats) lists fin)
       where
         max_more : (n a b : ℕ) → n ≤ a → n ≤ max a b
         max_more n a b l = omega (arith, l)
 
-    pub all_ran : (workers : ℕ) → length s.views ≡ workers → RanOnce c.plan workers s
-    all_ran workers count = ran_once c s (all_in (views_of (first ∷ seats))) h settled at laid all_done all_ends workers count
+    pub all_ran : (workers : ℕ) → length s.views ≡ workers → RanOnce c plan workers s
+    all_ran workers count = ran_once c plan s (all_in (views_of (first ∷ seats))) h settled at laid all_done all_states workers count
 
     pub all_events : sum_by (λ (x : SeatTold CourseTold). sum_by (own_of c) x.view.claims) (first ∷ seats) ≡ distinct c.opening c.plan
-    all_events = sym events_sum ∙ claims_all c s (all_in (views_of (first ∷ seats))) h settled at laid all_done all_ends
+    all_events = sym events_sum ∙ claims_all c plan s (all_in (views_of (first ∷ seats))) h settled at laid all_done all_states
 
     flat_once : (g : ℕ) → g < length (segments_in c.plan) → times g (flat lists) ≡ 1
-    flat_once g l = flat_times c g (first ∷ seats) lists fin ∙ sym (added_up (λ v. times g v.claims) (λ v w. times_append g v.claims w.claims) first.view (views_of seats))
-        ∙ claimed_once c s (all_in (views_of (first ∷ seats))) h settled at laid all_done all_ends g l
+    flat_once g l = flat_times c plan g (first ∷ seats) lists fin ∙ sym (added_up (λ v. times g v.claims) (λ v w. times_append g v.claims w.claims) first.view (views_of seats))
+        ∙ claimed_once c plan s (all_in (views_of (first ∷ seats))) h settled at laid all_done all_states g l
 
     module _ (slots : List (Option Outcome)) (empty : slots ≡ replicate (length (segments_in c.plan)) None) where
       long : length slots ≡ length (segments_in c.plan)
       long = ap (λ (xs : List (Option Outcome)). length xs) empty ∙ length-replicate (length (segments_in c.plan)) None
 
       pub all_below : All (λ (os : List Outcome). All (λ (o : Outcome). o.segment < length slots) os) lists
-      all_below = lists_below c (length slots) (first ∷ seats) lists fin long
+      all_below = lists_below c plan (length slots) (first ∷ seats) lists fin long
 
       slot_told : (g : ℕ) → g < length (segments_in c.plan) → (o : Outcome) × (slice_get (placed_all slots lists) g ≡ Some (Some o)) × (outcome_told o ≡ outcome_of c g)
-      slot_told g l = good_lists c slots [] (first ∷ seats) lists fin all_below (λ i pos. absurd (none i pos)) g (let o = flat_once g l in omega arith)
+      slot_told g l = good_lists c plan slots [] (first ∷ seats) lists fin all_below (λ i pos. absurd (none i pos)) g (let o = flat_once g l in omega arith)
         where
           none : (i : ℕ) → 0 < times i [] → ⊥
           none i pos = absurd (omega arith)
@@ -329,36 +355,36 @@ module _ (c : CourseTold) (s : System) (first : SeatTold CourseTold) (seats : Li
           ∙ ap (λ (k : ℕ). outcomes_before c k) same
 
 -- A system in which the first of some seats took in all others.
-pub record AreJoined (c : CourseTold) (s : System) (seats : List (SeatTold CourseTold)) : Type 0 where
+pub record AreJoined (c : CourseTold) (plan : ShelfPlan) (s : System) (seats : List (SeatTold CourseTold)) : Type 0 where
   pub some : 0 < length seats
   pub orderly : Orderly s
   pub settled : IsSettled s (all_in (views_of seats))
   pub at : slice_get s.views 0 ≡ Some (all_in (views_of seats))
-  pub laid : s.plan ≡ Some (layout c.plan)
+  pub laid : IsLaidFor c plan s
 
-module _ (c : CourseTold) (s : System) where
-  pub most_of : (seats : List (SeatTold CourseTold)) → AreJoined c s seats → sum_by (λ (x : SeatTold CourseTold). sum_by (own_of c) x.view.claims) seats ≤ distinct c.opening c.plan
+module _ (c : CourseTold) (plan : ShelfPlan) (s : System) where
+  pub most_of : (seats : List (SeatTold CourseTold)) → AreJoined c plan s seats → sum_by (λ (x : SeatTold CourseTold). sum_by (own_of c) x.view.claims) seats ≤ distinct c.opening c.plan
   most_of [] j = let l = j.some in absurd (omega arith)
-  most_of (first ∷ rest) j = all_most c s first rest [] j.orderly j.settled j.at j.laid
+  most_of (first ∷ rest) j = all_most c plan s first rest [] j.orderly j.settled j.at j.laid
 
-  pub events_of_all : (seats : List (SeatTold CourseTold)) (lists : List (List Outcome)) → AreJoined c s seats → HaveFinished c seats lists
+  pub events_of_all : (seats : List (SeatTold CourseTold)) (lists : List (List Outcome)) → AreJoined c plan s seats → HaveFinished c plan seats lists
       → sum_by (λ (x : SeatTold CourseTold). sum_by (own_of c) x.view.claims) seats ≡ distinct c.opening c.plan
   events_of_all [] lists j fin = let l = j.some in absurd (omega arith)
-  events_of_all (first ∷ rest) lists j fin = all_events c s first rest lists j.orderly j.settled j.at j.laid fin
+  events_of_all (first ∷ rest) lists j fin = all_events c plan s first rest lists j.orderly j.settled j.at j.laid fin
 
-  pub ran_of_all : (seats : List (SeatTold CourseTold)) (lists : List (List Outcome)) → AreJoined c s seats → HaveFinished c seats lists → (workers : ℕ) → length s.views ≡ workers → RanOnce c.plan workers s
+  pub ran_of_all : (seats : List (SeatTold CourseTold)) (lists : List (List Outcome)) → AreJoined c plan s seats → HaveFinished c plan seats lists → (workers : ℕ) → length s.views ≡ workers → RanOnce c plan workers s
   ran_of_all [] lists j fin workers count = let l = j.some in absurd (omega arith)
-  ran_of_all (first ∷ rest) lists j fin workers count = all_ran c s first rest lists j.orderly j.settled j.at j.laid fin workers count
+  ran_of_all (first ∷ rest) lists j fin workers count = all_ran c plan s first rest lists j.orderly j.settled j.at j.laid fin workers count
 
-  pub some_of_all : (seats : List (SeatTold CourseTold)) (lists : List (List Outcome)) → AreJoined c s seats → HaveFinished c seats lists → (slots : List (Option Outcome))
+  pub some_of_all : (seats : List (SeatTold CourseTold)) (lists : List (List Outcome)) → AreJoined c plan s seats → HaveFinished c plan seats lists → (slots : List (Option Outcome))
       → slots ≡ replicate (length (segments_in c.plan)) None → All (λ (x : Option Outcome). IsSome x) (placed_all slots lists)
   some_of_all [] lists j fin slots empty = let l = j.some in absurd (omega arith)
-  some_of_all (first ∷ rest) lists j fin slots empty = all_some c s first rest lists j.orderly j.settled j.at j.laid fin slots empty
+  some_of_all (first ∷ rest) lists j fin slots empty = all_some c plan s first rest lists j.orderly j.settled j.at j.laid fin slots empty
 
-  pub told_of_all : (seats : List (SeatTold CourseTold)) (lists : List (List Outcome)) → AreJoined c s seats → HaveFinished c seats lists → (slots : List (Option Outcome))
+  pub told_of_all : (seats : List (SeatTold CourseTold)) (lists : List (List Outcome)) → AreJoined c plan s seats → HaveFinished c plan seats lists → (slots : List (Option Outcome))
       → slots ≡ replicate (length (segments_in c.plan)) None → (list : List Outcome) → map (λ (x : Outcome). Some x) list ≡ placed_all slots lists → map outcome_told list ≡ outcomes_before c (length (segments_in c.plan))
   told_of_all [] lists j fin slots empty list is = let l = j.some in absurd (omega arith)
-  told_of_all (first ∷ rest) lists j fin slots empty list is = all_told c s first rest lists j.orderly j.settled j.at j.laid fin slots empty list is
+  told_of_all (first ∷ rest) lists j fin slots empty list is = all_told c plan s first rest lists j.orderly j.settled j.at j.laid fin slots empty list is
 
 -- One outcome more is placed.
 pub placed_more : (slots : List (Option Outcome)) (os : List Outcome) (o : Outcome) → placed slots (os ++ o ∷ []) ≡ set (placed slots os) o.segment (Some o)
@@ -373,7 +399,7 @@ all_from_map : {X Y : Type 0} (P : X → Type 0) (f : Y → X) (ys : List Y) →
 all_from_map P f [] a = All-nil (λ y. P (f y))
 all_from_map P f (y ∷ ys) a = All-cons (λ z. P (f z)) y ys (All-head P (f y) (map f ys) a) (all_from_map P f ys (All-tail P (f y) (map f ys) a))
 
-pub vectors_below : (c : CourseTold) (n : ℕ) (seats : List (SeatTold CourseTold)) (vs : List (Vec Outcome Global)) → HaveFinished c seats (map (λ v. v.items) vs)
+pub vectors_below : (c : CourseTold) (plan : ShelfPlan) (n : ℕ) (seats : List (SeatTold CourseTold)) (vs : List (Vec Outcome Global)) → HaveFinished c plan seats (map (λ v. v.items) vs)
     → n ≡ length (segments_in c.plan) → All (λ v. All (λ (o : Outcome). o.segment < n) v.items) vs
-vectors_below c n seats vs fin is =
-    all_from_map (λ (os : List Outcome). All (λ (o : Outcome). o.segment < n) os) (λ (v : Vec Outcome Global). v.items) vs (lists_below c n seats (map (λ (v : Vec Outcome Global). v.items) vs) fin is)
+vectors_below c plan n seats vs fin is =
+    all_from_map (λ (os : List Outcome). All (λ (o : Outcome). o.segment < n) os) (λ (v : Vec Outcome Global). v.items) vs (lists_below c plan n seats (map (λ (v : Vec Outcome Global). v.items) vs) fin is)

@@ -6,6 +6,7 @@ use Rattle.std.proofs.lemmas.List.Elements.{All-nil, All-cons, All-head, All-tai
 use Rattle.std.proofs.lemmas.List.Sums.{sum_by-cons}
 use Rattle.branch_tree.specs.Segments.{segments_in}
 use Rattle.shelf_core.specs.Views.{times, new_view}
+use Rattle.shelf_core.specs.declared.plan.ShelfPlan.{ShelfPlan}
 use Rattle.shelf_core.specs.declared.seat.SeatView.{SeatView}
 use Rattle.shelf_core.proofs.Lists.{not_some, some_same}
 use Rattle.branch_deques.specs.Told.{LaneTold}
@@ -28,7 +29,7 @@ made_ready c shelf number seat pushed k at new h =
       turns = refl;
       claims = record { below = All-nil (λ (s : ℕ). s < length (segments_in c.plan)); once = λ s. omega arith };
       counts = refl;
-      ends = λ s pos. absurd (none s pos);
+      states = λ s pos. absurd (none s pos);
       segments = refl;
       told = All-nil (λ (o : Outcome). outcome_told o ≡ outcome_of c o.segment);
       counted = refl;
@@ -84,10 +85,10 @@ module _ {X : Type 0} (c : CourseTold) (shelf : ShelfTold CourseTold) (seat : X 
           let r = at_number xs 0 (λ j n q. let a = nums j n q in omega arith) ends i s e in let m : 0 + i ≡ i = omega arith in
           (r.0, (r.1.0, r.1.1 ∙ ap (λ (y : ℕ). y ∷ r.1.0) m), r.2)
 
-  pub all_finished : (ws : List X) → All (λ w. finished w ≡ true) ws → All (λ w. finished w ≡ true → HasFinished c (seat w).view (outcomes w).items) ws
-      → HaveFinished c (map seat ws) (map (λ (v : Vec Outcome Global). v.items) (map outcomes ws))
+  pub all_finished : (ws : List X) → All (λ w. finished w ≡ true) ws → All (λ w. finished w ≡ true → HasFinished c shelf.plan (seat w).view (outcomes w).items) ws
+      → HaveFinished c shelf.plan (map seat ws) (map (λ (v : Vec Outcome Global). v.items) (map outcomes ws))
   all_finished [] all each = tt
-  all_finished (w ∷ ws) all each = (All-head (λ (w : X). finished w ≡ true → HasFinished c (seat w).view (outcomes w).items) w ws each (All-head (λ (w : X). finished w ≡ true) w ws all), all_finished ws (All-tail (λ (w : X). finished w ≡ true) w ws all) (All-tail (λ (w : X). finished w ≡ true → HasFinished c (seat w).view (outcomes w).items) w ws each))
+  all_finished (w ∷ ws) all each = (All-head (λ (w : X). finished w ≡ true → HasFinished c shelf.plan (seat w).view (outcomes w).items) w ws each (All-head (λ (w : X). finished w ≡ true) w ws all), all_finished ws (All-tail (λ (w : X). finished w ≡ true) w ws all) (All-tail (λ (w : X). finished w ≡ true → HasFinished c shelf.plan (seat w).view (outcomes w).items) w ws each))
 
   pub steps_most : (ws : List X) → All (λ w. HasEnded c shelf (number w) (seat w) (steps w)) ws
       → sum_by steps ws ≤ sum_by (λ (s : SeatTold CourseTold). sum_by (own_of c) s.view.claims) (map seat ws)
@@ -143,8 +144,8 @@ module _ {X : Type 0} (ws : List X) (c : CourseTold) (shelf : ShelfTold CourseTo
   pub handed : length ws ≡ shelf.seats → AreNumbered (map number ws) → All (λ w. HasEnded c shelf (number w) (seat w) (steps w)) ws → AllBack shelf (map seat ws)
   handed count numbers ended = all_handed c shelf seat steps number outcomes lane finished ws count numbers ended
 
-  pub finishes : All (λ w. finished w ≡ true) ws → All (λ w. finished w ≡ true → HasFinished c (seat w).view (outcomes w).items) ws
-      → HaveFinished c (map seat ws) (map (λ (v : Vec Outcome Global). v.items) (map outcomes ws))
+  pub finishes : All (λ w. finished w ≡ true) ws → All (λ w. finished w ≡ true → HasFinished c shelf.plan (seat w).view (outcomes w).items) ws
+      → HaveFinished c shelf.plan (map seat ws) (map (λ (v : Vec Outcome Global). v.items) (map outcomes ws))
   finishes all each = all_finished c shelf seat steps number outcomes lane finished ws all each
 
   pub most_steps : All (λ w. HasEnded c shelf (number w) (seat w) (steps w)) ws → sum_by steps ws ≤ sum_by (λ (s : SeatTold CourseTold). sum_by (own_of c) s.view.claims) (map seat ws)
@@ -161,12 +162,12 @@ module _ {X : Type 0} (ws : List X) (c : CourseTold) (shelf : ShelfTold CourseTo
   still_numbered vs long same h = numbered_still c shelf seat steps number outcomes lane finished ws vs long same h
 
 -- What all workers that finished tell, of equal lists.
-pub finished_told : (c d : CourseTold) → d ≡ c → (seats others : List (SeatTold CourseTold)) → others ≡ seats → (lists more : List (Vec Outcome Global)) → more ≡ lists
-    → HaveFinished c seats (map (λ (v : Vec Outcome Global). v.items) lists) → HaveFinished d others (map (λ (v : Vec Outcome Global). v.items) more)
-finished_told c d course seats others same lists more equal h =
-    subst (λ (x : CourseTold). HaveFinished x others (map (λ (v : Vec Outcome Global). v.items) more)) (sym course)
-    (subst (λ (ss : List (SeatTold CourseTold)). HaveFinished c ss (map (λ (v : Vec Outcome Global). v.items) more)) (sym same)
-    (subst (λ (vs : List (Vec Outcome Global)). HaveFinished c seats (map (λ (v : Vec Outcome Global). v.items) vs)) (sym equal) h))
+pub finished_told : (c d : CourseTold) (plan : ShelfPlan) → d ≡ c → (seats others : List (SeatTold CourseTold)) → others ≡ seats → (lists more : List (Vec Outcome Global)) → more ≡ lists
+    → HaveFinished c plan seats (map (λ (v : Vec Outcome Global). v.items) lists) → HaveFinished d plan others (map (λ (v : Vec Outcome Global). v.items) more)
+finished_told c d plan course seats others same lists more equal h =
+    subst (λ (x : CourseTold). HaveFinished x plan others (map (λ (v : Vec Outcome Global). v.items) more)) (sym course)
+    (subst (λ (ss : List (SeatTold CourseTold)). HaveFinished c plan ss (map (λ (v : Vec Outcome Global). v.items) more)) (sym same)
+    (subst (λ (vs : List (Vec Outcome Global)). HaveFinished c plan seats (map (λ (v : Vec Outcome Global). v.items) vs)) (sym equal) h))
 
 -- A fact of all of a list holds of all of an equal one.
 pub moved : {X : Type 0} (xs ys : List X) → xs ≡ ys → (P : X → Type 0) → All P ys → All P xs

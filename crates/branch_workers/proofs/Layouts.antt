@@ -1,5 +1,5 @@
 -- The shelf and the lanes of a course.
-use Rattle.std.proofs.Common.{◌≡◌, ◌≢◌, ℕ, zero, suc, ◌<◌, ◌≤◌, All, List, [], ◌∷◌, Option, None, Some, length, append-nil, refl, sym, ap, ◌∙◌, subst, arith}
+use Rattle.std.proofs.Common.{◌≡◌, ◌≢◌, ℕ, zero, suc, ◌<◌, ◌≤◌, All, [], ◌∷◌, Option, None, Some, length, refl, sym, subst, arith}
 use Rattle.std.proofs.lemmas.List.Elements.{All-nil, All-cons, All-from_get_or}
 use mathlib.Core.Logic.{dite}
 use native.Mathlib.Decide.{ℕ_discrete}
@@ -7,34 +7,34 @@ use Rattle.branch_tree.specs.declared.segment.Segment.{Segment}
 use Rattle.branch_tree.specs.Plan.{Plan}
 use Rattle.branch_tree.specs.Segments.{segments_in, segment_at, no_segment, count_before}
 use Rattle.branch_tree.proofs.PartLemmas.{length-before}
-use Rattle.shelf_core.specs.Plan.{are_distinct}
 use Rattle.shelf_core.specs.Views.{times}
-use Rattle.shelf_core.specs.declared.plan.Key.{Key}
 use Rattle.shelf_core.proofs.Lists.{times_here, times_else}
-use Rattle.checkpoint_shelf.specs.Plans.{PlanFits, KeyBelow}
+use Rattle.checkpoint_shelf.specs.Plans.{PlanFits}
 use Rattle.kernel_copy.specs.Courses.{CourseTold, IsCourse}
 use Rattle.kernel_copy.proofs.Trees.{course-tree, course-few}
 use Rattle.kernel_copy.proofs.Walks.{planned-at, has_parent}
-use Rattle.branch_workers.specs.Layout.{fork_keys, layout}
+use Rattle.branch_workers.specs.Layout.{layout}
 use Rattle.branch_workers.specs.Claims.{HasPushed, pushes}
+use Rattle.branch_workers.proofs.Grids.{keys_distinct, grid_below, grids_rise}
 use Rattle.branch_workers.proofs.Forks.{forks_rise, forks_distinct, forks_below, forks_few, segments_few}
 
 -- a course's shelf can be laid out
-pub layout_fits : (c : CourseTold) → IsCourse c → PlanFits (layout c.plan)
-layout_fits c h =
+pub layout_fits : (c : CourseTold) (stride places : ℕ) → IsCourse c → places ≤ 128 → PlanFits (layout c.plan stride places)
+layout_fits c stride places h room =
     let few = segments_few c.plan (course-few c h) in
     let keys = forks_few c.plan 0 (segments_in c.plan) in
-    let stops : All (λ (g : Segment). g.stop < 16777216) (segments_in c.plan) =
-    All-from_get_or (λ (g : Segment). g.stop < 16777216) (segments_in c.plan) no_segment
+    let stop : (i : ℕ) → i < length (segments_in c.plan) → (segment_at c.plan i).stop < 16777216 =
     (λ i l. let w = (planned-at c.plan i (course-tree c h) l).within in let a = h.limit in let b = h.opening.limit in omega arith) in
+    let stops : All (λ (g : Segment). g.stop < 16777216) (segments_in c.plan) =
+    All-from_get_or (λ (g : Segment). g.stop < 16777216) (segments_in c.plan) no_segment stop in
     record {
       segments = omega arith;
       places = omega arith;
-      distinct = ap (λ (xs : List Key). are_distinct xs) (append-nil (fork_keys c.plan)) ∙ forks_distinct c.plan 0 (segments_in c.plan);
+      distinct = keys_distinct c.plan stride (forks_distinct c.plan 0 (segments_in c.plan));
       forks = forks_below c.plan (length (segments_in c.plan)) 0 (segments_in c.plan) (omega arith) stops;
-      grid = All-nil (KeyBelow (length (segments_in c.plan)));
+      grid = grid_below c.plan stride stop;
       forks_rise = forks_rise c.plan 0 (segments_in c.plan);
-      grid_rise = refl;
+      grid_rise = grids_rise stride 0 (segments_in c.plan);
     }
 
 -- there is a segment

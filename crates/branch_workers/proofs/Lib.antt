@@ -1,6 +1,8 @@
 pub mod Sums
 pub mod Joined
 pub mod Forks
+pub mod Grids
+pub mod Underway
 pub mod Children
 pub mod Standing
 pub mod Layouts

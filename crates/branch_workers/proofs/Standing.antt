@@ -19,8 +19,8 @@ use Rattle.kernel_copy.specs.Courses.{CourseTold, IsCourse}
 use Rattle.kernel_copy.specs.Outcomes.{OutcomeTold, outcome_told, outcome_of}
 use Rattle.kernel_copy.proofs.Adding.{own-more, own-all, distinct-bound}
 use Rattle.kernel_copy.proofs.Trees.{course-few}
-use Rattle.branch_workers.specs.Layout.{end_key}
-use Rattle.branch_workers.specs.Runs.{HasEnds, Remains}
+use Rattle.branch_workers.specs.Layout.{end_key, key_at}
+use Rattle.branch_workers.specs.Runs.{HasStates, Remains}
 use Rattle.branch_workers.specs.Claims.{AreClaims, HasPushed}
 use Rattle.branch_workers.specs.Workers.{own_of, IsAtWork, HasEnded, HasFinished}
 use Rattle.branch_workers.proofs.Sums.{upto, weighs_most}
@@ -71,9 +71,10 @@ module _ (c : CourseTold) (shelf : ShelfTold CourseTold) (number : ℕ) (seat : 
     turns = same.turns ∙ h.turns;
     claims = subst (λ (xs : List ℕ). AreClaims c.plan xs) (sym same.claims) h.claims;
     counts = same.counts ∙ h.counts ∙ sym (ap (λ (xs : List ℕ). length xs) same.claims);
-    ends = λ s pos. let old = h.ends s (subst (λ (xs : List ℕ). 0 < times s xs) same.claims pos) in record {
+    states = λ s pos. let old = h.states s (subst (λ (xs : List ℕ). 0 < times s xs) same.claims pos) in record {
       parent = λ q e. stays.found (end_key c.plan q) (old.parent q e);
       fork = λ l. stays.known (end_key c.plan s) (old.fork l);
+      grid = λ e there sole passed. stays.known (key_at s e) (old.grid e there sole passed);
     };
     segments = h.segments ∙ sym same.claims;
     told = h.told;
@@ -91,8 +92,8 @@ module _ (c : CourseTold) (shelf : ShelfTold CourseTold) (number : ℕ) (seat : 
     few = (let e = h.counted in let f = claims_few c seat.view.claims h.course h.claims in omega arith);
   }
 
-  pub finishes_here : length (segments_in c.plan) ≤ seat.view.done_seen → HasFinished c seat.view outcomes
-  finishes_here done = record { below = h.claims.below; ends = h.ends; segments = h.segments; told = h.told; done = done }
+  pub finishes_here : length (segments_in c.plan) ≤ seat.view.done_seen → HasFinished c shelf.plan seat.view outcomes
+  finishes_here done = record { below = h.claims.below; states = h.states; segments = h.segments; told = h.told; done = done }
 
   module _ (g : ℕ) (below : g < length (segments_in c.plan)) (new : times g seat.view.claims ≡ 0) (claimed : SeatView) (is : claimed ≡ with_claim g seat.view)
       (w : SeatTold CourseTold) (at : w.shelf ≡ seat.shelf) (remains : Remains claimed w.view) (turns : w.view.turns ≡ []) where
@@ -119,9 +120,9 @@ module _ (c : CourseTold) (shelf : ShelfTold CourseTold) (number : ℕ) (seat : 
         }
 
     -- It ran.
-    pub ran : w.view.counts ≡ claimed.counts + 1 → HasEnds c.plan g w.view → (o : Outcome) → outcome_told o ≡ outcome_of c g → (made : ℕ) → made ≡ steps + own_of c g
+    pub ran : w.view.counts ≡ claimed.counts + 1 → HasStates c shelf.plan g w.view → (o : Outcome) → outcome_told o ≡ outcome_of c g → (made : ℕ) → made ≡ steps + own_of c g
         → IsAtWork c shelf number w made (outcomes ++ o ∷ []) (pushed ++ children_of c.plan g)
-    ran counts ends o told made rose =
+    ran counts states o told made rose =
         let more = claims_more c seat.view.claims g h.claims below new in
         let s = sum_more (own_of c) seat.view.claims g in
         record {
@@ -131,15 +132,16 @@ module _ (c : CourseTold) (shelf : ShelfTold CourseTold) (number : ℕ) (seat : 
           turns = turns;
           claims = subst (λ (xs : List ℕ). AreClaims c.plan xs) (sym claims_are) more;
           counts = (let old : claimed.counts ≡ seat.view.counts = ap (λ (v : SeatView). v.counts) is in let l = ap (λ (xs : List ℕ). length xs) claims_are in let a = length-append seat.view.claims (g ∷ []) in let e = h.counts in omega arith);
-          ends = λ t pos. dite (ℕ_discrete t g)
-              (λ (one : t ≡ g). subst (λ (x : ℕ). HasEnds c.plan x w.view) (sym one) ends)
+          states = λ t pos. dite (ℕ_discrete t g)
+              (λ (one : t ≡ g). subst (λ (x : ℕ). HasStates c shelf.plan x w.view) (sym one) states)
               (λ (ne : t ≢ g).
               let a = times_append t seat.view.claims (g ∷ []) in
               let z : times t (g ∷ []) ≡ 0 = times_else t g [] (λ e. ne (sym e)) in
               let p : times t w.view.claims ≡ times t (seat.view.claims ++ g ∷ []) = ap (λ (xs : List ℕ). times t xs) claims_are in
-              let old = h.ends t (omega arith) in record {
+              let old = h.states t (omega arith) in record {
                 parent = λ q e. remains.found (end_key c.plan q) (ap (λ (v : SeatView). is_in (end_key c.plan q) v.found) is ∙ old.parent q e);
                 fork = λ l. remains.known (end_key c.plan t) (ap (λ (v : SeatView). is_in (end_key c.plan t) v.known) is ∙ old.fork l);
+                grid = λ e there sole passed. remains.known (key_at t e) (ap (λ (v : SeatView). is_in (key_at t e) v.known) is ∙ old.grid e there sole passed);
               });
           segments = map-append (λ (x : Outcome). x.segment) outcomes (o ∷ []) ∙ ap (λ (xs : List ℕ). xs ++ o.segment ∷ []) h.segments
               ∙ ap (λ (x : ℕ). seat.view.claims ++ x ∷ []) (ap (λ (x : OutcomeTold). x.segment) told) ∙ sym claims_are;

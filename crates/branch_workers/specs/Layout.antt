@@ -1,5 +1,5 @@
 -- The shelf on which the segments of a course meet.
-use Rattle.std.specs.Prelude.{ℕ, ◌+◌, nat_lt, if◌then◌else◌, List, [], ◌∷◌, length}
+use Rattle.std.specs.Prelude.{ℕ, ◌+◌, ◌-◌, ◌%◌, ◌==◌, zero, suc, nat_lt, if◌then◌else◌, List, [], ◌∷◌, ◌++◌, length}
 use Rattle.branch_tree.specs.declared.segment.Segment.{Segment}
 use Rattle.branch_tree.specs.Plan.{Plan}
 use Rattle.branch_tree.specs.Segments.{segments_in, segment_at, last_of}
@@ -21,6 +21,28 @@ forks_from p s (g ∷ gs) =
 abbrev pub fork_keys : Plan → List Key
 fork_keys p = forks_from p 0 (segments_in p)
 
--- what a shelf is laid out for: a word for each segment and a place for each fork
-abbrev pub layout : Plan → ShelfPlan
-layout p = record { segments = length (segments_in p); forks = fork_keys p; grid = []; places = 0 }
+-- the key of an event number in a segment
+abbrev pub key_at : ℕ → ℕ → Key
+key_at s e = record { segment = s; event = e }
+
+-- the keys of those numbers in a segment, among so many from this one on, that are multiples of the stride
+abbrev pub multiples_from : ℕ → ℕ → ℕ → ℕ → List Key
+multiples_from stride s e zero = []
+multiples_from stride s e (suc n) =
+    if e % stride == 0 then key_at s e ∷ multiples_from stride s (e + 1) n else multiples_from stride s (e + 1) n
+
+-- the grid of a segment: the multiples of the stride strictly between its start and its stop
+abbrev pub grid_of : ℕ → ℕ → Segment → List Key
+grid_of stride s g = multiples_from stride s (g.start + 1) (g.stop - (g.start + 1))
+
+-- the grids of the segments from this number on, in order of segment and event
+abbrev pub grids_from : ℕ → ℕ → List Segment → List Key
+grids_from stride s [] = []
+grids_from stride s (g ∷ gs) = grid_of stride s g ++ grids_from stride (s + 1) gs
+
+abbrev pub grid_keys : Plan → ℕ → List Key
+grid_keys p stride = grids_from stride 0 (segments_in p)
+
+-- what a shelf is laid out for: a word for each segment, a place for each fork, and so many places for the grid of a stride
+abbrev pub layout : Plan → ℕ → ℕ → ShelfPlan
+layout p stride places = record { segments = length (segments_in p); forks = fork_keys p; grid = grid_keys p stride; places = places }

@@ -1,29 +1,49 @@
 -- What a seat has once it ran segments.
-use Rattle.std.specs.Prelude.{◌≡◌, ℕ, ◌<◌, true, Some, length}
-use Rattle.branch_tree.specs.Plan.{Plan}
+use Rattle.std.specs.Prelude.{◌≡◌, ℕ, ◌<◌, ◌≤◌, true, Some, length}
 use Rattle.branch_tree.specs.Segments.{segments_in, segment_at, last_of}
-use Rattle.shelf_core.specs.Plan.{is_in}
+use Rattle.shelf_core.specs.Plan.{is_in, is_sole}
 use Rattle.shelf_core.specs.Views.{times}
 use Rattle.shelf_core.specs.declared.plan.Key.{Key}
+use Rattle.shelf_core.specs.declared.plan.ShelfPlan.{ShelfPlan}
 use Rattle.shelf_core.specs.declared.seat.SeatView.{SeatView}
 use Rattle.checkpoint_shelf.specs.Told.{ShelfTold}
+use Rattle.kernel_core.specs.Step.{Fits}
+use Rattle.kernel_core.specs.Until.{Run, until}
 use Rattle.kernel_copy.specs.Courses.{CourseTold}
-use Rattle.branch_workers.specs.Layout.{end_key, fork_keys}
+use Rattle.kernel_copy.specs.Segmentwise.{segment_end, segment_run, started_at}
+use Rattle.branch_workers.specs.Layout.{end_key, fork_keys, key_at, grid_keys}
 
--- The shelf is of this course, with its segments and its forks.
-pub record IsShelfOf (c : CourseTold) (shelf : ShelfTold CourseTold) : Type 0 where
+-- The shelf is of this course, with its forks.
+abbrev pub HasForks : CourseTold → ShelfTold CourseTold → Type 0
+HasForks c shelf = (shelf.course ≡ c) × (shelf.plan.forks ≡ fork_keys c.plan)
+
+-- The shelf is of this course, with its segments, its forks and its grid of this stride.
+pub record IsShelfOf (c : CourseTold) (stride : ℕ) (shelf : ShelfTold CourseTold) : Type 0 where
   pub course : shelf.course ≡ c
   pub segments : shelf.plan.segments ≡ length (segments_in c.plan)
   pub forks : shelf.plan.forks ≡ fork_keys c.plan
+  pub grid : shelf.plan.grid ≡ grid_keys c.plan stride
 
--- The seat found the end of a segment's parent, if it has one, and knows the segment's own end, if others go on from it.
-pub record HasEnds (p : Plan) (s : ℕ) (v : SeatView) : Type 0 where
-  pub parent : (q : ℕ) → (segment_at p s).parent ≡ Some q → is_in (end_key p q) v.found ≡ true
-  pub fork : s < last_of p.branches (segment_at p s).branch → is_in (end_key p s) v.known ≡ true
+-- The run of a segment passes an event number: so many events stand at the segment's end.
+abbrev pub IsPassed : CourseTold → ℕ → ℕ → Type 0
+IsPassed c s e = e ≤ (segment_end c.opening c.plan (segment_at c.plan s)).state.events
+
+-- The seat found the end of a segment's parent, if it has one; it knows the segment's own end, if others go on from it; and it
+-- knows the state at each number of the segment's grid that the run passed and that has a place of its own.
+pub record HasStates (c : CourseTold) (plan : ShelfPlan) (s : ℕ) (v : SeatView) : Type 0 where
+  pub parent : (q : ℕ) → (segment_at c.plan s).parent ≡ Some q → is_in (end_key c.plan q) v.found ≡ true
+  pub fork : s < last_of c.plan.branches (segment_at c.plan s).branch → is_in (end_key c.plan s) v.known ≡ true
+  pub grid : (e : ℕ) → is_in (key_at s e) plan.grid ≡ true → is_sole plan (key_at s e) ≡ true → IsPassed c s e → is_in (key_at s e) v.known ≡ true
 
 -- so of each segment that it claimed
-abbrev pub HasAllEnds : Plan → SeatView → Type 0
-HasAllEnds p v = (s : ℕ) → 0 < times s v.claims → HasEnds p s v
+abbrev pub HasAllStates : CourseTold → ShelfPlan → SeatView → Type 0
+HasAllStates c plan v = (s : ℕ) → 0 < times s v.claims → HasStates c plan s v
+
+-- A run of a segment that stopped on its way, at this event number or before: from there on it goes as if it hadn't stopped.
+pub record IsUnderway (c : CourseTold) (s e : ℕ) (r : Run) : Type 0 where
+  pub again : (m : ℕ) → e ≤ m → until c.opening m r ≡ until c.opening m (started_at c.opening c.plan (segment_at c.plan s))
+  pub few : r.state.events ≤ (segment_run c.opening c.plan (segment_at c.plan s)).state.events
+  pub fits : Fits c.opening r.state
 
 -- What the run of a segment leaves of a seat's view, whether it ends well or not: its numbers and claims; and of what it
 -- knew and found nothing is lost.

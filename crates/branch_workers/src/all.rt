@@ -2,6 +2,7 @@
 
 ghost use Rattle.std.specs.Prelude.{◌≡◌, ℕ, ◌+◌, ◌<◌, ◌≤◌, ◌^◌, All, None, true, false, IfOk, OnOk, length, map, replicate, sum_by, slice_index_or};
 ghost use Rattle.branch_tree.specs.Segments.{segments_in};
+ghost use Rattle.checkpoint_shelf.specs.Plans.{PlanFits};
 ghost use Rattle.checkpoint_shelf.specs.Seats.{AllBack};
 ghost use Rattle.kernel_copy.specs.Outcomes.{outcome_told, outcomes_before};
 ghost use Rattle.kernel_copy.specs.Segmentwise.{distinct};
@@ -30,7 +31,7 @@ use std::thread::Threads;
 pub struct Worked {
     /// The outcomes in order of segment.
     pub outcomes: Vec<Outcome>,
-    /// The shelf, on which the end of each segment stands from which others go on.
+    /// The shelf, on which the end of each segment stands from which others go on, and states of the grid.
     pub shelf: ClosedShelf<Checkpoint>,
 }
 
@@ -40,17 +41,19 @@ fn run_all<R: Threads + Wait + Sync, G: Gate + Sync, L: Ledger + Send, B: Room +
     alloc: Global,
     course: &Arc<Course>,
     shelf: &Shelf<Checkpoint>,
+    stride: u32,
     gate: &G,
     workers: &mut [Worker<L, B>],
 )
-    requires shelf { IsShelfOf course.now.value shelf.now }
+    requires shelf { IsShelfOf course.now.value stride shelf.now }
+    requires stride { 0 < stride }
     requires room { B.room ≡ length (segments_in course.now.value.plan) }
     requires some { 0 < length workers.old }
     requires work { All (λ w. IsAtWork course.now.value shelf.now w.number w.seat w.steps w.outcomes.items w.lane.own.view.pushed) workers.old }
     requires finished { All (λ w. w.finished ≡ false) workers.old }
     ensures numbers { (i : ℕ) (d : _) → i < length workers.old → (slice_index_or workers.new i d).number ≡ (slice_index_or workers.old i d).number }
     ensures ended { All (λ w. HasEnded course.now.value shelf.now w.number w.seat w.steps) workers.new }
-    ensures finished { All (λ w. w.finished ≡ true → HasFinished course.now.value w.seat.view w.outcomes.items) workers.new }
+    ensures finished { All (λ w. w.finished ≡ true → HasFinished course.now.value shelf.now.plan w.seat.view w.outcomes.items) workers.new }
     ensures counted { All (λ w. w.finished ≡ true → w.steps ≡ sum_by (own_of course.now.value) w.seat.view.claims) workers.new }
 {
     let count = workers.len();
@@ -58,7 +61,7 @@ fn run_all<R: Threads + Wait + Sync, G: Gate + Sync, L: Ledger + Send, B: Room +
         rt,
         workers,
         count,
-        &|_, worker| run_worker(rt, alloc, course, shelf, gate, worker),
+        &|_, worker| run_worker(rt, alloc, course, shelf, stride, gate, worker),
     );
 }
 
@@ -71,16 +74,18 @@ fn finish(
     mut slots: Vec<Option<Outcome>>,
 ) -> Result<Worked, Memory>
     requires some { 0 < length back.seats.items }
-    requires shelf { (shelf.plan ≡ layout course.now.plan) × (shelf.course ≡ course.now) }
+    requires course { shelf.course ≡ course.now }
+    requires plan { PlanFits shelf.plan }
+    requires segments { shelf.plan.segments ≡ length (segments_in course.now.plan) }
     requires back { AllBack shelf back.seats.items }
     requires slots { slots.items ≡ replicate (length (segments_in course.now.plan)) None }
-    requires finished { back.finished ≡ true → HaveFinished course.now back.seats.items (map (λ v. v.items) back.outcomes.items) }
+    requires finished { back.finished ≡ true → HaveFinished course.now shelf.plan back.seats.items (map (λ v. v.items) back.outcomes.items) }
     ensures outcomes { IfOk result (λ w. map outcome_told w.outcomes.items ≡ outcomes_before course.now (length (segments_in course.now.plan))) }
     ensures finished { OnOk result (back.finished ≡ true) }
     ensures all { OnOk result (sum_by (λ s. sum_by (own_of course.now) s.view.claims) back.seats.items ≡ distinct course.now.opening course.now.plan) }
     ensures most { sum_by (λ s. sum_by (own_of course.now) s.view.claims) back.seats.items ≤ distinct course.now.opening course.now.plan }
-    ensures shelf { IfOk result (λ w. (w.shelf.plan ≡ layout course.now.plan) × (w.shelf.course ≡ course.now)) }
-    ensures once { IfOk result (λ w. RanOnce course.now.plan (length back.seats.items) w.shelf.system) }
+    ensures shelf { IfOk result (λ w. (w.shelf.plan ≡ shelf.plan) × (w.shelf.course ≡ course.now)) }
+    ensures once { IfOk result (λ w. RanOnce course.now shelf.plan (length back.seats.items) w.shelf.system) }
 {
     let _ = course.plan();
     let Back {
@@ -102,11 +107,15 @@ fn work_in<R: Threads + Wait + Sync, G: Gate + Sync, L: Ledger + Send, B: Room +
     rt: &R,
     alloc: Global,
     course: &Arc<Course>,
+    stride: u32,
+    places: u32,
     workers: u32,
     gate: &G,
     steps: &mut Steps<L>,
     count: u32,
 ) -> Result<Worked, Memory>
+    requires stride { 0 < stride }
+    requires places { places ≤ 128 }
     requires workers { (0 < workers) × (workers ≤ 64) }
     requires steps { steps.old ≤ 2 ^ 63 }
     requires room { count ≡ B.room }
@@ -115,15 +124,23 @@ fn work_in<R: Threads + Wait + Sync, G: Gate + Sync, L: Ledger + Send, B: Room +
     ensures rose { OnOk result (steps.new ≡ steps.old + distinct course.now.value.opening course.now.value.plan) }
     ensures most { steps.new ≤ steps.old + distinct course.now.value.opening course.now.value.plan }
     ensures least { steps.old ≤ steps.new }
-    ensures shelf { IfOk result (λ w. (w.shelf.plan ≡ layout course.now.value.plan) × (w.shelf.course ≡ course.now.value)) }
-    ensures once { IfOk result (λ w. RanOnce course.now.value.plan workers w.shelf.system) }
+    ensures shelf { IfOk result (λ w. (w.shelf.plan ≡ layout course.now.value.plan stride places) × (w.shelf.course ≡ course.now.value)) }
+    ensures once { IfOk result (λ w. RanOnce course.now.value (layout course.now.value.plan stride places) workers w.shelf.system) }
 {
-    let (shelf, seats) = open_shelf(alloc, course, workers)?;
+    let (shelf, seats) = open_shelf(alloc, course, stride, places, workers)?;
     let lanes = first_lanes::<B>(alloc, course, workers, count)?;
     let slots = empty_slots(alloc, count)?;
     let mut back = Back::new(alloc, workers)?;
     let mut workers = staff::<L, B>(alloc, seats, lanes)?;
-    run_all(rt, alloc, course, &shelf, gate, workers.as_mut_slice());
+    run_all(
+        rt,
+        alloc,
+        course,
+        &shelf,
+        stride,
+        gate,
+        workers.as_mut_slice(),
+    );
     gather(&mut back, workers, steps);
     finish(alloc, course, shelf, back, slots)
 }
@@ -134,16 +151,24 @@ fn work_in<R: Threads + Wait + Sync, G: Gate + Sync, L: Ledger + Send, B: Room +
 /// Each segment was claimed once, by one of the workers, and run by it from the end of its parent that the shelf keeps; none
 /// is left. The shelf has the end of each segment from which others go on. It may wait.
 ///
+/// The shelf has so many places more, 0 to 128, for the states at the multiples of the stride between the start and the stop of
+/// each segment, which have the places in turn. The state at each number that its segment passed stands there, if its place
+/// is no other's: so it is of all where there are as many places as multiples.
+///
 /// # Errors
 /// Want of memory alone. The counter then rose by no more.
 pub fn work<R: Threads + Wait + Sync, G: Gate + Sync, L: Ledger + Send>(
     rt: &R,
     alloc: Global,
     course: &Arc<Course>,
+    stride: u32,
+    places: u32,
     workers: u32,
     gate: &G,
     steps: &mut Steps<L>,
 ) -> Result<Worked, Memory>
+    requires stride { 0 < stride }
+    requires places { places ≤ 128 }
     requires workers { (0 < workers) × (workers ≤ 64) }
     requires steps { steps.old ≤ 2 ^ 63 }
     ensures outcomes { IfOk result (λ w. map outcome_told w.outcomes.items ≡ outcomes_before course.now.value (length (segments_in course.now.value.plan))) }
@@ -152,10 +177,12 @@ pub fn work<R: Threads + Wait + Sync, G: Gate + Sync, L: Ledger + Send>(
     ensures least { steps.old ≤ steps.new }
 
     // The shelf is the course's; each segment is Taken by one of the workers and stands once among their claims, and each end from
-    // which others go on stands on the shelf.
-    ensures shelf { IfOk result (λ w. (w.shelf.plan ≡ layout course.now.value.plan) × (w.shelf.course ≡ course.now.value)) }
-    ensures once { IfOk result (λ w. RanOnce course.now.value.plan workers w.shelf.system) }
+    // which others go on stands on the shelf, and each state of the grid that was passed and has its place alone.
+    ensures shelf { IfOk result (λ w. (w.shelf.plan ≡ layout course.now.value.plan stride places) × (w.shelf.course ≡ course.now.value)) }
+    ensures once { IfOk result (λ w. RanOnce course.now.value (layout course.now.value.plan stride places) workers w.shelf.system) }
 {
     let count = course.plan().segments().len() as u32;
-    work_in::<R, G, L, Brand>(rt, alloc, course, workers, gate, steps, count)
+    work_in::<R, G, L, Brand>(
+        rt, alloc, course, stride, places, workers, gate, steps, count,
+    )
 }

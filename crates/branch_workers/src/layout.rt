@@ -1,13 +1,13 @@
 //! The shelf of a course.
 
-ghost use Rattle.std.specs.Prelude.{◌≡◌, ◌<◌, ◌≤◌, IfOk, length};
+ghost use Rattle.std.specs.Prelude.{◌≡◌, ◌<◌, ◌≤◌, ◌++◌, ◌-◌, IfOk, OnOk, length};
 ghost use Rattle.branch_tree.specs.Planned.{IsTree};
 ghost use Rattle.checkpoint_shelf.specs.Plans.{PlanFits};
 ghost use Rattle.checkpoint_shelf.specs.Seats.{NewFrom};
-ghost use Rattle.branch_workers.specs.Layout.{fork_keys, layout};
+ghost use Rattle.branch_workers.specs.Layout.{fork_keys, grid_keys, grid_of, layout};
 ghost use Rattle.branch_workers.specs.Runs.{IsShelfOf};
 
-use branch_tree::BranchPlan;
+use branch_tree::{BranchPlan, Segment};
 use checkpoint_shelf::{Key, Shelf, ShelfPlan, ShelfSeat};
 use kernel_copy::{Checkpoint, Course, goes_on};
 use market_types::Memory;
@@ -32,31 +32,75 @@ fn forks(alloc: Global, plan: &BranchPlan) -> Result<Sequence<Key>, Memory>
     Ok(keys)
 }
 
+// The keys of a segment's grid join others.
+fn add_grid(
+    keys: &mut Sequence<Key>,
+    stride: u32,
+    number: u32,
+    segment: Segment,
+) -> Result<(), Memory>
+    requires stride { 0 < stride }
+    requires stop { segment.start < 16777216 }
+    ensures { OnOk result (keys.new ≡ keys.old ++ grid_of stride number segment) }
+{
+    for event in segment.start + 1..segment.stop {
+        if event % stride == 0 {
+            keys.push(Key {
+                segment: number,
+                event,
+            })?;
+        }
+    }
+    Ok(())
+}
+
+// The keys of the grid.
+fn grid(alloc: Global, plan: &BranchPlan, stride: u32) -> Result<Sequence<Key>, Memory>
+    requires stride { 0 < stride }
+    requires tree { IsTree plan.now.branches plan.now.limit }
+    requires limit { plan.now.limit < 16777216 }
+    ensures { IfOk result (λ keys. keys ≡ grid_keys plan.now stride) }
+{
+    let mut keys = Sequence::empty(alloc);
+    for (number, segment) in plan.segments().iter().enumerate() {
+        add_grid(&mut keys, stride, number as u32, *segment)?;
+    }
+    Ok(keys)
+}
+
 // What a course's shelf is laid out for.
-fn shelf_plan(alloc: Global, course: &Course) -> Result<ShelfPlan, Memory>
-    ensures value { IfOk result (λ p. p ≡ layout course.now.plan) }
+fn shelf_plan(alloc: Global, course: &Course, stride: u32, places: u32) -> Result<ShelfPlan, Memory>
+    requires stride { 0 < stride }
+    requires places { places ≤ 128 }
+    ensures value { IfOk result (λ p. p ≡ layout course.now.plan stride places) }
     ensures fits { IfOk result PlanFits }
 {
     let plan = course.plan();
     Ok(ShelfPlan {
         segments: plan.segments().len() as u32,
         forks: forks(alloc, plan)?,
-        grid: Sequence::empty(alloc),
-        places: 0,
+        grid: grid(alloc, plan, stride)?,
+        places,
     })
 }
 
-// The shelf on which a course's segments meet, and a seat for each worker.
+// The shelf on which a course's segments meet, with so many places for the grid of a stride, and a seat for each worker.
 pub(crate) fn open_shelf(
     alloc: Global,
     course: &Course,
+    stride: u32,
+    places: u32,
     workers: u32,
 ) -> Result<(Shelf<Checkpoint>, Vec<ShelfSeat<Checkpoint>>), Memory>
-    requires { (0 < workers) × (workers ≤ 64) }
-    ensures shelf { IfOk result (λ r. IsShelfOf course.now r.0) }
-    ensures plan { IfOk result (λ r. (r.0.plan ≡ layout course.now.plan) × (r.0.seats ≡ workers)) }
+    requires stride { 0 < stride }
+    requires places { places ≤ 128 }
+    requires workers { (0 < workers) × (workers ≤ 64) }
+    ensures shelf { IfOk result (λ r. IsShelfOf course.now stride r.0) }
+    ensures plan { IfOk result (λ r. (r.0.plan ≡ layout course.now.plan stride places) × (r.0.seats ≡ workers)) }
+    ensures fits { IfOk result (λ r. PlanFits r.0.plan) }
     ensures count { IfOk result (λ r. length r.1.items ≡ workers) }
     ensures seats { IfOk result (λ r. NewFrom r.0 0 r.1.items) }
 {
-    Shelf::open(alloc, course, shelf_plan(alloc, course)?, workers)
+    let plan = shelf_plan(alloc, course, stride, places)?;
+    Shelf::open(alloc, course, plan, workers)
 }

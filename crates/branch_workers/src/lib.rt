@@ -5,6 +5,7 @@ mod all;
 pub mod examples;
 mod found;
 mod gather;
+mod grid;
 mod layout;
 mod order;
 mod segment;

@@ -9,12 +9,13 @@ ghost use Rattle.shelf_core.specs.Views.{times};
 ghost use Rattle.kernel_copy.specs.Courses.{IsCourse};
 ghost use Rattle.kernel_copy.specs.Outcomes.{outcome_told, outcome_of};
 ghost use Rattle.kernel_copy.specs.Segmentwise.{segment_end, segment_run, started_at, own_count};
-ghost use Rattle.branch_workers.specs.Layout.{end_key};
-ghost use Rattle.branch_workers.specs.Runs.{IsShelfOf, HasEnds, Remains};
+ghost use Rattle.branch_workers.specs.Layout.{end_key, key_at};
+ghost use Rattle.branch_workers.specs.Runs.{IsPassed, IsShelfOf, HasForks, HasStates, Remains};
 
 use crate::found::wait_for;
+use crate::grid::{pass_grid, run_to};
 use checkpoint_shelf::{Begun, Key, Shelf, ShelfSeat};
-use kernel_copy::{Checkpoint, Course, Outcome, Ran, go_on, kept_end, outcome_at, run_on};
+use kernel_copy::{Checkpoint, Course, Outcome, Ran, go_on, kept_end, outcome_at};
 use kernel_core::Kernel;
 use market_types::{Memory, Trace};
 use outside::{Gate, Ledger, Steps};
@@ -31,7 +32,7 @@ fn end_of<R: Wait>(
     segment: u32,
 ) -> Result<Kernel, Memory>
     requires seat { seat.old.shelf ≡ Some shelf.now }
-    requires shelf { IsShelfOf course.now shelf.now }
+    requires shelf { HasForks course.now shelf.now }
     requires segment { segment < length (segments_in course.now.plan) }
     requires unfinished { segment < last_of course.now.plan.branches (segment_at course.now.plan segment).branch }
     ensures same { seat.new.shelf ≡ seat.old.shelf }
@@ -56,7 +57,7 @@ fn begun<R: Wait>(
     trace: &mut Trace,
 ) -> Result<Kernel, Memory>
     requires seat { seat.old.shelf ≡ Some shelf.now }
-    requires shelf { IsShelfOf course.now shelf.now }
+    requires shelf { HasForks course.now shelf.now }
     requires segment { segment < length (segments_in course.now.plan) }
     requires empty { trace.old.list ≡ [] }
     ensures same { seat.new.shelf ≡ seat.old.shelf }
@@ -81,33 +82,42 @@ fn begun<R: Wait>(
     }
 }
 
-// Makes a segment's own events.
+// Makes a segment's own events, and puts copies of the states at the numbers of its grid on the shelf.
 fn advance<R: Wait, L: Ledger>(
     rt: &R,
     alloc: Global,
-    course: &Course,
+    course: &Arc<Course>,
     shelf: &Shelf<Checkpoint>,
     seat: &mut ShelfSeat<Checkpoint>,
+    stride: u32,
     segment: u32,
     steps: &mut Steps<L>,
 ) -> Result<Ran, Memory>
     requires seat { seat.old.shelf ≡ Some shelf.now }
-    requires shelf { IsShelfOf course.now shelf.now }
-    requires segment { segment < length (segments_in course.now.plan) }
+    requires shelf { IsShelfOf course.now.value stride shelf.now }
+    requires stride { 0 < stride }
+    requires segment { segment < length (segments_in course.now.value.plan) }
+    requires claim { 0 < times segment seat.old.view.claims }
+    requires turns { seat.old.view.turns ≡ [] }
     requires count { steps.old ≤ 2 ^ 63 }
     ensures same { seat.new.shelf ≡ seat.old.shelf }
     ensures stays { Stays seat.old.view seat.new.view }
-    ensures turns { seat.new.view.turns ≡ seat.old.view.turns }
-    ensures course { IsCourse course.now }
-    ensures ran { IfOk result (λ x. record { state = x.kernel; entries = x.entries.list } ≡ segment_run course.now.opening course.now.plan (segment_at course.now.plan segment)) }
-    ensures fits { IfOk result (λ x. Fits course.now.opening x.kernel) }
-    ensures found { OnOk result ((q : ℕ) → (segment_at course.now.plan segment).parent ≡ Some q → is_in (end_key course.now.plan q) seat.new.view.found ≡ true) }
-    ensures rose { OnOk result (steps.new ≡ steps.old + own_count course.now.opening course.now.plan (segment_at course.now.plan segment)) }
-    ensures most { steps.new ≤ steps.old + own_count course.now.opening course.now.plan (segment_at course.now.plan segment) }
+    ensures turns { seat.new.view.turns ≡ [] }
+    ensures course { IsCourse course.now.value }
+    ensures ran { IfOk result (λ x. record { state = x.kernel; entries = x.entries.list } ≡ segment_run course.now.value.opening course.now.value.plan (segment_at course.now.value.plan segment)) }
+    ensures fits { IfOk result (λ x. Fits course.now.value.opening x.kernel) }
+    ensures found { OnOk result ((q : ℕ) → (segment_at course.now.value.plan segment).parent ≡ Some q → is_in (end_key course.now.value.plan q) seat.new.view.found ≡ true) }
+    ensures grid { OnOk result ((e : ℕ) → is_in (key_at segment e) shelf.now.plan.grid ≡ true → is_sole shelf.now.plan (key_at segment e) ≡ true → IsPassed course.now.value segment e → is_in (key_at segment e) seat.new.view.known ≡ true) }
+    ensures rose { OnOk result (steps.new ≡ steps.old + own_count course.now.value.opening course.now.value.plan (segment_at course.now.value.plan segment)) }
+    ensures most { steps.new ≤ steps.old + own_count course.now.value.opening course.now.value.plan (segment_at course.now.value.plan segment) }
 {
+    let event = course.segment(segment).stop;
     let mut entries = Trace::new(alloc);
     let kernel = begun(rt, alloc, course, shelf, seat, segment, &mut entries)?;
-    run_on(alloc, course, segment, kernel, entries, steps)
+    let mut ran = Ran { entries, kernel };
+    pass_grid(alloc, course, shelf, seat, stride, segment, &mut ran, steps)?;
+    run_to(alloc, course, Key { segment, event }, &mut ran, steps)?;
+    Ok(ran)
 }
 
 // Puts a checkpoint on the shelf, where it isn't there yet.
@@ -140,7 +150,7 @@ fn put_end(
     kernel: &Kernel,
 ) -> Result<(), Memory>
     requires seat { seat.old.shelf ≡ Some shelf.now }
-    requires shelf { IsShelfOf course.now.value shelf.now }
+    requires shelf { HasForks course.now.value shelf.now }
     requires segment { segment < length (segments_in course.now.value.plan) }
     requires claim { 0 < times segment seat.old.view.claims }
     requires turns { seat.old.view.turns ≡ [] }
@@ -159,7 +169,8 @@ fn put_end(
 
 /// Runs a segment that the seat claimed, from the end of its parent that the shelf keeps or is to keep, puts its end on the
 /// shelf where others go on from it, and counts it: the outcome is the segment's own, and the counter rises by the segment's
-/// own events.
+/// own events. On its way it puts copies of the states at the multiples of the stride between the segment's start and its
+/// stop on the shelf, where they have places that may be written.
 ///
 /// The gate is passed before the first step. It may wait.
 ///
@@ -171,13 +182,15 @@ pub fn run_segment<R: Wait, G: Gate, L: Ledger>(
     course: &Arc<Course>,
     shelf: &Shelf<Checkpoint>,
     seat: &mut ShelfSeat<Checkpoint>,
+    stride: u32,
     worker: u32,
     segment: u32,
     gate: &G,
     steps: &mut Steps<L>,
 ) -> Result<Outcome, Memory>
     requires seat { seat.old.shelf ≡ Some shelf.now }
-    requires shelf { IsShelfOf course.now.value shelf.now }
+    requires shelf { IsShelfOf course.now.value stride shelf.now }
+    requires stride { 0 < stride }
     requires segment { segment < length (segments_in course.now.value.plan) }
     requires claim { 0 < times segment seat.old.view.claims }
     requires more { seat.old.view.counts < length seat.old.view.claims }
@@ -190,8 +203,8 @@ pub fn run_segment<R: Wait, G: Gate, L: Ledger>(
     ensures rose { OnOk result (steps.new ≡ steps.old + own_count course.now.value.opening course.now.value.plan (segment_at course.now.value.plan segment)) }
     ensures most { steps.new ≤ steps.old + own_count course.now.value.opening course.now.value.plan (segment_at course.now.value.plan segment) }
 
-    // The ends from which and to which it ran, and one claim more that is counted.
-    ensures ends { OnOk result (HasEnds course.now.value.plan segment seat.new.view) }
+    // The ends from which and to which it ran, the states on its way, and one claim more that is counted.
+    ensures states { OnOk result (HasStates course.now.value shelf.now.plan segment seat.new.view) }
     ensures counted { OnOk result (seat.new.view.counts ≡ seat.old.view.counts + 1) }
     ensures uncounted { OnErr result (seat.new.view.counts ≡ seat.old.view.counts) }
 
@@ -200,7 +213,7 @@ pub fn run_segment<R: Wait, G: Gate, L: Ledger>(
     ensures turns { seat.new.view.turns ≡ [] }
 {
     gate.pass(worker, segment);
-    let ran = advance(rt, alloc, course, shelf, seat, segment, steps)?;
+    let ran = advance(rt, alloc, course, shelf, seat, stride, segment, steps)?;
     put_end(alloc, course, shelf, seat, segment, &ran.kernel)?;
     let outcome = outcome_at(alloc, course.opening(), segment, ran)?;
     shelf.count(seat);

@@ -5,8 +5,9 @@ mod seats;
 
 use self::market::course;
 use crate::work;
+use checkpoint_shelf::{ClosedShelf, Key};
 use hold_gate::HoldGate;
-use kernel_copy::{Course, Outcome, run_segments};
+use kernel_copy::{Checkpoint, Course, Outcome, run_segments};
 use market_types::{Entry, Memory};
 use outside::{Counted, Gate, OpenGate, Steps};
 use std::alloc::Global;
@@ -14,24 +15,49 @@ use std::sync::{Arc, Wait};
 use std::test::Fail;
 use std::thread::Threads;
 
-// The outcomes of so many workers, 1 to 64, and how many steps they counted.
+// What workers made of a course.
+#[derive(Drop)]
+struct Told {
+    outcomes: Vec<Outcome>,
+    // How many of the states of segments 0 to 4 after 5 events stand on the shelf.
+    held: u32,
+}
+
+// How many of the states of segments 0 to 4 after 5 events stand on a shelf.
+fn held(shelf: &ClosedShelf<Checkpoint>) -> u32 {
+    let mut held = 0;
+    for segment in 0u32..5 {
+        if let Some(kept) = shelf.get(Key { segment, event: 5 }) {
+            if kept.events() == 5 {
+                held += 1;
+            }
+        }
+    }
+    held
+}
+
+// What so many workers, 1 to 64, made of a course with so many places, at most 128, for the grid of stride 5, and how many steps
+// they counted.
 fn worked<R: Threads + Wait + Sync, G: Gate + Sync>(
     rt: &R,
     alloc: Global,
     course: &Arc<Course>,
+    places: u32,
     workers: u32,
     gate: &G,
-) -> (Result<Vec<Outcome>, Memory>, u64) {
-    if workers == 0 || workers > 64 {
+) -> (Result<Told, Memory>, u64) {
+    if workers == 0 || workers > 64 || places > 128 {
         return (Err(Memory), 0);
     }
     let mut steps: Steps<Counted> = Steps::new();
-    let worked = work(rt, alloc, course, workers, gate, &mut steps);
-    let outcomes = match worked {
-        Ok(worked) => Ok(worked.outcomes),
+    let told = match work(rt, alloc, course, 5, places, workers, gate, &mut steps) {
+        Ok(worked) => Ok(Told {
+            held: held(&worked.shelf),
+            outcomes: worked.outcomes,
+        }),
         Err(refused) => Err(refused),
     };
-    (outcomes, steps.close())
+    (told, steps.close())
 }
 
 // Whether two entries are of one event, or of one edit.
@@ -56,7 +82,8 @@ fn are_one(a: &Outcome, b: &Outcome) -> bool {
         && events.all(|(a, b)| are_of_one(a, b))
 }
 
-// Three branches, x, y and z, by one worker and by many: as one after another.
+// Three branches, x, y and z, by one worker and by many: as one after another. Four of the five segments pass event 5, and of
+// the states there no place, one place and enough places hold none, one and all.
 #[test]
 fn three_branches(rt: HostRuntime) -> Result<(), Fail> {
     let alloc = rt.alloc();
@@ -66,11 +93,15 @@ fn three_branches(rt: HostRuntime) -> Result<(), Fail> {
     let ticks = steps.close();
     let alone = alone?;
     assert_eq!(rt; (ticks, alone.len()), (18, 5));
-    for workers in [1, 3, 64] {
-        let (outcomes, ticks) = worked(&rt, alloc, &course, workers, &OpenGate);
-        let outcomes = outcomes?;
-        assert_eq!(rt; (ticks, outcomes.len()), (18, 5), "{workers} workers");
-        for (a, b) in alone.iter().zip(outcomes.iter()) {
+    for (workers, places, held) in [(1, 0, 0), (3, 1, 1), (64, 128, 4)] {
+        let (told, ticks) = worked(&rt, alloc, &course, places, workers, &OpenGate);
+        let told = told?;
+        assert_eq!(rt;
+            (ticks, told.outcomes.len(), told.held),
+            (18, 5, held),
+            "{workers} workers"
+        );
+        for (a, b) in alone.iter().zip(told.outcomes.iter()) {
             assert!(rt; are_one(a, b), "{workers} workers");
         }
     }
@@ -84,8 +115,8 @@ fn two_segments_at_once(rt: HostRuntime) -> Result<(), Fail> {
     let course = course(alloc)?;
     for (held, until) in [(2, 3), (3, 2)] {
         let gate = HoldGate::new(held, until, 100_000_000);
-        let (outcomes, ticks) = worked(&rt, alloc, &course, 2, &gate);
-        assert_eq!(rt; (outcomes?.len(), ticks), (5, 18));
+        let (told, ticks) = worked(&rt, alloc, &course, 1, 2, &gate);
+        assert_eq!(rt; (told?.outcomes.len(), ticks), (5, 18));
         assert_eq!(rt; (gate.exceeded(), gate.passes()), (false, 5));
     }
     Ok(())

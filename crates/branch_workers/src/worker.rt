@@ -76,11 +76,13 @@ fn try_segment<R: Wait, G: Gate, L: Ledger, B: Room>(
     alloc: Global,
     course: &Arc<Course>,
     shelf: &Shelf<Checkpoint>,
+    stride: u32,
     gate: &G,
     worker: &mut Worker<L, B>,
     segment: u32,
 ) -> bool
-    requires shelf { IsShelfOf course.now.value shelf.now }
+    requires shelf { IsShelfOf course.now.value stride shelf.now }
+    requires stride { 0 < stride }
     requires room { B.room ≡ length (segments_in course.now.value.plan) }
     requires segment { segment < B.room }
     requires work { IsAtWork course.now.value shelf.now worker.old.number worker.old.seat worker.old.steps worker.old.outcomes.items worker.old.lane.own.view.pushed }
@@ -100,6 +102,7 @@ fn try_segment<R: Wait, G: Gate, L: Ledger, B: Room>(
         course,
         shelf,
         &mut worker.seat,
+        stride,
         number,
         segment,
         gate,
@@ -145,23 +148,25 @@ pub(crate) fn run_worker<R: Wait, G: Gate, L: Ledger, B: Room>(
     alloc: Global,
     course: &Arc<Course>,
     shelf: &Shelf<Checkpoint>,
+    stride: u32,
     gate: &G,
     worker: &mut Worker<L, B>,
 )
-    requires shelf { IsShelfOf course.now.value shelf.now }
+    requires shelf { IsShelfOf course.now.value stride shelf.now }
+    requires stride { 0 < stride }
     requires room { B.room ≡ length (segments_in course.now.value.plan) }
     requires work { IsAtWork course.now.value shelf.now worker.old.number worker.old.seat worker.old.steps worker.old.outcomes.items worker.old.lane.own.view.pushed }
     requires finished { worker.old.finished ≡ false }
     ensures number { worker.new.number ≡ worker.old.number }
     ensures ended { HasEnded course.now.value shelf.now worker.new.number worker.new.seat worker.new.steps }
-    ensures finished { worker.new.finished ≡ true → HasFinished course.now.value worker.new.seat.view worker.new.outcomes.items }
+    ensures finished { worker.new.finished ≡ true → HasFinished course.now.value shelf.now.plan worker.new.seat.view worker.new.outcomes.items }
     ensures counted { worker.new.finished ≡ true → worker.new.steps ≡ sum_by (own_of course.now.value) worker.new.seat.view.claims }
     ensures stopped { worker.new.finished ≡ false → worker.new.seat.view.stopped ≡ true }
 {
     for _ in rt.forever() {
         match next_segment(rt, &mut worker.lane) {
             Some(segment) => {
-                if !try_segment(rt, alloc, course, shelf, gate, worker, segment) {
+                if !try_segment(rt, alloc, course, shelf, stride, gate, worker, segment) {
                     return;
                 }
             }

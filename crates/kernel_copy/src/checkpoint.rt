@@ -80,7 +80,8 @@ impl Checkpoint {
 
     /// How many events the state has: fewer than its key's number says where its run ended before.
     pub fn events(&self) -> u32
-        ensures { result ≡ self.now.state.events }
+        ensures value { result ≡ self.now.state.events }
+        ensures state { result ≡ (state_at self.now.course self.now.key).events }
     {
         self.kernel.events()
     }

@@ -88,8 +88,8 @@ fn marks_name_whole_branches(rt: HostRuntime) -> Result<(), Fail> {
         },
     ];
     assert_eq!(rt; targets.as_slice(), wanted.as_slice());
-    assert_eq!(rt; first_past(&[6, 2, 7], targets.as_slice()), None);
+    assert_eq!(rt; first_past(&[6, 2, 7], &wanted), None);
     let past = Some(Past { index: 1, last: 6 });
-    assert_eq!(rt; first_past(&[6, 1, 6], targets.as_slice()), past);
+    assert_eq!(rt; first_past(&[6, 1, 6], &wanted), past);
     Ok(())
 }

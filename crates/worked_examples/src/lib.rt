@@ -12,6 +12,8 @@ mod large;
 #[cfg(test)]
 mod refused;
 #[cfg(test)]
+mod rewinds;
+#[cfg(test)]
 mod runs;
 #[cfg(test)]
 mod tables;

@@ -274,7 +274,7 @@ fn faulty_words_ask_for_nothing(rt: HostRuntime) -> Result<(), Fail> {
         &["run", "s", "--places", "129"],
         &["run", "s", "--help"],
         &["table", "s", "more"],
-        &["rewind", "s", "root:0"],
+        &["rewind", "s"],
         &["big", "seven"],
         &["check", "s", "more"],
     ];

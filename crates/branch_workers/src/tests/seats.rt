@@ -32,7 +32,7 @@ fn two_new(
     Some((zero, one))
 }
 
-// A seat claims a segment and runs it: what came of it, and how many steps it counted.
+// A seat claims a segment and runs it, with a grid of stride 5: what came of it, and how many steps it counted.
 fn claim_and_run<R: Wait>(
     rt: &R,
     alloc: Global,
@@ -42,7 +42,7 @@ fn claim_and_run<R: Wait>(
     segment: u32,
 ) -> (Option<Outcome>, u64)
     requires seat { seat.old.shelf ≡ Some shelf.now }
-    requires shelf { IsShelfOf course.now.value shelf.now }
+    requires shelf { IsShelfOf course.now.value 5 shelf.now }
     requires segment { segment < length (segments_in course.now.value.plan) }
     requires counts { seat.old.view.counts ≡ length seat.old.view.claims }
     requires turns { seat.old.view.turns ≡ [] }
@@ -53,7 +53,7 @@ fn claim_and_run<R: Wait>(
     }
     let mut steps: Steps<Counted> = Steps::new();
     let ran = run_segment(
-        rt, alloc, course, shelf, seat, 0, segment, &OpenGate, &mut steps,
+        rt, alloc, course, shelf, seat, 5, 0, segment, &OpenGate, &mut steps,
     );
     let outcome = ran.ok();
     (outcome, steps.close())
@@ -70,7 +70,7 @@ struct Told {
 
 // One seat runs a course's first segment, and another, which ran nothing before, the segment 2.
 fn two_seats<R: Wait>(rt: &R, alloc: Global, course: &Arc<Course>) -> Result<Option<Told>, Memory> {
-    let (shelf, seats) = open_shelf(alloc, course, 2)?;
+    let (shelf, seats) = open_shelf(alloc, course, 5, 1, 2)?;
     if course.plan().segments().len() < 3 {
         return Ok(None);
     }

@@ -1,33 +1,40 @@
-use Rattle.std.proofs.Common.{◌≡◌, rules}
+use Rattle.std.proofs.Common.{◌≡◌, refl, rules}
 use Rattle.study_accept.specs.Accepted.{study_told}
-use Rattle.abides_run.specs.declared.request.Task.TheVariants.{Run, Check, Table, Lines}
-use Rattle.abides_run.proofs.Performing.{run_performed, check_performed, table_performed, lines_performed}
+use Rattle.abides_run.specs.declared.request.Task.TheVariants.{Run, Check, Table, Lines, Rewind}
+use Rattle.abides_run.proofs.Performing.{rewind_finishes, task_finishes}
 use Rattle.abides_run.proofs.perform.perform.Goals as goal
 
 pub returns-in-Run : goal.returns-in-Run
 returns-in-Run g c =
     let f = c.args.found.now in
     let is : f.task ≡ Run = search rules in
-    run_performed _ f.task (study_told f.study) (g.O.Sink.faults c.args.out.now) (g.O.Sink.faults c.run_study.new.out) c.args.steps.now c.run_study.new.steps (g.O.Sink.taken c.args.out.now) (g.O.Sink.taken c.run_study.new.out) c.run_study.result
-    is c.run_study.ensures
+    task_finishes _ f.task Run (study_told f.study) (g.O.Sink.faults c.args.out.now) (g.O.Sink.faults c.run_study-status.new.out) c.args.steps.now c.run_study-status.new.steps (g.O.Sink.taken c.args.out.now) (g.O.Sink.taken c.run_study-status.new.out) c.run_study-status.result c.nameless.result.status _
+    is c.nameless.ensures refl c.run_study-status.ensures
 
 pub returns-in-Check : goal.returns-in-Check
 returns-in-Check g c =
     let f = c.args.found.now in
     let is : f.task ≡ Check = search rules in
-    check_performed _ f.task (study_told f.study) (g.O.Sink.faults c.args.out.now) (g.O.Sink.faults c.check_study.new.out) c.args.steps.now c.args.steps.now (g.O.Sink.taken c.args.out.now) (g.O.Sink.taken c.check_study.new.out) c.check_study.result
-    is (λ reads. (rw c.deref.ensures at c.check_study.ensures) reads c.args.steps.now)
+    task_finishes _ f.task Check (study_told f.study) (g.O.Sink.faults c.args.out.now) (g.O.Sink.faults c.check_study.new.out) c.args.steps.now c.args.steps.now (g.O.Sink.taken c.args.out.now) (g.O.Sink.taken c.check_study.new.out) c.check_study.result c.nameless-in-Check.result.status _
+    is c.nameless-in-Check.ensures refl (λ reads. (rw c.deref.ensures at c.check_study.ensures) reads c.args.steps.now)
 
 pub returns-in-Table : goal.returns-in-Table
 returns-in-Table g c =
     let f = c.args.found.now in
     let is : f.task ≡ Table = search rules in
-    table_performed _ f.task (study_told f.study) (g.O.Sink.faults c.args.out.now) (g.O.Sink.faults c.table_study.new.out) c.args.steps.now c.table_study.new.steps (g.O.Sink.taken c.args.out.now) (g.O.Sink.taken c.table_study.new.out) c.table_study.result
-    is c.table_study.ensures
+    task_finishes _ f.task Table (study_told f.study) (g.O.Sink.faults c.args.out.now) (g.O.Sink.faults c.table_study-status.new.out) c.args.steps.now c.table_study-status.new.steps (g.O.Sink.taken c.args.out.now) (g.O.Sink.taken c.table_study-status.new.out) c.table_study-status.result c.nameless-in-Table.result.status _
+    is c.nameless-in-Table.ensures refl c.table_study-status.ensures
 
 pub returns-in-Lines : goal.returns-in-Lines
 returns-in-Lines g c =
     let f = c.args.found.now in
     let is : f.task ≡ Lines c.in-Lines.bytes = search rules in
-    lines_performed _ f.task c.in-Lines.bytes (study_told f.study) (g.O.Sink.faults c.args.out.now) (g.O.Sink.faults c.tell_study.new.out) c.args.steps.now c.tell_study.new.steps (g.O.Sink.taken c.args.out.now) (g.O.Sink.taken c.tell_study.new.out) c.tell_study.result
-    is c.tell_study.ensures
+    task_finishes _ f.task (Lines c.in-Lines.bytes) (study_told f.study) (g.O.Sink.faults c.args.out.now) (g.O.Sink.faults c.tell_study-status.new.out) c.args.steps.now c.tell_study-status.new.steps (g.O.Sink.taken c.args.out.now) (g.O.Sink.taken c.tell_study-status.new.out) c.tell_study-status.result c.nameless-in-Lines.result.status _
+    is c.nameless-in-Lines.ensures refl c.tell_study-status.ensures
+
+pub returns-in-Rewind : goal.returns-in-Rewind
+returns-in-Rewind g c =
+    let f = c.args.found.now in
+    let is : f.task ≡ Rewind c.in-Rewind.marks c.in-Rewind.places = search rules in
+    rewind_finishes _ f.task c.in-Rewind.marks c.as_slice-marks.result.now c.in-Rewind.places (study_told f.study) (g.O.Sink.faults c.args.out.now) (g.O.Sink.faults c.rewind_study.new.out) c.args.steps.now c.rewind_study.new.steps (g.O.Sink.taken c.args.out.now) (g.O.Sink.taken c.rewind_study.new.out) c.rewind_study.result.status _
+    is c.as_slice-marks.ensures c.rewind_study.ensures

@@ -6,6 +6,8 @@ use Rattle.checkpoint_shelf.specs.Told.{SeatTold}
 use Rattle.checkpoint_shelf.specs.Seats.{AllBack}
 use Rattle.kernel_copy.specs.Courses.{CourseTold, IsCourse}
 use Rattle.kernel_copy.specs.Segmentwise.{distinct}
+use Rattle.shelf_core.specs.declared.plan.ShelfPlan.{ShelfPlan}
+use Rattle.branch_workers.specs.Layout.{layout}
 use Rattle.branch_workers.specs.Claims.{HasPushed}
 use Rattle.branch_workers.specs.Workers.{IsAtWork, AreNumbered, RanOnce, own_of}
 use Rattle.branch_workers.proofs.Gathering.{ready, unfinished, moved, mapped, summed, written_over, both_ok, few_steps, handed, finishes, finished_told, most_steps, all_steps, still_numbered}
@@ -71,7 +73,7 @@ finish-requires-clause-finished g c = λ all.
     let ws = c.run_all.new.workers in
     let long : length ws ≡ c.in_ok-workers.workers.len = omega (arith, c.run_all.auto.workers, c.as_mut_slice.ensures.len) in
     let over = written_over ws _ c.in_ok-workers.workers.len long in
-    finished_told k c.deref-3.result.now c.deref-3.ensures (map (λ w. w.seat) ws) c.gather.new.back.seats.items (c.gather.ensures.seats ∙ mapped _ ws over (λ w. w.seat))
+    finished_told k c.deref-3.result.now c.in_ok-shelf.shelf.plan c.deref-3.ensures (map (λ w. w.seat) ws) c.gather.new.back.seats.items (c.gather.ensures.seats ∙ mapped _ ws over (λ w. w.seat))
     (map (λ w. w.outcomes) ws) c.gather.new.back.outcomes.items (c.gather.ensures.outcomes ∙ mapped _ ws over (λ w. w.outcomes))
     (finishes ws k c.in_ok-shelf.shelf (λ w. w.seat) (λ w. w.steps) (λ w. w.number) (λ w. w.outcomes) (λ w. w.lane) (λ w. w.finished)
     (moved ws _ (sym over) (λ w. w.finished ≡ true) (c.gather.ensures.finished all)) c.run_all.ensures.finished)
@@ -124,6 +126,16 @@ returns-clause-once g c =
     let b = length-map vs (λ w. w.seat) in
     let d = c.in_ok-shelf.ensures.count in
     let count : length c.gather.new.back.seats.items ≡ c.args.workers = omega (arith, c.as_mut_slice.ensures.len) in
+    let plan = c.in_ok-shelf.shelf.plan in
+    let laid : plan ≡ layout k.plan c.args.stride c.args.places = c.in_ok-shelf.ensures.plan.0 ∙ ap (λ (x : CourseTold). layout x.plan c.args.stride c.args.places) c.deref.ensures in
     IfOk-weaker c.finish.result _ _
-    (λ w once. subst (λ (x : CourseTold). RanOnce x.plan c.args.workers w.shelf.system) c.deref-3.ensures (subst (λ (n : ℕ). RanOnce c.deref-3.result.now.plan n w.shelf.system) count once))
+    (λ w once. subst (λ (x : CourseTold). RanOnce x (layout k.plan c.args.stride c.args.places) c.args.workers w.shelf.system) c.deref-3.ensures
+    (subst (λ (p : ShelfPlan). RanOnce c.deref-3.result.now p c.args.workers w.shelf.system) laid
+    (subst (λ (n : ℕ). RanOnce c.deref-3.result.now plan n w.shelf.system) count once)))
     c.finish.ensures.once
+
+pub returns-clause-shelf : goal.returns-clause-shelf
+returns-clause-shelf g c =
+    let k : CourseTold = c.args.course.now.value in
+    let laid : c.in_ok-shelf.shelf.plan ≡ layout k.plan c.args.stride c.args.places = c.in_ok-shelf.ensures.plan.0 ∙ ap (λ (x : CourseTold). layout x.plan c.args.stride c.args.places) c.deref.ensures in
+    IfOk-weaker c.finish.result _ _ (λ w h. (h.0 ∙ laid, h.1 ∙ c.deref-3.ensures)) c.finish.ensures.shelf

@@ -8,21 +8,27 @@ use Rattle.shelf_core.specs.declared.plan.ShelfPlan.{ShelfPlan}
 use Rattle.checkpoint_shelf.specs.Plans.{PlanFits}
 use Rattle.kernel_copy.specs.Courses.{CourseTold}
 use Rattle.kernel_copy.proofs.Trees.{course-tree}
-use Rattle.branch_workers.specs.Layout.{fork_keys}
+use Rattle.branch_workers.specs.Layout.{fork_keys, grid_keys}
 use Rattle.branch_workers.proofs.Layouts.{layout_fits}
 use Rattle.branch_workers.proofs.layout.shelf_plan.Goals as goal
 
 pub forks-requires : goal.forks-requires
 forks-requires c =
-    let k : CourseTold = c.args.course.now in
-    record { tree = subst (λ (p : Plan). IsTree p.branches p.limit) (sym c.plan-plan.ensures.value) (course-tree k c.plan-plan.ensures.course) }
+    record { tree = subst (λ (p : Plan). IsTree p.branches p.limit) (sym c.plan-plan.ensures.value) (course-tree c.args.course.now c.plan-plan.ensures.course) }
+
+pub grid-requires-clause-tree : goal.grid-requires-clause-tree
+grid-requires-clause-tree c =
+    subst (λ (p : Plan). IsTree p.branches p.limit) (sym c.plan-plan.ensures.value) (course-tree c.args.course.now c.plan-plan.ensures.course)
 
 pub returns-clause-fits : goal.returns-clause-fits
 returns-clause-fits c =
     let k : CourseTold = c.args.course.now in
+    let stride = c.args.stride in
+    let places = c.args.places in
     let segments = ap (λ (xs : List Segment). length xs) (c.segments.ensures.value ∙ ap (λ (p : Plan). segments_in p) c.plan-plan.ensures.value) in
     let forks = c.in_ok-forks.ensures ∙ ap (λ (p : Plan). fork_keys p) c.plan-plan.ensures.value in
-    let one = ap (λ (n : ℕ). let p : ShelfPlan = record { segments = n; forks = c.in_ok-forks.field-0; grid = c.empty.result; places = 0 } in p) segments in
-    let two = ap (λ (keys : List Key). let p : ShelfPlan = record { segments = length (segments_in k.plan); forks = keys; grid = c.empty.result; places = 0 } in p) forks in
-    let three = ap (λ (keys : List Key). let p : ShelfPlan = record { segments = length (segments_in k.plan); forks = fork_keys k.plan; grid = keys; places = 0 } in p) c.empty.ensures in
-    subst PlanFits (sym (one ∙ two ∙ three)) (layout_fits k c.plan-plan.ensures.course)
+    let grid = c.in_ok-grid.ensures ∙ ap (λ (p : Plan). grid_keys p stride) c.plan-plan.ensures.value in
+    let one = ap (λ (n : ℕ). let p : ShelfPlan = record { segments = n; forks = c.in_ok-forks.field-0; grid = c.in_ok-grid.field-0; places = places } in p) segments in
+    let two = ap (λ (keys : List Key). let p : ShelfPlan = record { segments = length (segments_in k.plan); forks = keys; grid = c.in_ok-grid.field-0; places = places } in p) forks in
+    let three = ap (λ (keys : List Key). let p : ShelfPlan = record { segments = length (segments_in k.plan); forks = fork_keys k.plan; grid = keys; places = places } in p) grid in
+    subst PlanFits (sym (one ∙ two ∙ three)) (layout_fits k stride places c.plan-plan.ensures.course c.requires.places)

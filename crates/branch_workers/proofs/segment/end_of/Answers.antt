@@ -15,5 +15,5 @@ returns-clause-state g c =
     let k : CourseTold = c.args.course.now in
     let f = c.in_ok-end.ensures.found in
     let key = key_is k c.args.segment c.segment-event.result c.segment-event.ensures.value in
-    let state = end_state_of k c.args.segment c.in_ok-end.end.value c.segment-event.ensures.course c.requires.segment (f.0 ∙ key) (f.1 ∙ c.requires.shelf.course) in
+    let state = end_state_of k c.args.segment c.in_ok-end.end.value c.segment-event.ensures.course c.requires.segment (f.0 ∙ key) (f.1 ∙ c.requires.shelf.0) in
     subst (λ (y : State). IfOk c.resume.result (λ (z : State). z ≡ y)) (ap (λ (t : CheckpointTold). state_at t.course t.key) c.deref.ensures ∙ state) c.resume.ensures.state

@@ -77,7 +77,7 @@ returns-clause-work g c = λ _.
     let at = c.run_segment.ensures.same ∙ c.claim.ensures.same in
     let r = c.in-Ok.ensures in
     let s = ran k c.args.shelf.now w.number w.seat w.steps w.outcomes.items w.lane.own.view.pushed c.requires.work c.args.segment (omega (arith, c.requires.segment, c.requires.room)) claimed.1 c.claim.new.seat.view claimed.0
-    c.run_segment.new.seat at c.run_segment.ensures.remains c.run_segment.ensures.turns r.counted r.ends c.in-Ok.outcome r.outcome c.run_segment.new.steps r.rose in
+    c.run_segment.new.seat at c.run_segment.ensures.remains c.run_segment.ensures.turns r.counted r.states c.in-Ok.outcome r.outcome c.run_segment.new.steps r.rose in
     subst (λ (os : List Outcome). IsAtWork k c.args.shelf.now w.number c.run_segment.new.seat c.run_segment.new.steps os c.push_children.new.lane.own.view.pushed) (sym c.in-Ok-add.ensures)
     (subst (λ (ps : List ℕ). IsAtWork k c.args.shelf.now w.number c.run_segment.new.seat c.run_segment.new.steps (w.outcomes.items ++ c.in-Ok.outcome ∷ []) ps)
     (sym (c.push_children.ensures ∙ ap (λ (x : CourseTold). w.lane.own.view.pushed ++ children_of x.plan c.args.segment) c.deref.ensures)) s)

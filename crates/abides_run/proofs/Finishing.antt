@@ -1,0 +1,169 @@
+-- How a rewind ends.
+use Rattle.std.proofs.Common.{◌≡◌, ◌⊎◌, ◌≤◌, ◌+◌, ℕ, List, Option, None, Some, refl, sym, ap, ◌∙◌, subst, inl, inr, arith}
+use Rattle.command_words.specs.declared.mark.Mark.{Mark}
+use Rattle.rewind_targets.specs.declared.past.Past.{Past}
+use Rattle.rewind_targets.specs.declared.aimed.Aimed.{Aimed}
+use Rattle.rewind_targets.specs.declared.aimed.Aimed.TheVariants.{At}
+use Rattle.rewind_targets.specs.declared.target.Target.{Target}
+use Rattle.rewind_targets.specs.Targets.{aimed_at, past_of}
+use Rattle.abides_run.specs.declared.request.Task.TheVariants.{Rewind}
+use Rattle.abides_run.specs.Rewinds.{lasts_of, rewinds_of, steps_to_all, targets_in, word_at}
+use Rattle.study_accept.specs.Accepted.{StudyTold}
+use Rattle.abides_run.specs.Fetched.{IsAmong}
+use Rattle.abides_run.specs.Notes.{past_event}
+use Rattle.abides_run.specs.Output.{Probes, study_events}
+use Rattle.abides_run.specs.Verdict.{Verdict, accepted, no_branch, no_event, verdict_on_aimed, verdict_on_past, verdict_on_task, output, distinct, allowance}
+use Rattle.abides_run.specs.Statuses.{status_of}
+use Rattle.abides_run.specs.Headline.{Seen}
+use Rattle.abides_run.specs.Performed.{Finished, Performed}
+use Rattle.abides_run.specs.declared.status.Status.{Status}
+use Rattle.abides_run.specs.declared.status.Status.TheVariants as status
+use Rattle.abides_run.proofs.Answered.{nothing_taken}
+use Rattle.abides_run.proofs.Performing.{performed_finishes}
+
+-- where each mark has a target, the study is simulated
+pub simulated-past : (marks : List Mark) (places : ℕ) (s : StudyTold) (past : Option Past) → distinct (verdict_on_past marks places s past) ≡ study_events s.course
+simulated-past marks places s None = refl
+simulated-past marks places s (Some past) = refl
+
+wants : (come : Verdict) (probes : Probes) (arguments : List (List ℕ)) (reads writes old new : ℕ) (taken : Option (List ℕ)) (name : List ℕ)
+    → old ≤ new → new ≤ old + distinct come + allowance come
+    → Finished come probes arguments (record { reads = reads; writes = writes; taken = taken; steps = old }) (record { reads = reads; writes = writes; taken = taken; steps = new }) status.Memory name
+wants come probes arguments reads writes old new taken name least most = record {
+  final = tt;
+  fulfilled = record {
+    output = λ e. cc;
+    counter = (least, most, λ n. absurd (n refl));
+    cause = tt;
+    exact = λ n r. inr refl;
+    prefix = nothing_taken taken (output probes come);
+    complete = λ s r w. inr refl;
+  };
+  named = λ fetched. tt;
+  argument = tt;
+  fault = λ e. cc;
+  steady = λ e. cc;
+  refused = λ r. absurd r;
+  unmoved = λ r. absurd r;
+  out_still = λ r. absurd r;
+  never_falls = omega arith;
+}
+
+-- memory was wanting before anything was sent
+pub wanting-finishes : (come : Verdict) (probes : Probes) (arguments : List (List ℕ)) (reads writes old new : ℕ) (taken : Option (List ℕ)) (st : Status) (name : List ℕ)
+    → st ≡ status.Memory → old ≤ new → new ≤ old + distinct come + allowance come
+    → Finished come probes arguments (record { reads = reads; writes = writes; taken = taken; steps = old }) (record { reads = reads; writes = writes; taken = taken; steps = new }) st name
+wanting-finishes come probes arguments reads writes old new taken st name is least most =
+    subst (λ (x : Status). Finished come probes arguments (record { reads = reads; writes = writes; taken = taken; steps = old }) (record { reads = reads; writes = writes; taken = taken; steps = new }) x name) (sym is)
+    (wants come probes arguments reads writes old new taken name least most)
+
+lacks-branch : (word : List ℕ) (probes : Probes) (arguments : List (List ℕ)) (seen : Seen) → IsAmong word arguments
+    → Finished (no_branch word) probes arguments seen seen status.NoBranch word
+lacks-branch word probes arguments seen among = record {
+  final = tt;
+  fulfilled = record {
+    output = λ e. cc;
+    counter = refl;
+    cause = refl;
+    exact = λ n r. inl refl;
+    prefix = nothing_taken seen.taken (output probes (no_branch word));
+    complete = λ s r w. absurd s;
+  };
+  named = λ fetched. refl;
+  argument = among;
+  fault = λ e. cc;
+  steady = λ e. cc;
+  refused = λ r. refl;
+  unmoved = λ r. refl;
+  out_still = λ r. refl;
+  never_falls = omega arith;
+}
+
+-- a branch isn't there, and nothing was done
+pub branchless-finishes : (come : Verdict) (word : List ℕ) (probes : Probes) (arguments : List (List ℕ)) (reads writes steps : ℕ) (taken : Option (List ℕ)) (st : Status) (name : List ℕ)
+    → come ≡ no_branch word → (st ≡ status.Memory) ⊎ ((st ≡ status.NoBranch) × (name ≡ word)) → IsAmong word arguments
+    → Finished come probes arguments (record { reads = reads; writes = writes; taken = taken; steps = steps }) (record { reads = reads; writes = writes; taken = taken; steps = steps }) st name
+branchless-finishes come word probes arguments reads writes steps taken st name is (inl wanting) among =
+    wanting-finishes come probes arguments reads writes steps steps taken st name wanting (omega arith) (omega arith)
+branchless-finishes come word probes arguments reads writes steps taken st name is (inr told) among =
+    let seen : Seen = record { reads = reads; writes = writes; taken = taken; steps = steps } in
+    subst (λ (v : Verdict). Finished v probes arguments seen seen st name) (sym is)
+    (subst (λ (x : Status). Finished (no_branch word) probes arguments seen seen x name) (sym told.0)
+    (subst (λ (n : List ℕ). Finished (no_branch word) probes arguments seen seen status.NoBranch n) (sym told.1)
+    (lacks-branch word probes arguments seen among)))
+
+lacks-event : (word : List ℕ) (last : ℕ) (s : StudyTold) (probes : Probes) (arguments : List (List ℕ)) (reads writes old new : ℕ) (taken : Option (List ℕ))
+    → new ≡ old + study_events s.course → IsAmong word arguments
+    → Finished (no_event word last s) probes arguments (record { reads = reads; writes = writes; taken = taken; steps = old }) (record { reads = reads; writes = writes; taken = taken; steps = new }) status.NoEvent (past_event word last)
+lacks-event word last s probes arguments reads writes old new taken rose among = record {
+  final = tt;
+  fulfilled = record {
+    output = λ e. cc;
+    counter = rose;
+    cause = refl;
+    exact = λ n r. inl refl;
+    prefix = nothing_taken taken (output probes (no_event word last s));
+    complete = λ s r w. absurd s;
+  };
+  named = λ fetched. record { word = word; last = last; study = s; is = refl; said = refl };
+  argument = record { word = word; last = last; among = among; said = refl };
+  fault = λ e. cc;
+  steady = λ e. cc;
+  refused = λ r. refl;
+  unmoved = λ r. absurd r;
+  out_still = λ r. refl;
+  never_falls = omega arith;
+}
+
+-- an event isn't there, and the study was simulated once
+pub eventless-finishes : (come : Verdict) (word : List ℕ) (last : ℕ) (s : StudyTold) (probes : Probes) (arguments : List (List ℕ)) (reads writes old new : ℕ) (taken : Option (List ℕ)) (st : Status) (name : List ℕ)
+    → come ≡ no_event word last s → (st ≡ status.Memory) ⊎ ((st ≡ status.NoEvent) × (name ≡ past_event word last)) → new ≡ old + study_events s.course → IsAmong word arguments
+    → Finished come probes arguments (record { reads = reads; writes = writes; taken = taken; steps = old }) (record { reads = reads; writes = writes; taken = taken; steps = new }) st name
+eventless-finishes come word last s probes arguments reads writes old new taken st name is told rose among =
+    let was : Seen = record { reads = reads; writes = writes; taken = taken; steps = old } in
+    let seen : Seen = record { reads = reads; writes = writes; taken = taken; steps = new } in
+    subst (λ (v : Verdict). Finished v probes arguments was seen st name) (sym is) (by told)
+  where
+    by : (st ≡ status.Memory) ⊎ ((st ≡ status.NoEvent) × (name ≡ past_event word last))
+        → Finished (no_event word last s) probes arguments (record { reads = reads; writes = writes; taken = taken; steps = old }) (record { reads = reads; writes = writes; taken = taken; steps = new }) st name
+    by (inl wanting) = wanting-finishes (no_event word last s) probes arguments reads writes old new taken st name wanting (omega (arith, rose)) (omega (arith, rose))
+    by (inr is) =
+        let was : Seen = record { reads = reads; writes = writes; taken = taken; steps = old } in
+        let seen : Seen = record { reads = reads; writes = writes; taken = taken; steps = new } in
+        subst (λ (x : Status). Finished (no_event word last s) probes arguments was seen x name) (sym is.0)
+        (subst (λ (n : List ℕ). Finished (no_event word last s) probes arguments was seen status.NoEvent n) (sym is.1)
+        (lacks-event word last s probes arguments reads writes old new taken rose among))
+
+-- each mark has a target, and memory was wanting once the study was simulated or before
+pub aimed-wanting : (marks : List Mark) (places : ℕ) (s : StudyTold) (targets : List Target) (probes : Probes) (arguments : List (List ℕ)) (reads writes old new : ℕ) (taken : Option (List ℕ)) (st : Status) (name : List ℕ)
+    → aimed_at s.course.plan.branches marks ≡ At targets → st ≡ status.Memory → old ≤ new → new ≤ old + study_events s.course
+    → Finished (verdict_on_task (Rewind marks places) s) probes arguments (record { reads = reads; writes = writes; taken = taken; steps = old }) (record { reads = reads; writes = writes; taken = taken; steps = new }) st name
+aimed-wanting marks places s targets probes arguments reads writes old new taken st name aims is least most =
+    let past = past_of (lasts_of s.course) targets in
+    subst (λ (v : Verdict). Finished v probes arguments (record { reads = reads; writes = writes; taken = taken; steps = old }) (record { reads = reads; writes = writes; taken = taken; steps = new }) st name)
+    (sym (ap (λ (a : Aimed). verdict_on_aimed marks places s a) aims))
+    (wanting-finishes (verdict_on_past marks places s past) probes arguments reads writes old new taken st name is least (omega (arith, most, simulated-past marks places s past)))
+
+-- each mark has a target, of which this is the first that is past its branch's last event
+pub aimed-eventless : (marks : List Mark) (places : ℕ) (s : StudyTold) (targets : List Target) (past : Past) (probes : Probes) (arguments : List (List ℕ)) (reads writes old new : ℕ) (taken : Option (List ℕ)) (st : Status) (name : List ℕ)
+    → aimed_at s.course.plan.branches marks ≡ At targets → past_of (lasts_of s.course) targets ≡ Some past
+    → (st ≡ status.Memory) ⊎ ((st ≡ status.NoEvent) × (name ≡ past_event (word_at marks past.index) past.last)) → new ≡ old + study_events s.course → IsAmong (word_at marks past.index) arguments
+    → Finished (verdict_on_task (Rewind marks places) s) probes arguments (record { reads = reads; writes = writes; taken = taken; steps = old }) (record { reads = reads; writes = writes; taken = taken; steps = new }) st name
+aimed-eventless marks places s targets past probes arguments reads writes old new taken st name aims is told rose among =
+    eventless-finishes (verdict_on_task (Rewind marks places) s) (word_at marks past.index) past.last s probes arguments reads writes old new taken st name
+    (ap (λ (a : Aimed). verdict_on_aimed marks places s a) aims ∙ ap (λ (p : Option Past). verdict_on_past marks places s p) is)
+    told rose among
+
+-- each mark has a target, none of which is past its branch's last event, and their states were written, or why not
+pub aimed-finishes : (marks : List Mark) (places : ℕ) (s : StudyTold) (targets : List Target) (probes : Probes) (arguments : List (List ℕ)) (before after : Seen) (st told : Status) (name : List ℕ)
+    → aimed_at s.course.plan.branches marks ≡ At targets → past_of (lasts_of s.course) targets ≡ None → told ≡ st
+    → Performed (rewinds_of s.course targets) (study_events s.course) (steps_to_all s places targets) before after st
+    → Finished (verdict_on_task (Rewind marks places) s) probes arguments before after told name
+aimed-finishes marks places s targets probes arguments before after st told name aims none same p =
+    let task = Rewind marks places in
+    subst (λ (v : Verdict). Finished v probes arguments before after told name)
+    (sym (ap (λ (a : Aimed). verdict_on_aimed marks places s a) aims ∙ ap (λ (x : Option Past). verdict_on_past marks places s x) none))
+    (subst (λ (x : Status). Finished (accepted task s) probes arguments before after x name) (sym same)
+    (performed_finishes probes task s arguments before after st name
+    (subst (λ (ts : List Target). Performed (rewinds_of s.course ts) (study_events s.course) (steps_to_all s places ts) before after st)
+    (sym (ap targets_in aims)) p)))

@@ -1,0 +1,322 @@
+//! Rewinds: the states of branches after events that an argument each names.
+
+ghost use Rattle.std.specs.Prelude.{◌≡◌, ◌⊎◌, ◌+◌, ◌<◌, ◌≤◌, ◌^◌, ℕ, All, IfOk, IfErr, OnOk, None, length, map, string_bytes, sum_by};
+ghost use Rattle.std.specs.List.{flat_map};
+ghost use Rattle.bundle_frames.specs.Frames.{end_frame};
+ghost use Rattle.branch_bundle.specs.Ran.{IsRunOf};
+ghost use Rattle.branch_tree.specs.Segments.{last_of, segments_in};
+ghost use Rattle.command_words.specs.Ranges.{AreMarks};
+ghost use Rattle.kernel_copy.specs.Courses.{IsCourse};
+ghost use Rattle.rewind_desk.specs.Rewinds.{last_event};
+ghost use Rattle.rewind_targets.specs.Targets.{aimed_at, past_of};
+ghost use Rattle.study_accept.specs.Accepted.{study_told};
+ghost use Rattle.abides_run.specs.Fetched.{arguments_of};
+ghost use Rattle.abides_run.specs.Notes.{past_event};
+ghost use Rattle.abides_run.specs.Output.{Probes};
+ghost use Rattle.abides_run.specs.Performed.{Finished, IsStride, Sent};
+ghost use Rattle.abides_run.specs.Rewinds.{IsThere, lasts_of, rewinds_of, steps_from, target_frames, target_state, word_at};
+ghost use Rattle.abides_run.specs.Verdict.{verdict_on_task};
+ghost use Rattle.abides_run.specs.declared.request.Task.TheVariants as task;
+
+use crate::ending::{Ending, named, nameless};
+use crate::send::{send, send_end};
+use crate::status::Status;
+use branch_bundle::Ran;
+use branch_bundle::laws::outcomes_are_a_run;
+use branch_workers::work;
+use bundle_frames::put_branch;
+use checkpoint_shelf::ClosedShelf;
+use command_words::Mark;
+use kernel_copy::laws::courses_stay_in_range;
+use kernel_copy::{Checkpoint, Course};
+use kernel_core::Kernel;
+use outside::{Gate, Ledger, Sink, Steps};
+use plain_lists::Memory;
+use rewind_desk::laws::sure_states_are_held;
+use rewind_desk::{RewindError, rewind};
+use rewind_targets::{Aimed, Past, Target, aim, first_past};
+use state_frames::state_frames;
+use std::alloc::{AllocError, Global};
+use std::sync::{Arc, Wait};
+use std::thread::Threads;
+use study_accept::Study;
+
+// The number of a branch's last segment.
+fn last_segment(course: &Course, branch: u16) -> u32
+    requires { branch < length course.now.plan.branches }
+    ensures last { result ≡ last_of course.now.plan.branches branch }
+    ensures exists { result < length (segments_in course.now.plan) }
+{
+    let numbers = course.plan().segments_of(branch);
+    numbers[numbers.len() - 1]
+}
+
+// The number of the last event of a branch's full run.
+fn last_of_branch<W: Ran>(course: &Course, ran: &W, branch: u16) -> u32
+    requires branch { branch < length course.now.plan.branches }
+    requires ran { IsRunOf course.now (W.count ran.now) (W.entries_of ran.now) (W.closing_of ran.now) }
+    ensures { result ≡ last_event course.now branch }
+{
+    let _ = course.opening();
+    ran.closing(last_segment(course, branch)).counts.events
+}
+
+// The same of each branch.
+fn last_events<W: Ran>(alloc: Global, course: &Course, ran: &W) -> Result<Vec<u32>, Memory>
+    requires { IsRunOf course.now (W.count ran.now) (W.entries_of ran.now) (W.closing_of ran.now) }
+    ensures { IfOk result (λ v. v.items ≡ lasts_of course.now) }
+{
+    let mut lasts = Vec::new(alloc);
+    let count = course.plan().branches().len() as u16;
+    for branch in 0..count {
+        lasts.push(last_of_branch(course, ran, branch))?;
+    }
+    Ok(lasts)
+}
+
+// The frames of a target: its branch, with the target's event as its stop, and its state.
+fn target_bytes(
+    alloc: Global,
+    course: &Course,
+    target: Target,
+    kernel: &Kernel,
+) -> Result<Vec<u8>, Memory>
+    requires branch { target.branch < length course.now.plan.branches }
+    requires state { kernel.now ≡ target_state course.now target }
+    ensures { IfOk result (λ v. v.items ≡ target_frames course.now target) }
+{
+    courses_stay_in_range();
+    let b = &course.plan().branches()[usize::from(target.branch)];
+    let _ = b.name.len();
+    let parent = if target.branch == 0 {
+        u16::MAX
+    } else {
+        b.parent
+    };
+    let mut out = Vec::new(alloc);
+    put_branch(
+        &mut out,
+        target.branch,
+        parent,
+        target.event,
+        b.name.as_slice(),
+    )?;
+    let state = state_frames(alloc, course.opening(), kernel)?;
+    out.extend_from_slice(&state)?;
+    Ok(out)
+}
+
+// The frames of a target, whose state is reached from the nearest one that the shelf holds.
+fn rewound_bytes<L: Ledger>(
+    alloc: Global,
+    course: &Arc<Course>,
+    shelf: &ClosedShelf<Checkpoint>,
+    target: Target,
+    steps: &mut Steps<L>,
+) -> Result<Vec<u8>, Memory>
+    requires shelf { shelf.now.course ≡ course.now.value }
+    requires there { IsThere course.now.value target }
+    requires count { steps.old + steps_from shelf.now target < 2 ^ 64 }
+    ensures bytes { IfOk result (λ v. v.items ≡ target_frames course.now.value target) }
+    ensures least { steps.old ≤ steps.new }
+    ensures most { steps.new ≤ steps.old + steps_from shelf.now target }
+{
+    let rewound = match rewind(alloc, course, shelf, target.branch, target.event, steps) {
+        Ok(rewound) => rewound,
+        Err(RewindError::Memory) => return Err(Memory),
+        Err(_) => unreachable!(),
+    };
+    target_bytes(alloc, course, target, &rewound.kernel)
+}
+
+// Sends the frames of a target.
+fn send_target<O: Sink, L: Ledger>(
+    alloc: Global,
+    course: &Arc<Course>,
+    shelf: &ClosedShelf<Checkpoint>,
+    target: Target,
+    out: &mut O,
+    steps: &mut Steps<L>,
+) -> Result<(), Status>
+    requires shelf { shelf.now.course ≡ course.now.value }
+    requires there { IsThere course.now.value target }
+    requires count { steps.old + steps_from shelf.now target < 2 ^ 64 }
+    ensures sent { Sent (target_frames course.now.value target) (O.faults out.old) (O.faults out.new) (O.taken out.old) (O.taken out.new) result }
+    ensures least { steps.old ≤ steps.new }
+    ensures most { steps.new ≤ steps.old + steps_from shelf.now target }
+{
+    match rewound_bytes(alloc, course, shelf, target, steps) {
+        Ok(bytes) => send(out, &bytes),
+        Err(Memory) => Err(Status::Memory),
+    }
+}
+
+// Sends the frames of all targets, one after another.
+fn send_targets<O: Sink, L: Ledger>(
+    alloc: Global,
+    course: &Arc<Course>,
+    shelf: &ClosedShelf<Checkpoint>,
+    targets: &[Target],
+    out: &mut O,
+    steps: &mut Steps<L>,
+) -> Result<(), Status>
+    requires shelf { shelf.now.course ≡ course.now.value }
+    requires there { All (IsThere course.now.value) targets.now }
+    requires count { steps.old + sum_by (steps_from shelf.now) targets.now < 2 ^ 64 }
+    ensures sent { Sent (flat_map (target_frames course.now.value) targets.now) (O.faults out.old) (O.faults out.new) (O.taken out.old) (O.taken out.new) result }
+    ensures least { steps.old ≤ steps.new }
+    ensures most { steps.new ≤ steps.old + sum_by (steps_from shelf.now) targets.now }
+{
+    for (i, target) in targets.iter().enumerate() {
+        send_target(alloc, course, shelf, *target, out, steps)?;
+    }
+    Ok(())
+}
+
+// Sends the frames of all targets, and how many there are.
+fn send_rewinds<O: Sink, L: Ledger>(
+    alloc: Global,
+    course: &Arc<Course>,
+    shelf: &ClosedShelf<Checkpoint>,
+    targets: &[Target],
+    out: &mut O,
+    steps: &mut Steps<L>,
+) -> Result<(), Status>
+    requires shelf { shelf.now.course ≡ course.now.value }
+    requires few { length targets.now ≤ 64 }
+    requires there { All (IsThere course.now.value) targets.now }
+    requires count { steps.old + sum_by (steps_from shelf.now) targets.now < 2 ^ 64 }
+    ensures sent { Sent (rewinds_of course.now.value targets.now) (O.faults out.old) (O.faults out.new) (O.taken out.old) (O.taken out.new) result }
+    ensures least { steps.old ≤ steps.new }
+    ensures most { steps.new ≤ steps.old + sum_by (steps_from shelf.now) targets.now }
+{
+    send_targets(alloc, course, shelf, targets, out, steps)?;
+    send_end(alloc, targets.len() as u16, out)
+}
+
+// The word of a mark, behind which its branch's last event stands.
+fn past_text(alloc: Global, word: &str, last: u32) -> Result<String, AllocError>
+    ensures { IfOk result (λ text. string_bytes text ≡ past_event word.now last) }
+{
+    format!(in alloc; "{word}, last event {last}")
+}
+
+// The end of a rewind to an event that its branch hasn't.
+fn no_event(alloc: Global, word: &str, last: u32) -> Ending
+    ensures { (result.status ≡ Status.Memory) ⊎ ((result.status ≡ Status.NoEvent) × (string_bytes result.name ≡ past_event word.now last)) }
+{
+    match past_text(alloc, word, last) {
+        Ok(name) => Ending {
+            status: Status::NoEvent,
+            name,
+        },
+        Err(_) => nameless(alloc, Status::Memory),
+    }
+}
+
+// A mark's argument as it is written.
+fn word_of<'a>(marks: &[Mark<'a>], index: usize) -> &'a str
+    requires { index < length marks.now }
+    ensures { result.now ≡ word_at marks.now index }
+{
+    marks[index].word.as_str()
+}
+
+// Has workers simulate each segment of a study once, while so many grid places keep states, and then writes the states of
+// these targets of the marks.
+fn rewind_targets<R: Threads + Wait + Sync, O: Sink, G: Gate + Sync, D: Ledger + Send>(
+    rt: &R,
+    alloc: Global,
+    study: &Study,
+    marks: &[Mark<'_>],
+    targets: &[Target],
+    places: u32,
+    workers: u32,
+    out: &mut O,
+    gate: &G,
+    steps: &mut Steps<D>,
+) -> Ending
+    requires course { IsCourse study.now.course.value }
+    requires stride { IsStride study.now.stride }
+    requires marks { AreMarks marks.now }
+    requires targets { aimed_at study.now.course.value.plan.branches marks.now ≡ Aimed.At targets.now }
+    requires places { places ≤ 128 }
+    requires workers { (0 < workers) × (workers ≤ 64) }
+    requires steps { steps.old ≤ 2 ^ 63 }
+    ensures { (reads : ℕ) (probes : Probes) → Finished (verdict_on_task (task.Rewind marks.now places) (study_told study.now)) probes
+        (arguments_of (task.Rewind marks.now places))
+        (record { reads = reads; writes = O.faults out.old; taken = O.taken out.old; steps = steps.old })
+        (record { reads = reads; writes = O.faults out.new; taken = O.taken out.new; steps = steps.new })
+        result.status (string_bytes result.name) }
+{
+    outcomes_are_a_run();
+    sure_states_are_held();
+    let course = &study.course;
+    let worked = match work(
+        rt,
+        alloc,
+        course,
+        study.stride,
+        places,
+        workers,
+        gate,
+        steps,
+    ) {
+        Ok(worked) => worked,
+        Err(Memory) => return nameless(alloc, Status::Memory),
+    };
+    let lasts = match last_events(alloc, course, &worked.outcomes) {
+        Ok(lasts) => lasts,
+        Err(Memory) => return nameless(alloc, Status::Memory),
+    };
+    if let Some(past) = first_past(&lasts, targets) {
+        return no_event(alloc, word_of(marks, past.index), past.last);
+    }
+    match send_rewinds(alloc, course, &worked.shelf, targets, out, steps) {
+        Ok(()) => nameless(alloc, Status::Ok),
+        Err(status) => nameless(alloc, status),
+    }
+}
+
+/// Has workers simulate each segment of a study once, while so many grid places keep states, and then writes the state of each
+/// mark: that of its branch's full run after so many events, reached from the nearest state that was kept. A mark whose branch
+/// isn't there is refused before the first step, one whose event isn't before the first byte.
+pub fn rewind_study<R: Threads + Wait + Sync, O: Sink, G: Gate + Sync, D: Ledger + Send>(
+    rt: &R,
+    alloc: Global,
+    study: &Study,
+    marks: &[Mark<'_>],
+    places: u32,
+    workers: u32,
+    out: &mut O,
+    gate: &G,
+    steps: &mut Steps<D>,
+) -> Ending
+    requires stride { IsStride study.now.stride }
+    requires marks { AreMarks marks.now }
+    requires places { places ≤ 128 }
+    requires workers { (0 < workers) × (workers ≤ 64) }
+    requires steps { steps.old ≤ 2 ^ 63 }
+    ensures { (reads : ℕ) (probes : Probes) → Finished (verdict_on_task (task.Rewind marks.now places) (study_told study.now)) probes
+        (arguments_of (task.Rewind marks.now places))
+        (record { reads = reads; writes = O.faults out.old; taken = O.taken out.old; steps = steps.old })
+        (record { reads = reads; writes = O.faults out.new; taken = O.taken out.new; steps = steps.new })
+        result.status (string_bytes result.name) }
+{
+    match aim(alloc, study.course.plan(), marks) {
+        Ok(Aimed::At(targets)) => rewind_targets(
+            rt,
+            alloc,
+            study,
+            marks,
+            targets.as_slice(),
+            places,
+            workers,
+            out,
+            gate,
+            steps,
+        ),
+        Ok(Aimed::NoBranch(index)) => named(alloc, Status::NoBranch, word_of(marks, index)),
+        Err(Memory) => nameless(alloc, Status::Memory),
+    }
+}

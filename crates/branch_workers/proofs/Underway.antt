@@ -1,0 +1,124 @@
+-- Runs of segments that stop on their way.
+use Rattle.std.proofs.Common.{◌≡◌, ◌≢◌, ℕ, ◌+◌, ◌-◌, ◌%◌, ◌<◌, ◌≤◌, true, List, inl, inr, length, sym, ap, ◌∙◌, subst, arith}
+use mathlib.Core.Logic.{dite}
+use native.Mathlib.Decide.{ℕ_discrete}
+use Rattle.branch_tree.specs.Segments.{segments_in, segment_at}
+use Rattle.kernel_core.specs.Step.{Fits}
+use Rattle.kernel_core.specs.Until.{Run, until}
+use Rattle.kernel_core.specs.Step.{end_of}
+use Rattle.kernel_core.proofs.Runs.{advanced_by_ended}
+use Rattle.kernel_core.proofs.Stops.{until-grows, until-within, until-until, end_cases, going-events}
+use Rattle.kernel_copy.specs.Courses.{CourseTold, IsCourse, IsKeyOf, state_at}
+use Rattle.kernel_copy.specs.Segmentwise.{segment_run, started_at, from_count}
+use Rattle.kernel_copy.proofs.Trees.{course-tree}
+use Rattle.kernel_copy.proofs.Walks.{segment-after, segment-starts, segment-copy, segment-grows, own-is, segment-within, planned-at}
+use Rattle.shelf_core.specs.Plan.{is_in, is_sole}
+use Rattle.shelf_core.specs.declared.plan.Key.{Key}
+use Rattle.shelf_core.specs.declared.plan.ShelfPlan.{ShelfPlan}
+use Rattle.shelf_core.specs.declared.seat.SeatView.{SeatView}
+use Rattle.branch_workers.specs.Layout.{key_at, grid_keys}
+use Rattle.branch_workers.proofs.Grids.{grid_key}
+use Rattle.branch_workers.specs.Runs.{IsPassed, IsUnderway}
+
+-- a segment's run at its beginning
+abbrev first_of : CourseTold → ℕ → Run
+first_of c s = started_at c.opening c.plan (segment_at c.plan s)
+
+pub begins : (c : CourseTold) (s : ℕ) (r : Run) → r ≡ started_at c.opening c.plan (segment_at c.plan s) → Fits c.opening r.state → IsUnderway c s 0 r
+begins c s r is fits = record {
+  again = λ m l. ap (λ (q : Run). until c.opening m q) is;
+  few = (let same = ap (λ (q : Run). q.state.events) is in let grows = until-grows c.opening (segment_at c.plan s).stop (first_of c s) in omega arith);
+  fits = fits;
+}
+
+pub goes_later : (c : CourseTold) (s e m : ℕ) (r : Run) → e ≤ m → IsUnderway c s e r → IsUnderway c s m r
+goes_later c s e m r l h = record { again = λ n k. h.again n (omega arith); few = h.few; fits = h.fits }
+
+-- a run up to an event number within the segment has no more events than the segment's
+pub few_at : (c : CourseTold) (s e : ℕ) → e ≤ (segment_at c.plan s).stop → (until c.opening e (first_of c s)).state.events ≤ (segment_run c.opening c.plan (segment_at c.plan s)).state.events
+few_at c s e l =
+    let stop = (segment_at c.plan s).stop in
+    let grows = until-grows c.opening stop (until c.opening e (first_of c s)) in
+    let same = ap (λ (q : Run). q.state.events) (until-until c.opening e stop (first_of c s) l) in omega arith
+
+-- It goes on to an event number.
+module _ (c : CourseTold) (s e : ℕ) (r q : Run) (l : e ≤ (segment_at c.plan s).stop) (h : IsUnderway c s e r) where
+  pub goes_few : (n : ℕ) → n ≤ (until c.opening e r).state.events → n ≤ (segment_run c.opening c.plan (segment_at c.plan s)).state.events
+  goes_few n few = let same = ap (λ (x : Run). x.state.events) (h.again e (omega arith)) in let most = few_at c s e l in omega arith
+
+  pub goes_to : q ≡ until c.opening e r → q ≡ until c.opening e (started_at c.opening c.plan (segment_at c.plan s))
+  goes_to is = is ∙ h.again e (omega arith)
+
+  pub goes_on : q ≡ until c.opening e r → Fits c.opening q.state → IsUnderway c s e q
+  goes_on is fits = record {
+    again = λ m k. ap (λ (x : Run). until c.opening m x) is ∙ until-until c.opening e m r k ∙ h.again m k;
+    few = goes_few q.state.events (let same = ap (λ (x : Run). x.state.events) is in omega arith);
+    fits = fits;
+  }
+
+module _ (c : CourseTold) (s : ℕ) (h : IsCourse c) (l : s < length (segments_in c.plan)) where
+  -- a segment's run begins with the events before its own
+  first_events : (first_of c s).state.events ≡ from_count c.opening c.plan (segment_at c.plan s)
+  first_events =
+      let own = own-is c.opening c.plan s (course-tree c h) l in
+      let grows = segment-grows c.opening c.plan s (course-tree c h) l in
+      let same = ap (λ (q : Run). q.state.events) (segment-copy c.opening c.plan s (course-tree c h) l) in omega arith
+
+  -- From its start on it has the course's states.
+  pub state_there : (e : ℕ) (r : Run) → (segment_at c.plan s).start ≤ e → r ≡ until c.opening e (started_at c.opening c.plan (segment_at c.plan s)) → r.state ≡ state_at c (key_at s e)
+  state_there e r from is =
+      let starts = segment-starts c.opening c.plan s (course-tree c h) l in
+      ap (λ (q : Run). q.state) is ∙ sym (ap (λ (q : Run). q.state) (segment-after c.opening c.plan s e (course-tree c h) l (omega arith)))
+
+  -- Where the segment passes an event number, so many events stand there.
+  pub passed_events : (e : ℕ) (r : Run) → (segment_at c.plan s).start ≤ e → e ≤ (segment_at c.plan s).stop → r ≡ until c.opening e (started_at c.opening c.plan (segment_at c.plan s)) → IsPassed c s e → r.state.events ≡ e
+  passed_events e r from to is passed =
+      let stop = (segment_at c.plan s).stop in
+      let y = until c.opening e (first_of c s) in
+      let starts = segment-starts c.opening c.plan s (course-tree c h) l in
+      let first = first_events in
+      let within = until-within c.opening e (first_of c s) (omega arith) in
+      let copy = ap (λ (q : Run). q.state.events) (segment-copy c.opening c.plan s (course-tree c h) l) in
+      let same = ap (λ (q : Run). q.state.events) (until-until c.opening e stop (first_of c s) to) in
+      let there = ap (λ (q : Run). q.state.events) is in
+      elim (end_cases (end_of c.opening y.state)) [
+        | inl going ↦ let made = going-events (e - (first_of c s).state.events) c.opening (first_of c s) going in omega arith
+        | inr over ↦ let stays = ap (λ (q : Run). q.state.events) (advanced_by_ended (stop - y.state.events) c.opening y over.0 over.1) in omega arith
+      ]
+
+  -- its run has no more events than the limit
+  pub run_within : (segment_run c.opening c.plan (segment_at c.plan s)).state.events ≤ c.opening.limit
+  run_within =
+      let within = segment-within c.opening c.plan s (course-tree c h) l in
+      let copy = ap (λ (q : Run). q.state.events) (segment-copy c.opening c.plan s (course-tree c h) l) in
+      let limit = h.limit in omega arith
+
+  -- nor has it a later stop
+  pub stop_within : (segment_at c.plan s).stop ≤ c.opening.limit
+  stop_within = let p = (planned-at c.plan s (course-tree c h) l).within in let limit = h.limit in omega arith
+
+  pub rises : (segment_at c.plan s).start ≤ (segment_at c.plan s).stop
+  rises = (planned-at c.plan s (course-tree c h) l).rises
+
+  -- its event numbers are keys of the course
+  pub number_is_key : (e : ℕ) → (segment_at c.plan s).start ≤ e → e ≤ (segment_at c.plan s).stop → IsKeyOf c (key_at s e)
+  number_is_key e from to = record { segment = l; from = from; to = to }
+
+-- What a seat knows of the grid of a segment before an event number.
+abbrev pub KnowsBefore : CourseTold → ShelfPlan → ℕ → ℕ → ℕ → SeatView → Type 0
+KnowsBefore c plan stride s n v = (e : ℕ) → (segment_at c.plan s).start < e → e < n → e % stride ≡ 0 → is_sole plan (key_at s e) ≡ true → IsPassed c s e → is_in (key_at s e) v.known ≡ true
+
+pub knows_none : (c : CourseTold) (plan : ShelfPlan) (stride s n : ℕ) (v : SeatView) → n ≤ (segment_at c.plan s).start + 1 → KnowsBefore c plan stride s n v
+knows_none c plan stride s n v l e from below d sole passed = absurd (omega arith)
+
+pub knows_more : (c : CourseTold) (plan : ShelfPlan) (stride s n : ℕ) (v w : SeatView) → KnowsBefore c plan stride s n v → ((key : Key) → is_in key v.known ≡ true → is_in key w.known ≡ true)
+    → (n % stride ≡ 0 → is_sole plan (key_at s n) ≡ true → IsPassed c s n → is_in (key_at s n) w.known ≡ true) → KnowsBefore c plan stride s (n + 1) w
+knows_more c plan stride s n v w h keeps here e from below d sole passed = dite (ℕ_discrete e n)
+    (λ (one : e ≡ n). subst (λ (m : ℕ). m % stride ≡ 0 → is_sole plan (key_at s m) ≡ true → IsPassed c s m → is_in (key_at s m) w.known ≡ true) (sym one) here d sole passed)
+    (λ (ne : e ≢ n). keeps (key_at s e) (h e from (omega arith) d sole passed))
+
+pub knows_all : (c : CourseTold) (plan : ShelfPlan) (stride s n : ℕ) (v : SeatView) → plan.grid ≡ grid_keys c.plan stride → (segment_at c.plan s).stop ≤ n → KnowsBefore c plan stride s n v
+    → (e : ℕ) → is_in (key_at s e) plan.grid ≡ true → is_sole plan (key_at s e) ≡ true → IsPassed c s e → is_in (key_at s e) v.known ≡ true
+knows_all c plan stride s n v grid all h e there sole passed =
+    let k = grid_key c.plan stride (key_at s e) (ap (λ (keys : List Key). is_in (key_at s e) keys) (sym grid) ∙ there) in
+    h e k.from (let b = k.below in omega arith) k.divides sole passed

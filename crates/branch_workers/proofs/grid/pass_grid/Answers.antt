@@ -1,0 +1,44 @@
+use Rattle.std.proofs.Common.{◌+◌, ◌-◌, refl, ap, ◌∙◌, subst, arith}
+use Rattle.branch_tree.specs.declared.segment.Segment.{Segment}
+use Rattle.branch_tree.specs.Segments.{segment_at}
+use Rattle.kernel_core.specs.Until.{Run}
+use Rattle.kernel_copy.specs.Courses.{CourseTold, IsCourse}
+use Rattle.branch_workers.proofs.Underway.{goes_later, rises, stop_within, knows_none, knows_all}
+use Rattle.branch_workers.proofs.grid.pass_grid.Goals as goal
+
+pub overflow_step-event : goal.overflow_step-event
+overflow_step-event g c =
+    let k : CourseTold = c.args.course.now.value in
+    let s = c.args.segment in
+    let course : IsCourse k = subst IsCourse c.deref.ensures c.segment-g.ensures.course in
+    let start = ap (λ (x : Segment). x.start) (c.segment-g.ensures.value ∙ ap (λ (x : CourseTold). segment_at x.plan s) c.deref.ensures) in
+    let up = rises k s course c.requires.segment in
+    let top = stop_within k s course c.requires.segment in
+    let limit = course.opening.limit in omega arith
+
+pub loop-event-init : goal.loop-event-init
+loop-event-init g c =
+    let k : CourseTold = c.args.course.now.value in
+    let s = c.args.segment in
+    let n = c.segment-g.result.start in
+    let r : Run = record { state = c.args.ran.now.kernel; entries = c.args.ran.now.entries.list } in
+    let course : IsCourse k = subst IsCourse c.deref.ensures c.segment-g.ensures.course in
+    let start = ap (λ (x : Segment). x.start) (c.segment-g.ensures.value ∙ ap (λ (x : CourseTold). segment_at x.plan s) c.deref.ensures) in
+    let up = rises k s course c.requires.segment in
+    record {
+      same = refl;
+      stays = record { numbers = refl; claims = refl; counts = refl; known = λ key e. e; found = λ key e. e };
+      turns = c.requires.turns;
+      within = omega arith;
+      from = omega arith;
+      underway = goes_later k s 0 (n + 1 - 1) r (omega arith) c.requires.underway;
+      ticks = refl;
+      known = knows_none k c.args.shelf.now.plan c.args.stride s (n + 1) c.args.seat.now.view (omega arith);
+    }
+
+pub returns-clause-known : goal.returns-clause-known
+returns-clause-known g c =
+    let k : CourseTold = c.args.course.now.value in
+    let s = c.args.segment in
+    let stop = ap (λ (x : Segment). x.stop) (c.segment-g.ensures.value ∙ ap (λ (x : CourseTold). segment_at x.plan s) c.deref.ensures) in
+    knows_all k c.args.shelf.now.plan c.args.stride s c.loop-event.event c.loop-event.seat.view c.requires.shelf.grid (omega (arith, c.loop-event-test.false)) c.loop-event.invariant.known

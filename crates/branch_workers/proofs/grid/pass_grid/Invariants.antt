@@ -1,0 +1,18 @@
+use Rattle.std.proofs.Common.{◌≡◌, ◌≤◌, ◌+◌, ◌-◌, []}
+use Rattle.branch_tree.specs.Segments.{segment_at}
+use Rattle.shelf_core.specs.Made.{Stays}
+use Rattle.branch_workers.specs.Runs.{IsUnderway}
+use Rattle.branch_workers.proofs.Underway.{KnowsBefore}
+use Rattle.branch_workers.proofs.grid.pass_grid.Given as goal
+
+abbrev pub invariant-loop-event : goal.invariant-loop-event
+invariant-loop-event g l = record {
+  same : l.seat.shelf ≡ l.initial.seat.shelf;
+  stays : Stays l.initial.seat.view l.seat.view;
+  turns : l.seat.view.turns ≡ [];
+  within : l.event ≤ (segment_at l.course.value.plan l.segment).stop + 1;
+  from : (segment_at l.course.value.plan l.segment).start + 1 ≤ l.event;
+  underway : IsUnderway l.course.value l.segment (l.event - 1) (record { state = l.ran.kernel; entries = l.ran.entries.list });
+  ticks : l.steps + l.initial.ran.kernel.events ≡ l.initial.steps + l.ran.kernel.events;
+  known : KnowsBefore l.course.value l.shelf.plan l.stride l.segment l.event l.seat.view;
+}

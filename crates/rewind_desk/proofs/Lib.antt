@@ -1,0 +1,9 @@
+pub mod Most
+pub mod Mosts
+pub mod Chained
+pub mod Bests
+pub mod Arrivals
+pub mod Lasts
+pub mod Nears
+pub mod Refusals
+pub mod Strides

@@ -1,0 +1,105 @@
+-- The nearest state along a chain.
+use Rattle.std.proofs.Common.{◌≡◌, ◌≤◌, ◌<◌, ◌≢◌, ℕ, inl, inr, Option, Some, None, IfSome, length, refl, sym, ap, ◌∙◌, arith, subst}
+use Rattle.std.specs.Prelude.{min}
+use Rattle.std.proofs.lemmas.Bool.{cases_lt}
+use Rattle.checkpoint_shelf.specs.Told.{ClosedTold}
+use Rattle.branch_tree.specs.Plan.{Plan}
+use Rattle.branch_tree.specs.Planned.{IsTree}
+use Rattle.branch_tree.specs.Segments.{segments_in, segment_at, last_of}
+use Rattle.branch_tree.proofs.PartLemmas.{last-at}
+use Rattle.kernel_core.specs.State.{State}
+use Rattle.kernel_core.specs.Step.{end_of}
+use Rattle.kernel_core.proofs.Stops.{end_cases}
+use Rattle.kernel_copy.specs.Courses.{CourseTold, IsCourse, IsKeyOf}
+use Rattle.kernel_copy.specs.Full.{full}
+use Rattle.kernel_copy.specs.Segmentwise.{segment_end}
+use Rattle.kernel_copy.proofs.Trees.{course-tree}
+use Rattle.kernel_copy.proofs.Walks.{segment-starts, segment-within}
+use Rattle.rewind_desk.specs.declared.near.Near.{Near}
+use Rattle.rewind_desk.specs.Best.{count_at}
+use Rattle.rewind_desk.specs.Nearest.{events_of, IsHeld}
+use Rattle.rewind_desk.specs.Reach.{IsAt, IsOn}
+use Rattle.rewind_desk.specs.Rewinds.{last_event}
+use Rattle.rewind_desk.proofs.Arrivals.{at-last, chain-end, parent-events}
+use Rattle.rewind_desk.proofs.Chained.{on-first, on-parent}
+use Rattle.rewind_desk.proofs.Lasts.{last-end}
+
+-- a state of a chain has at most the events of its end, and so is held up to fewer events
+pub held-at : (shelf : ClosedTold CourseTold) (c : CourseTold) (s e x : ℕ) (near : Option Near) → shelf.course ≡ c → IsCourse c → s < length (segments_in c.plan)
+    → (segment_end c.opening c.plan (segment_at c.plan s)).state.events ≤ x → IfSome near (IsHeld shelf e) → IfSome near (λ (n : Near). IsOn c.plan s n.key.segment) → IfSome near (IsHeld shelf (min e x))
+held-at shelf c s e x None same h l most held on = tt
+held-at shelf c s e x (Some n) same h l most held on =
+    let key : IsKeyOf c n.key = subst (λ (k : CourseTold). IsKeyOf k n.key) same held.key in
+    let count : n.events ≡ count_at c n.key = held.events ∙ ap (λ (k : CourseTold). count_at k n.key) same in
+    record {
+      held = held.held;
+      key = held.key;
+      events = held.events;
+      early = omega (arith, count, held.early, chain-end c s n.key h l on key);
+    }
+
+-- the chain of a near state, of a course that is the shelf's
+pub chain-of : (shelf : ClosedTold CourseTold) (c : CourseTold) (s : ℕ) (near : Option Near) → shelf.course ≡ c → IfSome near (λ (n : Near). IsOn shelf.course.plan s n.key.segment)
+    → IfSome near (λ (n : Near). IsOn c.plan s n.key.segment)
+chain-of shelf c s near same on = subst (λ (x : CourseTold). IfSome near (λ (n : Near). IsOn x.plan s n.key.segment)) same on
+
+-- a parent's end has at most the events up to its stop, which is the segment's start
+pub parent-within : (c : CourseTold) (s q : ℕ) → IsCourse c → s < length (segments_in c.plan) → (segment_at c.plan s).parent ≡ Some q
+    → (segment_end c.opening c.plan (segment_at c.plan q)).state.events ≤ (segment_at c.plan s).start
+parent-within c s q h l is = omega (arith, parent-events c s q is, segment-starts c.opening c.plan s (course-tree c h) l)
+
+-- a state that isn't of a chain's last segment is of its parent's chain
+pub on-before : (p : Plan) (s q : ℕ) (near : Option Near) → IsTree p.branches p.limit → s < length (segments_in p) → (segment_at p s).parent ≡ Some q
+    → IfSome near (λ (n : Near). n.key.segment ≢ s) → IfSome near (λ (n : Near). IsOn p s n.key.segment) → IfSome near (λ (n : Near). IsOn p q n.key.segment)
+on-before p s q None t l is other on = tt
+on-before p s q (Some n) t l is other on = on-parent p s q n.key.segment t l is (λ e. other (sym e)) on
+
+-- and there is none where the last has no parent
+pub none-before : (p : Plan) (s : ℕ) (near : Option Near) → (segment_at p s).parent ≡ None
+    → IfSome near (λ (n : Near). n.key.segment ≢ s) → IfSome near (λ (n : Near). IsOn p s n.key.segment) → events_of near ≡ 0
+none-before p s None none other on = refl
+none-before p s (Some n) none other on = absurd (other (sym (on-first p s n.key.segment none on)))
+
+-- A state that was reached for an event number, or for the limit of events where that is less.
+pub record Arrived (c : CourseTold) (b e : ℕ) (k : State) : Type 0 where
+  pub whole : k.events < e → k.events ≡ last_event c b
+  pub state : e ≤ k.events → k ≡ (full c.opening c.plan b e).state
+  pub exists : e ≤ k.events → e ≤ last_event c b
+  pub within : k.events ≤ e
+
+at-limit : (c : CourseTold) (b m : ℕ) (k : State) → IsCourse c → b < length c.plan.branches → m ≡ c.opening.limit → IsAt c (last_of c.plan.branches b) m k → k.events ≡ last_event c b
+at-limit c b m k h l is at = ap (λ (s : State). s.events) (at-last c b m k h l (omega arith) at ∙ ap (λ (e : ℕ). (full c.opening c.plan b e).state) is)
+
+ended-last : (c : CourseTold) (b m : ℕ) (k : State) → IsCourse c → b < length c.plan.branches → k ≡ (segment_end c.opening c.plan (segment_at c.plan (last_of c.plan.branches b))).state → k.events ≡ last_event c b
+ended-last c b m k h l is = ap (λ (s : State). s.events) is ∙ sym (last-end c b h l)
+
+arrived-whole : (c : CourseTold) (b e m : ℕ) (k : State) → IsCourse c → b < length c.plan.branches → m ≡ min e c.opening.limit → IsAt c (last_of c.plan.branches b) m k → k.events < e → k.events ≡ last_event c b
+arrived-whole c b e m k h l is at less = elim (end_cases (end_of c.opening k)) [
+  | inl going ↦ let all = at.going going in at-limit c b m k h l (omega arith) at
+  | inr over ↦ ended-last c b m k h l (at.ended over.0 over.1)
+]
+
+arrived-exists : (c : CourseTold) (b e m : ℕ) (k : State) → IsCourse c → b < length c.plan.branches → m ≡ min e c.opening.limit → IsAt c (last_of c.plan.branches b) m k → e ≤ k.events → e ≤ last_event c b
+arrived-exists c b e m k h l is at more = elim (end_cases (end_of c.opening k)) [
+  | inl going ↦ elim (cases_lt m c.opening.limit) [
+    | inl less ↦
+        let stop = (last-at c.plan b l).1.stop in
+        let past = at.passed going (omega (arith, stop, h.limit)) in
+        omega (arith, past, at.within, last-end c b h l)
+    | inr most ↦ omega (arith, at-limit c b m k h l (omega arith) at)
+  ]
+  | inr over ↦ omega (arith, ended-last c b m k h l (at.ended over.0 over.1))
+]
+
+pub arrived : (c : CourseTold) (b e m : ℕ) (k : State) → IsCourse c → b < length c.plan.branches → m ≡ min e c.opening.limit → IsAt c (last_of c.plan.branches b) m k → Arrived c b e k
+arrived c b e m k h l is at = record {
+  whole = arrived-whole c b e m k h l is at;
+  state = λ more. let same : m ≡ e = omega (arith, at.within) in
+      at-last c b m k h l (omega arith) at ∙ ap (λ (x : ℕ). (full c.opening c.plan b x).state) same;
+  exists = arrived-exists c b e m k h l is at;
+  within = omega (arith, at.within);
+}
+
+-- the last segment's end has at most as many events as the limit says
+pub last-within : (c : CourseTold) (b : ℕ) → IsCourse c → b < length c.plan.branches → (segment_end c.opening c.plan (segment_at c.plan (last_of c.plan.branches b))).state.events ≤ c.opening.limit
+last-within c b h l = omega (arith, segment-within c.opening c.plan (last_of c.plan.branches b) (course-tree c h) (last-at c.plan b l).0, h.limit)

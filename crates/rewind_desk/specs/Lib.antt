@@ -1,0 +1,6 @@
+pub mod Best
+pub mod Reach
+pub mod Nearest
+pub mod Rewinds
+pub mod Sure
+pub mod Worked

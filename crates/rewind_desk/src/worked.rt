@@ -1,0 +1,19 @@
+//! Nearest states on worked examples.
+
+ghost use Rattle.std.specs.Prelude.{◌≡◌, ◌∷◌, [], None, Some, nat_le};
+ghost use Rattle.rewind_desk.specs.Best.{most_among};
+ghost use Rattle.rewind_desk.specs.Nearest.{nearer_of};
+ghost use Rattle.rewind_desk.specs.Worked.{key_at, near_at};
+
+/// Of three keys whose states have 5, 9 and 2 events the one with 5 has the most up to 7; none has up to 1.
+pub fn the_most_of_three()
+    ensures seven { most_among (λ k. k.event) (λ k. nat_le k.event 7) (key_at 0 5 ∷ key_at 1 9 ∷ key_at 0 2 ∷ []) ≡ 5 }
+    ensures one { most_among (λ k. k.event) (λ k. nat_le k.event 1) (key_at 0 5 ∷ key_at 1 9 ∷ key_at 0 2 ∷ []) ≡ 0 }
+{}
+
+/// The nearer of two states is the one with more events, and the later one where they have as many.
+pub fn the_nearer_of_two()
+    ensures more { nearer_of (Some (near_at 0 5)) (Some (near_at 1 3)) ≡ Some (near_at 0 5) }
+    ensures same { nearer_of (Some (near_at 0 5)) (Some (near_at 1 5)) ≡ Some (near_at 1 5) }
+    ensures alone { nearer_of (Some (near_at 0 5)) None ≡ Some (near_at 0 5) }
+{}
