@@ -123,6 +123,6 @@ decoded d = elim d [ Ok bs ↦ order_in bs | Err e ↦ None ]
 pub message-spelled : (text : List ℕ) → IfSome (message_in text) (λ (m : Inbound). HasTexts (inbound_wire m))
 message-spelled text =
     elim (decode_of text) as (λ d. decode_of text ≡ d → IfSome (decoded d) IsSpelledOrder) [
-      | Ok bs ↦ λ is. order-spelled bs (decode_of-ok text bs is).1.1.1
+      | Ok bs ↦ λ is. order-spelled bs (decode_of-ok text bs is).3
       | Err e ↦ λ is. tt
     ] refl
