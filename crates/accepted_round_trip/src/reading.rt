@@ -1,0 +1,68 @@
+//! The bundle of an accepted study, read back.
+
+ghost use Rattle.std.specs.Prelude.{◌≡◌, ◌≤◌, ◌^◌, Ok, Err, IfOk, IfErr, option_map};
+ghost use Rattle.toml.specs.View.{table_view};
+ghost use Rattle.study_tables.specs.declared.refusal.Refusal.{Refusal};
+ghost use Rattle.study_accept.specs.Accepted.{study_of, study_told};
+ghost use Rattle.branch_bundle.specs.Ran.{IsRunOf};
+ghost use Rattle.bundle_reader.specs.Reads.{Gives};
+ghost use Rattle.bundle_reader.specs.Told.{bundle_told};
+ghost use Rattle.bundle_round_trip.specs.Back.{bundle_back};
+ghost use Rattle.accepted_round_trip.specs.Back.{IsBackOf};
+
+use crate::laws::accepted_messages_are_spelled;
+use branch_bundle::Ran;
+use branch_bundle::laws::outcomes_are_a_run;
+use bundle_reader::{Bundle, BundleError};
+use kernel_copy::run_segments;
+use outside::{Ledger, Steps};
+use std::alloc::Global;
+use study_accept::{AcceptError, Study, accept};
+use study_file::RawStudy;
+
+/// Writes the bundle of an accepted study and reads it: the branches' full runs, their feed split as reading splits it.
+///
+/// # Errors
+/// Want of memory alone.
+pub fn round_trip<W: Ran>(
+    alloc: Global,
+    raw: &RawStudy,
+    series: Option<&[u8]>,
+    study: &Study,
+    ran: &W,
+) -> Result<Bundle, BundleError>
+    requires accepted { study_of (table_view raw.now.table) (option_map (λ text. text.now) series) ≡ Ok (study_told study.now) }
+    requires ran { IsRunOf study.now.course.value (W.count ran.now) (W.entries_of ran.now) (W.closing_of ran.now) }
+    ensures { Gives (bundle_back study.now.course.value) result }
+{
+    let _ = raw;
+    let _ = series;
+    accepted_messages_are_spelled();
+    bundle_round_trip::round_trip(alloc, &study.course, ran)
+}
+
+/// Accepts a study, runs its segments one after another, writes its bundle and reads it: the branches' full runs, their feed
+/// split as reading splits it.
+///
+/// # Errors
+/// The first broken rule of the study; or want of memory.
+pub fn run_and_read<L: Ledger>(
+    alloc: Global,
+    raw: &RawStudy,
+    series: Option<&[u8]>,
+    steps: &mut Steps<L>,
+) -> Result<Bundle, AcceptError>
+    requires { steps.old ≤ 2 ^ 63 }
+    ensures back { IfOk result (λ b. IsBackOf (study_of (table_view raw.now.table) (option_map (λ text. text.now) series.entry)) (bundle_told b)) }
+    ensures refused { IfErr result (λ e. (r : Refusal) → e ≡ AcceptError.Refused r → study_of (table_view raw.now.table) (option_map (λ text. text.now) series.entry) ≡ Err r) }
+{
+    let study = accept(alloc, raw, series)?;
+    let Ok(ran) = run_segments(alloc, &study.course, steps) else {
+        return Err(AcceptError::Memory);
+    };
+    outcomes_are_a_run();
+    match round_trip(alloc, raw, series, &study, &ran) {
+        Ok(bundle) => Ok(bundle),
+        Err(_) => Err(AcceptError::Memory),
+    }
+}
