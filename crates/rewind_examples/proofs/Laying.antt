@@ -1,14 +1,14 @@
 -- A shelf is laid out for its plan and stride.
-use Rattle.std.proofs.Common.{◌≡◌, ◌<◌, ◌≤◌, ◌+◌, ◌-◌, ◌%◌, ◌==◌, ℕ, suc, zero, Bool, true, false, ◌||◌, List, [], ◌∷◌, ◌++◌, length, get_or, if◌then◌else◌, inl, inr, refl, sym, ap, ◌∙◌, subst, eq-eqb, arith}
+use Rattle.std.proofs.Common.{◌≡◌, ◌<◌, ◌≤◌, ◌+◌, ◌-◌, ◌%◌, ◌==◌, ℕ, suc, zero, Bool, true, false, List, [], ◌∷◌, ◌++◌, length, get_or, if◌then◌else◌, inl, inr, sym, ◌∙◌, subst, eq-eqb, arith}
 use Rattle.std.proofs.lemmas.Bool.{cases_eq, or_left, or_right}
 use Rattle.std.proofs.lemmas.List.Folds.{list_any-append}
 use Rattle.branch_tree.specs.declared.segment.Segment.{Segment}
 use Rattle.branch_tree.specs.Plan.{Plan}
-use Rattle.branch_tree.specs.Segments.{segments_in, segment_at, no_segment}
+use Rattle.branch_tree.specs.Segments.{segments_in, no_segment}
 use Rattle.shelf_core.specs.declared.plan.Key.{Key}
 use Rattle.shelf_core.specs.Plan.{is_in, same_key}
 use Rattle.shelf_core.proofs.Plans.{key_self}
-use Rattle.branch_workers.specs.Layout.{key_at, multiples_from, grid_of, grids_from, grid_keys, layout}
+use Rattle.branch_workers.specs.Layout.{key_at, multiples_from, grid_of, grids_from, layout}
 use Rattle.branch_workers.proofs.Forks.{end_is_fork}
 use Rattle.rewind_desk.specs.Sure.{IsLaidFor}
 

@@ -1,7 +1,5 @@
 -- What the shelf of workers meets.
-use Rattle.std.proofs.Common.{◌≡◌, ◌<◌, ◌≤◌, ◌+◌, ℕ, length, true, sym, ap, ◌∙◌, subst}
-use Rattle.branch_tree.specs.Plan.{Plan}
-use Rattle.shelf_core.specs.declared.plan.Key.{Key}
+use Rattle.std.proofs.Common.{◌≡◌, ◌<◌, ◌≤◌, ◌+◌, ℕ, length, sym, ap, ◌∙◌, subst}
 use Rattle.shelf_core.specs.declared.plan.ShelfPlan.{ShelfPlan}
 use Rattle.checkpoint_shelf.specs.Told.{ClosedTold}
 use Rattle.kernel_copy.specs.Courses.{CourseTold, IsCourse}
