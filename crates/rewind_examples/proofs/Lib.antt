@@ -1,0 +1,4 @@
+pub mod Laying
+pub mod Holding
+pub mod Nearing
+pub mod Rooted

@@ -1,0 +1,113 @@
+//! Rewinds over the shelf that workers of a small course give back.
+
+mod market;
+
+ghost use Rattle.std.specs.Prelude.{◌≡◌, ◌≤◌, IfOk};
+ghost use Rattle.rewind_examples.specs.AfterWork.{IsAfterWork};
+
+use self::market::course;
+use branch_workers::work;
+use checkpoint_shelf::ClosedShelf;
+use market_types::Memory;
+use outside::{Counted, OpenGate, Steps};
+use rewind_desk::{Checkpoint, Course, Key, RewindError, nearest, rewind};
+use std::alloc::Global;
+use std::sync::{Arc, Wait};
+use std::test::Fail;
+use std::thread::Threads;
+
+// The shelf that three workers of a course give back, with so many places for the grid of stride 5.
+fn left<R: Threads + Wait + Sync>(
+    rt: &R,
+    alloc: Global,
+    course: &Arc<Course>,
+    places: u32,
+) -> Result<ClosedShelf<Checkpoint>, Memory>
+    requires places { places ≤ 128 }
+    ensures { IfOk result (λ s. IsAfterWork course.now.value 5 places 3 s) }
+{
+    let mut steps: Steps<Counted> = Steps::new();
+    let worked = work(rt, alloc, course, 5, places, 3, &OpenGate, &mut steps);
+    let _ = steps.close();
+    let worked = worked?;
+    Ok(worked.shelf)
+}
+
+// What a rewind came to: the events of the state, and of the one from which it was reached; or why it is refused. And how many
+// events were counted.
+fn came(
+    alloc: Global,
+    course: &Arc<Course>,
+    shelf: &ClosedShelf<Checkpoint>,
+    branch: u16,
+    event: u32,
+) -> (Result<(u32, u32), RewindError>, u64)
+    requires { shelf.now.course ≡ course.now.value }
+{
+    let mut steps: Steps<Counted> = Steps::new();
+    let came = match rewind(alloc, course, shelf, branch, event, &mut steps) {
+        Ok(rewound) => Ok((rewound.kernel.events(), rewound.from)),
+        Err(refused) => Err(refused),
+    };
+    (came, steps.close())
+}
+
+// The key of the nearest state of branch 2.
+fn near(course: &Arc<Course>, shelf: &ClosedShelf<Checkpoint>, event: u32) -> Option<Key>
+    requires { shelf.now.course ≡ course.now.value }
+{
+    if course.plan().branches().len() <= 2 {
+        return None;
+    }
+    nearest(course, shelf, 2, event)
+}
+
+// The key of an event number in a segment.
+fn key(segment: u32, event: u32) -> Option<Key> {
+    Some(Key { segment, event })
+}
+
+// With a place for each state of the grid a rewind goes on from the one at event 5, or from the fork's at event 2 before that.
+// A branch that isn't there counts no event, and an event past the last counts those to the last.
+#[test]
+fn rewinds_of_a_small_course(rt: HostRuntime) -> Result<(), Fail> {
+    let alloc = rt.alloc();
+    let course = course(alloc)?;
+    let shelf = left(&rt, alloc, &course, 128)?;
+    for (branch, event, told, ticks) in [
+        (0u16, 1u32, Ok((1, 0)), 1u64),
+        (0, 6, Ok((6, 5)), 1),
+        (1, 4, Ok((4, 2)), 2),
+        (2, 5, Ok((5, 5)), 0),
+        (99, 0, Err(RewindError::NoBranch), 0),
+        (2, 7, Err(RewindError::NoEvent(6)), 1),
+    ] {
+        assert_eq!(rt;
+            came(alloc, &course, &shelf, branch, event),
+            (told, ticks),
+            "event {event} of branch {branch}"
+        );
+    }
+    Ok(())
+}
+
+// Without places for the grid the fork's state is the nearest from its event on, and with them the one at the greatest multiple
+// of the stride.
+#[test]
+fn nearest_states_of_a_branch(rt: HostRuntime) -> Result<(), Fail> {
+    let alloc = rt.alloc();
+    let course = course(alloc)?;
+    let forks = left(&rt, alloc, &course, 0)?;
+    let all = left(&rt, alloc, &course, 128)?;
+    for (event, without, with) in [
+        (1, None, None),
+        (2, key(0, 2), key(0, 2)),
+        (4, key(0, 2), key(0, 2)),
+        (5, key(0, 2), key(3, 5)),
+        (6, key(0, 2), key(3, 5)),
+    ] {
+        assert_eq!(rt; near(&course, &forks, event), without, "up to {event}");
+        assert_eq!(rt; near(&course, &all, event), with, "up to {event}");
+    }
+    Ok(())
+}
