@@ -15,8 +15,8 @@ use rewind_desk::laws::rewinds_stay_within_the_stride;
 /// What workers give back meets what the bound on rewinds asks for: their shelf is laid out for the plan and the stride, it
 /// holds each state that they surely leave, and where there are as many places as grid keys each key has its own.
 ///
-/// So a rewind over it makes at most as many events as the stride says, for each event of a branch on whose path no state was
-/// ended before the stop at which the next branch forks. On the root's path none forks.
+/// So a rewind over it makes at most as many events as the stride says, for each event of a branch on whose path no
+/// state was ended before the stop at which the next branch forks. On the root's path none forks.
 pub fn rewinds_after_work()
     ensures laid { (p : Plan) (stride places : ℕ) → IsLaidFor p stride (layout p stride places) }
     ensures held { (c : CourseTold) (stride places workers : ℕ) (shelf : ClosedTold CourseTold) → IsAfterWork c stride places workers shelf → HoldsSure shelf }

@@ -33,8 +33,8 @@ fn left<R: Threads + Wait + Sync>(
     Ok(worked.shelf)
 }
 
-// What a rewind came to: the events of the state, and of the one from which it was reached; or why it is refused. And how many
-// events were counted.
+// What a rewind came to: the events of the state, and of the one from which it was reached; or why it is refused. And
+// how many events were counted.
 fn came(
     alloc: Global,
     course: &Arc<Course>,
@@ -67,8 +67,8 @@ fn key(segment: u32, event: u32) -> Option<Key> {
     Some(Key { segment, event })
 }
 
-// With a place for each state of the grid a rewind goes on from the one at event 5, or from the fork's at event 2 before that.
-// A branch that isn't there counts no event, and an event past the last counts those to the last.
+// With a place for each state of the grid a rewind goes on from the one at event 5, or from the fork's at event 2 before
+// that. A branch that isn't there counts no event, and an event past the last counts those to the last.
 #[test]
 fn rewinds_of_a_small_course(rt: HostRuntime) -> Result<(), Fail> {
     let alloc = rt.alloc();
@@ -91,8 +91,8 @@ fn rewinds_of_a_small_course(rt: HostRuntime) -> Result<(), Fail> {
     Ok(())
 }
 
-// Without places for the grid the fork's state is the nearest from its event on, and with them the one at the greatest multiple
-// of the stride.
+// Without places for the grid the fork's state is the nearest from its event on, and with them the one at the greatest
+// multiple of the stride.
 #[test]
 fn nearest_states_of_a_branch(rt: HostRuntime) -> Result<(), Fail> {
     let alloc = rt.alloc();
