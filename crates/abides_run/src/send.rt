@@ -1,6 +1,6 @@
 //! The bytes of a study's bundle, part by part, to a sink.
 
-ghost use Rattle.std.specs.Prelude.{◌≡◌, ◌<◌, ◌++◌, length};
+ghost use Rattle.std.specs.Prelude.{◌<◌, length};
 ghost use Rattle.bundle_frames.specs.Frames.{end_frame};
 ghost use Rattle.branch_bundle.specs.Bundle.{header_of, trace_of, traces_of};
 ghost use Rattle.branch_bundle.specs.Ran.{IsRunOf};

@@ -1,11 +1,11 @@
 //! What the definitions give on worked studies, words and statuses.
 
-ghost use Rattle.std.specs.Prelude.{◌≡◌, ◌∷◌, [], ℕ, List, Some, None, codes, length};
-ghost use Rattle.outside.specs.Files.{absent, too_long, whole};
+ghost use Rattle.std.specs.Prelude.{◌≡◌, ◌∷◌, [], Some, None, codes, length};
+ghost use Rattle.outside.specs.Files.{absent, too_long};
 ghost use Rattle.abides_run.specs.Output.{counts_line, study_bundle, study_events};
 ghost use Rattle.abides_run.specs.Worked.{empty_course, empty_run, three_branches, study_with_series};
 ghost use Rattle.abides_run.specs.Words.{asked_of};
-ghost use Rattle.abides_run.specs.Verdict.{verdict, usage, no_file, file_too_long, refused, verdict_on_study, verdict_on_bytes};
+ghost use Rattle.abides_run.specs.Verdict.{verdict, usage, no_file, file_too_long, refused, verdict_on_study};
 ghost use Rattle.abides_run.specs.Fetched.{fetched};
 ghost use Rattle.abides_run.specs.Notes.{note};
 ghost use Rattle.abides_run.specs.declared.request.Request.TheVariants.{File, Large};
