@@ -1,6 +1,6 @@
 //! The bytes of a study's bundle, part by part, to a sink.
 
-ghost use Rattle.std.specs.Prelude.{◌≡◌, ◌<◌, ◌++◌, length};
+ghost use Rattle.std.specs.Prelude.{◌<◌, length};
 ghost use Rattle.bundle_frames.specs.Frames.{end_frame};
 ghost use Rattle.branch_bundle.specs.Bundle.{header_of, trace_of, traces_of};
 ghost use Rattle.branch_bundle.specs.Ran.{IsRunOf};
@@ -36,26 +36,26 @@ fn send_header<O: Sink>(alloc: Global, course: &Course, out: &mut O) -> Result<(
     }
 }
 
-// Makes the trace of a branch, and sends it.
+// Makes the trace of a branch in place of what stands in `bytes`, and sends it.
 fn send_branch<O: Sink, W: Ran>(
-    alloc: Global,
     course: &Course,
     ran: &W,
     branch: u16,
+    bytes: &mut Vec<u8>,
     out: &mut O,
 ) -> Result<(), Status>
     requires branch { branch < length course.now.plan.branches }
     requires ran { IsRunOf course.now (W.count ran.now) (W.entries_of ran.now) (W.closing_of ran.now) }
     ensures { Sent (trace_of course.now branch) (O.faults out.old) (O.faults out.new) (O.taken out.old) (O.taken out.new) result }
 {
-    let mut bytes = Vec::new(alloc);
-    match write_branch(course, ran, branch, &mut bytes) {
-        Ok(()) => send(out, &bytes),
+    bytes.clear();
+    match write_branch(course, ran, branch, bytes) {
+        Ok(()) => send(out, bytes),
         Err(Memory) => Err(Status::Memory),
     }
 }
 
-// Sends the traces of all branches, one after another.
+// Sends the traces of all branches, one after another, each made in the room of the one before.
 fn send_branches<O: Sink, W: Ran>(
     alloc: Global,
     course: &Course,
@@ -66,8 +66,9 @@ fn send_branches<O: Sink, W: Ran>(
     ensures { Sent (traces_of course.now (length course.now.plan.branches)) (O.faults out.old) (O.faults out.new) (O.taken out.old) (O.taken out.new) result }
 {
     let count = course.plan().branches().len() as u16;
+    let mut bytes = Vec::new(alloc);
     for branch in 0..count {
-        send_branch(alloc, course, ran, branch, out)?;
+        send_branch(course, ran, branch, &mut bytes, out)?;
     }
     Ok(())
 }

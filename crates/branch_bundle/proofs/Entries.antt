@@ -34,3 +34,10 @@ entries-more c s before own bytes copy p q =
 -- what holds of each entry as it is told
 pub all-told : (P : EntryTold → Type 0) (xs : List Entry) → All P (map entry_told xs) → All (λ (x : Entry). P (entry_told x)) xs
 all-told P xs all = λ i d within. subst P (get_or-map entry_told xs i d (entry_told d) within) (all i (entry_told d) (omega (arith, length-map xs entry_told)))
+
+-- four parts, one after another, behind what stands there
+pub behind-four : (bytes a b c d : List ℕ) → (((bytes ++ a) ++ b) ++ c) ++ d ≡ bytes ++ (((a ++ b) ++ c) ++ d)
+behind-four bytes a b c d =
+    ap (λ (l : List ℕ). (l ++ c) ++ d) (append_assoc bytes a b)
+    ∙ ap (λ (l : List ℕ). l ++ d) (append_assoc bytes (a ++ b) c)
+    ∙ append_assoc bytes ((a ++ b) ++ c) d

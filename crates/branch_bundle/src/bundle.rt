@@ -1,6 +1,6 @@
 //! The bundle of a study, part by part.
 
-ghost use Rattle.std.specs.Prelude.{◌≡◌, ◌<◌, ◌++◌, OnOk, OnErr, IfOk, length};
+ghost use Rattle.std.specs.Prelude.{◌≡◌, ◌<◌, ◌++◌, [], OnOk, OnErr, length};
 ghost use Rattle.std.specs.List.{flat_map};
 ghost use Rattle.bundle_frames.specs.Frames.{entry_frames};
 ghost use Rattle.branch_tree.specs.Segments.{last_of, segments_in, segment_at};
@@ -15,7 +15,6 @@ use kernel_copy::Course;
 use kernel_copy::laws::courses_stay_in_range;
 use market_closing::laws::agents_have_all_positions;
 use market_types::Memory;
-use std::alloc::Global;
 
 /// Appends the header of a study's bundle.
 ///
@@ -99,28 +98,39 @@ fn put_ending<W: Ran>(
     Ok(())
 }
 
-// The trace of a branch.
-fn branch_bytes<W: Ran>(
-    alloc: Global,
-    course: &Course,
-    ran: &W,
-    branch: u16,
-) -> Result<Vec<u8>, Memory>
+// Appends the trace of a branch.
+fn put_trace<W: Ran>(out: &mut Vec<u8>, course: &Course, ran: &W, branch: u16) -> Result<(), Memory>
     requires branch { branch < length course.now.plan.branches }
     requires ran { IsRunOf course.now (W.count ran.now) (W.entries_of ran.now) (W.closing_of ran.now) }
-    ensures { IfOk result (λ v. v.items ≡ trace_of course.now branch) }
+    ensures { OnOk result (out.new.items ≡ out.old.items ++ trace_of course.now branch) }
 {
     let last = last_segment(course, branch);
-    let mut out = Vec::new(alloc);
-    put_head(&mut out, course, branch)?;
-    put_opening(&mut out, course.opening())?;
-    put_entries(&mut out, course, ran, last)?;
-    put_ending(&mut out, course, ran, last)?;
-    Ok(out)
+    put_head(out, course, branch)?;
+    put_opening(out, course.opening())?;
+    put_entries(out, course, ran, last)?;
+    put_ending(out, course, ran, last)?;
+    Ok(())
 }
 
-/// Appends the trace of a branch, which is that of its full run. No other branch's bytes are held, and an empty `out` takes
-/// them over without a copy.
+// Writes the trace of a branch into the room of an empty vector, which is empty again after want of memory.
+fn fill<W: Ran>(out: &mut Vec<u8>, course: &Course, ran: &W, branch: u16) -> Result<(), Memory>
+    requires empty { out.old.items ≡ [] }
+    requires branch { branch < length course.now.plan.branches }
+    requires ran { IsRunOf course.now (W.count ran.now) (W.entries_of ran.now) (W.closing_of ran.now) }
+    ensures filled { OnOk result (out.new.items ≡ trace_of course.now branch) }
+    ensures refused { OnErr result (out.new.items ≡ []) }
+{
+    match put_trace(out, course, ran, branch) {
+        Ok(()) => Ok(()),
+        Err(Memory) => {
+            out.clear();
+            Err(Memory)
+        }
+    }
+}
+
+/// Appends the trace of a branch, which is that of its full run. No other branch's bytes are held: an empty `out` takes them
+/// in the room that it has, so a vector that is cleared serves one branch after another.
 ///
 /// # Errors
 /// Want of memory alone. The bytes are then as they were.
@@ -135,11 +145,11 @@ pub fn write_branch<W: Ran>(
     ensures appended { OnOk result (out.new.items ≡ out.old.items ++ trace_of course.now branch) }
     ensures refused { OnErr result (out.new.items ≡ out.old.items) }
 {
-    let bytes = branch_bytes(*out.allocator(), course, ran, branch)?;
     if out.is_empty() {
-        *out = bytes;
-        return Ok(());
+        return fill(out, course, ran, branch);
     }
+    let mut bytes = Vec::new(*out.allocator());
+    fill(&mut bytes, course, ran, branch)?;
     out.extend_from_slice(&bytes)?;
     Ok(())
 }

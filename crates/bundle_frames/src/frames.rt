@@ -10,7 +10,7 @@ ghost use Rattle.bundle_frames.specs.Wires.{header_wire, branch_wire, event_wire
 
 use crate::closing::{ClosingAgent, ClosingCounts, ClosingOrder, ClosingStock};
 use crate::layouts::{
-    AGENT, ASK, BRANCH, COUNTS, EDIT, END, EVENT, HEADER, ORDER, POSITION, QUOTE, STOCK,
+    AGENT, ASK, BRANCH, COUNTS, EDIT, END, HEADER, ORDER, POSITION, QUOTE, STOCK,
 };
 use market_types::{Body, EditMark, Quote, Record, StockNo};
 use wire_fields::{Value, fields, message};
@@ -66,25 +66,22 @@ fn body_letter(body: &Body) -> u8
     }
 }
 
-// An event, before its body.
+// An event, before its body. It is written field by field at the offsets of its layout, since most frames are events.
 pub(crate) fn event_head(r: &Record) -> [u8; 43]
     ensures { result ≡ spelling (event_wire (event_told r.now)) }
 {
-    message(
-        b'e',
-        &EVENT,
-        &[
-            Value::Number(u64::from(r.number)),
-            Value::Number(r.time),
-            Value::Number(r.seq),
-            Value::Number(u64::from(r.from)),
-            Value::Number(u64::from(r.to)),
-            Value::Byte(delivery_letter(r.put_back)),
-            Value::Number(r.until),
-            Value::Number(r.fee.cast_unsigned()),
-            Value::Byte(body_letter(&r.body)),
-        ],
-    )
+    let mut head = [0; 43];
+    head[0] = b'e';
+    head[1..5].copy_from_slice(&r.number.to_be_bytes());
+    head[5..13].copy_from_slice(&r.time.to_be_bytes());
+    head[13..21].copy_from_slice(&r.seq.to_be_bytes());
+    head[21..23].copy_from_slice(&r.from.to_be_bytes());
+    head[23..25].copy_from_slice(&r.to.to_be_bytes());
+    head[25] = delivery_letter(r.put_back);
+    head[26..34].copy_from_slice(&r.until.to_be_bytes());
+    head[34..42].copy_from_slice(&r.fee.cast_unsigned().to_be_bytes());
+    head[42] = body_letter(&r.body);
+    head
 }
 
 // The body of a question.

@@ -4,7 +4,6 @@ ghost use Rattle.std.specs.Prelude.{◌≡◌, ◌+◌, length};
 ghost use Rattle.wire_fields.specs.Wire.{AreGood, total_width, wire_in};
 ghost use Rattle.frame_parts.specs.Heads.{head_wire};
 ghost use Rattle.frame_parts.specs.Back.{head_kinds};
-ghost use Rattle.frame_parts.specs.declared.head.Head.TheVariants as head;
 
 use crate::head::{
     AgentHead, BranchHead, EditHead, EventHead, Head, HeaderHead, StockHead, WaitingHead,

@@ -23,12 +23,12 @@ fn header(alloc: Global, course: &Course) -> Result<Tally, Memory>
     Ok(Tally::new().with(&bytes))
 }
 
-// The tally with a branch's trace, which is made and dropped.
+// The tally with a branch's trace, which is made in place of what stands in `bytes`.
 fn with_branch<W: Ran>(
-    alloc: Global,
     course: &Course,
     ran: &W,
     branch: u16,
+    bytes: &mut Vec<u8>,
     tally: Tally,
 ) -> Result<Tally, Memory>
     requires branch { branch < length course.now.plan.branches }
@@ -37,9 +37,9 @@ fn with_branch<W: Ran>(
     requires small { tally.total ≤ 255 * tally.count }
     ensures { IfOk result (λ t. (before : List ℕ) (parts : ℕ) → IsTallyOf tally before parts → IsTallyOf t (before ++ trace_of course.now branch) (parts + 1)) }
 {
-    let mut bytes = Vec::new(alloc);
-    write_branch(course, ran, branch, &mut bytes)?;
-    Ok(tally.with(&bytes))
+    bytes.clear();
+    write_branch(course, ran, branch, bytes)?;
+    Ok(tally.with(bytes))
 }
 
 // The tally with the traces of all branches.
@@ -54,8 +54,9 @@ fn with_branches<W: Ran>(
     ensures { IfOk result (λ t. IsTallyOf t (header_of course.now ++ traces_of course.now (length course.now.plan.branches)) (length course.now.plan.branches + 1)) }
 {
     let count = course.plan().branches().len() as u16;
+    let mut bytes = Vec::new(alloc);
     for branch in 0..count {
-        tally = with_branch(alloc, course, ran, branch, tally)?;
+        tally = with_branch(course, ran, branch, &mut bytes, tally)?;
     }
     Ok(tally)
 }

@@ -12,14 +12,27 @@ pub struct Tally {
     pub total: u128,
 }
 
+// The sum of at most 4,096 bytes, in a number that several bytes are added to at a time.
+fn part_total(bytes: &[u8]) -> u32
+    requires { length bytes.now ≤ 4096 }
+    ensures value { result ≡ sum bytes.now }
+    ensures small { result ≤ 255 * length bytes.now }
+{
+    let mut total = 0;
+    for byte in bytes {
+        total += u32::from(*byte);
+    }
+    total
+}
+
 // The sum of bytes.
 fn total(bytes: &[u8]) -> u128
     ensures value { result ≡ sum bytes.now }
     ensures small { result ≤ 255 * length bytes.now }
 {
     let mut total = 0;
-    for byte in bytes {
-        total += u128::from(*byte);
+    for part in bytes.chunks(4096) {
+        total += u128::from(part_total(part));
     }
     total
 }

@@ -1,11 +1,11 @@
 //! The rules of branches' names and parents.
 
-ghost use Rattle.std.specs.Prelude.{◌≡◌, ◌≤◌, ◌<◌, ◌&&◌, ◌||◌, not, ℕ, map, take, length, position, codes, None, IfSome};
+ghost use Rattle.std.specs.Prelude.{◌≡◌, ◌≤◌, ◌<◌, ◌&&◌, ◌||◌, not, ℕ, map, take, length, position, None, IfSome};
 ghost use Rattle.std.specs.List.{list_all, list_any, enumerate_from};
 ghost use Rattle.std.specs.Str.{bytes_eq};
 ghost use Rattle.toml.specs.View.{table_view, view};
 ghost use Rattle.study_file.specs.Tables.{is_named};
-ghost use Rattle.study_branches.specs.Entries.{name_in, parent_in};
+ghost use Rattle.study_branches.specs.Entries.{name_in};
 ghost use Rattle.study_branches.specs.BranchRules.{is_name_byte as name_byte, is_name as name_text, names_of, has_new_name as new_name, has_parent as parent_among, first_failing_beside as failing_beside, place_named as place_in, branch_keys_broken as rule_30, names_broken as rule_31, parents_broken as rule_32};
 
 use crate::entries::{branch_name, parent_name};

@@ -3,11 +3,10 @@
 ghost use Rattle.std.specs.Prelude.{◌≡◌, ◌≤◌, map, length, None, true, IfOk};
 ghost use Rattle.toml.specs.Data.{as_table};
 ghost use Rattle.toml.specs.View.{table_view, view};
-ghost use Rattle.market_rules.specs.Changes.{dates_refusal};
 ghost use Rattle.study_file.specs.Keys.{passes};
-ghost use Rattle.study_file.specs.Values.{first_failing, string_at as string_of};
+ghost use Rattle.study_file.specs.Values.{first_failing};
 ghost use Rattle.study_tables.specs.StockRules.{symbol_in, stock_count_broken as rule_10};
-ghost use Rattle.study_refusals.specs.ChangeRules.{changes as changes_in, is_kind as kind_is, has_new_rules, dates_broken as rule_22, change_rules_broken as rule_24};
+ghost use Rattle.study_refusals.specs.ChangeRules.{is_kind as kind_is, has_new_rules, dates_broken as rule_22, change_rules_broken as rule_24};
 ghost use Rattle.study_parts.specs.Entries.{entry_of};
 ghost use Rattle.study_parts.specs.Changes.{change_of, dated_of, changes_of};
 

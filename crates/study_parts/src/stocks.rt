@@ -4,7 +4,7 @@ ghost use Rattle.std.specs.Prelude.{◌≡◌, map, None, true, IfOk};
 ghost use Rattle.toml.specs.Data.{as_table};
 ghost use Rattle.toml.specs.View.{table_view, view};
 ghost use Rattle.study_file.specs.Keys.{passes};
-ghost use Rattle.study_file.specs.Values.{first_failing, list_at as items_at};
+ghost use Rattle.study_file.specs.Values.{first_failing};
 ghost use Rattle.study_tables.specs.StockRules.{has_symbol, has_bands, has_fees, are_bands, band_in, symbol_broken as rule_12, bands_broken as rule_14, fees_broken as rule_15};
 ghost use Rattle.study_parts.specs.Entries.{entry_of};
 ghost use Rattle.study_parts.specs.Stocks.{fees_of, stock_of, stock_rules_of};

@@ -11,7 +11,8 @@ use Rattle.kernel_copy.proofs.Trees.{course-tree}
 use Rattle.kernel_copy.proofs.Walks.{full-last}
 use Rattle.branch_bundle.specs.Bundle.{end_of_trace, head_of}
 use Rattle.branch_bundle.specs.Feed.{opening_feed}
-use Rattle.branch_bundle.proofs.bundle.branch_bytes.Goals as goal
+use Rattle.branch_bundle.proofs.Entries.{behind-four}
+use Rattle.branch_bundle.proofs.bundle.put_trace.Goals as goal
 
 pub returns : goal.returns
 returns g c =
@@ -31,5 +32,5 @@ returns g c =
     ∙ ap (λ (l : List ℕ). (l ++ entries) ++ last) c.in_ok-put_opening.ensures
     ∙ ap (λ (o : Opening). ((c.put_head.new.out.items ++ feed_frames (opening_feed o)) ++ entries) ++ last) c.opening.ensures.value
     ∙ ap (λ (l : List ℕ). ((l ++ feed) ++ entries) ++ last) c.in_ok-put_head.ensures
-    ∙ ap (λ (l : List ℕ). (((l ++ head) ++ feed) ++ entries) ++ last) c.new-out.ensures.items
-    ∙ ap (λ (r : Run). head ++ feed ++ flat_map entry_frames r.entries ++ end_of_trace k r) whole
+    ∙ behind-four c.args.out.now.items head feed entries last
+    ∙ ap (λ (r : Run). c.args.out.now.items ++ (head ++ feed ++ flat_map entry_frames r.entries ++ end_of_trace k r)) whole
