@@ -1,11 +1,11 @@
 -- What the marks of a rewind come to, and how many steps lead there.
-use Rattle.std.proofs.Common.{◌≡◌, ◌<◌, ◌≤◌, ◌+◌, ℕ, zero, suc, Bool, true, false, List, [], ◌∷◌, ◌++◌, length, map, get_or, Option, Some, None, IfSome, option_map, All, nat_lt, if◌then◌else◌, sum_by, take, refl, sym, ap, ◌∙◌, subst, ⊎_elim, inl, inr, arith, length-append}
+use Rattle.std.proofs.Common.{◌≡◌, ◌<◌, ◌≤◌, ◌+◌, ℕ, zero, suc, Bool, true, false, List, [], ◌∷◌, ◌++◌, length, map, get_or, Option, Some, None, IfSome, option_map, All, nat_lt, if◌then◌else◌, sum_by, take, refl, sym, ap, ◌∙◌, subst, inl, inr, arith, length-append}
 use Rattle.std.specs.List.{position_from}
 use Rattle.std.proofs.Math.Seq.{get_or-append_seam}
 use Rattle.std.proofs.lemmas.List.{get_or_append_left, get_or-map, length-map}
 use Rattle.std.proofs.lemmas.List.Elements.{All-cons, All-head, All-nil, All-tail, All-weaker}
 use Rattle.std.proofs.lemmas.List.Sums.{sum_by-cons, sum_by-le, sum_by_more, sum_by_more_le}
-use Rattle.command_words.specs.Ranges.{AreMarks, IsMark}
+use Rattle.command_words.specs.Ranges.{IsMark}
 use Rattle.command_words.specs.declared.mark.Mark.{Mark}
 use Rattle.branch_tree.specs.declared.branch.Branch.{Branch}
 use Rattle.checkpoint_shelf.specs.Told.{ClosedTold}
@@ -15,9 +15,9 @@ use Rattle.rewind_targets.specs.declared.aimed.Aimed.{Aimed}
 use Rattle.rewind_targets.specs.declared.aimed.Aimed.TheVariants.{At, NoBranch}
 use Rattle.rewind_targets.specs.declared.past.Past.{Past}
 use Rattle.rewind_targets.specs.declared.target.Target.{Target}
-use Rattle.rewind_targets.specs.Targets.{aimed_at, aimed_from, aimed_next, branch_of, has_name, last_of, past_from, target_of}
+use Rattle.rewind_targets.specs.Targets.{aimed_at, aimed_from, aimed_next, branch_of, has_name, last_event_for, past_from, target_of}
 use Rattle.abides_run.specs.Fetched.{IsAmong}
-use Rattle.abides_run.specs.Rewinds.{IsThere, lasts_before, lasts_of, steps_from, word_at}
+use Rattle.abides_run.specs.Rewinds.{IsThere, lasts_before, lasts_of, steps_from, argument_at}
 
 -- a target is of one of so many branches, and its event has at most 7 digits
 pub record IsWithin (n : ℕ) (t : Target) : Type 0 where
@@ -73,18 +73,18 @@ unnamed-below bs ms j h is =
 
 -- no target is past its branch's last event, or the first that is is one of them
 abbrev pub ArePast : List ℕ → ℕ → List Target → Option Past → Type 0
-ArePast lasts i ts None = All (λ (t : Target). t.event ≤ last_of lasts t) ts
+ArePast lasts i ts None = All (λ (t : Target). t.event ≤ last_event_for lasts t) ts
 ArePast lasts i ts (Some p) = (i ≤ p.index) × (p.index < i + length ts)
 
-past-more : (lasts : List ℕ) (i : ℕ) (t : Target) (ts : List Target) (o : Option Past) (b : Bool) → nat_lt (last_of lasts t) t.event ≡ b
-    → ArePast lasts (i + 1) ts o → ArePast lasts i (t ∷ ts) (if b then Some (record { index = i; last = last_of lasts t }) else o)
+past-more : (lasts : List ℕ) (i : ℕ) (t : Target) (ts : List Target) (o : Option Past) (b : Bool) → nat_lt (last_event_for lasts t) t.event ≡ b
+    → ArePast lasts (i + 1) ts o → ArePast lasts i (t ∷ ts) (if b then Some (record { index = i; last = last_event_for lasts t }) else o)
 past-more lasts i t ts o true is h = (omega arith, omega arith)
-past-more lasts i t ts None false is h = All-cons (λ (t : Target). t.event ≤ last_of lasts t) t ts (grind (arith, is)) h
+past-more lasts i t ts None false is h = All-cons (λ (t : Target). t.event ≤ last_event_for lasts t) t ts (grind (arith, is)) h
 past-more lasts i t ts (Some p) false is h = (omega (arith, h.0), omega (arith, h.1))
 
 pub past-says : (lasts : List ℕ) (i : ℕ) (ts : List Target) → ArePast lasts i ts (past_from lasts i ts)
-past-says lasts i [] = All-nil (λ (t : Target). t.event ≤ last_of lasts t)
-past-says lasts i (t ∷ ts) = past-more lasts i t ts (past_from lasts (i + 1) ts) (nat_lt (last_of lasts t) t.event) refl (past-says lasts (i + 1) ts)
+past-says lasts i [] = All-nil (λ (t : Target). t.event ≤ last_event_for lasts t)
+past-says lasts i (t ∷ ts) = past-more lasts i t ts (past_from lasts (i + 1) ts) (nat_lt (last_event_for lasts t) t.event) refl (past-says lasts (i + 1) ts)
 
 pub lasts-length : (c : CourseTold) (n : ℕ) → length (lasts_before c n) ≡ n
 lasts-length c zero = refl
@@ -106,15 +106,15 @@ lasts-at c (suc n) b less = elim (nat_lt b n) as (λ x. nat_lt b n ≡ x → get
       ∙ ap (λ (k : ℕ). last_event c k) last
 ] refl
 
-there-each : (c : CourseTold) (ts : List Target) → All (IsWithin (length c.plan.branches)) ts → All (λ (t : Target). t.event ≤ last_of (lasts_of c) t) ts
+there-each : (c : CourseTold) (ts : List Target) → All (IsWithin (length c.plan.branches)) ts → All (λ (t : Target). t.event ≤ last_event_for (lasts_of c) t) ts
     → All (IsThere c) ts
 there-each c [] within early = All-nil (IsThere c)
 there-each c (t ∷ ts) within early =
     let own = All-head (IsWithin (length c.plan.branches)) t ts within in
-    let last = All-head (λ (t : Target). t.event ≤ last_of (lasts_of c) t) t ts early in
+    let last = All-head (λ (t : Target). t.event ≤ last_event_for (lasts_of c) t) t ts early in
     All-cons (IsThere c) t ts
     (record { branch = own.branch; event = subst (λ (k : ℕ). t.event ≤ k) (lasts-at c (length c.plan.branches) t.branch own.branch) last })
-    (there-each c ts (All-tail (IsWithin (length c.plan.branches)) t ts within) (All-tail (λ (t : Target). t.event ≤ last_of (lasts_of c) t) t ts early))
+    (there-each c ts (All-tail (IsWithin (length c.plan.branches)) t ts within) (All-tail (λ (t : Target). t.event ≤ last_event_for (lasts_of c) t) t ts early))
 
 -- targets none of which is past are there
 pub are-there : (c : CourseTold) (ts : List Target) → All (IsWithin (length c.plan.branches)) ts → past_from (lasts_of c) 0 ts ≡ None → All (IsThere c) ts
@@ -131,10 +131,10 @@ among [] i d less = absurd (omega (arith, less))
 among (x ∷ xs) zero d less = inl refl
 among (x ∷ xs) (suc i) d less = inr (among xs i d (omega (arith, less)))
 
-pub word-among : (ms : List Mark) (i : ℕ) → i < length ms → IsAmong (word_at ms i) (map (λ (m : Mark). m.word) ms)
+pub word-among : (ms : List Mark) (i : ℕ) → i < length ms → IsAmong (argument_at ms i) (map (λ (m : Mark). m.word) ms)
 word-among ms i less = among (map (λ (m : Mark). m.word) ms) i [] (omega (arith, less, length-map ms (λ (m : Mark). m.word)))
 
-pub word-is : (ms : List Mark) (i : ℕ) (d : Mark) → i < length ms → (get_or ms i d).word ≡ word_at ms i
+pub word-is : (ms : List Mark) (i : ℕ) (d : Mark) → i < length ms → (get_or ms i d).word ≡ argument_at ms i
 word-is ms i d less = sym (get_or-map (λ (m : Mark). m.word) ms i d [] less)
 
 -- sums of fewer are less

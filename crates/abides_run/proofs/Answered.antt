@@ -2,13 +2,11 @@
 use Rattle.std.proofs.Common.{◌≡◌, ◌⊎◌, ◌≤◌, ℕ, List, [], Option, Some, None, IfSome, refl, sym, ap, ◌∙◌, subst, inl, inr, arith, append-nil}
 use Rattle.outside.specs.Rose.{Rose}
 use Rattle.outside.specs.Taken.{TookPrefix}
-use Rattle.study_accept.specs.Accepted.{StudyTold}
-use Rattle.abides_run.specs.declared.request.Task.{Task}
 use Rattle.abides_run.specs.Words.{asked_of, IsLarge}
-use Rattle.abides_run.specs.Verdict.{Verdict, Files, usage, no_file, file_too_long, refused, no_branch, no_event, accepted, verdict, verdict_on_task, IsStudy, output, distinct, allowance}
+use Rattle.abides_run.specs.Verdict.{Verdict, Files, usage, no_file, file_too_long, refused, no_branch, no_event, accepted, verdict, IsStudy, output, distinct, allowance}
 use Rattle.abides_run.specs.Output.{Probes}
-use Rattle.abides_run.specs.Fetched.{arguments_in, fetched}
-use Rattle.abides_run.specs.Statuses.{Cause, Counts, IsRefusal, IsStill, Names, NamesOne, status_of}
+use Rattle.abides_run.specs.Fetched.{fetched}
+use Rattle.abides_run.specs.Statuses.{Cause, Counts, IsRefusal, Names, status_of}
 use Rattle.abides_run.specs.Ends.{Ends, IsSought}
 use Rattle.abides_run.specs.Headline.{Seen, Fulfilled, Answered}
 use Rattle.abides_run.specs.Performed.{Finished, IsFinal}

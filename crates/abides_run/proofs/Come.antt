@@ -19,7 +19,7 @@ use Rattle.abides_run.specs.declared.request.Request.TheVariants.{File, Large}
 use Rattle.abides_run.specs.declared.request.Task.{Task}
 use Rattle.abides_run.specs.declared.request.Task.TheVariants.{Run, Check, Table, Lines, Rewind}
 use Rattle.abides_run.specs.Words.{asked_of, IsLarge}
-use Rattle.abides_run.specs.Verdict.{Verdict, Files, no_file, file_too_long, accepted, verdict_on_past, verdict_on_aimed, verdict_on_task, most_bytes, series_of, judged, verdict_on_series, verdict_on_table, verdict_on_bytes, verdict_on_study, verdict_on_text, verdict_on_large, verdict_for, verdict, IsAsked, large_limit}
+use Rattle.abides_run.specs.Verdict.{Verdict, Files, no_file, file_too_long, verdict_on_past, verdict_on_aimed, verdict_on_task, most_bytes, series_of, judged, verdict_on_series, verdict_on_table, verdict_on_bytes, verdict_on_study, verdict_on_text, verdict_on_large, verdict_for, verdict, IsAsked, large_limit}
 use Rattle.abides_run.specs.Rewinds.{lasts_of}
 use Rattle.abides_run.specs.Fetched.{named, series_after, series_behind, fetched_for, fetched}
 use Rattle.abides_run.specs.Statuses.{status_of, Names}

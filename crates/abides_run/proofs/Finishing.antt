@@ -7,13 +7,12 @@ use Rattle.rewind_targets.specs.declared.aimed.Aimed.TheVariants.{At}
 use Rattle.rewind_targets.specs.declared.target.Target.{Target}
 use Rattle.rewind_targets.specs.Targets.{aimed_at, past_of}
 use Rattle.abides_run.specs.declared.request.Task.TheVariants.{Rewind}
-use Rattle.abides_run.specs.Rewinds.{lasts_of, rewinds_of, steps_to_all, targets_in, word_at}
+use Rattle.abides_run.specs.Rewinds.{lasts_of, rewinds_of, steps_to_all, targets_in, argument_at}
 use Rattle.study_accept.specs.Accepted.{StudyTold}
 use Rattle.abides_run.specs.Fetched.{IsAmong}
 use Rattle.abides_run.specs.Notes.{past_event}
 use Rattle.abides_run.specs.Output.{Probes, study_events}
 use Rattle.abides_run.specs.Verdict.{Verdict, accepted, no_branch, no_event, verdict_on_aimed, verdict_on_past, verdict_on_task, output, distinct, allowance}
-use Rattle.abides_run.specs.Statuses.{status_of}
 use Rattle.abides_run.specs.Headline.{Seen}
 use Rattle.abides_run.specs.Performed.{Finished, Performed}
 use Rattle.abides_run.specs.declared.status.Status.{Status}
@@ -147,10 +146,10 @@ aimed-wanting marks places s targets probes arguments reads writes old new taken
 -- each mark has a target, of which this is the first that is past its branch's last event
 pub aimed-eventless : (marks : List Mark) (places : ℕ) (s : StudyTold) (targets : List Target) (past : Past) (probes : Probes) (arguments : List (List ℕ)) (reads writes old new : ℕ) (taken : Option (List ℕ)) (st : Status) (name : List ℕ)
     → aimed_at s.course.plan.branches marks ≡ At targets → past_of (lasts_of s.course) targets ≡ Some past
-    → (st ≡ status.Memory) ⊎ ((st ≡ status.NoEvent) × (name ≡ past_event (word_at marks past.index) past.last)) → new ≡ old + study_events s.course → IsAmong (word_at marks past.index) arguments
+    → (st ≡ status.Memory) ⊎ ((st ≡ status.NoEvent) × (name ≡ past_event (argument_at marks past.index) past.last)) → new ≡ old + study_events s.course → IsAmong (argument_at marks past.index) arguments
     → Finished (verdict_on_task (Rewind marks places) s) probes arguments (record { reads = reads; writes = writes; taken = taken; steps = old }) (record { reads = reads; writes = writes; taken = taken; steps = new }) st name
 aimed-eventless marks places s targets past probes arguments reads writes old new taken st name aims is told rose among =
-    eventless-finishes (verdict_on_task (Rewind marks places) s) (word_at marks past.index) past.last s probes arguments reads writes old new taken st name
+    eventless-finishes (verdict_on_task (Rewind marks places) s) (argument_at marks past.index) past.last s probes arguments reads writes old new taken st name
     (ap (λ (a : Aimed). verdict_on_aimed marks places s a) aims ∙ ap (λ (p : Option Past). verdict_on_past marks places s p) is)
     told rose among
 

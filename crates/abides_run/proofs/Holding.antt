@@ -1,5 +1,5 @@
 -- Workers leave on their shelf what they surely leave.
-use Rattle.std.proofs.Common.{◌≡◌, ◌<◌, ◌≤◌, ◌+◌, ◌-◌, ℕ, suc, ◌&&◌, sum_by, Bool, true, false, List, [], ◌∷◌, ◌++◌, length, get_or, Some, nat_lt, if◌then◌else◌, ◌||◌, refl, sym, ap, ◌∙◌, subst, inl, inr, ◌⊎◌, arith}
+use Rattle.std.proofs.Common.{◌≡◌, ◌<◌, ◌≤◌, ◌+◌, ◌-◌, ℕ, suc, ◌&&◌, sum_by, Bool, true, false, List, [], ◌∷◌, ◌++◌, length, get_or, nat_lt, if◌then◌else◌, ◌||◌, refl, sym, ap, ◌∙◌, subst, inl, inr, ◌⊎◌, arith}
 use Rattle.std.proofs.lemmas.Bool.{and_parts}
 use Rattle.branch_tree.specs.declared.segment.Segment.{Segment}
 use Rattle.branch_tree.specs.Plan.{Plan}
@@ -7,8 +7,6 @@ use Rattle.branch_tree.specs.Segments.{segments_in, segment_at, last_of, no_segm
 use Rattle.shelf_core.specs.declared.plan.Key.{Key}
 use Rattle.shelf_core.specs.declared.plan.ShelfPlan.{ShelfPlan}
 use Rattle.shelf_core.specs.Plan.{is_in, is_sole, same_key}
-use Rattle.shelf_core.specs.Possible.{word_at}
-use Rattle.shelf_core.specs.Words.{is_ready}
 use Rattle.shelf_core.proofs.Plans.{key_is, or_either}
 use Rattle.checkpoint_shelf.specs.Told.{ClosedTold}
 use Rattle.kernel_copy.specs.Courses.{CourseTold}

@@ -21,8 +21,8 @@ use Rattle.rewind_desk.specs.Sure.{sure}
 use Rattle.branch_workers.specs.Layout.{layout}
 
 -- a mark's argument as it is written
-abbrev pub word_at : List Mark → ℕ → List ℕ
-word_at marks i = slice_index_or (map (λ (m : Mark). m.word) marks) i []
+abbrev pub argument_at : List Mark → ℕ → List ℕ
+argument_at marks i = slice_index_or (map (λ (m : Mark). m.word) marks) i []
 
 abbrev pub targets_in : Aimed → List Target
 targets_in (At targets) = targets

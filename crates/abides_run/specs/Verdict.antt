@@ -16,7 +16,7 @@ use Rattle.abides_run.specs.declared.request.Request.TheVariants.{File, Large}
 use Rattle.abides_run.specs.declared.request.Task.{Task}
 use Rattle.abides_run.specs.declared.request.Task.TheVariants.{Run, Check, Table, Lines, Rewind}
 use Rattle.abides_run.specs.Words.{asked_of}
-use Rattle.abides_run.specs.Rewinds.{lasts_of, word_at}
+use Rattle.abides_run.specs.Rewinds.{lasts_of, argument_at}
 use Rattle.abides_run.specs.Output.{Probes, written, simulated, allowed, study_events}
 
 pub data Verdict : Type 0 where
@@ -43,11 +43,11 @@ series_of table = text_at (codes "series") table
 -- a target may be the first that is past its branch's last event
 abbrev pub verdict_on_past : List Mark → ℕ → StudyTold → Option Past → Verdict
 verdict_on_past marks places study None = accepted (Rewind marks places) study
-verdict_on_past marks places study (Some past) = no_event (word_at marks past.index) past.last study
+verdict_on_past marks places study (Some past) = no_event (argument_at marks past.index) past.last study
 
 -- a mark may be the first that names no branch, or each has a target
 abbrev pub verdict_on_aimed : List Mark → ℕ → StudyTold → Aimed → Verdict
-verdict_on_aimed marks places study (NoBranch i) = no_branch (word_at marks i)
+verdict_on_aimed marks places study (NoBranch i) = no_branch (argument_at marks i)
 verdict_on_aimed marks places study (At targets) = verdict_on_past marks places study (past_of (lasts_of study.course) targets)
 
 -- a study that breaks no rule may lack what a rewind's marks name

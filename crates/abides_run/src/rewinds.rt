@@ -4,7 +4,6 @@ ghost use Rattle.std.specs.Prelude.{◌≡◌, ◌⊎◌, ◌+◌, ◌<◌, ◌�
 ghost use Rattle.std.specs.List.{flat_map};
 ghost use Rattle.bundle_frames.specs.Frames.{end_frame};
 ghost use Rattle.branch_bundle.specs.Ran.{IsRunOf};
-ghost use Rattle.branch_tree.specs.Segments.{last_of, segments_in};
 ghost use Rattle.command_words.specs.Ranges.{AreMarks};
 ghost use Rattle.kernel_copy.specs.Courses.{IsCourse};
 ghost use Rattle.rewind_desk.specs.Rewinds.{last_event};
@@ -14,17 +13,16 @@ ghost use Rattle.abides_run.specs.Fetched.{arguments_of};
 ghost use Rattle.abides_run.specs.Notes.{past_event};
 ghost use Rattle.abides_run.specs.Output.{Probes};
 ghost use Rattle.abides_run.specs.Performed.{Finished, IsStride, Sent};
-ghost use Rattle.abides_run.specs.Rewinds.{IsThere, lasts_of, rewinds_of, steps_from, target_frames, target_state, word_at};
+ghost use Rattle.abides_run.specs.Rewinds.{IsThere, lasts_of, rewinds_of, steps_from, target_frames, target_state, argument_at};
 ghost use Rattle.abides_run.specs.Verdict.{verdict_on_task};
 ghost use Rattle.abides_run.specs.declared.request.Task.TheVariants as task;
 
 use crate::ending::{Ending, named, nameless};
 use crate::send::{send, send_end};
 use crate::status::Status;
-use branch_bundle::Ran;
+use branch_bundle::{Ran, put_branch_head};
 use branch_bundle::laws::outcomes_are_a_run;
 use branch_workers::work;
-use bundle_frames::put_branch;
 use checkpoint_shelf::ClosedShelf;
 use command_words::Mark;
 use kernel_copy::laws::courses_stay_in_range;
@@ -41,16 +39,6 @@ use std::sync::{Arc, Wait};
 use std::thread::Threads;
 use study_accept::Study;
 
-// The number of a branch's last segment.
-fn last_segment(course: &Course, branch: u16) -> u32
-    requires { branch < length course.now.plan.branches }
-    ensures last { result ≡ last_of course.now.plan.branches branch }
-    ensures exists { result < length (segments_in course.now.plan) }
-{
-    let numbers = course.plan().segments_of(branch);
-    numbers[numbers.len() - 1]
-}
-
 // The number of the last event of a branch's full run.
 fn last_of_branch<W: Ran>(course: &Course, ran: &W, branch: u16) -> u32
     requires branch { branch < length course.now.plan.branches }
@@ -58,7 +46,7 @@ fn last_of_branch<W: Ran>(course: &Course, ran: &W, branch: u16) -> u32
     ensures { result ≡ last_event course.now branch }
 {
     let _ = course.opening();
-    ran.closing(last_segment(course, branch)).counts.events
+    ran.closing(course.last_segment(branch)).counts.events
 }
 
 // The same of each branch.
@@ -86,21 +74,8 @@ fn target_bytes(
     ensures { IfOk result (λ v. v.items ≡ target_frames course.now target) }
 {
     courses_stay_in_range();
-    let b = &course.plan().branches()[usize::from(target.branch)];
-    let _ = b.name.len();
-    let parent = if target.branch == 0 {
-        u16::MAX
-    } else {
-        b.parent
-    };
     let mut out = Vec::new(alloc);
-    put_branch(
-        &mut out,
-        target.branch,
-        parent,
-        target.event,
-        b.name.as_slice(),
-    )?;
+    put_branch_head(&mut out, course, target.branch, target.event)?;
     let state = state_frames(alloc, course.opening(), kernel)?;
     out.extend_from_slice(&state)?;
     Ok(out)
@@ -217,14 +192,14 @@ fn no_event(alloc: Global, word: &str, last: u32) -> Ending
 // A mark's argument as it is written.
 fn word_of<'a>(marks: &[Mark<'a>], index: usize) -> &'a str
     requires { index < length marks.now }
-    ensures { result.now ≡ word_at marks.now index }
+    ensures { result.now ≡ argument_at marks.now index }
 {
     marks[index].word.as_str()
 }
 
 // Has workers simulate each segment of a study once, while so many grid places keep states, and then writes the states of
 // these targets of the marks.
-fn rewind_targets<R: Threads + Wait + Sync, O: Sink, G: Gate + Sync, D: Ledger + Send>(
+fn reach_and_write<R: Threads + Wait + Sync, O: Sink, G: Gate + Sync, D: Ledger + Send>(
     rt: &R,
     alloc: Global,
     study: &Study,
@@ -304,7 +279,7 @@ pub fn rewind_study<R: Threads + Wait + Sync, O: Sink, G: Gate + Sync, D: Ledger
         result.status (string_bytes result.name) }
 {
     match aim(alloc, study.course.plan(), marks) {
-        Ok(Aimed::At(targets)) => rewind_targets(
+        Ok(Aimed::At(targets)) => reach_and_write(
             rt,
             alloc,
             study,

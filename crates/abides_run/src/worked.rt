@@ -1,7 +1,7 @@
 //! What the definitions give on worked studies, words and statuses.
 
-ghost use Rattle.std.specs.Prelude.{◌≡◌, ◌∷◌, [], ℕ, List, Some, None, codes, length};
-ghost use Rattle.outside.specs.Files.{absent, too_long, whole};
+ghost use Rattle.std.specs.Prelude.{◌≡◌, ◌∷◌, [], ℕ, Some, None, codes, length};
+ghost use Rattle.outside.specs.Files.{absent, too_long};
 ghost use Rattle.abides_run.specs.Output.{counts_line, study_bundle, study_events};
 ghost use Rattle.abides_run.specs.Worked.{empty_course, empty_run, mark_at, three_branches, three_branches_study, study_with_series};
 ghost use Rattle.abides_run.specs.Rewinds.{lasts_of};

@@ -2,10 +2,11 @@
 
 ghost use Rattle.std.specs.Prelude.{◌≡◌, ◌<◌, ◌++◌, [], OnOk, OnErr, length};
 ghost use Rattle.std.specs.List.{flat_map};
-ghost use Rattle.bundle_frames.specs.Frames.{entry_frames};
-ghost use Rattle.branch_tree.specs.Segments.{last_of, segments_in, segment_at};
+ghost use Rattle.bundle_frames.specs.Frames.{branch_frame, entry_frames};
+ghost use Rattle.branch_tree.specs.Plan.{branch_at};
+ghost use Rattle.branch_tree.specs.Segments.{segments_in, segment_at};
 ghost use Rattle.kernel_copy.specs.Segmentwise.{segment_end};
-ghost use Rattle.branch_bundle.specs.Bundle.{end_of_trace, head_of, header_of, trace_of};
+ghost use Rattle.branch_bundle.specs.Bundle.{end_of_trace, head_of, header_of, parent_written, trace_of};
 ghost use Rattle.branch_bundle.specs.Ran.{IsRunOf};
 
 use crate::feed::{put_opening, system_event};
@@ -31,14 +32,23 @@ pub fn write_header(course: &Course, out: &mut Vec<u8>) -> Result<(), Memory>
     put_header(out, agents, stocks, branches)
 }
 
-// The number of a branch's last segment.
-fn last_segment(course: &Course, branch: u16) -> u32
+/// Appends the frame of a branch with this event number as its stop. The root's parent is written as 65,535.
+///
+/// # Errors
+/// Want of memory alone.
+pub fn put_branch_head(
+    out: &mut Vec<u8>,
+    course: &Course,
+    branch: u16,
+    stop: u32,
+) -> Result<(), Memory>
     requires { branch < length course.now.plan.branches }
-    ensures last { result ≡ last_of course.now.plan.branches branch }
-    ensures exists { result < length (segments_in course.now.plan) }
+    ensures { OnOk result (out.new.items ≡ out.old.items ++ branch_frame branch (parent_written course.now branch) stop (branch_at course.now.plan.branches branch).name) }
 {
-    let numbers = course.plan().segments_of(branch);
-    numbers[numbers.len() - 1]
+    let b = &course.plan().branches()[usize::from(branch)];
+    let _ = b.name.len();
+    let parent = if branch == 0 { u16::MAX } else { b.parent };
+    put_branch(out, branch, parent, stop, b.name.as_slice())
 }
 
 // Appends the frame of a branch.
@@ -46,10 +56,8 @@ fn put_head(out: &mut Vec<u8>, course: &Course, branch: u16) -> Result<(), Memor
     requires { branch < length course.now.plan.branches }
     ensures { OnOk result (out.new.items ≡ out.old.items ++ head_of course.now branch) }
 {
-    let b = &course.plan().branches()[usize::from(branch)];
-    let _ = b.name.len();
-    let parent = if branch == 0 { u16::MAX } else { b.parent };
-    put_branch(out, branch, parent, b.stop, b.name.as_slice())
+    let stop = course.plan().branches()[usize::from(branch)].stop;
+    put_branch_head(out, course, branch, stop)
 }
 
 // Appends the entries of the segments from the root's first to this one, each going on from the one before.
@@ -104,7 +112,7 @@ fn put_trace<W: Ran>(out: &mut Vec<u8>, course: &Course, ran: &W, branch: u16) -
     requires ran { IsRunOf course.now (W.count ran.now) (W.entries_of ran.now) (W.closing_of ran.now) }
     ensures { OnOk result (out.new.items ≡ out.old.items ++ trace_of course.now branch) }
 {
-    let last = last_segment(course, branch);
+    let last = course.last_segment(branch);
     put_head(out, course, branch)?;
     put_opening(out, course.opening())?;
     put_entries(out, course, ran, last)?;

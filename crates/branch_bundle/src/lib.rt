@@ -8,5 +8,5 @@ mod outcomes;
 mod ran;
 pub mod worked;
 
-pub use bundle::{write_branch, write_header};
+pub use bundle::{put_branch_head, write_branch, write_header};
 pub use ran::Ran;

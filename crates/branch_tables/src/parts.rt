@@ -2,7 +2,7 @@
 
 ghost use Rattle.std.specs.Prelude.{◌≡◌, ◌<◌, IfOk, length};
 ghost use Rattle.std.specs.List.{flat_map};
-ghost use Rattle.branch_tree.specs.Segments.{last_of, segments_in, segment_at};
+ghost use Rattle.branch_tree.specs.Segments.{segments_in, segment_at};
 ghost use Rattle.kernel_copy.specs.Segmentwise.{segment_end};
 ghost use Rattle.branch_bundle.specs.Ran.{IsRunOf};
 ghost use Rattle.branch_tables.specs.Tables.{run_of};
@@ -11,16 +11,6 @@ use branch_bundle::Ran;
 use kernel_copy::Course;
 use market_types::{Memory, Trace};
 use std::alloc::Global;
-
-/// The number of a branch's last segment.
-pub fn last_segment(course: &Course, branch: u16) -> u32
-    requires { branch < length course.now.plan.branches }
-    ensures last { result ≡ last_of course.now.plan.branches branch }
-    ensures exists { result < length (segments_in course.now.plan) }
-{
-    let numbers = course.plan().segments_of(branch);
-    numbers[numbers.len() - 1]
-}
 
 // The traces of the segments from the root's first to this one, each of which goes on from the one before.
 fn parts_to<'a, W: Ran>(
@@ -60,6 +50,6 @@ pub fn parts_of<'a, W: Ran>(
     ensures { IfOk result (λ v. flat_map (λ t. t.now.list) v.items ≡ (run_of course.now branch).entries) }
 {
     let _ = course.opening();
-    let last = last_segment(course, branch);
+    let last = course.last_segment(branch);
     parts_to(alloc, course, ran, last)
 }

@@ -7,7 +7,7 @@ ghost use Rattle.branch_bundle.specs.Ran.{IsRunOf};
 ghost use Rattle.branch_tables.specs.Tables.{column, difference, ending_of, lettered, parent_name, row_of, run_of};
 
 use crate::laws::runs_are_numbered;
-use crate::parts::{last_segment, parts_of};
+use crate::parts::parts_of;
 use branch_bundle::Ran;
 use branch_tree::Name;
 use kernel_copy::Course;
@@ -99,7 +99,7 @@ fn ended<W: Ran>(course: &Course, ran: &W, branch: u16) -> (u32, End)
     ensures end { result.1 ≡ ending_of (end_of course.now.opening (run_of course.now branch).state) }
 {
     let _ = course.opening();
-    let closing = ran.closing(last_segment(course, branch));
+    let closing = ran.closing(course.last_segment(branch));
     (closing.counts.events, ending(closing.counts.end))
 }
 

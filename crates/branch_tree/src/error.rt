@@ -20,7 +20,7 @@ pub enum PlanError {
     NameTwice(usize),
     /// So many branches of so many events are more than 4,000,000 events.
     #[error("{0} branches of {1} events are too many")]
-    TooMuchWork(usize, u64),
+    TooMuchWork(usize, u32),
     /// Want of memory.
     #[error("out of memory")]
     Memory,

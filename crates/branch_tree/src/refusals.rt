@@ -99,7 +99,7 @@ fn much(count: usize, limit: u32) -> Option<PlanError>
     ensures { result ≡ too_much count limit }
 {
     if count as u64 * u64::from(limit) > 4_000_000 {
-        Some(PlanError::TooMuchWork(count, u64::from(limit)))
+        Some(PlanError::TooMuchWork(count, limit))
     } else {
         None
     }

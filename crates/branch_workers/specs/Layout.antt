@@ -43,6 +43,6 @@ grids_from stride s (g ∷ gs) = grid_of stride s g ++ grids_from stride (s + 1)
 abbrev pub grid_keys : Plan → ℕ → List Key
 grid_keys p stride = grids_from stride 0 (segments_in p)
 
--- what a shelf is laid out for: a word for each segment, a place for each fork, and so many places for the grid of a stride
+-- what a shelf is laid out for: a word for each segment, a place for each fork, and so many for the grid of a stride
 abbrev pub layout : Plan → ℕ → ℕ → ShelfPlan
 layout p stride places = record { segments = length (segments_in p); forks = fork_keys p; grid = grid_keys p stride; places = places }

@@ -28,8 +28,8 @@ pub record IsShelfOf (c : CourseTold) (stride : ℕ) (shelf : ShelfTold CourseTo
 abbrev pub IsPassed : CourseTold → ℕ → ℕ → Type 0
 IsPassed c s e = e ≤ (segment_end c.opening c.plan (segment_at c.plan s)).state.events
 
--- The seat found the end of a segment's parent, if it has one; it knows the segment's own end, if others go on from it; and it
--- knows the state at each number of the segment's grid that the run passed and that has a place of its own.
+-- The seat found the end of a segment's parent, if it has one; it knows the segment's own end, if others go on from it;
+-- and it knows the state at each number of the segment's grid that the run passed and that has a place of its own.
 pub record HasStates (c : CourseTold) (plan : ShelfPlan) (s : ℕ) (v : SeatView) : Type 0 where
   pub parent : (q : ℕ) → (segment_at c.plan s).parent ≡ Some q → is_in (end_key c.plan q) v.found ≡ true
   pub fork : s < last_of c.plan.branches (segment_at c.plan s).branch → is_in (end_key c.plan s) v.known ≡ true
@@ -39,7 +39,7 @@ pub record HasStates (c : CourseTold) (plan : ShelfPlan) (s : ℕ) (v : SeatView
 abbrev pub HasAllStates : CourseTold → ShelfPlan → SeatView → Type 0
 HasAllStates c plan v = (s : ℕ) → 0 < times s v.claims → HasStates c plan s v
 
--- A run of a segment that stopped on its way, at this event number or before: from there on it goes as if it hadn't stopped.
+-- A run of a segment that stopped on its way, at this event number or before: it goes on as if it hadn't stopped.
 pub record IsUnderway (c : CourseTold) (s e : ℕ) (r : Run) : Type 0 where
   pub again : (m : ℕ) → e ≤ m → until c.opening m r ≡ until c.opening m (started_at c.opening c.plan (segment_at c.plan s))
   pub few : r.state.events ≤ (segment_run c.opening c.plan (segment_at c.plan s)).state.events

@@ -65,10 +65,10 @@ HaveFinished c plan [] (os ∷ lists) = ⊥
 HaveFinished c plan (seat ∷ seats) [] = ⊥
 HaveFinished c plan (seat ∷ seats) (os ∷ lists) = HasFinished c plan seat.view os × HaveFinished c plan seats lists
 
--- A closed system of this plan in which so many workers ran each segment once: the segment's word names one of them, and the
--- view that took in all of theirs has it once among its claims with the states that its run found and left. Each fork's place has
--- its value, and so has the place of each grid key whose number the segment passed and which has its place alone; where there
--- are as many places for the grid as keys, each of them has.
+-- A closed system of this plan in which so many workers ran each segment once: the segment's word names one of them, and
+-- the view that took in all of theirs has it once among its claims with the states that its run found and left. Each
+-- fork's place has its value, and so has the place of each grid key whose number the segment passed and which has its
+-- place alone; where there are as many places for the grid as keys, each of them has.
 pub record RanOnce (c : CourseTold) (plan : ShelfPlan) (workers : ℕ) (s : System) : Type 0 where
   pub laid : s.plan ≡ Some plan
   pub view : SeatView

@@ -151,9 +151,9 @@ fn work_in<R: Threads + Wait + Sync, G: Gate + Sync, L: Ledger + Send, B: Room +
 /// Each segment was claimed once, by one of the workers, and run by it from the end of its parent that the shelf keeps; none
 /// is left. The shelf has the end of each segment from which others go on. It may wait.
 ///
-/// The shelf has so many places more, 0 to 128, for the states at the multiples of the stride between the start and the stop of
-/// each segment, which have the places in turn. The state at each number that its segment passed stands there, if its place
-/// is no other's: so it is of all where there are as many places as multiples.
+/// The shelf has so many places more, 0 to 128, for the states at the multiples of the stride between the start and the
+/// stop of each segment, which have the places in turn. The state at each number that its segment passed stands there, if
+/// its place is no other's: so it is of all where there are as many places as multiples.
 ///
 /// # Errors
 /// Want of memory alone. The counter then rose by no more.
@@ -176,8 +176,8 @@ pub fn work<R: Threads + Wait + Sync, G: Gate + Sync, L: Ledger + Send>(
     ensures most { steps.new ≤ steps.old + distinct course.now.value.opening course.now.value.plan }
     ensures least { steps.old ≤ steps.new }
 
-    // The shelf is the course's; each segment is Taken by one of the workers and stands once among their claims, and each end from
-    // which others go on stands on the shelf, and each state of the grid that was passed and has its place alone.
+    // The shelf is the course's; each segment is Taken by one of the workers and stands once among their claims; and each
+    // end from which others go on stands on the shelf, and each state of the grid that was passed and has its place alone.
     ensures shelf { IfOk result (λ w. (w.shelf.plan ≡ layout course.now.value.plan stride places) × (w.shelf.course ≡ course.now.value)) }
     ensures once { IfOk result (λ w. RanOnce course.now.value (layout course.now.value.plan stride places) workers w.shelf.system) }
 {

@@ -14,16 +14,16 @@ pub fn one_fork()
     ensures segments { (layout forked_once 40 1).segments ≡ 3 }
 {}
 
-/// The grid has the multiples of its stride strictly between a segment's start and its stop: of 0 to 2 none, of 2 to 100 twice 40
-/// and 80 at a stride of 40, and 50 alone at a stride of 50.
+/// The grid has the multiples of its stride strictly between a segment's start and its stop: of 0 to 2 none, of 2 to 100
+/// twice 40 and 80 at a stride of 40, and 50 alone at a stride of 50.
 pub fn grids_of_strides()
     ensures forty { grid_keys forked_once 40 ≡ key_at 1 40 ∷ key_at 1 80 ∷ key_at 2 40 ∷ key_at 2 80 ∷ [] }
     ensures fifty { grid_keys forked_once 50 ≡ key_at 1 50 ∷ key_at 2 50 ∷ [] }
     ensures hundred { grid_keys forked_once 100 ≡ [] }
 {}
 
-/// Four keys of the grid have three places in turn, so that the first and the last share theirs; with as many places as keys
-/// each has its own.
+/// Four keys of the grid have three places in turn, so that the first and the last share theirs; with as many places as
+/// keys each has its own.
 pub fn places_in_turn()
     ensures first { place_of (layout forked_once 40 3) (key_at 1 40) ≡ Some 1 }
     ensures last { place_of (layout forked_once 40 3) (key_at 2 80) ≡ Some 1 }

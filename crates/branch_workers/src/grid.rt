@@ -52,7 +52,7 @@ fn fill(
     }
 }
 
-// Puts a copy of a kernel that stands at a number of the grid on the shelf, where the key has a place and may be written.
+// Puts a copy of a kernel that stands at a number of the grid on the shelf, where it has a place that may be written.
 fn put_copy(
     alloc: Global,
     course: &Arc<Course>,
@@ -105,8 +105,8 @@ pub(crate) fn run_to<L: Ledger>(
     Ok(())
 }
 
-// Lets a run of a segment go on to a multiple of the stride, and puts a copy of the state there on the shelf, unless the state
-// ended before.
+// Lets a run of a segment go on to an event number if it is a multiple of the stride, and puts a copy of the state there
+// on the shelf, unless the state ended before.
 fn pass<L: Ledger>(
     alloc: Global,
     course: &Arc<Course>,
@@ -144,8 +144,8 @@ fn pass<L: Ledger>(
     Ok(())
 }
 
-// Lets a run of a segment that is at its beginning go on over the numbers of its grid, and puts copies of the states there on the
-// shelf.
+// Lets a run of a segment that is at its beginning go on over the numbers of its grid, and puts copies of the states
+// there on the shelf.
 pub(crate) fn pass_grid<L: Ledger>(
     alloc: Global,
     course: &Arc<Course>,

@@ -167,10 +167,10 @@ fn put_end(
     Ok(())
 }
 
-/// Runs a segment that the seat claimed, from the end of its parent that the shelf keeps or is to keep, puts its end on the
-/// shelf where others go on from it, and counts it: the outcome is the segment's own, and the counter rises by the segment's
-/// own events. On its way it puts copies of the states at the multiples of the stride between the segment's start and its
-/// stop on the shelf, where they have places that may be written.
+/// Runs a segment that the seat claimed, from the end of its parent that the shelf keeps or is to keep, puts its end on
+/// the shelf where others go on from it, and counts it: the outcome is the segment's own, and the counter rises by the
+/// segment's own events. On its way it puts copies of the states at the multiples of the stride between the segment's
+/// start and its stop on the shelf, where they have places that may be written.
 ///
 /// The gate is passed before the first step. It may wait.
 ///

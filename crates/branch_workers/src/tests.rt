@@ -36,8 +36,8 @@ fn held(shelf: &ClosedShelf<Checkpoint>) -> u32 {
     held
 }
 
-// What so many workers, 1 to 64, made of a course with so many places, at most 128, for the grid of stride 5, and how many steps
-// they counted.
+// What so many workers, 1 to 64, made of a course with so many places, at most 128, for the grid of stride 5, and how
+// many steps they counted.
 fn worked<R: Threads + Wait + Sync, G: Gate + Sync>(
     rt: &R,
     alloc: Global,
@@ -82,8 +82,8 @@ fn are_one(a: &Outcome, b: &Outcome) -> bool {
         && events.all(|(a, b)| are_of_one(a, b))
 }
 
-// Three branches, x, y and z, by one worker and by many: as one after another. Four of the five segments pass event 5, and of
-// the states there no place, one place and enough places hold none, one and all.
+// Three branches, x, y and z, by one worker and by many: as one after another. Four of the five segments pass event 5, and
+// of the states there no place, one place and enough places hold none, one and all.
 #[test]
 fn three_branches(rt: HostRuntime) -> Result<(), Fail> {
     let alloc = rt.alloc();

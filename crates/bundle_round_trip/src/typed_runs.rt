@@ -2,7 +2,7 @@
 
 ghost use Rattle.std.specs.Prelude.{◌≡◌, ◌<◌, ◌≤◌, ℕ, All, Some, length};
 ghost use Rattle.branch_tree.specs.Names.{IsNameLength};
-ghost use Rattle.branch_tree.specs.Segments.{last_of, segment_at, segments_in};
+ghost use Rattle.branch_tree.specs.Segments.{segment_at, segments_in};
 ghost use Rattle.market_closing.specs.Closing.{closing_at};
 ghost use Rattle.kernel_copy.specs.Segmentwise.{segment_end};
 ghost use Rattle.branch_bundle.specs.Ran.{IsRunOf};
@@ -20,16 +20,6 @@ use branch_tree::Branch;
 use kernel_copy::Course;
 use kernel_copy::laws::courses_stay_in_range;
 use market_closing::laws::agents_have_all_positions;
-
-// The number of a branch's last segment.
-fn last_segment(course: &Course, branch: u16) -> u32
-    requires { branch < length course.now.plan.branches }
-    ensures last { result ≡ last_of course.now.plan.branches branch }
-    ensures exists { result < length (segments_in course.now.plan) }
-{
-    let numbers = course.plan().segments_of(branch);
-    numbers[numbers.len() - 1]
-}
 
 // The entries of the segments from the root's first to this one.
 fn segments_fit<W: Ran>(course: &Course, ran: &W, segment: u32)
@@ -63,7 +53,7 @@ fn branch_fits<W: Ran>(course: &Course, ran: &W, branch: u16)
     ensures { IsTypedRun course.now branch }
 {
     let _ = course.opening();
-    let last = last_segment(course, branch);
+    let last = course.last_segment(branch);
     segments_fit(course, ran, last);
     ending_fits(course, ran, last);
 }

@@ -2,7 +2,7 @@
 
 ghost use Rattle.std.specs.Prelude.{◌≡◌, ◌<◌, ◌≤◌, ℕ, Some, length, All};
 ghost use Rattle.branch_tree.specs.Plan.{branch_at};
-ghost use Rattle.branch_tree.specs.Segments.{segments_in, segment_at};
+ghost use Rattle.branch_tree.specs.Segments.{last_of, segments_in, segment_at};
 ghost use Rattle.market_opening.specs.Opening.{IsOpening};
 ghost use Rattle.kernel_core.specs.Edited.{IsEditOf};
 ghost use Rattle.kernel_core.specs.Open.{opened};
@@ -69,6 +69,16 @@ impl Course {
         ensures parent { (q : ℕ) → result.parent ≡ Some q → GoesOnFrom self.now.plan segment q }
     {
         self.plan().segments()[segment as usize]
+    }
+
+    /// The number of a branch's last segment, which ends at the limit of events.
+    pub fn last_segment(&self, branch: u16) -> u32
+        requires { branch < length self.now.plan.branches }
+        ensures last { result ≡ last_of self.now.plan.branches branch }
+        ensures exists { result < length (segments_in self.now.plan) }
+    {
+        let numbers = self.plan().segments_of(branch);
+        numbers[numbers.len() - 1]
     }
 
     /// A branch's edits.

@@ -1,23 +1,12 @@
 //! The events of all branches.
 
 ghost use Rattle.std.specs.Prelude.{◌≡◌, ◌<◌, length};
-ghost use Rattle.branch_tree.specs.Segments.{last_of, segments_in};
 ghost use Rattle.kernel_copy.specs.Full.{full_run};
 ghost use Rattle.branch_bundle.specs.Ran.{IsRunOf};
 ghost use Rattle.large_lines.specs.Report.{events_before};
 
 use branch_bundle::Ran;
 use kernel_copy::Course;
-
-// The number of a branch's last segment.
-fn last_segment(course: &Course, branch: u16) -> u32
-    requires { branch < length course.now.plan.branches }
-    ensures last { result ≡ last_of course.now.plan.branches branch }
-    ensures exists { result < length (segments_in course.now.plan) }
-{
-    let numbers = course.plan().segments_of(branch);
-    numbers[numbers.len() - 1]
-}
 
 // How many events a branch's full run has.
 fn events_of_branch<W: Ran>(course: &Course, ran: &W, branch: u16) -> u32
@@ -26,7 +15,7 @@ fn events_of_branch<W: Ran>(course: &Course, ran: &W, branch: u16) -> u32
     ensures { result ≡ (full_run course.now.opening course.now.plan branch).state.events }
 {
     let _ = course.opening();
-    ran.closing(last_segment(course, branch)).counts.events
+    ran.closing(course.last_segment(branch)).counts.events
 }
 
 /// How many events the full runs of all branches have.

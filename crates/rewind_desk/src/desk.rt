@@ -5,7 +5,7 @@ ghost use Rattle.kernel_copy.specs.Full.{full};
 ghost use Rattle.rewind_desk.specs.Best.{best};
 ghost use Rattle.rewind_desk.specs.Rewinds.{last_event, rewind_refusal};
 
-use crate::finding::{last_segment, nearest_to};
+use crate::finding::nearest_to;
 use crate::near::events_of;
 use crate::reach::{lesser, reach};
 use checkpoint_shelf::ClosedShelf;
@@ -57,7 +57,7 @@ fn reached<L: Ledger>(
     ensures least { steps.old ≤ steps.new }
     ensures most { steps.new ≤ steps.old + (event - best shelf.now branch event) }
 {
-    let last = last_segment(course, branch);
+    let last = course.last_segment(branch);
     let near = nearest_to(course, shelf, last, event);
     let most = lesser(event, course.opening().limit);
     let kernel = reach(alloc, course, shelf, near, last, most, steps)?;

@@ -103,16 +103,6 @@ pub(crate) fn nearest_to(
     nearer(fork, between)
 }
 
-// The number of a branch's last segment.
-pub(crate) fn last_segment(course: &Course, branch: u16) -> u32
-    requires { branch < length course.now.plan.branches }
-    ensures last { result ≡ last_of course.now.plan.branches branch }
-    ensures exists { result < length (segments_in course.now.plan) }
-{
-    let numbers = course.plan().segments_of(branch);
-    numbers[numbers.len() - 1]
-}
-
 /// The key of the state with the most events, not more than this number, that the closed shelf holds of a branch: under a key
 /// of a segment of the branch's chain. `None` exactly where it holds none. Takes no memory.
 pub fn nearest(
@@ -127,7 +117,7 @@ pub fn nearest(
     ensures held { IfSome result (λ k. is_held_near shelf.now (last_of course.now.value.plan.branches branch) event k ≡ true) }
     ensures most { IfSome result (λ k. count_at course.now.value k ≡ best shelf.now branch event) }
 {
-    match nearest_to(course, shelf, last_segment(course, branch), event) {
+    match nearest_to(course, shelf, course.last_segment(branch), event) {
         None => None,
         Some(near) => Some(near.key),
     }

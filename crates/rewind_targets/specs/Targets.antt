@@ -41,14 +41,14 @@ abbrev pub aimed_at : List Branch → List Mark → Aimed
 aimed_at branches marks = aimed_from branches 0 marks
 
 -- the number of the last event of a target's branch
-abbrev pub last_of : List ℕ → Target → ℕ
-last_of lasts t = slice_index_or lasts t.branch 0
+abbrev pub last_event_for : List ℕ → Target → ℕ
+last_event_for lasts t = slice_index_or lasts t.branch 0
 
 -- the first target from this index on whose event is past its branch's last
 abbrev pub past_from : List ℕ → ℕ → List Target → Option Past
 past_from lasts i [] = None
 past_from lasts i (t ∷ ts) =
-    if nat_lt (last_of lasts t) t.event then Some (record { index = i; last = last_of lasts t })
+    if nat_lt (last_event_for lasts t) t.event then Some (record { index = i; last = last_event_for lasts t })
     else past_from lasts (i + 1) ts
 
 abbrev pub past_of : List ℕ → List Target → Option Past

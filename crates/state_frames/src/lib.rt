@@ -6,4 +6,3 @@ mod waiting;
 pub mod worked;
 
 pub use state::state_frames;
-pub use waiting::put_waiting;

@@ -98,7 +98,7 @@ fn put_with_body(out: &mut Vec<u8>, head: &[u8], body: &Body) -> Result<(), Memo
 /// # Errors
 /// Want of memory alone. The bytes are then as they were.
 #[tactic(auto, unfolding(crate::specs::States::waiting_frame))]
-pub fn put_waiting(out: &mut Vec<u8>, message: &Message) -> Result<(), Memory>
+fn put_waiting(out: &mut Vec<u8>, message: &Message) -> Result<(), Memory>
     ensures appended { OnOk result (out.new.items ≡ out.old.items ++ waiting_frame message.now) }
     ensures refused { OnErr result (out.new.items ≡ out.old.items) }
 {

@@ -11,7 +11,7 @@ ghost use Rattle.state_frames.specs.States.{waiting_frame, state_frames_of};
 ghost use Rattle.state_frames.specs.Worked.{worked_message};
 
 /// A wakeup and a question that wait, byte by byte.
-pub fn one_of_each()
+pub fn a_wakeup_and_a_question()
     ensures wakeup { waiting_frame (worked_message 0x05060708090a0b0c 0x1112131415161718 body.Wake)
         ≡ (0x00 ∷ 0x16 ∷ 0x77 ∷ 0x05 ∷ 0x06 ∷ 0x07 ∷ 0x08 ∷ 0x09 ∷ 0x0a ∷ 0x0b ∷ 0x0c ∷ 0x11 ∷ 0x12 ∷ 0x13 ∷ 0x14 ∷ 0x15
         ∷ 0x16 ∷ 0x17 ∷ 0x18 ∷ 0x21 ∷ 0x22 ∷ 0x23 ∷ 0x24 ∷ 0x77 ∷ []) }

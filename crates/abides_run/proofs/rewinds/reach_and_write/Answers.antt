@@ -1,4 +1,4 @@
-use Rattle.std.proofs.Common.{◌≡◌, ◌<◌, ◌≤◌, ◌+◌, ◌^◌, ◌∙◌, ℕ, All, List, Option, None, Some, length, sum_by, refl, sym, ap, subst, arith}
+use Rattle.std.proofs.Common.{◌≡◌, ◌<◌, ◌≤◌, ◌∙◌, ℕ, List, None, Some, length, sum_by, sym, ap, arith}
 use Rattle.branch_tree.specs.Segments.{segments_in}
 use Rattle.branch_workers.proofs.Forks.{segments_few}
 use Rattle.kernel_copy.specs.Courses.{CourseTold}
@@ -12,7 +12,7 @@ use Rattle.abides_run.proofs.Aiming.{are-there, below-lasts, few-steps, past-bel
 use Rattle.abides_run.proofs.Finishing.{aimed-eventless, aimed-finishes, aimed-wanting}
 use Rattle.abides_run.proofs.Holding.{saved-steps}
 use Rattle.abides_run.proofs.Performing.{sent_all, sent_some}
-use Rattle.abides_run.proofs.rewinds.rewind_targets.Goals as goal
+use Rattle.abides_run.proofs.rewinds.reach_and_write.Goals as goal
 
 pub returns-in-Err : goal.returns-in-Err
 unfolding study_events
