@@ -42,6 +42,17 @@ impl<const N: usize> MessageBytes<N> {
         }
     }
 
+    /// A message of `M` bytes that were put together before.
+    pub fn from_array<const M: usize>(message: &[u8; M]) -> MessageBytes<N>
+        requires room { M ≤ N }
+        ensures bytes { result ≡ message.now }
+        ensures size { length result ≤ N }
+    {
+        let mut bytes = [0; N];
+        bytes[..M].copy_from_slice(message);
+        MessageBytes { bytes, len: M }
+    }
+
     /// The bytes in order.
     pub fn as_slice(&self) -> &[u8]
         ensures bytes { result.now ≡ self.now }
