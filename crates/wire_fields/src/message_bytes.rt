@@ -1,6 +1,6 @@
 //! The bytes of one message.
 
-ghost use Rattle.std.specs.Prelude.{◌≡◌, ◌+◌, ◌≤◌, map, length, [], IsTrue, ◌↔◌};
+ghost use Rattle.std.specs.Prelude.{◌≡◌, ◌+◌, ◌≤◌, map, length, [], ◌∷◌, ◌++◌, IsTrue, ◌↔◌};
 ghost use Rattle.wire_fields.specs.Values.{told};
 ghost use Rattle.wire_fields.specs.Wire.{spelling, total_width, HaveWidths};
 
@@ -42,15 +42,34 @@ impl<const N: usize> MessageBytes<N> {
         }
     }
 
-    /// A message of `M` bytes that were put together before.
-    pub fn from_array<const M: usize>(message: &[u8; M]) -> MessageBytes<N>
-        requires room { M ≤ N }
-        ensures bytes { result ≡ message.now }
-        ensures size { length result ≤ N }
+    /// A message that has only its type's letter yet.
+    pub fn begun(letter: u8) -> MessageBytes<N>
+        requires room { 1 ≤ N }
+        ensures { result ≡ letter ∷ [] }
     {
         let mut bytes = [0; N];
-        bytes[..M].copy_from_slice(message);
-        MessageBytes { bytes, len: M }
+        bytes[0] = letter;
+        MessageBytes { bytes, len: 1 }
+    }
+
+    /// Appends `M` bytes.
+    pub fn push<const M: usize>(&mut self, more: &[u8; M])
+        requires room { length self.old + M ≤ N }
+        ensures bytes { self.new ≡ self.old ++ more.now }
+        ensures size { length self.new ≡ length self.old + M }
+    {
+        let start = self.len;
+        let bytes = &mut self.bytes[..];
+        bytes[start..start + M].copy_from_slice(more);
+        self.len = start + M;
+    }
+
+    /// The bytes of a message that has all `N`.
+    pub fn to_array(&self) -> [u8; N]
+        requires { length self.now ≡ N }
+        ensures { result ≡ self.now }
+    {
+        self.bytes
     }
 
     /// The bytes in order.
