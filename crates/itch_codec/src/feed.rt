@@ -1,16 +1,18 @@
 //! Feed messages to bytes.
 
-ghost use Rattle.std.specs.Prelude.{◌≡◌, ◌<◌, ◌≤◌, ◌^◌, length};
+ghost use Rattle.std.specs.Prelude.{◌≡◌, ◌<◌, ◌≤◌, ◌^◌, ◌∷◌, ◌++◌, length};
 ghost use Rattle.wire_fields.specs.Wire.{IsInRange, IsSpelled, spelling};
-ghost use Rattle.itch_codec.specs.Messages.{feed_wire};
+ghost use Rattle.wire_fields.specs.Numbers.{number_bytes};
+ghost use Rattle.wire_fields.specs.Values.{number};
+ghost use Rattle.market_types.specs.declared.feed.What.TheVariants as what;
+ghost use Rattle.itch_codec.specs.Messages.{feed_wire, what_wire};
 
 use crate::layouts::{
-    ADD, ADD_TYPE, CANCEL, CANCEL_TYPE, CROSS, CROSS_TYPE, DELETE, DELETE_TYPE, DIRECTORY,
-    DIRECTORY_TYPE, EXECUTED, EXECUTED_TYPE, SYSTEM, SYSTEM_TYPE, TRADE, TRADE_TYPE, TRADING,
-    TRADING_TYPE,
+    ADD_TYPE, CANCEL_TYPE, CROSS, CROSS_TYPE, DELETE_TYPE, DIRECTORY, DIRECTORY_TYPE,
+    EXECUTED_TYPE, SYSTEM, SYSTEM_TYPE, TRADE_TYPE, TRADING, TRADING_TYPE,
 };
-use market_types::{Feed, What};
-use wire_fields::{MessageBytes, Value};
+use market_types::{Feed, Side, Symbol, What};
+use wire_fields::{MessageBytes, Value, side_letter};
 
 /// The bytes of a feed message, at most 44, seen as their list.
 pub type FeedBytes = MessageBytes<44>;
@@ -93,52 +95,14 @@ pub fn encode_feed(m: &Feed) -> FeedBytes
             shares,
             stock,
             price,
-        } => FeedBytes::of(
-            ADD_TYPE,
-            &ADD,
-            &[
-                locate,
-                tracking,
-                time,
-                Value::Number(reference),
-                Value::Side(side),
-                Value::Number(u64::from(shares)),
-                Value::Symbol(stock),
-                Value::Number(u64::from(price)),
-            ],
-        ),
+        } => add(m, reference, side, shares, stock, price),
         What::Executed {
             reference,
             shares,
             number,
-        } => FeedBytes::of(
-            EXECUTED_TYPE,
-            &EXECUTED,
-            &[
-                locate,
-                tracking,
-                time,
-                Value::Number(reference),
-                Value::Number(u64::from(shares)),
-                Value::Number(number),
-            ],
-        ),
-        What::Cancel { reference, shares } => FeedBytes::of(
-            CANCEL_TYPE,
-            &CANCEL,
-            &[
-                locate,
-                tracking,
-                time,
-                Value::Number(reference),
-                Value::Number(u64::from(shares)),
-            ],
-        ),
-        What::Delete { reference } => FeedBytes::of(
-            DELETE_TYPE,
-            &DELETE,
-            &[locate, tracking, time, Value::Number(reference)],
-        ),
+        } => executed(m, reference, shares, number),
+        What::Cancel { reference, shares } => cancel(m, reference, shares),
+        What::Delete { reference } => delete(m, reference),
         What::Trade {
             reference,
             side,
@@ -146,21 +110,7 @@ pub fn encode_feed(m: &Feed) -> FeedBytes
             stock,
             price,
             number,
-        } => FeedBytes::of(
-            TRADE_TYPE,
-            &TRADE,
-            &[
-                locate,
-                tracking,
-                time,
-                Value::Number(reference),
-                Value::Side(side),
-                Value::Number(u64::from(shares)),
-                Value::Symbol(stock),
-                Value::Number(u64::from(price)),
-                Value::Number(number),
-            ],
-        ),
+        } => trade(m, reference, side, shares, stock, price, number),
         What::Cross {
             shares,
             stock,
@@ -182,4 +132,87 @@ pub fn encode_feed(m: &Feed) -> FeedBytes
             ],
         ),
     }
+}
+
+// A message's type, and what each begins with.
+fn started(letter: u8, m: &Feed) -> FeedBytes
+    ensures bytes { result ≡ letter ∷ number_bytes 2 m.now.locate ++ number_bytes 2 m.now.tracking ++ number_bytes 6 m.now.time }
+    ensures size { length result ≡ 11 }
+{
+    let [_, _, a, b, c, d, e, f] = m.time.to_be_bytes();
+    let mut bytes = FeedBytes::begun(letter);
+    bytes.push(&m.locate.to_be_bytes());
+    bytes.push(&m.tracking.to_be_bytes());
+    bytes.push(&[a, b, c, d, e, f]);
+    bytes
+}
+
+// An Add Order.
+fn add(m: &Feed, reference: u64, side: Side, shares: u32, stock: Symbol, price: u32) -> FeedBytes
+    ensures spelling { result ≡ spelling (what_wire (number m.now.locate) (number m.now.tracking) (number m.now.time) (what.Add reference side shares stock price)) }
+    ensures size { length result ≤ 44 }
+{
+    let mut bytes = started(ADD_TYPE, m);
+    bytes.push(&reference.to_be_bytes());
+    bytes.push(&[side_letter(side)]);
+    bytes.push(&shares.to_be_bytes());
+    bytes.push(&stock.0);
+    bytes.push(&price.to_be_bytes());
+    bytes
+}
+
+// An Order Executed.
+fn executed(m: &Feed, reference: u64, shares: u32, match_number: u64) -> FeedBytes
+    ensures spelling { result ≡ spelling (what_wire (number m.now.locate) (number m.now.tracking) (number m.now.time) (what.Executed reference shares match_number)) }
+    ensures size { length result ≤ 44 }
+{
+    let mut bytes = started(EXECUTED_TYPE, m);
+    bytes.push(&reference.to_be_bytes());
+    bytes.push(&shares.to_be_bytes());
+    bytes.push(&match_number.to_be_bytes());
+    bytes
+}
+
+// An Order Cancel.
+fn cancel(m: &Feed, reference: u64, shares: u32) -> FeedBytes
+    ensures spelling { result ≡ spelling (what_wire (number m.now.locate) (number m.now.tracking) (number m.now.time) (what.Cancel reference shares)) }
+    ensures size { length result ≤ 44 }
+{
+    let mut bytes = started(CANCEL_TYPE, m);
+    bytes.push(&reference.to_be_bytes());
+    bytes.push(&shares.to_be_bytes());
+    bytes
+}
+
+// An Order Delete.
+fn delete(m: &Feed, reference: u64) -> FeedBytes
+    ensures spelling { result ≡ spelling (what_wire (number m.now.locate) (number m.now.tracking) (number m.now.time) (what.Delete reference)) }
+    ensures size { length result ≤ 44 }
+{
+    let mut bytes = started(DELETE_TYPE, m);
+    bytes.push(&reference.to_be_bytes());
+    bytes
+}
+
+// A Trade Message.
+fn trade(
+    m: &Feed,
+    reference: u64,
+    side: Side,
+    shares: u32,
+    stock: Symbol,
+    price: u32,
+    match_number: u64,
+) -> FeedBytes
+    ensures spelling { result ≡ spelling (what_wire (number m.now.locate) (number m.now.tracking) (number m.now.time) (what.Trade reference side shares stock price match_number)) }
+    ensures size { length result ≤ 44 }
+{
+    let mut bytes = started(TRADE_TYPE, m);
+    bytes.push(&reference.to_be_bytes());
+    bytes.push(&[side_letter(side)]);
+    bytes.push(&shares.to_be_bytes());
+    bytes.push(&stock.0);
+    bytes.push(&price.to_be_bytes());
+    bytes.push(&match_number.to_be_bytes());
+    bytes
 }

@@ -9,32 +9,30 @@ ghost use Rattle.market_types.specs.declared.order.Inbound.{Inbound};
 
 use crate::layouts::{CANCEL, CANCEL_TYPE, ENTER, ENTER_TYPE};
 use market_types::{Cancel, CodecError, Enter, Inbound, Symbol, Token};
-use wire_fields::{Kind, MessageType, Value, array_at, byte_at, decode, message, side_at, u32_at};
+use wire_fields::{
+    Kind, MessageBytes, MessageType, array_at, byte_at, decode, side_at, side_letter, u32_at,
+};
 
 /// The 49 bytes of an Enter Order. A field out of its range is written as it stands.
 pub fn encode_enter(m: &Enter) -> [u8; 49]
     ensures spelling { result ≡ spelling (inbound_wire (inbound.Enter m.now)) }
     ensures spelled { IsInRange (inbound_wire (inbound.Enter m.now)) → IsSpelled result (inbound_wire (inbound.Enter m.now)) }
 {
-    message(
-        ENTER_TYPE,
-        &ENTER,
-        &[
-            Value::Token(m.token),
-            Value::Side(m.side),
-            Value::Number(u64::from(m.shares)),
-            Value::Symbol(m.stock),
-            Value::Number(u64::from(m.price)),
-            Value::Number(u64::from(m.tif)),
-            Value::Four(m.firm),
-            Value::Byte(m.display),
-            Value::Byte(m.capacity),
-            Value::Byte(m.sweep),
-            Value::Number(u64::from(m.minimum)),
-            Value::Byte(m.cross),
-            Value::Byte(m.customer),
-        ],
-    )
+    let mut bytes = MessageBytes::<49>::begun(ENTER_TYPE);
+    bytes.push(&m.token.0);
+    bytes.push(&[side_letter(m.side)]);
+    bytes.push(&m.shares.to_be_bytes());
+    bytes.push(&m.stock.0);
+    bytes.push(&m.price.to_be_bytes());
+    bytes.push(&m.tif.to_be_bytes());
+    bytes.push(&m.firm);
+    bytes.push(&[m.display]);
+    bytes.push(&[m.capacity]);
+    bytes.push(&[m.sweep]);
+    bytes.push(&m.minimum.to_be_bytes());
+    bytes.push(&[m.cross]);
+    bytes.push(&[m.customer]);
+    bytes.to_array()
 }
 
 /// The 19 bytes of a Cancel Order. A field out of its range is written as it stands.
@@ -42,11 +40,10 @@ pub fn encode_cancel(m: &Cancel) -> [u8; 19]
     ensures spelling { result ≡ spelling (inbound_wire (inbound.Cancel m.now)) }
     ensures spelled { IsInRange (inbound_wire (inbound.Cancel m.now)) → IsSpelled result (inbound_wire (inbound.Cancel m.now)) }
 {
-    message(
-        CANCEL_TYPE,
-        &CANCEL,
-        &[Value::Token(m.token), Value::Number(u64::from(m.shares))],
-    )
+    let mut bytes = MessageBytes::<19>::begun(CANCEL_TYPE);
+    bytes.push(&m.token.0);
+    bytes.push(&m.shares.to_be_bytes());
+    bytes.to_array()
 }
 
 // The types of orders.

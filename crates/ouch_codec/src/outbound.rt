@@ -1,18 +1,21 @@
 //! Replies of the exchange.
 
-ghost use Rattle.std.specs.Prelude.{◌≡◌, ◌≤◌, length, IfOk, Ok};
+ghost use Rattle.std.specs.Prelude.{◌≡◌, ◌≤◌, ◌∷◌, ◌++◌, length, IfOk, Ok};
 ghost use Rattle.std.specs.Result.{result_err};
 ghost use Rattle.wire_fields.specs.Wire.{IsInRange, IsSpelled, AreGood, spelling, wire_in, refusal};
+ghost use Rattle.wire_fields.specs.Numbers.{number_bytes};
 ghost use Rattle.ouch_codec.specs.Outbound.{reply_wire, reply_layout};
 ghost use Rattle.market_types.specs.declared.reply.Reply.{Reply};
+ghost use Rattle.market_types.specs.declared.reply.Reply.TheVariants as reply;
 
 use crate::layouts::{
     ACCEPTED, ACCEPTED_TYPE, CANCELED, CANCELED_TYPE, EXECUTED, EXECUTED_TYPE, REJECTED,
     REJECTED_TYPE, SYSTEM, SYSTEM_TYPE,
 };
-use market_types::{CodecError, Reply, Symbol, Token};
+use market_types::{CodecError, Reply, Side, Symbol, Token};
 use wire_fields::{
-    Kind, MessageBytes, MessageType, Value, array_at, byte_at, decode, side_at, u32_at, u64_at,
+    Kind, MessageBytes, MessageType, Value, array_at, byte_at, decode, side_at, side_letter,
+    u32_at, u64_at,
 };
 
 /// The bytes of a reply, at most 66, seen as their list.
@@ -47,43 +50,16 @@ pub fn encode_reply(m: &Reply) -> ReplyBytes
             cross,
             state,
             bbo,
-        } => ReplyBytes::of(
-            ACCEPTED_TYPE,
-            &ACCEPTED,
-            &[
-                Value::Number(time),
-                Value::Token(token),
-                Value::Side(side),
-                Value::Number(u64::from(shares)),
-                Value::Symbol(stock),
-                Value::Number(u64::from(price)),
-                Value::Number(u64::from(tif)),
-                Value::Four(firm),
-                Value::Byte(display),
-                Value::Number(reference),
-                Value::Byte(capacity),
-                Value::Byte(sweep),
-                Value::Number(u64::from(minimum)),
-                Value::Byte(cross),
-                Value::Byte(state),
-                Value::Byte(bbo),
-            ],
+        } => accepted(
+            time, token, side, shares, stock, price, tif, firm, display, reference, capacity,
+            sweep, minimum, cross, state, bbo,
         ),
         Reply::Canceled {
             time,
             token,
             decrement,
             reason,
-        } => ReplyBytes::of(
-            CANCELED_TYPE,
-            &CANCELED,
-            &[
-                Value::Number(time),
-                Value::Token(token),
-                Value::Number(u64::from(decrement)),
-                Value::Byte(reason),
-            ],
-        ),
+        } => canceled(time, token, decrement, reason),
         Reply::Executed {
             time,
             token,
@@ -91,18 +67,7 @@ pub fn encode_reply(m: &Reply) -> ReplyBytes
             price,
             flag,
             number,
-        } => ReplyBytes::of(
-            EXECUTED_TYPE,
-            &EXECUTED,
-            &[
-                Value::Number(time),
-                Value::Token(token),
-                Value::Number(u64::from(shares)),
-                Value::Number(u64::from(price)),
-                Value::Byte(flag),
-                Value::Number(number),
-            ],
-        ),
+        } => executed(time, token, shares, price, flag, number),
         Reply::Rejected {
             time,
             token,
@@ -117,6 +82,88 @@ pub fn encode_reply(m: &Reply) -> ReplyBytes
             ],
         ),
     }
+}
+
+// A reply's type, its time, and the token of the order that it answers.
+fn started(letter: u8, time: u64, token: Token) -> ReplyBytes
+    ensures bytes { result ≡ letter ∷ number_bytes 8 time ++ token.0 }
+    ensures size { length result ≡ 23 }
+{
+    let mut bytes = ReplyBytes::begun(letter);
+    bytes.push(&time.to_be_bytes());
+    bytes.push(&token.0);
+    bytes
+}
+
+// An Order Accepted.
+fn accepted(
+    time: u64,
+    token: Token,
+    side: Side,
+    shares: u32,
+    stock: Symbol,
+    price: u32,
+    tif: u32,
+    firm: [u8; 4],
+    display: u8,
+    reference: u64,
+    capacity: u8,
+    sweep: u8,
+    minimum: u32,
+    cross: u8,
+    state: u8,
+    bbo: u8,
+) -> ReplyBytes
+    ensures spelling { result ≡ spelling (reply_wire (reply.Accepted time token side shares stock price tif firm display reference capacity sweep minimum cross state bbo)) }
+    ensures size { length result ≤ 66 }
+{
+    let mut bytes = started(ACCEPTED_TYPE, time, token);
+    bytes.push(&[side_letter(side)]);
+    bytes.push(&shares.to_be_bytes());
+    bytes.push(&stock.0);
+    bytes.push(&price.to_be_bytes());
+    bytes.push(&tif.to_be_bytes());
+    bytes.push(&firm);
+    bytes.push(&[display]);
+    bytes.push(&reference.to_be_bytes());
+    bytes.push(&[capacity]);
+    bytes.push(&[sweep]);
+    bytes.push(&minimum.to_be_bytes());
+    bytes.push(&[cross]);
+    bytes.push(&[state]);
+    bytes.push(&[bbo]);
+    bytes
+}
+
+// A Canceled Order.
+fn canceled(time: u64, token: Token, decrement: u32, reason: u8) -> ReplyBytes
+    ensures spelling { result ≡ spelling (reply_wire (reply.Canceled time token decrement reason)) }
+    ensures size { length result ≤ 66 }
+{
+    let mut bytes = started(CANCELED_TYPE, time, token);
+    bytes.push(&decrement.to_be_bytes());
+    bytes.push(&[reason]);
+    bytes
+}
+
+// An Executed Order.
+fn executed(
+    time: u64,
+    token: Token,
+    shares: u32,
+    price: u32,
+    flag: u8,
+    match_number: u64,
+) -> ReplyBytes
+    ensures spelling { result ≡ spelling (reply_wire (reply.Executed time token shares price flag match_number)) }
+    ensures size { length result ≤ 66 }
+{
+    let mut bytes = started(EXECUTED_TYPE, time, token);
+    bytes.push(&shares.to_be_bytes());
+    bytes.push(&price.to_be_bytes());
+    bytes.push(&[flag]);
+    bytes.push(&match_number.to_be_bytes());
+    bytes
 }
 
 // The types of replies.

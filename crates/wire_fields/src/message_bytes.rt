@@ -1,6 +1,6 @@
 //! The bytes of one message.
 
-ghost use Rattle.std.specs.Prelude.{◌≡◌, ◌+◌, ◌≤◌, map, length, [], IsTrue, ◌↔◌};
+ghost use Rattle.std.specs.Prelude.{◌≡◌, ◌+◌, ◌≤◌, map, length, [], ◌∷◌, ◌++◌, IsTrue, ◌↔◌};
 ghost use Rattle.wire_fields.specs.Values.{told};
 ghost use Rattle.wire_fields.specs.Wire.{spelling, total_width, HaveWidths};
 
@@ -40,6 +40,36 @@ impl<const N: usize> MessageBytes<N> {
             bytes,
             len: 1 + total_width(kinds),
         }
+    }
+
+    /// A message that has only its type's letter yet.
+    pub fn begun(letter: u8) -> MessageBytes<N>
+        requires room { 1 ≤ N }
+        ensures { result ≡ letter ∷ [] }
+    {
+        let mut bytes = [0; N];
+        bytes[0] = letter;
+        MessageBytes { bytes, len: 1 }
+    }
+
+    /// Appends `M` bytes.
+    pub fn push<const M: usize>(&mut self, more: &[u8; M])
+        requires room { length self.old + M ≤ N }
+        ensures bytes { self.new ≡ self.old ++ more.now }
+        ensures size { length self.new ≡ length self.old + M }
+    {
+        let start = self.len;
+        let bytes = &mut self.bytes[..];
+        bytes[start..start + M].copy_from_slice(more);
+        self.len = start + M;
+    }
+
+    /// The bytes of a message that has all `N`.
+    pub fn to_array(&self) -> [u8; N]
+        requires { length self.now ≡ N }
+        ensures { result ≡ self.now }
+    {
+        self.bytes
     }
 
     /// The bytes in order.

@@ -1,8 +1,7 @@
 use Rattle.ouch_codec.proofs.outbound.encode_reply.Goals as goal
 
 pub returns-in-Accepted-clause-spelling : goal.returns-in-Accepted-clause-spelling
-returns-in-Accepted-clause-spelling c =
-    rw (c.in-Accepted.is, c.of-in-Accepted.ensures.spelling, c.from.ensures, c.from-in-Accepted.ensures, c.from-in-Accepted-2.ensures, c.from-in-Accepted-3.ensures)
+returns-in-Accepted-clause-spelling c = rw c.in-Accepted.is c.accepted.ensures.spelling
 
 pub returns-in-Accepted-clause-spelled : goal.returns-in-Accepted-clause-spelled
 returns-in-Accepted-clause-spelled c = λ in_range. record { same = returns-in-Accepted-clause-spelling c; in_range = in_range }

@@ -1,0 +1,19 @@
+use Rattle.std.proofs.Common.{[], ◌∷◌, drop, refl, ap, ◌∙◌}
+use Rattle.wire_fields.specs.Values.{number}
+use Rattle.wire_fields.specs.Wire.{spelling}
+use Rattle.wire_fields.proofs.Pushed.{IsBegun, pushed, finished, four_bytes, eight_bytes}
+use Rattle.market_types.specs.declared.feed.What.TheVariants as what
+use Rattle.itch_codec.specs.Messages.{what_wire}
+use Rattle.itch_codec.proofs.feed.add.Goals as goal
+
+pub returns-clause-spelling : goal.returns-clause-spelling
+returns-clause-spelling c =
+    let a = c.args in
+    let w = what_wire (number a.m.now.locate) (number a.m.now.tracking) (number a.m.now.time) (what.Add a.reference a.side a.shares a.stock a.price) in
+    let begun : IsBegun (drop 3 w.kinds) (drop 3 w.values) (spelling w) c.started-bytes.result = record { whole = rw c.started-bytes.ensures.bytes refl } in
+    let is1 = pushed _ _ _ _ _ _ _ _ begun c.push.ensures.bytes (c.to_be_bytes.ensures ∙ eight_bytes a.reference) in
+    let is2 = pushed _ _ _ _ _ _ _ _ is1 c.push-2.ensures.bytes (ap (λ b. b ∷ []) c.side_letter.ensures) in
+    let is3 = pushed _ _ _ _ _ _ _ _ is2 c.push-3.ensures.bytes (c.to_be_bytes-2.ensures ∙ four_bytes a.shares) in
+    let is4 = pushed _ _ _ _ _ _ _ _ is3 c.push-4.ensures.bytes refl in
+    let is5 = pushed _ _ _ _ _ _ _ _ is4 c.push-5.ensures.bytes (c.to_be_bytes-3.ensures ∙ four_bytes a.price) in
+    finished _ _ is5
