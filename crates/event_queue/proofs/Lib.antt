@@ -3,3 +3,4 @@ pub mod Kept
 pub mod Listing
 pub mod Numbers
 pub mod Orders
+pub mod Slots

@@ -1,24 +1,20 @@
--- Lemmas on the order of number and of a heap.
+-- Lemmas on the order of number.
 use Rattle.std.proofs.Common.{◌≡◌, ◌≢◌, ℕ, ◌+◌, ◌<◌, ◌≤◌, true, false, cond, ltb, eqb, List, [], ◌∷◌, ◌++◌, Some, length, get_or, refl, sym, ap, ◌∙◌, arith, inl, inr, subst, sum_by, All}
 use Rattle.std.specs.List.{AllByRecursion, best_of}
 use Rattle.std.specs.List.Sorted.{IsPermutation}
 use Rattle.std.proofs.lemmas.Bool.{cases_lt, lt-ltb, le-ltb}
 use Rattle.std.proofs.lemmas.Bool.Decides.{nat_tests}
-use Rattle.std.proofs.lemmas.List.{get_or_default, length-map}
-use Rattle.std.specs.Ordering.{is_lt}
-use Rattle.std.specs.BinaryHeap.{IsUpperBound}
-use Rattle.event_queue.specs.declared.due.Due.{Due}
-use Rattle.event_queue.specs.Dues.{by_due}
+use Rattle.std.proofs.lemmas.List.{get_or_default}
 use Rattle.std.proofs.lemmas.List.Elements.{All-from_recursion, recursion_from_All}
 use Rattle.std.proofs.lemmas.List.MinMax.{IsFirstBest-from_best_of}
 use Rattle.std.proofs.lemmas.List.Recursion.{is_sum_by}
-use Rattle.std.proofs.lemmas.List.Sorted.{All-permutation, IsPermutation-sym, IsPermutation-refl, IsPermutation-map, IsPermutation-cons, IsPermutation-to_front, IsPermutation-trans, sum_by-IsPermutation}
+use Rattle.std.proofs.lemmas.List.Sorted.{All-permutation, IsPermutation-sym, IsPermutation-refl, IsPermutation-cons, IsPermutation-to_front, IsPermutation-trans, sum_by-IsPermutation}
 use Rattle.market_types.specs.declared.message.Message.{Message}
 use Rattle.event_queue.proofs.Orders.{before-order, each-joined, each-weaker, rising-joined, keep_all}
 use Rattle.event_queue.proofs.Kept.{best-all}
 use Rattle.event_queue.specs.Waiting.{before, least, without, joined}
 use Rattle.event_queue.specs.Rising.{IsRising}
-use Rattle.event_queue.specs.Numbered.{by_number, messages_of, count_of, IsApart}
+use Rattle.event_queue.specs.Numbered.{by_number, count_of, IsApart}
 
 joined-each : (P : Message → Type 0) (m : Message) (w : List Message) → AllByRecursion P (joined m w) → P m × AllByRecursion P w
 joined-each P m [] a = a
@@ -150,57 +146,37 @@ least-joined m v new bound =
     (λ P a. (joined-each P m v a).0)
     (each-joined (λ (x : Message). x.seq ≡ m.seq → x ≡ m) m v (λ _. refl) (each-weaker (λ (x : Message). x.seq ≢ m.seq) (λ (x : Message). x.seq ≡ m.seq → x ≡ m) (λ x n e. absurd (n e)) v new))
 
-due-before : (d e : Due) → is_lt (by_due d e) ≡ false → before e.message d.message ≡ false
-due-before d e h = grind (arith, nat_tests)
-
-bound_messages : (d : Due) (ds : List Due) → IsUpperBound by_due d ds → AllByRecursion (λ (x : Message). before x d.message ≡ false) (messages_of ds)
-bound_messages d [] h = tt
-bound_messages d (e ∷ ds) h = (due-before d e h.0, bound_messages d ds h.1)
-
 -- what a push leaves
-pub record IsPushed (v w : List Due) (m : Message) : Type 0 where
-  pub apart : IsApart (messages_of w)
-  pub joins : by_number (messages_of w) ≡ joined m (by_number (messages_of v))
+pub record IsPushed (v w : List Message) (m : Message) : Type 0 where
+  pub apart : IsApart w
+  pub joins : by_number w ≡ joined m (by_number v)
 
-pub pushed : (v w : List Due) (d : Due) → IsPermutation (d ∷ v) w → All (λ (x : Message). x.seq ≢ d.message.seq) (by_number (messages_of v)) → IsApart (messages_of v) → IsPushed v w d.message
-pushed v w d p new a =
-    let move = IsPermutation-map (λ (e : Due). e.message) (d ∷ v) w p in
-    let new' = by_number-each (λ (x : Message). x.seq ≢ d.message.seq) (messages_of v) (recursion_from_All (λ (x : Message). x.seq ≢ d.message.seq) (by_number (messages_of v)) new) in
-    let both = apart-cons d.message (messages_of v) new' a in
+pub pushed : (v w : List Message) (m : Message) → IsPermutation (m ∷ v) w → All (λ (x : Message). x.seq ≢ m.seq) (by_number v) → IsApart v → IsPushed v w m
+pushed v w m p new a =
+    let new' = by_number-each (λ (x : Message). x.seq ≢ m.seq) v (recursion_from_All (λ (x : Message). x.seq ≢ m.seq) (by_number v) new) in
+    let both = apart-cons m v new' a in
     record {
-      apart = apart-permutation (messages_of (d ∷ v)) (messages_of w) move both;
-      joins = sym (by_number-permutation (messages_of (d ∷ v)) (messages_of w) move both);
+      apart = apart-permutation (m ∷ v) w p both;
+      joins = sym (by_number-permutation (m ∷ v) w p both);
     }
 
 -- what a pop leaves
-pub record IsPopped (v w : List Due) (m : Message) : Type 0 where
-  pub apart : IsApart (messages_of w)
-  pub first : least (by_number (messages_of v)) ≡ Some m
-  pub left : by_number (messages_of w) ≡ without m.seq (by_number (messages_of v))
+pub record IsPopped (v w : List Message) (m : Message) : Type 0 where
+  pub apart : IsApart w
+  pub first : least (by_number v) ≡ Some m
+  pub left : by_number w ≡ without m.seq (by_number v)
 
-pub popped : (v w : List Due) (d : Due) → IsPermutation v (d ∷ w) → IsUpperBound by_due d w → IsApart (messages_of v) → IsPopped v w d.message
-popped v w d p top a =
-    let m = d.message in
-    let move = IsPermutation-map (λ (e : Due). e.message) v (d ∷ w) p in
-    let both = apart-permutation (messages_of v) (messages_of (d ∷ w)) move a in
-    let is = by_number-permutation (messages_of v) (messages_of (d ∷ w)) move a in
-    let new = each-by_number (λ (x : Message). x.seq ≢ m.seq) (messages_of w) (apart-head m (messages_of w) both) in
-    let bound = each-by_number (λ (x : Message). before x m ≡ false) (messages_of w) (bound_messages d w top) in
+pub popped : (v w : List Message) (m : Message) → IsPermutation v (m ∷ w) → AllByRecursion (λ (x : Message). before x m ≡ false) w → IsApart v → IsPopped v w m
+popped v w m p top a =
+    let both = apart-permutation v (m ∷ w) p a in
+    let is = by_number-permutation v (m ∷ w) p a in
+    let new = each-by_number (λ (x : Message). x.seq ≢ m.seq) w (apart-head m w both) in
+    let bound = each-by_number (λ (x : Message). before x m ≡ false) w top in
     record {
-      apart = apart-tail m (messages_of w) both;
-      first = ap least is ∙ least-joined m (by_number (messages_of w)) new bound;
-      left = sym (ap (without m.seq) is ∙ without-joined m (by_number (messages_of w)) new);
+      apart = apart-tail m w both;
+      first = ap least is ∙ least-joined m (by_number w) new bound;
+      left = sym (ap (without m.seq) is ∙ without-joined m (by_number w) new);
     }
-
--- the top of a heap
-pub peeked : (v : List Due) (d : Due) → 0 < length v → d ≡ get_or v 0 d → IsUpperBound by_due d v → IsApart (messages_of v) → least (by_number (messages_of v)) ≡ Some d.message
-peeked [] d h e top a = absurd (omega arith)
-peeked (x ∷ w) d h e top a =
-    let q = popped (x ∷ w) w x (IsPermutation-refl (x ∷ w)) (subst (λ (y : Due). IsUpperBound by_due y w) e top.1) a in
-    q.first ∙ ap (λ (y : Due). Some y.message) (sym e)
-
-pub length_seen : (v : List Due) → length (by_number (messages_of v)) ≡ length v
-length_seen v = length-by_number (messages_of v) ∙ length-map v (λ (e : Due). e.message)
 
 -- the order of number has the messages of the list
 permutation-joined : (m : Message) (w : List Message) → IsPermutation (m ∷ w) (joined m w)
@@ -216,10 +192,3 @@ permutation-joined m (x ∷ w) = elim (ltb m.seq x.seq) as (λ b. IsPermutation 
 pub permutation-by_number : (w : List Message) → IsPermutation w (by_number w)
 permutation-by_number [] = IsPermutation-refl []
 permutation-by_number (m ∷ w) = IsPermutation-trans (m ∷ w) (m ∷ by_number w) (joined m (by_number w)) (IsPermutation-cons m w (by_number w) (permutation-by_number w)) (permutation-joined m (by_number w))
-
--- a heap made of the same messages is seen as the same list
-pub copied : (v w : List Due) → IsPermutation v w → IsApart (messages_of v) → by_number (messages_of w) ≡ by_number (messages_of v)
-copied v w p a = sym (by_number-permutation (messages_of v) (messages_of w) (IsPermutation-map (λ (e : Due). e.message) v w p) a)
-
-pub apart-copied : (v w : List Due) → IsPermutation v w → IsApart (messages_of v) → IsApart (messages_of w)
-apart-copied v w p a = apart-permutation (messages_of v) (messages_of w) (IsPermutation-map (λ (e : Due). e.message) v w p) a

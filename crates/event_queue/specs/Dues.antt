@@ -1,7 +1,41 @@
--- The order of the heap, whose greatest message is the one that is due first.
+-- The heap's keys, and the slots in which their messages stay.
+use Rattle.std.specs.Prelude.{◌≡◌, ◌+◌, ◌==◌, ℕ, nat_lt, if◌then◌else◌, List, [], ◌∷◌, length, map, slice_index_or}
 use Rattle.std.specs.Ordering.{nat_cmp, on, flip_args, then_cmp}
 use Rattle.std.specs.declared.cmp.Ordering.{Ordering}
+use Rattle.market_types.specs.declared.message.Message.{Message}
+use Rattle.market_types.specs.declared.message.Body.TheVariants.{Wake}
 use Rattle.event_queue.specs.declared.due.Due.{Due}
 
+-- the order of the heap, whose greatest key is the one that is due first
 abbrev pub by_due : Due → Due → Ordering
-by_due = flip_args (then_cmp (on (λ (d : Due). d.message.time) nat_cmp) (on (λ (d : Due). d.message.seq) nat_cmp))
+by_due = flip_args (then_cmp (on (λ (d : Due). d.time) nat_cmp) (on (λ (d : Due). d.seq) nat_cmp))
+
+-- what stands where there is no slot
+abbrev pub vacant : Message
+vacant = record { time = 0; seq = 0; from = 0; to = 0; body = Wake }
+
+-- the message of a key
+abbrev pub message_at : List Message → Due → Message
+message_at slots d = slice_index_or slots d.slot vacant
+
+-- the messages of some keys
+abbrev pub held : List Message → List Due → List Message
+held slots ds = map (λ (d : Due). message_at slots d) ds
+
+-- a key has the time and the number of its message
+abbrev pub IsTold : List Message → Due → Type 0
+IsTold slots d = ((message_at slots d).time ≡ d.time) × ((message_at slots d).seq ≡ d.seq)
+
+-- how many of the keys name a slot
+abbrev pub times_held : ℕ → List Due → ℕ
+times_held n [] = 0
+times_held n (d ∷ ds) = (if d.slot == n then 1 else 0) + times_held n ds
+
+-- how often a slot is listed as free
+abbrev pub times_free : ℕ → List ℕ → ℕ
+times_free n [] = 0
+times_free n (k ∷ ks) = (if k == n then 1 else 0) + times_free n ks
+
+-- each slot is free once or one key names it, and there are no others
+abbrev pub IsSharedOut : List Message → List ℕ → List Due → Type 0
+IsSharedOut slots free ds = (n : ℕ) → times_held n ds + times_free n free ≡ (if nat_lt n (length slots) then 1 else 0)

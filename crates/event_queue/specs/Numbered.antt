@@ -1,16 +1,12 @@
 -- A list of messages in any order, seen in order of number.
-use Rattle.std.specs.Prelude.{◌≤◌, ℕ, ◌+◌, ◌==◌, if◌then◌else◌, List, [], ◌∷◌, map}
+use Rattle.std.specs.Prelude.{◌≤◌, ℕ, ◌+◌, ◌==◌, if◌then◌else◌, List, [], ◌∷◌}
 use Rattle.market_types.specs.declared.message.Message.{Message}
 use Rattle.event_queue.specs.Waiting.{joined}
-use Rattle.event_queue.specs.declared.due.Due.{Due}
 
 -- the messages in order of number
 abbrev pub by_number : List Message → List Message
 by_number [] = []
 by_number (m ∷ w) = joined m (by_number w)
-
-abbrev pub messages_of : List Due → List Message
-messages_of ds = map (λ (d : Due). d.message) ds
 
 -- how many messages have a number
 abbrev pub count_of : ℕ → List Message → ℕ

@@ -1,12 +1,14 @@
-//! A message in the heap's order.
+//! A message's key in the heap's order.
 
-use market_types::Message;
+use market_types::Time;
 use std::cmp::Ordering;
 
-/// A message, greater where it comes sooner.
+/// A message's time, number and slot, greater where it comes sooner.
 #[derive(Clone, Copy)]
 pub struct Due {
-    pub message: Message,
+    pub time: Time,
+    pub seq: u64,
+    pub slot: usize,
 }
 
 impl PartialEq for Due {
@@ -45,8 +47,7 @@ impl Ord for Due {
     ghost matches_eq = { Prim.search (comparing, rules) };
 
     fn cmp(&self, other: &Due) -> Ordering {
-        let (a, b) = (&self.message, &other.message);
-        b.time.cmp(&a.time).then(b.seq.cmp(&a.seq))
+        other.time.cmp(&self.time).then(other.seq.cmp(&self.seq))
     }
 }
 

@@ -1,9 +1,9 @@
 //! The queue.
 
-ghost use Rattle.std.specs.Prelude.{◌≡◌, ◌<◌, ◌≤◌, ◌+◌, ◌-◌, [], OnOk, OnErr, IfOk, IfSome, IfNone, OnSome, length, option_map};
+ghost use Rattle.std.specs.Prelude.{◌≡◌, ◌≢◌, ◌<◌, ◌≤◌, ◌+◌, ◌-◌, ◌++◌, ◌∷◌, ◌==◌, ℕ, [], if◌then◌else◌, All, OnOk, OnErr, IfOk, IfSome, IfNone, OnSome, length, nat_lt, option_map, slice_index_or, vec_len, vec_capacity};
 ghost use Rattle.std.specs.List.Sorted.{IsPermutation, IsSortedBy};
 ghost use Rattle.event_queue.specs.InOrder.{in_order};
-ghost use Rattle.event_queue.specs.Numbered.{messages_of};
+ghost use Rattle.event_queue.specs.Dues.{held, times_free, vacant};
 ghost use Rattle.event_queue.specs.Rising.{IsRising};
 ghost use Rattle.event_queue.specs.Waiting.{before, least, IsNew, joined, without};
 
@@ -13,29 +13,39 @@ use std::alloc::Global;
 use std::collections::BinaryHeap;
 use std::marker::Model;
 
-/// The waiting messages.
+/// The waiting messages. The heap moves small keys; each message stays in one slot until it leaves.
 #[derive(Drop)]
 pub struct Queue {
     heap: BinaryHeap<Due>,
+    slots: Vec<Message>,
+    // The slots that no key names.
+    free: Vec<usize>,
     spare: usize,
 }
 
 impl Model for Queue {
-    ghost use Rattle.std.specs.Prelude.{◌≤◌, ◌+◌};
+    ghost use Rattle.std.specs.Prelude.{◌≡◌, ◌≤◌, ◌+◌, vec_len, vec_capacity};
     ghost use Rattle.std.specs.BinaryHeap.{heap_items, heap_len, heap_capacity, IsHeap};
+    ghost use Rattle.std.specs.List.{AllByRecursion};
     ghost use Rattle.market_types.specs.Room.{Room};
     ghost use Rattle.market_types.specs.declared.message.Message.{Message};
-    ghost use Rattle.event_queue.specs.Dues.{by_due};
-    ghost use Rattle.event_queue.specs.Numbered.{by_number, messages_of, IsApart};
+    ghost use Rattle.event_queue.specs.Dues.{by_due, held, IsTold, IsSharedOut};
+    ghost use Rattle.event_queue.specs.Numbered.{by_number, IsApart};
 
     ghost Value = { Room Message };
 
-    ghost view = { λ q. record { list = by_number (messages_of (heap_items q.heap)); spare = q.spare } };
+    ghost view = { λ q. record { list = by_number (held q.slots.items (heap_items q.heap)); spare = q.spare } };
 
     ghost invariant = { λ q. record {
       room : heap_len q.heap + q.spare ≤ heap_capacity q.heap;
+      slot_room : heap_len q.heap + q.spare ≤ vec_capacity q.slots;
+      free_room : heap_len q.heap + q.spare ≤ vec_capacity q.free;
+      few : vec_len q.free ≤ q.spare;
+      every : vec_len q.slots ≡ heap_len q.heap + vec_len q.free;
       ordered : IsHeap by_due (heap_items q.heap);
-      apart : IsApart (messages_of (heap_items q.heap));
+      told : AllByRecursion (IsTold q.slots.items) (heap_items q.heap);
+      shared_out : IsSharedOut q.slots.items q.free.items (heap_items q.heap);
+      apart : IsApart (held q.slots.items (heap_items q.heap));
     } };
 }
 
@@ -46,6 +56,8 @@ impl Queue {
     {
         Queue {
             heap: BinaryHeap::new(alloc),
+            slots: Vec::new(alloc),
+            free: Vec::new(alloc),
             spare: 0,
         }
     }
@@ -74,7 +86,10 @@ impl Queue {
         if n <= self.spare {
             return Ok(());
         }
+        let more = n - self.free.len();
         self.heap.reserve(n)?;
+        self.slots.reserve(more)?;
+        self.free.reserve(self.heap.len() + more)?;
         self.spare = n;
         Ok(())
     }
@@ -86,7 +101,13 @@ impl Queue {
         ensures joins { self.new ≡ record { list = joined m self.old.list; spare = self.old.spare - 1 } }
         ensures grows { length self.new.list ≡ length self.old.list + 1 }
     {
-        match self.heap.push(Due { message: m }) {
+        let slot = store(&mut self.slots, &mut self.free, m);
+        let due = Due {
+            time: m.time,
+            seq: m.seq,
+            slot,
+        };
+        match self.heap.push(due) {
             Ok(()) => self.spare -= 1,
             Err(_) => unreachable!(),
         }
@@ -103,8 +124,10 @@ impl Queue {
     {
         match self.heap.pop() {
             Some(due) => {
+                let message = self.slots[due.slot];
+                put(&mut self.free, due.slot);
                 self.spare += 1;
-                Some(due.message)
+                Some(message)
             }
             None => None,
         }
@@ -115,7 +138,7 @@ impl Queue {
         ensures { option_map (λ m. m.now) result ≡ least self.now.list }
     {
         match self.heap.peek() {
-            Some(due) => Some(&due.message),
+            Some(due) => self.slots.get(due.slot),
             None => None,
         }
     }
@@ -124,10 +147,18 @@ impl Queue {
     pub fn copy(&self, alloc: Global) -> Result<Queue, Memory>
         ensures { IfOk result (λ q. q.list ≡ self.now.list) }
     {
+        let spare = self.free.len();
         let dues = copied(alloc, self.heap.as_slice())?;
+        let mut heap = BinaryHeap::from(dues);
+        heap.reserve(spare)?;
+        let slots = copied(alloc, self.slots.as_slice())?;
+        let mut free = copied(alloc, self.free.as_slice())?;
+        free.reserve(self.heap.len())?;
         Ok(Queue {
-            heap: BinaryHeap::from(dues),
-            spare: 0,
+            heap,
+            slots,
+            free,
+            spare,
         })
     }
 
@@ -137,16 +168,59 @@ impl Queue {
         ensures same { IfOk result (λ v. IsPermutation self.now.list v.items) }
         ensures sorted { IfOk result (λ v. IsSortedBy before v.items) }
     {
-        let mut messages = messages_of(alloc, self.heap.as_slice())?;
+        let mut messages = listed(alloc, self.heap.as_slice(), self.slots.as_slice())?;
         messages.sort_unstable_by_key(|m| (m.time, m.seq));
         Ok(messages)
     }
 }
 
-// The messages in the order in which the heap holds them.
-fn messages_of(alloc: Global, dues: &[Due]) -> Result<Vec<Message>, Memory>
-    ensures { IfOk result (λ v. v.items ≡ messages_of dues.now) }
+// Appends a value where room was made.
+fn put<T: Drop>(list: &mut Vec<T>, value: T)
+    requires { vec_len list.old < vec_capacity list.old }
+    ensures items { list.new.items ≡ list.old.items ++ value ∷ [] }
+    ensures len { vec_len list.new ≡ vec_len list.old + 1 }
+    ensures capacity { vec_capacity list.old ≤ vec_capacity list.new }
 {
-    let messages: Vec<Message> = dues.iter().map(|due| due.message).collect(alloc)?;
+    match list.push(value) {
+        Ok(()) => {}
+        Err(_) => unreachable!(),
+    }
+}
+
+// Writes a message into a free slot, or into a new one where none is free.
+fn store(slots: &mut Vec<Message>, free: &mut Vec<usize>, m: Message) -> usize
+    requires within { All (λ n. n < length slots.old.items) free.old.items }
+    requires room { vec_len free.old ≡ 0 → vec_len slots.old < vec_capacity slots.old }
+    ensures written { slice_index_or slots.new.items result vacant ≡ m }
+    ensures others { (n : ℕ) → n ≢ result → slice_index_or slots.new.items n vacant ≡ slice_index_or slots.old.items n vacant }
+    ensures unheld { (if nat_lt result (length slots.old.items) then 1 else 0) ≤ times_free result free.old.items }
+    ensures taken { (n : ℕ) → (if result == n then 1 else 0) + times_free n free.new.items + (if nat_lt n (length slots.old.items) then 1 else 0) ≡ times_free n free.old.items + (if nat_lt n (length slots.new.items) then 1 else 0) }
+    ensures len { vec_len slots.new + vec_len free.old ≡ vec_len slots.old + vec_len free.new + 1 }
+    ensures free_len { vec_len free.new ≡ vec_len free.old - 1 }
+    ensures capacity { vec_capacity slots.old ≤ vec_capacity slots.new }
+    ensures free_capacity { vec_capacity free.old ≤ vec_capacity free.new }
+{
+    match free.pop() {
+        Some(slot) => {
+            slots[slot] = m;
+            slot
+        }
+        None => {
+            let slot = slots.len();
+            put(slots, m);
+            slot
+        }
+    }
+}
+
+// The messages in the order in which the heap holds their keys.
+fn listed(alloc: Global, dues: &[Due], slots: &[Message]) -> Result<Vec<Message>, Memory>
+    requires { All (λ due. due.slot < length slots.now) dues.now }
+    ensures { IfOk result (λ v. v.items ≡ held slots.now dues.now) }
+{
+    let mut messages = Vec::new(alloc);
+    for due in dues {
+        messages.push(slots[due.slot])?;
+    }
     Ok(messages)
 }

@@ -1,4 +1,4 @@
-use Rattle.std.proofs.Common.{◌≡◌, ◌+◌, List, ap, ◌∙◌, get_or, false, arith, rules, subst}
+use Rattle.std.proofs.Common.{◌≡◌, ◌<◌, ◌+◌, All, List, length, sym, ap, ◌∙◌, get_or, false, arith, rules, subst}
 use Rattle.std.specs.BinaryHeap.{heap_items}
 use Rattle.std.specs.List.Sorted.{IsPermutation}
 use Rattle.std.specs.Ordering.{is_lt, ordering_then, nat_cmp}
@@ -7,15 +7,26 @@ use Rattle.std.proofs.lemmas.List.Sorted.{answers_always, IsPermutation-sym, IsP
 use Rattle.market_types.specs.Room.{Room}
 use Rattle.market_types.specs.declared.message.Message.{Message}
 use Rattle.event_queue.specs.InOrder.{in_order}
-use Rattle.event_queue.specs.Numbered.{by_number, messages_of}
+use Rattle.event_queue.specs.declared.due.Due.{Due}
+use Rattle.event_queue.specs.Dues.{held}
+use Rattle.event_queue.specs.Numbered.{by_number}
 use Rattle.event_queue.specs.Waiting.{before}
 use Rattle.event_queue.proofs.Listing.{sorted_is_in_order}
 use Rattle.event_queue.proofs.Numbers.{permutation-by_number, rising-by_number}
+use Rattle.event_queue.proofs.Slots.{held-within}
 use Rattle.event_queue.proofs.queue.Queue.messages.Goals as goal
 
 -- no message is due before the one that the pairs of time and number put before it
 not_before : (a b : Message) → is_lt (ordering_then (nat_cmp a.time b.time) (nat_cmp a.seq b.seq)) ≡ false → before a b ≡ false
 not_before a b h = grind (arith, nat_tests)
+
+pub listed-requires : goal.listed-requires
+listed-requires c =
+    let slots = c.self.inside.slots.items in
+    let v = heap_items c.self.inside.heap in
+    let within = held-within slots c.self.inside.free.items v c.self.invariant.shared_out in
+    let here = subst (λ (s : List Message). All (λ (d : Due). d.slot < length s) v) (sym c.as_slice-2.ensures.value) within in
+    subst (λ (ds : List Due). All (λ (d : Due). d.slot < length c.as_slice-2.result.now) ds) (sym c.as_slice.ensures.value) here
 
 pub returns-clause-sorted : goal.returns-clause-sorted
 returns-clause-sorted c = λ k d low high.
@@ -24,7 +35,7 @@ returns-clause-sorted c = λ k d low high.
 
 pub returns-clause-same : goal.returns-clause-same
 returns-clause-same c =
-    let u = messages_of (heap_items c.self.inside.heap) in
+    let u = held c.self.inside.slots.items (heap_items c.self.inside.heap) in
     let v = c.sort_unstable_by_key.new.self.items in
     let copied : c.in_ok-messages.messages.items ≡ u = search rules in
     let moved = subst (λ (w : List Message). IsPermutation w v) copied c.sort_unstable_by_key.ensures.permutation in
@@ -33,7 +44,7 @@ returns-clause-same c =
 
 pub returns-clause-listed : goal.returns-clause-listed
 returns-clause-listed c =
-    let u = messages_of (heap_items c.self.inside.heap) in
+    let u = held c.self.inside.slots.items (heap_items c.self.inside.heap) in
     let v = c.sort_unstable_by_key.new.self.items in
     let copied : c.in_ok-messages.messages.items ≡ u = search rules in
     let moved = subst (λ (w : List Message). IsPermutation w v) copied c.sort_unstable_by_key.ensures.permutation in

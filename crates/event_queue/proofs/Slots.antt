@@ -1,0 +1,164 @@
+-- Lemmas on the heap's keys and the slots of their messages.
+use Rattle.std.proofs.Common.{◌≡◌, ◌≢◌, ℕ, ◌+◌, ◌<◌, ◌≤◌, false, cond, ltb, eqb, List, [], ◌∷◌, ◌++◌, Some, length, get_or, refl, sym, ap, ◌∙◌, arith, subst, sum_by, All}
+use Rattle.std.specs.List.{AllByRecursion}
+use Rattle.std.specs.List.Sorted.{IsPermutation}
+use Rattle.std.proofs.lemmas.Bool.Decides.{nat_tests}
+use Rattle.std.proofs.lemmas.List.{length-map}
+use Rattle.std.specs.Ordering.{is_lt}
+use Rattle.std.specs.BinaryHeap.{IsUpperBound}
+use Rattle.std.proofs.lemmas.List.Elements.{All-from_recursion, recursion_from_All}
+use Rattle.std.proofs.lemmas.List.Recursion.{is_sum_by}
+use Rattle.std.proofs.lemmas.List.Sorted.{All-permutation, IsPermutation-refl, IsPermutation-map, sum_by-IsPermutation}
+use Rattle.market_types.specs.declared.message.Message.{Message}
+use Rattle.event_queue.specs.declared.due.Due.{Due}
+use Rattle.event_queue.specs.Dues.{by_due, vacant, message_at, held, times_held, times_free, IsTold, IsSharedOut}
+use Rattle.event_queue.specs.Numbered.{by_number, IsApart}
+use Rattle.event_queue.specs.Waiting.{before, least}
+use Rattle.event_queue.proofs.Numbers.{IsPushed, IsPopped, pushed, popped, length-by_number, by_number-permutation, apart-permutation}
+
+-- what a count of none says
+other : (a b k : ℕ) → cond (eqb a b) 1 0 + k ≡ 0 → a ≢ b
+other a b k h = grind (arith, nat_tests)
+
+rest : (a b k : ℕ) → cond (eqb a b) 1 0 + k ≡ 0 → k ≡ 0
+rest a b k h = omega arith
+
+-- a write to a slot that no key names changes no message of a key
+held-elsewhere : (old slots : List Message) (at : ℕ) (ds : List Due) → ((n : ℕ) → n ≢ at → get_or slots n vacant ≡ get_or old n vacant) → times_held at ds ≡ 0 → held slots ds ≡ held old ds
+held-elsewhere old slots at [] f e = refl
+held-elsewhere old slots at (d ∷ ds) f e =
+    let here : message_at slots d ≡ message_at old d = f d.slot (other d.slot at (times_held at ds) e) in
+    let more : held slots ds ≡ held old ds = held-elsewhere old slots at ds f (rest d.slot at (times_held at ds) e) in
+    λ i. here i ∷ more i
+
+told-elsewhere : (old slots : List Message) (at : ℕ) (ds : List Due) → ((n : ℕ) → n ≢ at → get_or slots n vacant ≡ get_or old n vacant) → times_held at ds ≡ 0 → AllByRecursion (IsTold old) ds → AllByRecursion (IsTold slots) ds
+told-elsewhere old slots at [] f e a = tt
+told-elsewhere old slots at (d ∷ ds) f e a =
+    let here : message_at slots d ≡ message_at old d = f d.slot (other d.slot at (times_held at ds) e) in
+    ((ap (λ (m : Message). m.time) here ∙ a.0.0, ap (λ (m : Message). m.seq) here ∙ a.0.1), told-elsewhere old slots at ds f (rest d.slot at (times_held at ds) e) a.1)
+
+-- a count, and what holds of each key, forget the order
+held-sum : (n : ℕ) (ds : List Due) → times_held n ds ≡ sum_by (λ (d : Due). cond (eqb d.slot n) 1 0) ds
+held-sum n ds = is_sum_by (times_held n) (λ (d : Due). cond (eqb d.slot n) 1 0) refl (λ _ _. refl) ds
+
+times_held-permutation : (n : ℕ) (v w : List Due) → IsPermutation v w → times_held n v ≡ times_held n w
+times_held-permutation n v w p = omega (arith, held-sum n v, held-sum n w, sum_by-IsPermutation (λ (d : Due). cond (eqb d.slot n) 1 0) v w p)
+
+each-permutation : (P : Due → Type 0) (v w : List Due) → IsPermutation v w → AllByRecursion P v → AllByRecursion P w
+each-permutation P v w p a = recursion_from_All P w (All-permutation P v w p (All-from_recursion P v a))
+
+held-permutation : (slots : List Message) (v w : List Due) → IsPermutation v w → IsPermutation (held slots v) (held slots w)
+held-permutation slots v w p = IsPermutation-map (λ (d : Due). message_at slots d) v w p
+
+-- the order of the keys is that of their messages
+due-before : (a b : Message) (d e : Due) → (a.time ≡ d.time) × (a.seq ≡ d.seq) → (b.time ≡ e.time) × (b.seq ≡ e.seq) → is_lt (by_due d e) ≡ false → before b a ≡ false
+due-before a b d e s t h = grind (arith, nat_tests, s.0, s.1, t.0, t.1)
+
+bound_messages : (slots : List Message) (d : Due) (ds : List Due) → IsTold slots d → AllByRecursion (IsTold slots) ds → IsUpperBound by_due d ds → AllByRecursion (λ (x : Message). before x (message_at slots d) ≡ false) (held slots ds)
+bound_messages slots d [] t ts h = tt
+bound_messages slots d (e ∷ ds) t ts h = (due-before (message_at slots d) (message_at slots e) d e t ts.0 h.0, bound_messages slots d ds t ts.1 h.1)
+
+-- what a message that was written and whose key joined leaves
+pub record IsJoined (old slots : List Message) (free : List ℕ) (v w : List Due) (m : Message) : Type 0 where
+  pub told : AllByRecursion (IsTold slots) w
+  pub shared_out : IsSharedOut slots free w
+  pub messages : IsPushed (held old v) (held slots w) m
+
+pub join : (old slots : List Message) (was free : List ℕ) (v w : List Due) (m : Message) (d : Due)
+    → IsSharedOut old was v → AllByRecursion (IsTold old) v → IsApart (held old v) → All (λ (x : Message). x.seq ≢ m.seq) (by_number (held old v))
+    → (m.time ≡ d.time) × (m.seq ≡ d.seq)
+    → message_at slots d ≡ m
+    → ((n : ℕ) → n ≢ d.slot → get_or slots n vacant ≡ get_or old n vacant)
+    → cond (ltb d.slot (length old)) 1 0 ≤ times_free d.slot was
+    → ((n : ℕ) → cond (eqb d.slot n) 1 0 + times_free n free + cond (ltb n (length old)) 1 0 ≡ times_free n was + cond (ltb n (length slots)) 1 0)
+    → IsPermutation (d ∷ v) w → IsJoined old slots free v w m
+join old slots was free v w m d shared told apart new key written others unheld taken p =
+    let none : times_held d.slot v ≡ 0 = omega (arith, shared d.slot, unheld) in
+    let same : held slots v ≡ held old v = held-elsewhere old slots d.slot v others none in
+    let itself : IsTold slots d = (ap (λ (x : Message). x.time) written ∙ key.0, ap (λ (x : Message). x.seq) written ∙ key.1) in
+    let both : message_at slots d ∷ held slots v ≡ m ∷ held old v = λ i. written i ∷ same i in
+    let moved = subst (λ (u : List Message). IsPermutation u (held slots w)) both (held-permutation slots (d ∷ v) w p) in
+    record {
+      told = each-permutation (IsTold slots) (d ∷ v) w p (itself, told-elsewhere old slots d.slot v others none told);
+      shared_out = λ n. omega (arith, shared n, taken n, times_held-permutation n (d ∷ v) w p);
+      messages = pushed (held old v) (held slots w) m moved new apart;
+    }
+
+-- what a key that left leaves
+pub record IsLeft (slots : List Message) (free : List ℕ) (v w : List Due) (d : Due) : Type 0 where
+  pub within : d.slot < length slots
+  pub told : AllByRecursion (IsTold slots) w
+  pub shared_out : IsSharedOut slots (free ++ d.slot ∷ []) w
+  pub messages : IsPopped (held slots v) (held slots w) (message_at slots d)
+
+pub times_free-last : (n k : ℕ) (free : List ℕ) → times_free n (free ++ k ∷ []) ≡ times_free n free + cond (eqb k n) 1 0
+times_free-last n k [] = omega arith
+times_free-last n k (x ∷ free) = omega (arith, times_free-last n k free)
+
+-- a free slot that is listed last is listed
+last_one : (k t l : ℕ) → cond (ltb k l) 1 0 ≤ t + cond (eqb k k) 1 0
+last_one k t l = grind (arith, nat_tests)
+
+pub last_free : (k : ℕ) (free was : List ℕ) (l : ℕ) → was ≡ free ++ k ∷ [] → cond (ltb k l) 1 0 ≤ times_free k was
+last_free k free was l e = omega (arith, last_one k (times_free k free) l, times_free-last k k free, ap (times_free k) e)
+
+named_within : (n a b l : ℕ) → cond (eqb n n) 1 0 + a + b ≡ cond (ltb n l) 1 0 → n < l
+named_within n a b l h = grind (arith, nat_tests)
+
+pub leave : (slots : List Message) (free : List ℕ) (v w : List Due) (d : Due)
+    → IsSharedOut slots free v → AllByRecursion (IsTold slots) v → IsApart (held slots v)
+    → IsPermutation v (d ∷ w) → IsUpperBound by_due d w → IsLeft slots free v w d
+leave slots free v w d shared told apart p top =
+    let tolds = each-permutation (IsTold slots) v (d ∷ w) p told in
+    record {
+      within = named_within d.slot (times_held d.slot w) (times_free d.slot free) (length slots) (ap (λ k. k + times_free d.slot free) (sym (times_held-permutation d.slot v (d ∷ w) p)) ∙ shared d.slot);
+      told = tolds.1;
+      shared_out = λ n. omega (arith, shared n, times_held-permutation n v (d ∷ w) p, times_free-last n d.slot free);
+      messages = popped (held slots v) (held slots w) (message_at slots d) (held-permutation slots v (d ∷ w) p) (bound_messages slots d w tolds.0 tolds.1 top) apart;
+    }
+
+-- the top of a heap
+pub peeked : (slots : List Message) (free : List ℕ) (v : List Due) (d : Due) → IsSharedOut slots free v → AllByRecursion (IsTold slots) v → IsApart (held slots v)
+    → 0 < length v → d ≡ get_or v 0 d → IsUpperBound by_due d v → (d.slot < length slots) × (least (by_number (held slots v)) ≡ Some (message_at slots d))
+peeked slots free [] d shared told apart h e top = absurd (omega arith)
+peeked slots free (x ∷ w) d shared told apart h e top =
+    let q = leave slots free (x ∷ w) w x shared told apart (IsPermutation-refl (x ∷ w)) (subst (λ (y : Due). IsUpperBound by_due y w) e top.1) in
+    (subst (λ (y : Due). y.slot < length slots) (sym e) q.within, q.messages.first ∙ ap (λ (y : Due). Some (message_at slots y)) (sym e))
+
+pub length_seen : (slots : List Message) (v : List Due) → length (by_number (held slots v)) ≡ length v
+length_seen slots v = length-by_number (held slots v) ∙ length-map v (λ (d : Due). message_at slots d)
+
+-- the slots that keys name and those that are free are within the row
+first_within : (a k l : ℕ) → cond (eqb a a) 1 0 + k ≤ cond (ltb a l) 1 0 → a < l
+first_within a k l h = grind (arith, nat_tests)
+
+frees_within : (l : ℕ) (free : List ℕ) → ((n : ℕ) → times_free n free ≤ cond (ltb n l) 1 0) → AllByRecursion (λ (n : ℕ). n < l) free
+frees_within l [] h = tt
+frees_within l (k ∷ free) h = (first_within k (times_free k free) l (h k), frees_within l free (λ n. omega (arith, h n)))
+
+dues_within : (l : ℕ) (ds : List Due) → ((n : ℕ) → times_held n ds ≤ cond (ltb n l) 1 0) → AllByRecursion (λ (d : Due). d.slot < l) ds
+dues_within l [] h = tt
+dues_within l (d ∷ ds) h = (first_within d.slot (times_held d.slot ds) l (h d.slot), dues_within l ds (λ n. omega (arith, h n)))
+
+pub free-within : (slots : List Message) (free : List ℕ) (ds : List Due) → IsSharedOut slots free ds → All (λ (n : ℕ). n < length slots) free
+free-within slots free ds h = All-from_recursion (λ (n : ℕ). n < length slots) free (frees_within (length slots) free (λ n. omega (arith, h n)))
+
+pub held-within : (slots : List Message) (free : List ℕ) (ds : List Due) → IsSharedOut slots free ds → All (λ (d : Due). d.slot < length slots) ds
+held-within slots free ds h = All-from_recursion (λ (d : Due). d.slot < length slots) ds (dues_within (length slots) ds (λ n. omega (arith, h n)))
+
+-- a heap made of the same keys is seen as the same list
+pub record IsCopied (slots : List Message) (free : List ℕ) (v w : List Due) : Type 0 where
+  pub told : AllByRecursion (IsTold slots) w
+  pub shared_out : IsSharedOut slots free w
+  pub apart : IsApart (held slots w)
+  pub same : by_number (held slots w) ≡ by_number (held slots v)
+
+pub copied : (slots : List Message) (free : List ℕ) (v w : List Due) → IsSharedOut slots free v → AllByRecursion (IsTold slots) v → IsApart (held slots v) → IsPermutation v w → IsCopied slots free v w
+copied slots free v w shared told apart p =
+    let moved = held-permutation slots v w p in
+    record {
+      told = each-permutation (IsTold slots) v w p told;
+      shared_out = λ n. omega (arith, shared n, times_held-permutation n v w p);
+      apart = apart-permutation (held slots v) (held slots w) moved apart;
+      same = sym (by_number-permutation (held slots v) (held slots w) moved apart);
+    }
