@@ -35,7 +35,7 @@ pub fn write_header(course: &Course, out: &mut Vec<u8>) -> Result<(), Memory>
 /// Appends the frame of a branch with this event number as its stop. The root's parent is written as 65,535.
 ///
 /// # Errors
-/// Want of memory alone.
+/// Want of memory alone. The bytes are then as they were.
 pub fn put_branch_head(
     out: &mut Vec<u8>,
     course: &Course,
@@ -43,7 +43,8 @@ pub fn put_branch_head(
     stop: u32,
 ) -> Result<(), Memory>
     requires { branch < length course.now.plan.branches }
-    ensures { OnOk result (out.new.items ≡ out.old.items ++ branch_frame branch (parent_written course.now branch) stop (branch_at course.now.plan.branches branch).name) }
+    ensures appended { OnOk result (out.new.items ≡ out.old.items ++ branch_frame branch (parent_written course.now branch) stop (branch_at course.now.plan.branches branch).name) }
+    ensures refused { OnErr result (out.new.items ≡ out.old.items) }
 {
     let b = &course.plan().branches()[usize::from(branch)];
     let _ = b.name.len();
