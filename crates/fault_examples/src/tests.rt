@@ -1,5 +1,6 @@
 use abides_run::{Status, run};
 use outside::{Counted, MemoryLibrary, MemorySink, OpenGate, Steps};
+use probe_desk::Probe;
 use std::alloc::Global;
 use std::process::Abort;
 use std::sync::Wait;
@@ -75,7 +76,8 @@ fn empty_study(alloc: Global) -> Result<String, Fail> {
     Ok(text.replacen(alloc, "count = 2\n", "", 1)?)
 }
 
-fn branched_study(alloc: Global) -> Result<String, Fail> {
+/// The two watchers with three branches that leave the root after two events.
+pub fn branched_study(alloc: Global) -> Result<String, Fail> {
     Ok(format!(in alloc; "{WATCHERS}{BRANCHES}")?)
 }
 
@@ -103,39 +105,51 @@ fn sink(alloc: Global, room: usize, failing: u32) -> Result<MemorySink, Fail> {
     Ok(MemorySink::new(alloc, room, 64, vec![in alloc; failing]?)?)
 }
 
-// What surrounds a run: the read and the write that fail (none at 0), and how many bytes the output and the notes take.
+/// What surrounds a run: the read and the write that fail (none at 0), and how many bytes the output and the notes take.
 #[derive(Clone, Copy)]
-struct Around {
+pub struct Around {
     failing_read: u32,
     failing_write: u32,
     room: usize,
     notes_room: usize,
 }
 
-// Where nothing fails.
-const QUIET: Around = Around {
+/// Where nothing fails.
+pub const QUIET: Around = Around {
     failing_read: 0,
     failing_write: 0,
     room: 16_384,
     notes_room: 100,
 };
 
-// How a run ended, its counted steps, and what was written.
+/// How a run ended, its counted steps, and what was written.
 #[derive(Drop)]
-struct Ended {
-    status: Status,
-    steps: u64,
-    out: MemorySink,
-    notes: MemorySink,
+pub struct Ended {
+    pub status: Status,
+    pub steps: u64,
+    pub out: MemorySink,
+    pub notes: MemorySink,
 }
 
-// Runs a command on the study `s`. A sink takes at most 64 bytes a call.
-fn ran<R: Threads + Wait + Sync>(
+/// Runs a command on the study `s` without probes. A sink takes at most 64 bytes a call.
+pub fn ran<R: Threads + Wait + Sync>(
     rt: &R,
     alloc: Global,
     command: &str,
     study: &[u8],
     around: Around,
+) -> Result<Ended, Fail> {
+    ran_with(rt, alloc, command, study, around, Vec::new(alloc))
+}
+
+/// The same with these probes.
+pub fn ran_with<R: Threads + Wait + Sync>(
+    rt: &R,
+    alloc: Global,
+    command: &str,
+    study: &[u8],
+    around: Around,
+    probes: Vec<Box<dyn Probe>>,
 ) -> Result<Ended, Fail> {
     let mut words = Vec::with_capacity(alloc, 2)?;
     words.push(String::from_str(alloc, command)?)?;
@@ -151,7 +165,7 @@ fn ran<R: Threads + Wait + Sync>(
         &mut library,
         &mut out,
         &mut notes,
-        Vec::new(alloc),
+        probes,
         &OpenGate,
         &mut steps,
     );
