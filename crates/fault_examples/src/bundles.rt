@@ -1,6 +1,6 @@
 //! The bundle of three branches, cut or changed, as it is read.
 
-use crate::tests::{QUIET, branched_study, ran};
+use crate::runs::{QUIET, branched_study, ran};
 use bundle_reader::{BundleError, read_bundle};
 use std::alloc::Global;
 use std::sync::Wait;
@@ -81,7 +81,7 @@ const CHANGED: [(usize, Option<BundleError>); 65] = [
 
 fn three_branches<R: Threads + Wait + Sync>(rt: &R, alloc: Global) -> Result<Vec<u8>, Fail> {
     let study = branched_study(alloc)?;
-    let ran = ran(rt, alloc, "run", study.as_bytes(), QUIET)?;
+    let ran = ran(rt, alloc, "run s", study.as_bytes(), QUIET)?;
     Ok(ran.out.taken().to_vec(alloc)?)
 }
 
