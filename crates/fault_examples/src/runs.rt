@@ -179,4 +179,3 @@ pub fn ran_with<R: Threads + Wait + Sync>(
         notes,
     })
 }
-
