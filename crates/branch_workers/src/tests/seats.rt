@@ -265,15 +265,20 @@ fn a_run_beside_anothers_turn(rt: HostRuntime) -> Result<(), Fail> {
     let Some((met, after)) = beside_a_turn(&rt, rt.alloc(), &course, first, second)? else {
         return Err(Fail::from("no seats, or no turn"));
     };
-    let Some(outcome) = met.outcome else {
+    let Met {
+        word,
+        outcome,
+        ticks,
+    } = met;
+    let Some(outcome) = outcome else {
         return Err(Fail::from("no memory"));
     };
-    assert_eq!(rt; met.word, Some(PlaceWord::Writing(0)));
+    assert_eq!(rt; word, Some(PlaceWord::Writing(0)));
     assert_eq!(rt;
         (
             outcome.segment,
             outcome.events,
-            met.ticks,
+            ticks,
             outcome.entries.len()
         ),
         (2, 6, 4, 5)
