@@ -175,6 +175,7 @@ module _ (c : CourseTold) (plan : ShelfPlan) (s : System) (v : SeatView) (h : Or
       laid = laid.laid;
       view = v;
       there = at;
+      below = claims_below;
       claimed = claimed_once;
       takers = λ g l. let w = word_of g l in let t = taker_of g w.0 (claimed_once g l) w.1 in (t.0, t.1, (let m = t.2 in omega arith));
       states = states;

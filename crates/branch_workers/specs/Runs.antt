@@ -24,7 +24,7 @@ pub record IsShelfOf (c : CourseTold) (stride : ℕ) (shelf : ShelfTold CourseTo
   pub forks : shelf.plan.forks ≡ fork_keys c.plan
   pub grid : shelf.plan.grid ≡ grid_keys c.plan stride
 
--- The run of a segment passes an event number: so many events stand at the segment's end.
+-- The run of a segment reached this event number or passed it: its state at the segment's end has so many events or more.
 abbrev pub IsPassed : CourseTold → ℕ → ℕ → Type 0
 IsPassed c s e = e ≤ (segment_end c.opening c.plan (segment_at c.plan s)).state.events
 

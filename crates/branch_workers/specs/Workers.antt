@@ -65,14 +65,16 @@ HaveFinished c plan [] (os ∷ lists) = ⊥
 HaveFinished c plan (seat ∷ seats) [] = ⊥
 HaveFinished c plan (seat ∷ seats) (os ∷ lists) = HasFinished c plan seat.view os × HaveFinished c plan seats lists
 
--- A closed system of this plan in which so many workers ran each segment once: the segment's word names one of them, and
--- the view that took in all of theirs has it once among its claims with the states that its run found and left. Each
--- fork's place has its value, and so has the place of each grid key whose number the segment passed and which has its
--- place alone; where there are as many places for the grid as keys, each of them has.
+-- A closed system of this plan in which so many workers ran each segment once, and nothing else: the segment's word names
+-- one of them, and the view that took in all of theirs has it once among its claims with the states that its run found and
+-- left; each of those claims is of one of the plan's segments. Each fork's place has its value, and so has the place of each
+-- grid key whose number the segment passed and which has its place alone; where there are as many places for the grid as
+-- keys, each of them has.
 pub record RanOnce (c : CourseTold) (plan : ShelfPlan) (workers : ℕ) (s : System) : Type 0 where
   pub laid : s.plan ≡ Some plan
   pub view : SeatView
   pub there : slice_get s.views 0 ≡ Some view
+  pub below : All (λ g. g < length (segments_in c.plan)) view.claims
   pub claimed : (g : ℕ) → g < length (segments_in c.plan) → times g view.claims ≡ 1
   pub takers : (g : ℕ) → g < length (segments_in c.plan) → (n : ℕ) × (slice_get s.claims g ≡ Some (Taken n)) × (n < workers)
   pub states : HasAllStates c plan view

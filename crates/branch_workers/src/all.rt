@@ -176,8 +176,9 @@ pub fn work<R: Threads + Wait + Sync, G: Gate + Sync, L: Ledger + Send>(
     ensures most { steps.new ≤ steps.old + distinct course.now.value.opening course.now.value.plan }
     ensures least { steps.old ≤ steps.new }
 
-    // The shelf is the course's; each segment is Taken by one of the workers and stands once among their claims; and each
-    // end from which others go on stands on the shelf, and each state of the grid that was passed and has its place alone.
+    // The shelf is the course's; each segment is Taken by one of the workers and stands once among their claims, and nothing
+    // else stands there; and each end from which others go on stands on the shelf, and each state of the grid that was passed
+    // and has its place alone.
     ensures shelf { IfOk result (λ w. (w.shelf.plan ≡ layout course.now.value.plan stride places) × (w.shelf.course ≡ course.now.value)) }
     ensures once { IfOk result (λ w. RanOnce course.now.value (layout course.now.value.plan stride places) workers w.shelf.system) }
 {

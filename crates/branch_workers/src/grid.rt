@@ -99,6 +99,7 @@ pub(crate) fn run_to<L: Ledger>(
     ensures underway { OnOk result (IsUnderway course.now key.segment key.event (record { state = ran.new.kernel; entries = ran.new.entries.list })) }
     ensures few { ran.new.kernel.events ≤ (segment_run course.now.opening course.now.plan (segment_at course.now.plan key.segment)).state.events }
     ensures ticks { steps.new + ran.old.kernel.events ≡ steps.old + ran.new.kernel.events }
+    ensures grows { ran.old.kernel.events ≤ ran.new.kernel.events }
 {
     let _ = course.plan();
     ran.kernel.run_until(alloc, course.opening(), key.event, &mut ran.entries, steps)?;
@@ -131,6 +132,7 @@ fn pass<L: Ledger>(
     ensures underway { OnOk result (IsUnderway course.now.value key.segment key.event (record { state = ran.new.kernel; entries = ran.new.entries.list })) }
     ensures few { ran.new.kernel.events ≤ (segment_run course.now.value.opening course.now.value.plan (segment_at course.now.value.plan key.segment)).state.events }
     ensures ticks { steps.new + ran.old.kernel.events ≡ steps.old + ran.new.kernel.events }
+    ensures grows { ran.old.kernel.events ≤ ran.new.kernel.events }
     ensures known { OnOk result (key.event % stride ≡ 0 → is_sole shelf.now.plan key ≡ true → IsPassed course.now.value key.segment key.event → is_in key seat.new.view.known ≡ true) }
 {
     if key.event % stride != 0 {
@@ -170,6 +172,7 @@ pub(crate) fn pass_grid<L: Ledger>(
     ensures underway { OnOk result (IsUnderway course.now.value segment (segment_at course.now.value.plan segment).stop (record { state = ran.new.kernel; entries = ran.new.entries.list })) }
     ensures few { ran.new.kernel.events ≤ (segment_run course.now.value.opening course.now.value.plan (segment_at course.now.value.plan segment)).state.events }
     ensures ticks { steps.new + ran.old.kernel.events ≡ steps.old + ran.new.kernel.events }
+    ensures grows { ran.old.kernel.events ≤ ran.new.kernel.events }
     ensures known { OnOk result ((e : ℕ) → is_in (key_at segment e) shelf.now.plan.grid ≡ true → is_sole shelf.now.plan (key_at segment e) ≡ true → IsPassed course.now.value segment e → is_in (key_at segment e) seat.new.view.known ≡ true) }
 {
     let g = course.segment(segment);

@@ -13,6 +13,8 @@ mod staff;
 mod worker;
 
 pub use all::{Worked, work};
+pub use checkpoint_shelf::ClosedShelf;
+pub use kernel_copy::{Checkpoint, Key, Outcome};
 pub use segment::run_segment;
 
 #[cfg(test)]

@@ -110,6 +110,7 @@ fn advance<R: Wait, L: Ledger>(
     ensures grid { OnOk result ((e : ℕ) → is_in (key_at segment e) shelf.now.plan.grid ≡ true → is_sole shelf.now.plan (key_at segment e) ≡ true → IsPassed course.now.value segment e → is_in (key_at segment e) seat.new.view.known ≡ true) }
     ensures rose { OnOk result (steps.new ≡ steps.old + own_count course.now.value.opening course.now.value.plan (segment_at course.now.value.plan segment)) }
     ensures most { steps.new ≤ steps.old + own_count course.now.value.opening course.now.value.plan (segment_at course.now.value.plan segment) }
+    ensures least { steps.old ≤ steps.new }
 {
     let event = course.segment(segment).stop;
     let mut entries = Trace::new(alloc);
@@ -175,7 +176,7 @@ fn put_end(
 /// The gate is passed before the first step. It may wait.
 ///
 /// # Errors
-/// Want of memory alone. The counter then rose by no more, and the seat's count is as it was.
+/// Want of memory alone. The counter then rose by no more, or not at all, and the seat's count is as it was.
 pub fn run_segment<R: Wait, G: Gate, L: Ledger>(
     rt: &R,
     alloc: Global,
@@ -202,6 +203,7 @@ pub fn run_segment<R: Wait, G: Gate, L: Ledger>(
     ensures outcome { IfOk result (λ x. outcome_told x ≡ outcome_of course.now.value segment) }
     ensures rose { OnOk result (steps.new ≡ steps.old + own_count course.now.value.opening course.now.value.plan (segment_at course.now.value.plan segment)) }
     ensures most { steps.new ≤ steps.old + own_count course.now.value.opening course.now.value.plan (segment_at course.now.value.plan segment) }
+    ensures least { steps.old ≤ steps.new }
 
     // The ends from which and to which it ran, the states on its way, and one claim more that is counted.
     ensures states { OnOk result (HasStates course.now.value shelf.now.plan segment seat.new.view) }

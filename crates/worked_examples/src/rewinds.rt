@@ -197,14 +197,15 @@ fn failing_writes_leave_a_first_part_of_rewinds(rt: HostRuntime) -> Result<(), F
 fn places_save_steps_and_change_no_byte(rt: HostRuntime) -> Result<(), Fail> {
     let alloc = rt.alloc();
     let text = study_text(alloc, 7, 20_000)?;
+    let (first, steps) = written(&rt, alloc, text.as_str(), "rewind s tick5:7500 --places=0")?;
+    let bytes = first.taken();
+    assert_eq!(rt; (bytes.len(), sum(bytes), steps), (13_634, 873_152, 90_500));
     for (line, least, most) in [
-        ("rewind s tick5:7500 --places=0", 90_500, 90_500),
         ("rewind s tick5:7500 --places=1 --workers=4", 88_000, 90_500),
         ("rewind s tick5:7500 --places=128", 88_500, 88_500),
     ] {
         let (out, steps) = written(&rt, alloc, text.as_str(), line)?;
-        let bytes = out.taken();
-        assert_eq!(rt; (bytes.len(), sum(bytes)), (13_634, 873_152), "{line}");
+        assert!(rt; out.taken() == bytes, "{line}");
         assert!(rt; least <= steps && steps <= most, "{line}: {steps}");
     }
     Ok(())

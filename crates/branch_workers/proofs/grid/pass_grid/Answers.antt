@@ -33,6 +33,7 @@ loop-event-init g c =
       from = omega arith;
       underway = goes_later k s 0 (n + 1 - 1) r (omega arith) c.requires.underway;
       ticks = refl;
+      grows = omega arith;
       known = knows_none k c.args.shelf.now.plan c.args.stride s (n + 1) c.args.seat.now.view (omega arith);
     }
 

@@ -14,5 +14,6 @@ invariant-loop-event g l = record {
   from : (segment_at l.course.value.plan l.segment).start + 1 ≤ l.event;
   underway : IsUnderway l.course.value l.segment (l.event - 1) (record { state = l.ran.kernel; entries = l.ran.entries.list });
   ticks : l.steps + l.initial.ran.kernel.events ≡ l.initial.steps + l.ran.kernel.events;
+  grows : l.initial.ran.kernel.events ≤ l.ran.kernel.events;
   known : KnowsBefore l.course.value l.shelf.plan l.stride l.segment l.event l.seat.view;
 }
