@@ -90,7 +90,7 @@ fn each_cut_is_told(rt: HostRuntime) -> Result<(), Fail> {
     let alloc = rt.alloc();
     let bytes = three_branches(&rt, alloc)?;
     let mut start = 0;
-    for size in 0..200 {
+    for size in 0..201 {
         if STARTS.contains(&size) {
             start = size;
         }
