@@ -1,4 +1,5 @@
 pub mod Accepts
+pub mod Bytewise
 pub mod Conserved
 pub mod Crossings
 pub mod Ends

@@ -1,5 +1,10 @@
 //! Pairs of an agent and an order token.
 
+ghost use Rattle.std.specs.Prelude.{◌≡◌, take, drop};
+ghost use Rattle.std.specs.Int.{w64, from_be_bytes};
+ghost use Rattle.std.specs.Ordering.{nat_cmp};
+ghost use Rattle.std.specs.Cmp.Lexicographic.{slice_cmp};
+
 use market_types::AgentNo;
 use std::cmp::Ordering;
 
@@ -48,7 +53,7 @@ impl Ord for Pair {
     fn cmp(&self, other: &Pair) -> Ordering {
         self.agent
             .cmp(&other.agent)
-            .then(self.token.cmp(&other.token))
+            .then(compared(&self.token, &other.token))
     }
 }
 
@@ -66,4 +71,31 @@ impl PartialOrd for Pair {
     fn partial_cmp(&self, other: &Pair) -> Option<Ordering> {
         Some(self.cmp(other))
     }
+}
+
+// The order of two tokens, by two numbers of eight bytes each.
+fn compared(left: &[u8; 14], right: &[u8; 14]) -> Ordering
+    ensures { result ≡ slice_cmp nat_cmp left.now right.now }
+{
+    head(left)
+        .cmp(&head(right))
+        .then(tail(left).cmp(&tail(right)))
+}
+
+// The number of a token's first eight bytes, the first byte the highest.
+fn head(token: &[u8; 14]) -> u64
+    ensures { result ≡ from_be_bytes w64 (take 8 token.now) }
+{
+    u64::from_be_bytes([
+        token[0], token[1], token[2], token[3], token[4], token[5], token[6], token[7],
+    ])
+}
+
+// The number of a token's last eight bytes, of which two are in the head.
+fn tail(token: &[u8; 14]) -> u64
+    ensures { result ≡ from_be_bytes w64 (drop 6 token.now) }
+{
+    u64::from_be_bytes([
+        token[6], token[7], token[8], token[9], token[10], token[11], token[12], token[13],
+    ])
 }
