@@ -6,10 +6,12 @@
 
 mod checkpoint;
 mod course;
+mod kept;
 pub mod laws;
 mod run;
 
 pub use checkpoint::Checkpoint;
 pub use course::Course;
+pub use kept::{Keep, Kept};
 pub use run::{Outcome, Ran, go_on, goes_on, kept_end, outcome_at, run_on, run_segments};
 pub use shelf_core::Key;

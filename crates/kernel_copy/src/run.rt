@@ -6,14 +6,19 @@ ghost use Rattle.branch_tree.specs.Segments.{segments_in, segment_at, last_of};
 ghost use Rattle.kernel_core.specs.Edited.{IsEditOf, edited_from};
 ghost use Rattle.kernel_core.specs.Open.{opened};
 ghost use Rattle.kernel_core.specs.Step.{Fits};
+ghost use Rattle.kernel_core.specs.Until.{until};
+ghost use Rattle.market_types.specs.Timely.{IsTimely};
 ghost use Rattle.market_closing.specs.Closing.{closing_at};
 ghost use Rattle.kernel_copy.specs.Courses.{kept_of, kept_before};
+ghost use Rattle.kernel_copy.specs.Kept.{kept_told, kept_with};
 ghost use Rattle.kernel_copy.specs.Outcomes.{outcome_told, outcomes_before};
+ghost use Rattle.kernel_copy.specs.Ran.{ran_told, ran_as, ran_with};
 ghost use Rattle.kernel_copy.specs.Reached.{IsReached};
-ghost use Rattle.kernel_copy.specs.Segmentwise.{segment_end, segment_run, started_from, started_at, own_count, distinct};
+ghost use Rattle.kernel_copy.specs.Segmentwise.{afresh, segment_end, segment_run, started_from, started_at, own_count, distinct};
 
 use crate::checkpoint::Checkpoint;
 use crate::course::Course;
+use crate::kept::{Keep, Kept};
 use crate::laws::courses_stay_in_range;
 use branch_tree::BranchPlan;
 use bundle_frames::Closing;
@@ -32,21 +37,84 @@ use std::sync::Arc;
 pub struct Outcome {
     /// The segment's number.
     pub segment: u32,
-    /// Its own entries.
-    pub entries: Trace,
+    /// What is kept of its own entries.
+    pub kept: Kept,
     /// How many events stand at its end.
     pub events: u32,
     /// The closing of its end.
     pub closing: Closing,
 }
 
-/// A segment's run.
+/// A segment's run, as far as it went.
 #[derive(Drop)]
 pub struct Ran {
-    /// Its own entries.
-    pub entries: Trace,
-    /// The kernel at its end.
+    /// What is kept of its own entries.
+    pub kept: Kept,
+    /// The kernel.
     pub kernel: Kernel,
+}
+
+// How many events make a piece of a run whose entries are dropped as it goes on.
+const PIECE: u32 = 256;
+
+// Runs a kernel on, piece by piece, and keeps what is to be kept of each piece.
+fn run_in_pieces<L: Ledger>(
+    alloc: Global,
+    o: &Opening,
+    stop: u32,
+    kernel: &mut Kernel,
+    kept: &mut Kept,
+    steps: &mut Steps<L>,
+) -> Result<(), Memory>
+    requires fits { Fits o.now kernel.old }
+    requires count { steps.old + (stop - kernel.old.events) < 2 ^ 64 }
+    ensures state { OnOk result (kernel.new ≡ (until o.now stop (afresh kernel.old)).state) }
+    ensures kept { OnOk result (kept_told kept.new ≡ kept_with (kept_told kept.old) (until o.now stop (afresh kernel.old)).entries) }
+    ensures ticks { steps.new + kernel.old.events ≡ steps.old + kernel.new.events }
+    ensures grows { kernel.old.events ≤ kernel.new.events }
+    ensures within { kernel.new.events ≤ (until o.now stop (afresh kernel.old)).state.events }
+    ensures fitting { Fits o.now kernel.new }
+{
+    'pieces: while kernel.events() < stop {
+        let size = PIECE.min(stop - kernel.events());
+        let next = kernel.events() + size;
+        let mut piece = Trace::new(alloc);
+        piece.reserve(size as usize)?;
+        let end = kernel.run_until(alloc, o, next, &mut piece, steps)?;
+        kept.add(&piece)?;
+        if end.is_some() {
+            return Ok(());
+        }
+    }
+    Ok(())
+}
+
+impl Ran {
+    /// Lets a run go on until so many events stand or the state is ended.
+    ///
+    /// # Errors
+    /// Want of memory alone. The kernel is then the one after the events that were made, and what is kept is left open.
+    pub fn run_until<L: Ledger>(
+        &mut self,
+        alloc: Global,
+        o: &Opening,
+        stop: u32,
+        steps: &mut Steps<L>,
+    ) -> Result<(), Memory>
+        requires fits { Fits o.now self.old.kernel }
+        requires count { steps.old + (stop - self.old.kernel.events) < 2 ^ 64 }
+        ensures ran { OnOk result (ran_told self.new ≡ ran_with (ran_told self.old) (until o.now stop (afresh self.old.kernel))) }
+        ensures ticks { steps.new + self.old.kernel.events ≡ steps.old + self.new.kernel.events }
+        ensures grows { self.old.kernel.events ≤ self.new.kernel.events }
+        ensures within { self.new.kernel.events ≤ (until o.now stop (afresh self.old.kernel)).state.events }
+        ensures fitting { Fits o.now self.new.kernel }
+    {
+        if let Kept::Entries(trace) = &mut self.kept {
+            self.kernel.run_until(alloc, o, stop, trace, steps)?;
+            return Ok(());
+        }
+        run_in_pieces(alloc, o, stop, &mut self.kernel, &mut self.kept, steps)
+    }
 }
 
 // A branch's edits in order.
@@ -62,6 +130,7 @@ fn apply_all(
     requires few { length edits.now ≤ 16 }
     requires edits { All (λ e. IsEditOf (opened o.now) e) edits.now }
     ensures made { OnOk result (record { state = kernel.new; entries = trace.new.list } ≡ edited_from branch 0 edits.now (record { state = kernel.old; entries = trace.old.list })) }
+    ensures timely { All IsTimely trace.old.list → All IsTimely trace.new.list }
     ensures fitting { Fits o.now kernel.new }
 {
     for (i, edit) in edits.iter().enumerate() {
@@ -140,6 +209,7 @@ pub fn go_on(
     requires end { kernel.old ≡ (segment_end course.now.opening course.now.plan (segment_at course.now.plan parent)).state }
     requires empty { trace.old.list ≡ [] }
     ensures state { OnOk result (record { state = kernel.new; entries = trace.new.list } ≡ started_from course.now.opening course.now.plan branch (Some parent)) }
+    ensures timely { All IsTimely trace.new.list }
     ensures fits { Fits course.now.opening kernel.new }
 {
     courses_stay_in_range();
@@ -167,6 +237,7 @@ fn gone_on(
     requires branch { branch < length course.now.plan.branches }
     requires empty { trace.old.list ≡ [] }
     ensures state { IfOk result (λ k. record { state = k; entries = trace.new.list } ≡ started_from course.now.opening course.now.plan branch (Some parent)) }
+    ensures timely { All IsTimely trace.new.list }
     ensures fits { IfOk result (λ k. Fits course.now.opening k) }
 {
     courses_stay_in_range();
@@ -188,6 +259,7 @@ fn begun(
     requires segment { segment < length (segments_in course.now.plan) }
     requires empty { trace.old.list ≡ [] }
     ensures state { IfOk result (λ k. record { state = k; entries = trace.new.list } ≡ started_at course.now.opening course.now.plan (segment_at course.now.plan segment)) }
+    ensures timely { All IsTimely trace.new.list }
     ensures fits { IfOk result (λ k. Fits course.now.opening k) }
 {
     let g = course.segment(segment);
@@ -203,37 +275,42 @@ fn begun(
     }
 }
 
-/// Runs a segment from its beginning to its stop.
+/// Runs a segment from its beginning to its stop, and keeps what is to be kept of its entries.
 ///
 /// # Errors
 /// Want of memory alone. The counter then rose by no more than the segment's own events.
 pub fn run_on<L: Ledger>(
     alloc: Global,
     course: &Course,
+    keep: Keep,
     segment: u32,
-    mut kernel: Kernel,
-    mut entries: Trace,
+    kernel: Kernel,
+    entries: Trace,
     steps: &mut Steps<L>,
 ) -> Result<Ran, Memory>
     requires segment { segment < length (segments_in course.now.plan) }
     requires state { record { state = kernel; entries = entries.list } ≡ started_at course.now.opening course.now.plan (segment_at course.now.plan segment) }
+    requires timely { All IsTimely entries.list }
     requires fits { Fits course.now.opening kernel }
     requires count { steps.old + course.now.opening.limit < 2 ^ 64 }
-    ensures ran { IfOk result (λ x. record { state = x.kernel; entries = x.entries.list } ≡ segment_run course.now.opening course.now.plan (segment_at course.now.plan segment)) }
+    ensures ran { IfOk result (λ x. ran_told x ≡ ran_as keep (segment_run course.now.opening course.now.plan (segment_at course.now.plan segment))) }
     ensures fits { IfOk result (λ x. Fits course.now.opening x.kernel) }
     ensures rose { OnOk result (steps.new ≡ steps.old + own_count course.now.opening course.now.plan (segment_at course.now.plan segment)) }
     ensures least { steps.old ≤ steps.new }
     ensures most { steps.new ≤ steps.old + own_count course.now.opening course.now.plan (segment_at course.now.plan segment) }
 {
     let stop = course.segment(segment).stop;
-    kernel.run_until(alloc, course.opening(), stop, &mut entries, steps)?;
-    Ok(Ran { entries, kernel })
+    let kept = Kept::of(alloc, keep, entries)?;
+    let mut ran = Ran { kept, kernel };
+    ran.run_until(alloc, course.opening(), stop, steps)?;
+    Ok(ran)
 }
 
 // Runs a segment, from a copy of its parent's end.
 fn run_segment<L: Ledger>(
     alloc: Global,
     course: &Course,
+    keep: Keep,
     kept: &[Option<Arc<Checkpoint>>],
     segment: u32,
     steps: &mut Steps<L>,
@@ -242,7 +319,7 @@ fn run_segment<L: Ledger>(
     requires next { segment ≡ length kept.now }
     requires segment { segment < length (segments_in course.now.plan) }
     requires count { steps.old + course.now.opening.limit < 2 ^ 64 }
-    ensures ran { IfOk result (λ x. record { state = x.kernel; entries = x.entries.list } ≡ segment_run course.now.opening course.now.plan (segment_at course.now.plan segment)) }
+    ensures ran { IfOk result (λ x. ran_told x ≡ ran_as keep (segment_run course.now.opening course.now.plan (segment_at course.now.plan segment))) }
     ensures fits { IfOk result (λ x. Fits course.now.opening x.kernel) }
     ensures rose { OnOk result (steps.new ≡ steps.old + own_count course.now.opening course.now.plan (segment_at course.now.plan segment)) }
     ensures least { steps.old ≤ steps.new }
@@ -250,7 +327,7 @@ fn run_segment<L: Ledger>(
 {
     let mut entries = Trace::new(alloc);
     let kernel = begun(alloc, course, kept, segment, &mut entries)?;
-    run_on(alloc, course, segment, kernel, entries, steps)
+    run_on(alloc, course, keep, segment, kernel, entries, steps)
 }
 
 /// What a segment's run tells.
@@ -260,7 +337,7 @@ fn run_segment<L: Ledger>(
 pub fn outcome_at(alloc: Global, o: &Opening, segment: u32, ran: Ran) -> Result<Outcome, Memory>
     requires { Fits o.now ran.kernel }
     ensures segment { IfOk result (λ x. x.segment ≡ segment) }
-    ensures entries { IfOk result (λ x. x.entries.list ≡ ran.entries.list) }
+    ensures kept { IfOk result (λ x. kept_told x.kept ≡ kept_told ran.kept) }
     ensures events { IfOk result (λ x. x.events ≡ ran.kernel.events) }
     ensures closing { IfOk result (λ x. x.closing ≡ closing_at o.now ran.kernel) }
 {
@@ -268,7 +345,7 @@ pub fn outcome_at(alloc: Global, o: &Opening, segment: u32, ran: Ran) -> Result<
     Ok(Outcome {
         segment,
         events: ran.kernel.events(),
-        entries: ran.entries,
+        kept: ran.kept,
         closing,
     })
 }
@@ -280,18 +357,19 @@ fn add<T: Drop>(list: &mut Vec<T>, value: T) -> Result<(), Memory>
     Ok(list.push(value)?)
 }
 
-/// Runs each segment of a course once, in order of number, each from a copy of its parent's end: each outcome has the
-/// segment's own entries and the closing of its end, and the counter rises by the events of all segments.
+/// Runs each segment of a course once, in order of number, each from a copy of its parent's end: each outcome has what is
+/// to be kept of the segment's own entries and the closing of its end, and the counter rises by the events of all segments.
 ///
 /// # Errors
 /// Want of memory alone. The counter then rose by no more.
 pub fn run_segments<L: Ledger>(
     alloc: Global,
     course: &Arc<Course>,
+    keep: Keep,
     steps: &mut Steps<L>,
 ) -> Result<Vec<Outcome>, Memory>
     requires { steps.old ≤ 2 ^ 63 }
-    ensures outcomes { IfOk result (λ v. map outcome_told v.items ≡ outcomes_before course.now.value (length (segments_in course.now.value.plan))) }
+    ensures outcomes { IfOk result (λ v. map outcome_told v.items ≡ outcomes_before course.now.value keep (length (segments_in course.now.value.plan))) }
     ensures rose { OnOk result (steps.new ≡ steps.old + distinct course.now.value.opening course.now.value.plan) }
     ensures least { steps.old ≤ steps.new }
     ensures most { steps.new ≤ steps.old + distinct course.now.value.opening course.now.value.plan }
@@ -300,7 +378,7 @@ pub fn run_segments<L: Ledger>(
     let mut kept = Vec::new(alloc);
     let count = course.plan().segments().len();
     'segments: for i in 0..count {
-        let ran = run_segment(alloc, course, kept.as_slice(), i as u32, steps)?;
+        let ran = run_segment(alloc, course, keep, kept.as_slice(), i as u32, steps)?;
         let end = kept_end(alloc, course, i as u32, &ran.kernel)?;
         let outcome = outcome_at(alloc, course.opening(), i as u32, ran)?;
         add(&mut kept, end)?;
