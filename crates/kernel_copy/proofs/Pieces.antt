@@ -14,7 +14,7 @@ use Rattle.kernel_core.specs.State.{State}
 use Rattle.kernel_core.specs.Step.{end_of}
 use Rattle.kernel_core.specs.Until.{Run, behind, until}
 use Rattle.kernel_core.proofs.Runs.{advanced_by_ended}
-use Rattle.kernel_core.proofs.Stops.{until-past, until-until, until-behind}
+use Rattle.kernel_core.proofs.Stops.{until-grows, until-past, until-until, until-behind}
 use Rattle.kernel_copy.specs.Segmentwise.{afresh}
 use Rattle.kernel_copy.specs.declared.kept.Keep.{Keep}
 use Rattle.kernel_copy.specs.declared.kept.Keep.TheVariants as keep
@@ -108,3 +108,20 @@ all_kept o stop first now before kept over h =
     let whole : until o stop (afresh first) ≡ behind h.made (afresh now) = h.whole ∙ ap (λ (q : Run). behind h.made q) over in
     let ends = whole ∙ sym (fresh (record { state = now; entries = h.made })) in
     (sym (ap (λ (q : Run). q.state) ends), h.holds ∙ ap (λ (q : Run). kept_with before q.entries) (sym ends))
+
+-- on its way it has no more events than the whole run
+pub few_on_way : (o : Opening) (stop : ℕ) (first now : State) (before kept : KeptTold) → IsOnItsWay o stop first now before kept → now.events ≤ (until o stop (afresh first)).state.events
+few_on_way o stop first now before kept h =
+    let whole = ap (λ (q : Run). q.state.events) h.whole in
+    let grows = until-grows o stop (afresh now) in omega arith
+
+-- nor has a piece of it
+pub few_in_piece : (o : Opening) (n stop : ℕ) (first now : State) (before kept : KeptTold) (xs : List EntryTold) (m : ℕ) → n ≤ stop
+    → m ≤ (let r : Run = record { state = now; entries = xs } in until o n r).state.events → IsOnItsWay o stop first now before kept → m ≤ (until o stop (afresh first)).state.events
+few_in_piece o n stop first now before kept xs m l few h =
+    let r : Run = record { state = now; entries = xs } in
+    let part = until o n (afresh now) in
+    let same = ap (λ (s : State). s.events) (state_afresh o n r) in
+    let grows = until-grows o stop part in
+    let rest = ap (λ (q : Run). q.state.events) (until-until o n stop (afresh now) l) in
+    let whole = ap (λ (q : Run). q.state.events) h.whole in omega arith

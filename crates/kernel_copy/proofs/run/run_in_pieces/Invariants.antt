@@ -1,4 +1,4 @@
-use Rattle.std.proofs.Common.{◌≡◌, ◌≤◌, ◌+◌}
+use Rattle.std.proofs.Common.{◌≡◌, ◌≤◌, ◌+◌, ◌-◌}
 use Rattle.kernel_core.specs.Step.{Fits}
 use Rattle.kernel_copy.specs.Kept.{kept_told}
 use Rattle.kernel_copy.proofs.Pieces.{IsOnItsWay}
@@ -11,3 +11,6 @@ invariant-pieces g l = record {
   grows : l.initial.kernel.events ≤ l.kernel.events;
   fitting : Fits l.o l.kernel;
 }
+
+abbrev pub decreases-pieces : goal.decreases-pieces
+decreases-pieces g l = l.stop - l.kernel.events
