@@ -1,4 +1,4 @@
-use Rattle.std.proofs.Common.{◌≡◌, ◌∷◌, List, Some, length, drop, sym, ap, ◌∙◌, arith, rules, subst, IfSome}
+use Rattle.std.proofs.Common.{◌∷◌, List, Some, length, drop, sym, ap, ◌∙◌, arith, rules, subst, IfSome}
 use Rattle.std.specs.BinaryHeap.{heap_items}
 use Rattle.std.proofs.lemmas.List.Sorted.{length_permutation}
 use Rattle.market_types.specs.Room.{Room}
