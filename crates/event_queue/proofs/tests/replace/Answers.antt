@@ -1,8 +1,7 @@
-use Rattle.std.proofs.Common.{◌<◌, ◌+◌, ◌≢◌, ◌≡◌, ℕ, Option, Some, None, IfSome, IfNone, List, All, arith}
+use Rattle.std.proofs.Common.{◌<◌, ◌+◌, ◌≢◌, Option, Some, None, IfSome, arith}
 use Rattle.std.proofs.lemmas.List.Elements.{All-weaker}
-use Rattle.market_types.specs.Room.{Room}
 use Rattle.market_types.specs.declared.message.Message.{Message}
-use Rattle.event_queue.specs.Waiting.{least, joined, without}
+use Rattle.event_queue.specs.Waiting.{least}
 use Rattle.event_queue.proofs.Kept.{all-replaced, fresh-any}
 use Rattle.event_queue.proofs.tests.replace.Goals as goal
 
