@@ -1,5 +1,5 @@
 -- Lemmas on the queue under the mail.
-use Rattle.std.proofs.Common.{◌≡◌, ◌≢◌, ◌+◌, ◌<◌, ◌≤◌, ℕ, All, List, Option, Some, None, IfSome, IfNone, OnSome, length, ap, sym, subst, arith, ◌∙◌}
+use Rattle.std.proofs.Common.{◌≡◌, ◌≢◌, ◌+◌, ◌<◌, ◌≤◌, ℕ, All, List, Option, Some, None, IfSome, IfNone, OnSome, length, ap, sym, subst, arith}
 use Rattle.std.proofs.lemmas.List.Elements.{All-weaker}
 use Rattle.market_types.specs.Room.{Room}
 use Rattle.market_types.specs.declared.message.Message.{Message}
@@ -7,7 +7,6 @@ use Rattle.event_queue.specs.Waiting.{IsNew, joined, least, without}
 use Rattle.event_queue.proofs.First.{least-soonest}
 use Rattle.event_queue.proofs.Kept.{all-least, all-popped, all-replaced, all-without}
 use Rattle.event_queue.proofs.Orders.{new-without}
-use Rattle.kernel_mail.specs.Post.{Post, put_back}
 use Rattle.kernel_mail.specs.Sendable.{IsMail}
 
 -- what the mail keeps, once the next message has left
@@ -40,34 +39,20 @@ own-number x w e = subst (λ (o : Option Message). IfSome o (λ (m : Message). I
 abbrev replaced : Message → ℕ → ℕ → Room Message → Room Message
 replaced m time seq q = record { list = joined (record { time = time; seq = seq; from = m.from; to = m.to; body = m.body }) (without m.seq q.list); spare = q.spare }
 
+spare-replaced : (time seq : ℕ) (r : Option Message) (old new : Room Message) → IfSome r (λ (m : Message). new ≡ replaced m time seq old) → IfNone r (new ≡ old) → new.spare ≡ old.spare
+spare-replaced time seq (Some m) old new back empty = ap (λ (q : Room Message). q.spare) back
+spare-replaced time seq None old new back empty = ap (λ (q : Room Message). q.spare) empty
+
+was_given : (n : ℕ) (r : Option Message) (x : Message) → x.seq < n → IfSome r (λ (m : Message). x.seq < n)
+was_given n (Some m) x h = h
+was_given n None x h = tt
+
 -- what the mail keeps, once the next message is put back under its own number
-pub kept-replaced : (n time : ℕ) (x : Message) (r : Option Message) (old new : Room Message) → Some x ≡ least old.list → r ≡ least old.list → IfSome r (λ (m : Message). new ≡ replaced m time x.seq old) → length new.list ≡ length old.list → IfNone r (new ≡ old) → IsMail old n → IsMail new n
-kept-replaced n time x r old new next e back same empty k =
+pub kept-replaced : (n time : ℕ) (x : Message) (r : Option Message) (old new : Room Message) → Some x ≡ least old.list → IfSome r (λ (m : Message). new ≡ replaced m time x.seq old) → length new.list ≡ length old.list → IfNone r (new ≡ old) → IsMail old n → IsMail new n
+kept-replaced n time x r old new next back same empty k =
     let P = λ (m : Message). m.seq < n in
-    let given : P x = all-least P old.list x next k.numbers in
     record {
       room = omega (arith, k.room, same, spare-replaced time x.seq r old new back empty);
       few = omega (arith, k.few, same);
-      numbers = all-replaced P time x.seq r old new back empty (all_given r) k.numbers;
+      numbers = all-replaced P time x.seq r old new back empty (was_given n r x (all-least P old.list x next k.numbers)) k.numbers;
     }
-  where
-    all_given : (o : Option Message) → IfSome o (λ (m : Message). x.seq < n)
-    all_given (Some m) = all-least (λ (m : Message). m.seq < n) old.list x next k.numbers
-    all_given None = tt
-
-    spare-replaced : (time seq : ℕ) (r : Option Message) (old new : Room Message) → IfSome r (λ (m : Message). new ≡ replaced m time seq old) → IfNone r (new ≡ old) → new.spare ≡ old.spare
-    spare-replaced time seq (Some m) old new back empty = ap (λ (q : Room Message). q.spare) back
-    spare-replaced time seq None old new back empty = ap (λ (q : Room Message). q.spare) empty
-
--- it is what the mail says of it
-pub back-replaced : (time next dropped : ℕ) (x : Message) (r : Option Message) (old new : Room Message) → Some x ≡ least old.list → r ≡ least old.list → IfSome r (λ (m : Message). new ≡ replaced m time x.seq old)
-    → IfSome r (λ (m : Message). record { waiting = new.list; next_seq = next; dropped = dropped } ≡ put_back (record { waiting = old.list; next_seq = next; dropped = dropped }) m time)
-back-replaced time next dropped x (Some m) old new first e back =
-    let own : x.seq ≡ m.seq = same_number x m (first ∙ sym e) in
-    let list = ap (λ (q : Room Message). q.list) back in
-    let under = ap (λ (k : ℕ). joined (record { time = time; seq = k; from = m.from; to = m.to; body = m.body }) (without m.seq old.list)) own in
-    ap {B = Post} (λ (w : List Message). record { waiting = w; next_seq = next; dropped = dropped }) (list ∙ under)
-  where
-    same_number : (a b : Message) → Some a ≡ Some b → a.seq ≡ b.seq
-    same_number a b h = grind arith
-back-replaced time next dropped x None old new first e back = tt
