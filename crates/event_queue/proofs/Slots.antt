@@ -1,5 +1,5 @@
 -- Lemmas on the heap's keys and the slots of their messages.
-use Rattle.std.proofs.Common.{◌≡◌, ◌≢◌, ℕ, ◌+◌, ◌<◌, ◌≤◌, false, cond, ltb, eqb, List, [], ◌∷◌, ◌++◌, Some, length, get_or, refl, sym, ap, ◌∙◌, arith, subst, sum_by, All}
+use Rattle.std.proofs.Common.{◌≡◌, ◌≢◌, ℕ, ◌+◌, ◌<◌, ◌≤◌, false, cond, ltb, eqb, List, [], ◌∷◌, ◌++◌, Option, Some, IfSome, length, get_or, refl, sym, ap, ◌∙◌, arith, subst, sum_by, All}
 use Rattle.std.specs.List.{AllByRecursion}
 use Rattle.std.specs.List.Sorted.{IsPermutation}
 use Rattle.std.proofs.lemmas.Bool.Decides.{nat_tests}
@@ -13,7 +13,7 @@ use Rattle.market_types.specs.declared.message.Message.{Message}
 use Rattle.event_queue.specs.declared.due.Due.{Due}
 use Rattle.event_queue.specs.Dues.{by_due, vacant, message_at, held, times_held, times_free, IsTold, IsSharedOut}
 use Rattle.event_queue.specs.Numbered.{by_number, IsApart}
-use Rattle.event_queue.specs.Waiting.{before, least}
+use Rattle.event_queue.specs.Waiting.{before, least, IsNew, joined, without}
 use Rattle.event_queue.proofs.Numbers.{IsPushed, IsPopped, pushed, popped, length-by_number, by_number-permutation, apart-permutation}
 
 -- what a count of none says
@@ -116,6 +116,45 @@ leave slots free v w d shared told apart p top =
       shared_out = λ n. omega (arith, shared n, times_held-permutation n v (d ∷ w) p, times_free-last n d.slot free);
       messages = popped (held slots v) (held slots w) (message_at slots d) (held-permutation slots v (d ∷ w) p) (bound_messages slots d w tolds.0 tolds.1 top) apart;
     }
+
+-- the first key leaves
+pub first_left : (slots : List Message) (free : List ℕ) (v w : List Due) (d : Due) → IsSharedOut slots free v → AllByRecursion (IsTold slots) v → IsApart (held slots v)
+    → v ≡ d ∷ w → IsUpperBound by_due d w → IsLeft slots free v w d
+first_left slots free v w d shared told apart top bound =
+    leave slots free v w d shared told apart (subst (λ (x : List Due). IsPermutation v x) top (IsPermutation-refl v)) bound
+
+-- what the first key under another time and number leaves, once its message has them too
+pub record IsReplaced (old slots : List Message) (free : List ℕ) (v u : List Due) (d : Due) (m : Message) : Type 0 where
+  pub told : AllByRecursion (IsTold slots) u
+  pub shared_out : IsSharedOut slots free u
+  pub apart : IsApart (held slots u)
+  pub replaced : by_number (held slots u) ≡ joined m (without (message_at old d).seq (by_number (held old v)))
+
+-- it leaves, and joins again with the slot that it left free
+pub replace : (old slots : List Message) (free : List ℕ) (v w u : List Due) (d : Due) (m : Message)
+    → IsLeft old free v w d
+    → IfSome (least (by_number (held old v))) (λ (x : Message). IsNew m.seq (without x.seq (by_number (held old v))))
+    → get_or slots d.slot vacant ≡ m
+    → ((n : ℕ) → n ≢ d.slot → get_or slots n vacant ≡ get_or old n vacant)
+    → length slots ≡ length old
+    → IsPermutation (record { time = m.time; seq = m.seq; slot = d.slot } ∷ w) u → IsReplaced old slots free v u d m
+replace old slots free v w u d m q fresh written others long p =
+    let e : Due = record { time = m.time; seq = m.seq; slot = d.slot } in
+    let was = free ++ d.slot ∷ [] in
+    let seen = by_number (held old v) in
+    let new = subst (λ (o : Option Message). IfSome o (λ (x : Message). IsNew m.seq (without x.seq seen))) q.messages.first fresh in
+    let apart = subst (λ (x : List Message). IsNew m.seq x) (sym q.messages.left) new in
+    let taken = λ (n : ℕ). free_taken n d.slot (times_free n free) (times_free n was) (length old) (length slots) (times_free-last n d.slot free) long in
+    let j = join old slots was free w u m e q.shared_out q.told q.messages.apart apart (refl, refl) written others (last_free d.slot free was (length old) refl) taken p in
+    record {
+      told = j.told;
+      shared_out = j.shared_out;
+      apart = j.messages.apart;
+      replaced = j.messages.joins ∙ ap (joined m) q.messages.left;
+    }
+  where
+    free_taken : (n k a b l r : ℕ) → b ≡ a + cond (eqb k n) 1 0 → r ≡ l → cond (eqb k n) 1 0 + a + cond (ltb n l) 1 0 ≡ b + cond (ltb n r) 1 0
+    free_taken n k a b l r h e = rw e (omega (arith, h))
 
 -- the top of a heap
 pub peeked : (slots : List Message) (free : List ℕ) (v : List Due) (d : Due) → IsSharedOut slots free v → AllByRecursion (IsTold slots) v → IsApart (held slots v)

@@ -1,14 +1,15 @@
 //! The queue.
 
-ghost use Rattle.std.specs.Prelude.{◌≡◌, ◌≢◌, ◌<◌, ◌≤◌, ◌+◌, ◌-◌, ◌++◌, ◌∷◌, ◌==◌, ℕ, [], if◌then◌else◌, All, OnOk, OnErr, IfOk, IfSome, IfNone, OnSome, length, nat_lt, option_map, slice_index_or, vec_len, vec_capacity};
+ghost use Rattle.std.specs.Prelude.{◌≡◌, ◌≢◌, ◌<◌, ◌≤◌, ◌+◌, ◌-◌, ◌++◌, ◌∷◌, ◌==◌, ℕ, [], if◌then◌else◌, All, OnOk, OnErr, IfOk, IfSome, IfNone, OnSome, length, nat_lt, option_map, slice_index_or, drop, vec_len, vec_capacity};
+ghost use Rattle.std.specs.BinaryHeap.{heap_items, heap_len, heap_capacity, IsHeap, IsUpperBound};
 ghost use Rattle.std.specs.List.Sorted.{IsPermutation, IsSortedBy};
 ghost use Rattle.event_queue.specs.InOrder.{in_order};
-ghost use Rattle.event_queue.specs.Dues.{held, times_free, vacant};
+ghost use Rattle.event_queue.specs.Dues.{by_due, held, times_free, vacant};
 ghost use Rattle.event_queue.specs.Rising.{IsRising};
 ghost use Rattle.event_queue.specs.Waiting.{before, least, IsNew, joined, without};
 
 use crate::due::Due;
-use market_types::{Memory, Message, copied};
+use market_types::{Memory, Message, Time, copied};
 use std::alloc::Global;
 use std::collections::BinaryHeap;
 use std::marker::Model;
@@ -133,6 +134,20 @@ impl Queue {
         }
     }
 
+    /// The least message gets another time, in nanoseconds past midnight, and another number, as if it
+    /// left and joined again under them. It comes back as it was; `None` where none waits. No other
+    /// message has the number. It takes no memory and no place.
+    pub fn replace_least(&mut self, time: Time, seq: u64) -> Option<Message>
+        requires fresh { IfSome (least self.old.list) (λ m. IsNew seq (without m.seq self.old.list)) }
+        ensures least { result ≡ least self.old.list }
+        ensures replaced { IfSome result (λ m. self.new ≡ record { list = joined (record m { time = time; seq = seq }) (without m.seq self.old.list); spare = self.old.spare }) }
+        ensures same { length self.new.list ≡ length self.old.list }
+        ensures empty { IfNone result (self.new ≡ self.old) }
+    {
+        let due = move_top(&mut self.heap, time, seq)?;
+        Some(rewrite(&mut self.slots, due.slot, time, seq))
+    }
+
     /// The least message, which stays. `None` where none waits.
     pub fn peek_least(&self) -> Option<&Message>
         ensures { option_map (λ m. m.now) result ≡ least self.now.list }
@@ -211,6 +226,45 @@ fn store(slots: &mut Vec<Message>, free: &mut Vec<usize>, m: Message) -> usize
             slot
         }
     }
+}
+
+// The key that is due first gets another time and number and moves to its place, under its slot. It
+// comes back as it was; `None` where there is no key.
+fn move_top(heap: &mut BinaryHeap<Due>, time: Time, seq: u64) -> Option<Due>
+    requires order { IsHeap by_due (heap_items heap.old) }
+    ensures top { IfSome result (λ d. heap_items heap.old ≡ d ∷ drop 1 (heap_items heap.old)) }
+    ensures first { IfSome result (λ d. IsUpperBound by_due d (drop 1 (heap_items heap.old))) }
+    ensures moved { IfSome result (λ d. IsPermutation (record { time = time; seq = seq; slot = d.slot } ∷ drop 1 (heap_items heap.old)) (heap_items heap.new)) }
+    ensures order { IsHeap by_due (heap_items heap.new) }
+    ensures len { heap_len heap.new ≡ heap_len heap.old }
+    ensures capacity { heap_capacity heap.new ≡ heap_capacity heap.old }
+    ensures none { IfNone result (heap_items heap.old ≡ []) }
+    ensures unchanged { IfNone result (heap.new ≡ heap.old) }
+{
+    let mut top = heap.peek_mut()?;
+    let due = *top;
+    *top = Due {
+        time,
+        seq,
+        slot: due.slot,
+    };
+    Some(due)
+}
+
+// A message gets another time and number in its slot. It comes back as it was.
+fn rewrite(slots: &mut Vec<Message>, slot: usize, time: Time, seq: u64) -> Message
+    requires within { slot < length slots.old.items }
+    ensures found { result ≡ slice_index_or slots.old.items slot vacant }
+    ensures written { slice_index_or slots.new.items slot vacant ≡ record result { time = time; seq = seq } }
+    ensures others { (n : ℕ) → n ≢ slot → slice_index_or slots.new.items n vacant ≡ slice_index_or slots.old.items n vacant }
+    ensures same { length slots.new.items ≡ length slots.old.items }
+    ensures len { vec_len slots.new ≡ vec_len slots.old }
+    ensures capacity { vec_capacity slots.new ≡ vec_capacity slots.old }
+{
+    let message = slots[slot];
+    slots[slot].time = time;
+    slots[slot].seq = seq;
+    message
 }
 
 // The messages in the order in which the heap holds their keys.

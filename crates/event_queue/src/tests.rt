@@ -39,6 +39,15 @@ fn put_back(queue: &mut Queue, time: u64, next: u64) -> Option<Message>
     Some(m)
 }
 
+// The least message gets a time and the next number.
+fn replace(queue: &mut Queue, time: u64, next: u64) -> Option<Message>
+    requires before { All (λ m. m.seq < next) queue.old.list }
+    ensures before { All (λ m. m.seq < next + 1) queue.new.list }
+    ensures spare { queue.new.spare ≡ queue.old.spare }
+{
+    queue.replace_least(time, next)
+}
+
 // The least message leaves.
 fn leave(queue: &mut Queue, next: u64) -> Option<Message>
     requires before { All (λ m. m.seq < next) queue.old.list }
@@ -131,4 +140,22 @@ fn agrees_with_a_plain_list(rt: HostRuntime) {
     };
     assert_same(&rt, listed.as_slice(), &mut copy, &mut plain);
     assert_eq!(rt; queue.len(), listed.len());
+}
+
+#[test]
+fn replaces_the_least_among_several(rt: HostRuntime) {
+    let mut queue = Queue::new(rt.alloc());
+    assert!(rt; queue.reserve(4).is_ok());
+    join(&mut queue, 1005, 0);
+    join(&mut queue, 1003, 1);
+    join(&mut queue, 1004, 2);
+    join(&mut queue, 1009, 3);
+    assert_eq!(rt; replace(&mut queue, 1006, 4), Some(wakeup(1003, 1)));
+    assert_eq!(rt; replace(&mut queue, 1006, 5), Some(wakeup(1004, 2)));
+    assert_eq!(rt; queue.len(), 4);
+    assert_eq!(rt; leave(&mut queue, 6), Some(wakeup(1005, 0)));
+    assert_eq!(rt; leave(&mut queue, 6), Some(wakeup(1006, 4)));
+    assert_eq!(rt; leave(&mut queue, 6), Some(wakeup(1006, 5)));
+    assert_eq!(rt; leave(&mut queue, 6), Some(wakeup(1009, 3)));
+    assert_eq!(rt; replace(&mut queue, 1010, 6), None);
 }

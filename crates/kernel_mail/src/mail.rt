@@ -183,9 +183,8 @@ impl Mail {
         ensures few { length self.new.waiting ≤ most_waiting }
         ensures none { IfNone result (self.new ≡ self.old) }
     {
-        let m = self.queue.pop_least()?;
-        self.queue.push(Message { time, ..m });
-        Some(m)
+        let seq = self.queue.peek_least()?.seq;
+        self.queue.replace_least(time, seq)
     }
 
     // A message that has the next number joins, or is dropped.
