@@ -1,5 +1,5 @@
 -- Runs that go on piece by piece, and what is kept of them.
-use Rattle.std.proofs.Common.{◌≡◌, ℕ, ◌-◌, ◌≤◌, List, [], ◌++◌, All, Option, Some, map, refl, sym, ap, ◌∙◌, subst, append_assoc, append-nil, arith}
+use Rattle.std.proofs.Common.{◌≡◌, ℕ, ◌-◌, ◌≤◌, List, [], ◌++◌, All, Some, map, refl, sym, ap, ◌∙◌, subst, append_assoc, append-nil, arith}
 use Rattle.std.specs.List.{flat_map}
 use Rattle.std.proofs.lemmas.Grind.{flat_map-append}
 use Rattle.std.proofs.lemmas.List.{get_or-map, length-map}
@@ -14,7 +14,7 @@ use Rattle.kernel_core.specs.State.{State}
 use Rattle.kernel_core.specs.Step.{end_of}
 use Rattle.kernel_core.specs.Until.{Run, behind, until}
 use Rattle.kernel_core.proofs.Runs.{advanced_by_ended}
-use Rattle.kernel_core.proofs.Stops.{until-grows, until-past, until-until, until-behind}
+use Rattle.kernel_core.proofs.Stops.{until-grows, until-until, until-behind}
 use Rattle.kernel_copy.specs.Segmentwise.{afresh}
 use Rattle.kernel_copy.specs.declared.kept.Keep.{Keep}
 use Rattle.kernel_copy.specs.declared.kept.Keep.TheVariants as keep

@@ -1,7 +1,6 @@
-use Rattle.std.proofs.Common.{◌≡◌, ◌+◌, List, [], Some, sym, ap, ◌∙◌, arith}
+use Rattle.std.proofs.Common.{◌≡◌, ◌+◌, List, [], sym, ap, ◌∙◌, arith}
 use Rattle.market_types.specs.Told.{EntryTold}
 use Rattle.kernel_core.specs.Until.{Run, until}
-use Rattle.kernel_copy.specs.Kept.{kept_told}
 use Rattle.kernel_copy.specs.Segmentwise.{afresh}
 use Rattle.kernel_copy.proofs.Pieces.{few_in_piece, few_on_way, goes_piece, ended_there, all_kept}
 use Rattle.kernel_copy.proofs.run.run_in_pieces.Goals as goal

@@ -16,7 +16,7 @@ returns-in_ok-put_all-in-Frames c =
     let told = c.args.trace.list in
     ap (λ (b : List ℕ). frames b)
     (
-      c.in_ok-put_all-in-Frames.ensures ∙ ap (λ (l : List ℕ). c.new-bytes.result.items ++ l) (frames_told c.as_slice.result.now told c.as_slice.ensures)
-      ∙ ap (λ (l : List ℕ). l ++ flat_map entry_frames told) c.new-bytes.ensures.items
+    c.in_ok-put_all-in-Frames.ensures ∙ ap (λ (l : List ℕ). c.new-bytes.result.items ++ l) (frames_told c.as_slice.result.now told c.as_slice.ensures)
+    ∙ ap (λ (l : List ℕ). l ++ flat_map entry_frames told) c.new-bytes.ensures.items
     )
     ∙ sym (ap (λ (k : Keep). kept_as k told) c.in-Frames.is)
