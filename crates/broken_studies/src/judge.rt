@@ -2,6 +2,7 @@
 
 use crate::entry::{Entry, texts};
 use abides_run::{Status, run};
+use anyhow::{Result, ensure};
 use outside::{Counted, Memory, MemoryLibrary, MemorySink, OpenGate, Steps};
 use std::alloc::{AllocError, Global};
 use std::sync::Wait;
@@ -34,12 +35,13 @@ fn sink(alloc: Global) -> Result<MemorySink, AllocError> {
     }
 }
 
-/// The status with which a check of the study ends.
+/// The status with which a check of the study ends. One that refuses writes a line to the notes and nothing else, any other
+/// a line to the output and nothing else; it is an error where that is not so.
 pub fn judged<R: Threads + Wait + Sync>(
     rt: &R,
     alloc: Global,
     study: &[Entry],
-) -> Result<Status, AllocError> {
+) -> Result<Status> {
     let mut words = Vec::with_capacity(alloc, 2)?;
     words.push(String::from_str(alloc, "check")?)?;
     words.push(String::from_str(alloc, "s")?)?;
@@ -59,5 +61,11 @@ pub fn judged<R: Threads + Wait + Sync>(
         &mut steps,
     );
     steps.close();
+    let told = (out.taken().ends_with(b"\n"), notes.taken().ends_with(b"\n"));
+    ensure!(
+        told == (status == Status::Ok, status != Status::Ok)
+            && (out.taken().is_empty() || notes.taken().is_empty()),
+        "told in the wrong place, {status:?}"
+    );
     Ok(status)
 }

@@ -56,6 +56,7 @@ fn rewinds_of_three_branches(rt: HostRuntime) -> Result<(), Fail> {
         ),
         ("rewind --places 128 s x:0000006", 420, 2749, 22),
         ("rewind s y:5 z:5 root:3", 1444, 12_977, 25),
+        ("rewind s x:0 x:6 y:0 y:6 z:0 z:6", 2495, 19_439, 30),
     ] {
         let (out, steps) = written(&rt, alloc, text.as_str(), line)?;
         let bytes = out.taken();

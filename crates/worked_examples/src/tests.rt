@@ -1,4 +1,4 @@
-use crate::runs::{library, run_over, run_past, sink};
+use crate::runs::{four_probes, library, run_over, run_past, sink};
 use crate::{EMPTY_RUN, TWO_WATCHERS};
 use abides_run::Status;
 use hold_gate::HoldGate;
@@ -137,6 +137,26 @@ fn three_branches_share_two_events_among_any_workers(rt: HostRuntime) -> Result<
         let gate = HoldGate::new(held, until, 100_000_000);
         let again = written(&rt, alloc, text.as_str(), "2", &gate, (3255, 18))?;
         assert!(rt; again.taken() == bytes, "{held} held");
+        assert_eq!(rt; (gate.exceeded(), gate.passes()), (false, 5));
+    }
+    Ok(())
+}
+
+// A table and a rewind have as many workers as their words say too.
+#[test]
+fn tables_and_rewinds_have_their_workers(rt: HostRuntime) -> Result<(), Fail> {
+    let alloc = rt.alloc();
+    let text = study(alloc, KEY, 2000, 30, WATCHERS, BRANCHES)?;
+    let table = ["table", "s", "--workers", "2"];
+    let rewind = ["rewind", "s", "root:0", "--workers", "2"];
+    for words in [table.as_slice(), rewind.as_slice()] {
+        let gate = HoldGate::new(2, 3, 100_000_000);
+        let mut out = sink(alloc, 4096, 4096, &[])?;
+        let mut notes = sink(alloc, 100, 64, &[])?;
+        let held = library(alloc, text.as_bytes(), b"", &[])?;
+        let probes = four_probes(alloc)?;
+        let ended = run_past(&rt, alloc, words, held, probes, &gate, &mut out, &mut notes)?;
+        assert_eq!(rt; ended, (Status::Ok, 18));
         assert_eq!(rt; (gate.exceeded(), gate.passes()), (false, 5));
     }
     Ok(())
