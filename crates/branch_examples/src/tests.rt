@@ -200,12 +200,7 @@ fn course(alloc: Global, branches: Vec<Branch>) -> Result<Arc<Course>, Fail>
 }
 
 // The bundle of a course, from what was kept.
-fn bundle(
-    alloc: Global,
-    course: &Course,
-    keep: Keep,
-    ran: &Vec<Outcome>,
-) -> Result<Vec<u8>, Memory>
+fn bundle(alloc: Global, course: &Course, keep: Keep, ran: &Vec<Outcome>) -> Result<Vec<u8>, Memory>
     requires { map outcome_told ran.now.items ≡ outcomes_before course.now keep (length (segments_in course.now.plan)) }
 {
     let _ = keep;
@@ -221,12 +216,7 @@ fn bundle(
 }
 
 // The trace of a course's last branch, from what was kept.
-fn last(
-    alloc: Global,
-    course: &Course,
-    keep: Keep,
-    ran: &Vec<Outcome>,
-) -> Result<Vec<u8>, Memory>
+fn last(alloc: Global, course: &Course, keep: Keep, ran: &Vec<Outcome>) -> Result<Vec<u8>, Memory>
     requires { map outcome_told ran.now.items ≡ outcomes_before course.now keep (length (segments_in course.now.plan)) }
 {
     let _ = keep;
