@@ -6,10 +6,10 @@ use Rattle.branch_tree.specs.Segments.{segment_at}
 use Rattle.kernel_copy.specs.Courses.{CourseTold}
 use Rattle.kernel_copy.specs.Kept.{AreTimely, KeptTold, frames_of, kept_told}
 use Rattle.kernel_copy.specs.Segmentwise.{parent_end, segment_end, segment_entries}
+use Rattle.kernel_copy.proofs.Pieces.{frames_as, timely_as}
 use Rattle.kernel_copy.proofs.Trees.{course-tree}
 use Rattle.kernel_copy.proofs.Walks.{segment-copy}
 use Rattle.branch_bundle.proofs.Entries.{entries-more}
-use Rattle.branch_bundle.proofs.Kept.{frames-kept, timely-kept}
 use Rattle.branch_bundle.proofs.bundle.+put_entries.Goals as goal
 
 pub put-requires : goal.put-requires
@@ -18,7 +18,7 @@ put-requires g n c =
     let s = c.args.segment in
     let told = c.kept-kept.ensures ∙ c.requires.ran.kept s c.requires.segment in
     subst (λ (x : KeptTold). AreTimely x) (sym told)
-    (timely-kept c.requires.ran.keep (segment_entries k.opening k.plan (segment_at k.plan s)) (c.courses_stay_in_range.ensures.segments k s c.segment.ensures.course c.requires.segment))
+    (timely_as c.requires.ran.keep (segment_entries k.opening k.plan (segment_at k.plan s)) (c.courses_stay_in_range.ensures.segments k s c.segment.ensures.course c.requires.segment))
 
 pub put-requires-in-Some : goal.put-requires-in-Some
 put-requires-in-Some g n c =
@@ -26,7 +26,7 @@ put-requires-in-Some g n c =
     let s = c.args.segment in
     let told = c.kept-kept.ensures ∙ c.requires.ran.kept s c.requires.segment in
     subst (λ (x : KeptTold). AreTimely x) (sym told)
-    (timely-kept c.requires.ran.keep (segment_entries k.opening k.plan (segment_at k.plan s)) (c.courses_stay_in_range.ensures.segments k s c.segment.ensures.course c.requires.segment))
+    (timely_as c.requires.ran.keep (segment_entries k.opening k.plan (segment_at k.plan s)) (c.courses_stay_in_range.ensures.segments k s c.segment.ensures.course c.requires.segment))
 
 pub returns-in_ok-put-in-None : goal.returns-in_ok-put-in-None
 returns-in_ok-put-in-None g n c =
@@ -35,7 +35,7 @@ returns-in_ok-put-in-None g n c =
     let x = segment_at k.plan s in
     let bytes = c.args.out.now.items in
     let own = frames_of (kept_told c.kept-kept.result.now) in
-    let told = ap frames_of (c.kept-kept.ensures ∙ c.requires.ran.kept s c.requires.segment) ∙ frames-kept c.requires.ran.keep (segment_entries k.opening k.plan x) in
+    let told = ap frames_of (c.kept-kept.ensures ∙ c.requires.ran.kept s c.requires.segment) ∙ frames_as c.requires.ran.keep (segment_entries k.opening k.plan x) in
     let none : x.parent ≡ None = sym (ap (λ (y : Segment). y.parent) c.segment.ensures.value) ∙ c.in-None.is in
     let copy = segment-copy k.opening k.plan s (course-tree k c.segment.ensures.course) c.requires.segment in
     let before : [] ≡ flat_map entry_frames (parent_end k.opening k.plan x.parent).entries =
@@ -51,7 +51,7 @@ returns-in_ok-put-in-Some g n c =
     let q = c.in-Some.parent in
     let bytes = c.args.out.now.items in
     let own = frames_of (kept_told c.kept-kept.result.now) in
-    let told = ap frames_of (c.kept-kept.ensures ∙ c.requires.ran.kept s c.requires.segment) ∙ frames-kept c.requires.ran.keep (segment_entries k.opening k.plan x) in
+    let told = ap frames_of (c.kept-kept.ensures ∙ c.requires.ran.kept s c.requires.segment) ∙ frames_as c.requires.ran.keep (segment_entries k.opening k.plan x) in
     let some : x.parent ≡ Some q = sym (ap (λ (y : Segment). y.parent) c.segment.ensures.value) ∙ c.in-Some.is in
     let copy = segment-copy k.opening k.plan s (course-tree k c.segment.ensures.course) c.requires.segment in
     let prefix = flat_map entry_frames (segment_end k.opening k.plan (segment_at k.plan q)).entries in

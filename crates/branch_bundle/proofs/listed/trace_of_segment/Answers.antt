@@ -3,8 +3,8 @@ use Rattle.kernel_copy.specs.Kept.{kept_told}
 use Rattle.branch_bundle.proofs.Kept.{entries-only, no-frames}
 use Rattle.branch_bundle.proofs.listed.trace_of_segment.Goals as goal
 
-pub returns-in-Entries : goal.returns-in-Entries
-returns-in-Entries g c = entries-only _ _ (sym (ap kept_told c.in-Entries.is) ∙ c.kept.ensures ∙ c.requires.ran.entries c.args.segment c.requires.segment)
+pub returns : goal.returns
+returns g c = entries-only _ _ (sym (ap kept_told c.in-Entries.is) ∙ c.kept.ensures ∙ c.requires.ran.entries c.args.segment c.requires.segment)
 
 pub unreachable-requires : goal.unreachable-requires
 unreachable-requires g c = no-frames _ _ (sym (ap kept_told c.in-Frames.is) ∙ c.kept.ensures ∙ c.requires.ran.entries c.args.segment c.requires.segment)
