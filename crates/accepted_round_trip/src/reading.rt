@@ -4,7 +4,7 @@ ghost use Rattle.std.specs.Prelude.{◌≡◌, ◌≤◌, ◌^◌, Ok, Err, IfOk
 ghost use Rattle.toml.specs.View.{table_view};
 ghost use Rattle.study_tables.specs.declared.refusal.Refusal.{Refusal};
 ghost use Rattle.study_accept.specs.Accepted.{study_of, study_told};
-ghost use Rattle.branch_bundle.specs.Ran.{IsRunOf};
+ghost use Rattle.branch_bundle.specs.Ran.{IsListedRunOf};
 ghost use Rattle.bundle_reader.specs.Reads.{Gives};
 ghost use Rattle.bundle_reader.specs.Told.{bundle_told};
 ghost use Rattle.bundle_round_trip.specs.Back.{bundle_back};
@@ -14,13 +14,14 @@ use crate::laws::accepted_messages_are_spelled;
 use branch_bundle::Ran;
 use branch_bundle::laws::outcomes_are_a_run;
 use bundle_reader::{Bundle, BundleError};
-use kernel_copy::run_segments;
+use kernel_copy::{Keep, run_segments};
 use outside::{Ledger, Steps};
 use std::alloc::Global;
 use study_accept::{AcceptError, Study, accept};
 use study_file::RawStudy;
 
-/// Writes the bundle of an accepted study and reads it: the branches' full runs, their feed split as reading splits it.
+/// Writes the bundle of an accepted study, from a run that holds the entries themselves, and reads it: the branches' full
+/// runs, their feed split as reading splits it.
 ///
 /// # Errors
 /// Want of memory alone.
@@ -32,7 +33,7 @@ pub fn round_trip<W: Ran>(
     ran: &W,
 ) -> Result<Bundle, BundleError>
     requires accepted { study_of (table_view raw.now.table) (option_map (λ text. text.now) series) ≡ Ok (study_told study.now) }
-    requires ran { IsRunOf study.now.course.value (W.count ran.now) (W.entries_of ran.now) (W.closing_of ran.now) }
+    requires ran { IsListedRunOf study.now.course.value (W.count ran.now) (W.kept_of ran.now) (W.closing_of ran.now) }
     ensures { Gives (bundle_back study.now.course.value) result }
 {
     let _ = raw;
@@ -57,7 +58,7 @@ pub fn run_and_read<L: Ledger>(
     ensures refused { IfErr result (λ e. (r : Refusal) → e ≡ AcceptError.Refused r → study_of (table_view raw.now.table) (option_map (λ text. text.now) series.entry) ≡ Err r) }
 {
     let study = accept(alloc, raw, series)?;
-    let Ok(ran) = run_segments(alloc, &study.course, steps) else {
+    let Ok(ran) = run_segments(alloc, &study.course, Keep::Entries, steps) else {
         return Err(AcceptError::Memory);
     };
     outcomes_are_a_run();

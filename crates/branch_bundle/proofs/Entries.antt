@@ -1,20 +1,12 @@
 -- The entries up to a segment's end, and the trace of a branch.
-use Rattle.std.proofs.Common.{◌≡◌, ℕ, List, ◌++◌, All, map, sym, ap, ◌∙◌, subst, arith, append_assoc}
-use Rattle.std.proofs.lemmas.List.{get_or-map, length-map}
+use Rattle.std.proofs.Common.{◌≡◌, ℕ, List, ◌++◌, sym, ap, ◌∙◌, append_assoc}
 use Rattle.std.specs.List.{flat_map}
 use Rattle.std.proofs.lemmas.Grind.{flat_map-append}
-use Rattle.std.proofs.lemmas.List.Folds.{flat_map-map}
-use Rattle.market_types.specs.declared.entry.Entry.{Entry}
-use Rattle.market_types.specs.Told.{EntryTold, entry_told}
 use Rattle.bundle_frames.specs.Frames.{entry_frames}
 use Rattle.branch_tree.specs.Segments.{segment_at}
 use Rattle.kernel_core.specs.Until.{Run, behind}
 use Rattle.kernel_copy.specs.Courses.{CourseTold}
 use Rattle.kernel_copy.specs.Segmentwise.{parent_end, segment_end, segment_entries, segment_run}
-
--- the frames of entries are those of what they tell
-pub frames-told : (xs : List Entry) (ys : List EntryTold) → map entry_told xs ≡ ys → flat_map (λ (e : Entry). entry_frames (entry_told e)) xs ≡ flat_map entry_frames ys
-frames-told xs ys e = sym (flat_map-map entry_frames entry_told xs) ∙ ap (λ (zs : List EntryTold). flat_map entry_frames zs) e
 
 -- a segment's entries come behind those of its parent's end
 pub entries-more : (c : CourseTold) (s : ℕ) (before own bytes : List ℕ) →
@@ -30,10 +22,6 @@ entries-more c s before own bytes copy p q =
     ∙ ap (λ (zs : List ℕ). bytes ++ (flat_map entry_frames xs ++ zs)) q
     ∙ ap (λ (zs : List ℕ). bytes ++ zs) (sym (flat_map-append entry_frames xs ys))
     ∙ ap (λ (r : Run). bytes ++ flat_map entry_frames r.entries) (sym copy)
-
--- what holds of each entry as it is told
-pub all-told : (P : EntryTold → Type 0) (xs : List Entry) → All P (map entry_told xs) → All (λ (x : Entry). P (entry_told x)) xs
-all-told P xs all = λ i d within. subst P (get_or-map entry_told xs i d (entry_told d) within) (all i (entry_told d) (omega (arith, length-map xs entry_told)))
 
 -- four parts, one after another, behind what stands there
 pub behind-four : (bytes a b c d : List ℕ) → (((bytes ++ a) ++ b) ++ c) ++ d ≡ bytes ++ (((a ++ b) ++ c) ++ d)

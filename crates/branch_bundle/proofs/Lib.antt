@@ -1,3 +1,4 @@
 pub mod Feeds
 pub mod Entries
+pub mod Kept
 pub mod Held

@@ -2,6 +2,7 @@
 use Rattle.std.specs.Prelude.{ℕ, List, [], map, slice_index_or}
 use Rattle.bundle_frames.specs.declared.closing.Closing.{Closing}
 use Rattle.kernel_copy.specs.declared.run.Outcome.{Outcome}
+use Rattle.kernel_copy.specs.Kept.{entries}
 use Rattle.kernel_copy.specs.Outcomes.{OutcomeTold, outcome_told}
 
 -- the outcome of no segment
@@ -14,7 +15,7 @@ no_closing = record {
 }
 
 abbrev pub no_outcome : OutcomeTold
-no_outcome = record { segment = 0; entries = []; events = 0; closing = no_closing }
+no_outcome = record { segment = 0; kept = entries []; events = 0; closing = no_closing }
 
 -- what is told of a segment
 abbrev pub outcome_at : List OutcomeTold → ℕ → OutcomeTold

@@ -11,7 +11,7 @@ ghost use Rattle.branch_bundle.specs.Ran.{IsRunOf};
 
 use crate::feed::{put_opening, system_event};
 use crate::ran::Ran;
-use bundle_frames::{Written, put_all, put_branch, put_header};
+use bundle_frames::{Written, put_branch, put_header};
 use kernel_copy::Course;
 use kernel_copy::laws::courses_stay_in_range;
 use market_closing::laws::agents_have_all_positions;
@@ -69,19 +69,19 @@ fn put_entries<W: Ran>(
     segment: u32,
 ) -> Result<(), Memory>
     requires segment { segment < length (segments_in course.now.plan) }
-    requires ran { IsRunOf course.now (W.count ran.now) (W.entries_of ran.now) (W.closing_of ran.now) }
+    requires ran { IsRunOf course.now (W.count ran.now) (W.kept_of ran.now) (W.closing_of ran.now) }
     ensures { OnOk result (out.new.items ≡ out.old.items ++ flat_map entry_frames (segment_end course.now.opening course.now.plan (segment_at course.now.plan segment)).entries) }
 {
     courses_stay_in_range();
-    let entries = ran.entries(segment).as_slice();
+    let kept = ran.kept(segment);
     match course.segment(segment).parent {
         None => {
-            put_all(out, entries)?;
+            kept.put(out)?;
             Ok(())
         }
         Some(parent) => {
             put_entries(out, course, ran, parent)?;
-            put_all(out, entries)?;
+            kept.put(out)?;
             Ok(())
         }
     }
@@ -95,7 +95,7 @@ fn put_ending<W: Ran>(
     segment: u32,
 ) -> Result<(), Memory>
     requires segment { segment < length (segments_in course.now.plan) }
-    requires ran { IsRunOf course.now (W.count ran.now) (W.entries_of ran.now) (W.closing_of ran.now) }
+    requires ran { IsRunOf course.now (W.count ran.now) (W.kept_of ran.now) (W.closing_of ran.now) }
     ensures { OnOk result (out.new.items ≡ out.old.items ++ end_of_trace course.now (segment_end course.now.opening course.now.plan (segment_at course.now.plan segment))) }
 {
     courses_stay_in_range();
@@ -110,7 +110,7 @@ fn put_ending<W: Ran>(
 // Appends the trace of a branch.
 fn put_trace<W: Ran>(out: &mut Vec<u8>, course: &Course, ran: &W, branch: u16) -> Result<(), Memory>
     requires branch { branch < length course.now.plan.branches }
-    requires ran { IsRunOf course.now (W.count ran.now) (W.entries_of ran.now) (W.closing_of ran.now) }
+    requires ran { IsRunOf course.now (W.count ran.now) (W.kept_of ran.now) (W.closing_of ran.now) }
     ensures { OnOk result (out.new.items ≡ out.old.items ++ trace_of course.now branch) }
 {
     let last = course.last_segment(branch);
@@ -125,7 +125,7 @@ fn put_trace<W: Ran>(out: &mut Vec<u8>, course: &Course, ran: &W, branch: u16) -
 fn fill<W: Ran>(out: &mut Vec<u8>, course: &Course, ran: &W, branch: u16) -> Result<(), Memory>
     requires empty { out.old.items ≡ [] }
     requires branch { branch < length course.now.plan.branches }
-    requires ran { IsRunOf course.now (W.count ran.now) (W.entries_of ran.now) (W.closing_of ran.now) }
+    requires ran { IsRunOf course.now (W.count ran.now) (W.kept_of ran.now) (W.closing_of ran.now) }
     ensures filled { OnOk result (out.new.items ≡ trace_of course.now branch) }
     ensures refused { OnErr result (out.new.items ≡ []) }
 {
@@ -150,7 +150,7 @@ pub fn write_branch<W: Ran>(
     out: &mut Vec<u8>,
 ) -> Result<(), Memory>
     requires branch { branch < length course.now.plan.branches }
-    requires ran { IsRunOf course.now (W.count ran.now) (W.entries_of ran.now) (W.closing_of ran.now) }
+    requires ran { IsRunOf course.now (W.count ran.now) (W.kept_of ran.now) (W.closing_of ran.now) }
     ensures appended { OnOk result (out.new.items ≡ out.old.items ++ trace_of course.now branch) }
     ensures refused { OnErr result (out.new.items ≡ out.old.items) }
 {

@@ -4,9 +4,11 @@
 mod bundle;
 mod feed;
 pub mod laws;
+mod listed;
 mod outcomes;
 mod ran;
 pub mod worked;
 
 pub use bundle::{put_branch_head, write_branch, write_header};
+pub use listed::trace_of_segment;
 pub use ran::Ran;

@@ -2,8 +2,7 @@
 
 use crate::ran::Ran;
 use bundle_frames::Closing;
-use kernel_copy::Outcome;
-use market_types::Trace;
+use kernel_copy::{Kept, Outcome};
 
 impl Ran for Vec<Outcome> {
     ghost use Rattle.std.specs.Prelude.{length};
@@ -11,12 +10,12 @@ impl Ran for Vec<Outcome> {
 
     ghost count = { λ v. length v.items };
 
-    ghost entries_of = { λ v s. (outcome_at (all_told v.items) s).entries };
+    ghost kept_of = { λ v s. (outcome_at (all_told v.items) s).kept };
 
     ghost closing_of = { λ v s. (outcome_at (all_told v.items) s).closing };
 
-    fn entries(&self, segment: u32) -> &Trace {
-        &self[segment as usize].entries
+    fn kept(&self, segment: u32) -> &Kept {
+        &self[segment as usize].kept
     }
 
     fn closing(&self, segment: u32) -> &Closing {

@@ -14,7 +14,7 @@ use branch_bundle::laws::outcomes_are_a_run;
 use branch_bundle::{write_branch, write_header};
 use branch_tree::{Branch, Name, plan};
 use bundle_frames::put_end;
-use kernel_copy::{Course, Outcome, run_segments};
+use kernel_copy::{Course, Keep, Kept, Outcome, run_segments};
 use kernel_core::Kernel;
 use market_closing::closing_of;
 use market_opening::Opening;
@@ -199,10 +199,11 @@ fn course(alloc: Global, branches: Vec<Branch>) -> Result<Arc<Course>, Fail>
     Ok(Arc::new(alloc, Course::new(opening, plan))?)
 }
 
-// The bundle of a course.
-fn bundle(alloc: Global, course: &Course, ran: &Vec<Outcome>) -> Result<Vec<u8>, Memory>
-    requires { map outcome_told ran.now.items ≡ outcomes_before course.now (length (segments_in course.now.plan)) }
+// The bundle of a course, from what was kept.
+fn bundle(alloc: Global, course: &Course, keep: Keep, ran: &Vec<Outcome>) -> Result<Vec<u8>, Memory>
+    requires { map outcome_told ran.now.items ≡ outcomes_before course.now keep (length (segments_in course.now.plan)) }
 {
+    let _ = keep;
     outcomes_are_a_run();
     let count = course.plan().branches().len();
     let mut out = Vec::new(alloc);
@@ -214,10 +215,11 @@ fn bundle(alloc: Global, course: &Course, ran: &Vec<Outcome>) -> Result<Vec<u8>,
     Ok(out)
 }
 
-// The trace of a course's last branch.
-fn last(alloc: Global, course: &Course, ran: &Vec<Outcome>) -> Result<Vec<u8>, Memory>
-    requires { map outcome_told ran.now.items ≡ outcomes_before course.now (length (segments_in course.now.plan)) }
+// The trace of a course's last branch, from what was kept.
+fn last(alloc: Global, course: &Course, keep: Keep, ran: &Vec<Outcome>) -> Result<Vec<u8>, Memory>
+    requires { map outcome_told ran.now.items ≡ outcomes_before course.now keep (length (segments_in course.now.plan)) }
 {
+    let _ = keep;
     outcomes_are_a_run();
     let count = course.plan().branches().len();
     let mut out = Vec::new(alloc);
@@ -234,23 +236,30 @@ struct Simulated {
     last: Vec<u8>,
 }
 
-// Runs the course of these branches.
-fn run(alloc: Global, branches: Vec<Branch>) -> Result<Simulated, Fail>
+// Runs the course of these branches, with this kept of the entries.
+fn run_keeping(alloc: Global, keep: Keep, branches: Vec<Branch>) -> Result<Simulated, Fail>
     requires { AreBranches branches.items }
 {
     let course = course(alloc, branches)?;
     let mut steps: Steps<Counted> = Steps::new();
-    let ran = run_segments(alloc, &course, &mut steps);
+    let ran = run_segments(alloc, &course, keep, &mut steps);
     let ticks = steps.close();
     let outcomes = ran?;
-    let bundle = bundle(alloc, &course, &outcomes)?;
-    let last = last(alloc, &course, &outcomes)?;
+    let bundle = bundle(alloc, &course, keep, &outcomes)?;
+    let last = last(alloc, &course, keep, &outcomes)?;
     Ok(Simulated {
         ticks,
         outcomes,
         bundle,
         last,
     })
+}
+
+// Runs the course of these branches, with the entries kept.
+fn run(alloc: Global, branches: Vec<Branch>) -> Result<Simulated, Fail>
+    requires { AreBranches branches.items }
+{
+    run_keeping(alloc, Keep::Entries, branches)
 }
 
 // The length of some bytes, and a number that a change of any one of them changes.
@@ -262,12 +271,20 @@ fn digest(bytes: &[u8]) -> (usize, u64) {
     (bytes.len(), digest)
 }
 
+// How many entries an outcome holds.
+fn held(outcome: &Outcome) -> usize {
+    match &outcome.kept {
+        Kept::Entries(trace) => trace.len(),
+        Kept::Frames(_) => 0,
+    }
+}
+
 // Of each outcome how many entries it has, and the count of events and the time of its end.
 fn ends(alloc: Global, outcomes: &[Outcome]) -> Result<Vec<(usize, u32, Time)>, Memory> {
     let mut ends = Vec::new(alloc);
     for outcome in outcomes {
         let time = outcome.closing.counts.time;
-        ends.push((outcome.entries.len(), outcome.events, time))?;
+        ends.push((held(outcome), outcome.events, time))?;
     }
     Ok(ends)
 }
@@ -353,13 +370,21 @@ fn edits_in_both_orders(rt: HostRuntime) -> Result<(), Fail> {
     Ok(())
 }
 
-// A watcher that is silenced at event 2 hears its quote at 1010 and doesn't count it.
+// A branch in which the first watcher is silenced at event 2.
+fn silenced(alloc: Global) -> Result<Vec<Branch>, Memory>
+    ensures { IfOk result (λ v. AreBranches v.items) }
+{
+    let mut branches = root(alloc)?;
+    fork(&mut branches, b"x", 0, 2, silence(alloc)?)?;
+    Ok(branches)
+}
+
+// A watcher that is silenced at event 2 hears its quote at 1010 and doesn't count it. Where the frames of the entries are kept
+// and not they themselves, the bundle is the same.
 #[test]
 fn a_silenced_watcher(rt: HostRuntime) -> Result<(), Fail> {
     let alloc = rt.alloc();
-    let mut branches = root(alloc)?;
-    fork(&mut branches, b"x", 0, 2, silence(alloc)?)?;
-    let run = run(alloc, branches)?;
+    let run = run(alloc, silenced(alloc)?)?;
     assert_eq!(rt; (run.ticks, run.outcomes.len()), (10, 3));
     let first = heard(run.outcomes.as_slice(), 2, 1);
     let second = heard(run.outcomes.as_slice(), 2, 2);
@@ -368,6 +393,9 @@ fn a_silenced_watcher(rt: HostRuntime) -> Result<(), Fail> {
         (Some((true, 1010, 0)), Some((false, 1010, 1)))
     );
     assert_eq!(rt; digest(run.bundle.as_slice()), (1637, 407_337_604_610));
+    let frames = run_keeping(alloc, Keep::Frames, silenced(alloc)?)?;
+    assert_eq!(rt; frames.ticks, run.ticks);
+    assert!(rt; frames.bundle.as_slice() == run.bundle.as_slice());
     Ok(())
 }
 

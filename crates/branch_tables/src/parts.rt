@@ -4,10 +4,10 @@ ghost use Rattle.std.specs.Prelude.{◌≡◌, ◌<◌, IfOk, length};
 ghost use Rattle.std.specs.List.{flat_map};
 ghost use Rattle.branch_tree.specs.Segments.{segments_in, segment_at};
 ghost use Rattle.kernel_copy.specs.Segmentwise.{segment_end};
-ghost use Rattle.branch_bundle.specs.Ran.{IsRunOf};
+ghost use Rattle.branch_bundle.specs.Ran.{IsListedRunOf};
 ghost use Rattle.branch_tables.specs.Tables.{run_of};
 
-use branch_bundle::Ran;
+use branch_bundle::{Ran, trace_of_segment};
 use kernel_copy::Course;
 use market_types::{Memory, Trace};
 use std::alloc::Global;
@@ -20,10 +20,10 @@ fn parts_to<'a, W: Ran>(
     segment: u32,
 ) -> Result<Vec<&'a Trace>, Memory>
     requires segment { segment < length (segments_in course.now.plan) }
-    requires ran { IsRunOf course.now (W.count ran.now) (W.entries_of ran.now) (W.closing_of ran.now) }
+    requires ran { IsListedRunOf course.now (W.count ran.now) (W.kept_of ran.now) (W.closing_of ran.now) }
     ensures { IfOk result (λ v. flat_map (λ t. t.now.list) v.items ≡ (segment_end course.now.opening course.now.plan (segment_at course.now.plan segment)).entries) }
 {
-    let own = ran.entries(segment);
+    let own = trace_of_segment(course, ran, segment);
     match course.segment(segment).parent {
         None => {
             let mut parts = Vec::new(alloc);
@@ -46,7 +46,7 @@ pub fn parts_of<'a, W: Ran>(
     branch: u16,
 ) -> Result<Vec<&'a Trace>, Memory>
     requires branch { branch < length course.now.plan.branches }
-    requires ran { IsRunOf course.now (W.count ran.now) (W.entries_of ran.now) (W.closing_of ran.now) }
+    requires ran { IsListedRunOf course.now (W.count ran.now) (W.kept_of ran.now) (W.closing_of ran.now) }
     ensures { IfOk result (λ v. flat_map (λ t. t.now.list) v.items ≡ (run_of course.now branch).entries) }
 {
     let _ = course.opening();

@@ -3,7 +3,7 @@
 ghost use Rattle.std.specs.Prelude.{◌≡◌, ◌<◌, IfOk, length, map};
 ghost use Rattle.branch_tree.specs.Plan.{parent_at};
 ghost use Rattle.kernel_core.specs.Step.{end_of};
-ghost use Rattle.branch_bundle.specs.Ran.{IsRunOf};
+ghost use Rattle.branch_bundle.specs.Ran.{IsListedRunOf};
 ghost use Rattle.branch_tables.specs.Tables.{column, difference, ending_of, lettered, parent_name, row_of, run_of};
 
 use crate::laws::runs_are_numbered;
@@ -25,7 +25,7 @@ fn columns<W: Ran>(
     probes: &mut [Box<dyn Probe>],
 ) -> Result<Vec<i128>, Memory>
     requires branch { branch < length course.now.plan.branches }
-    requires ran { IsRunOf course.now (W.count ran.now) (W.entries_of ran.now) (W.closing_of ran.now) }
+    requires ran { IsListedRunOf course.now (W.count ran.now) (W.kept_of ran.now) (W.closing_of ran.now) }
     ensures values { IfOk result (λ v. v.items ≡ map (column course.now branch) (map (λ p. meaning p) probes.old)) }
     ensures meanings { map (λ p. meaning p) probes.new ≡ map (λ p. meaning p) probes.old }
     ensures titles { map (λ p. title p) probes.new ≡ map (λ p. title p) probes.old }
@@ -67,7 +67,7 @@ fn first_difference<W: Ran>(
     branch: u16,
 ) -> Result<u32, Memory>
     requires branch { branch < length course.now.plan.branches }
-    requires ran { IsRunOf course.now (W.count ran.now) (W.entries_of ran.now) (W.closing_of ran.now) }
+    requires ran { IsListedRunOf course.now (W.count ran.now) (W.kept_of ran.now) (W.closing_of ran.now) }
     ensures { IfOk result (λ d. d ≡ difference course.now branch) }
 {
     if branch == 0 {
@@ -94,7 +94,7 @@ fn ending(letter: u8) -> End
 // How many events the full run of a branch has, and what ended it.
 fn ended<W: Ran>(course: &Course, ran: &W, branch: u16) -> (u32, End)
     requires branch { branch < length course.now.plan.branches }
-    requires ran { IsRunOf course.now (W.count ran.now) (W.entries_of ran.now) (W.closing_of ran.now) }
+    requires ran { IsListedRunOf course.now (W.count ran.now) (W.kept_of ran.now) (W.closing_of ran.now) }
     ensures events { result.0 ≡ (run_of course.now branch).state.events }
     ensures end { result.1 ≡ ending_of (end_of course.now.opening (run_of course.now branch).state) }
 {
@@ -115,7 +115,7 @@ pub fn row<W: Ran>(
     probes: &mut [Box<dyn Probe>],
 ) -> Result<TableRow, Memory>
     requires branch { branch < length course.now.plan.branches }
-    requires ran { IsRunOf course.now (W.count ran.now) (W.entries_of ran.now) (W.closing_of ran.now) }
+    requires ran { IsListedRunOf course.now (W.count ran.now) (W.kept_of ran.now) (W.closing_of ran.now) }
     ensures row { IfOk result (λ r. r ≡ row_of course.now (map (λ p. meaning p) probes.old) branch) }
     ensures meanings { map (λ p. meaning p) probes.new ≡ map (λ p. meaning p) probes.old }
     ensures titles { map (λ p. title p) probes.new ≡ map (λ p. title p) probes.old }

@@ -6,13 +6,14 @@ ghost use Rattle.market_opening.specs.Opening.{IsOpening};
 ghost use Rattle.market_opening.specs.Worked.{watcher};
 ghost use Rattle.kernel_copy.specs.Courses.{AreEdits};
 ghost use Rattle.kernel_copy.specs.Outcomes.{outcome_told, outcomes_before};
+ghost use Rattle.kernel_copy.specs.declared.kept.Keep.TheVariants as keeping;
 ghost use Rattle.branch_tables.specs.Worked.{AreBranches, busy, small, three_watchers, two_watchers};
 
 use crate::study_table;
 use agent_shell::{Kind, TraderSetting};
 use branch_bundle::laws::outcomes_are_a_run;
 use branch_tree::{Branch, Name, plan};
-use kernel_copy::{Course, Outcome, run_segments};
+use kernel_copy::{Course, Keep, Outcome, run_segments};
 use market_opening::Opening;
 use market_opening::worked::{markets_are_openings, opening};
 use market_rules::Edit;
@@ -189,10 +190,10 @@ fn course(alloc: Global, opening: Opening, branches: Vec<Branch>) -> Result<Arc<
 
 // What the segments of a course give.
 fn ran(alloc: Global, course: &Arc<Course>) -> Result<Vec<Outcome>, Fail>
-    ensures { IfOk result (λ v. map outcome_told v.items ≡ outcomes_before course.now.value (length (segments_in course.now.value.plan))) }
+    ensures { IfOk result (λ v. map outcome_told v.items ≡ outcomes_before course.now.value keeping.Entries (length (segments_in course.now.value.plan))) }
 {
     let mut steps: Steps<Counted> = Steps::new();
-    let ran = run_segments(alloc, course, &mut steps);
+    let ran = run_segments(alloc, course, Keep::Entries, &mut steps);
     let _ = steps.close();
     Ok(ran?)
 }

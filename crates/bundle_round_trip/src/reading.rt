@@ -2,7 +2,7 @@
 
 ghost use Rattle.std.specs.Prelude.{◌≡◌};
 ghost use Rattle.branch_bundle.specs.Bundle.{bundle_of};
-ghost use Rattle.branch_bundle.specs.Ran.{IsRunOf};
+ghost use Rattle.branch_bundle.specs.Ran.{IsListedRunOf};
 ghost use Rattle.bundle_reader.specs.Reads.{Gives};
 ghost use Rattle.bundle_round_trip.specs.Back.{bundle_back};
 ghost use Rattle.bundle_round_trip.specs.Ranges.{IsInRange};
@@ -12,6 +12,7 @@ use crate::laws::bundles_come_back;
 use crate::typed_runs::runs_fit;
 use crate::writing::written;
 use branch_bundle::Ran;
+use branch_bundle::laws::listed_runs_are_runs;
 use bundle_reader::{Bundle, BundleError, read_bundle};
 use kernel_copy::Course;
 use market_types::Memory;
@@ -31,16 +32,18 @@ pub fn read_written(alloc: Global, course: &Course, bytes: &[u8]) -> Result<Bund
     read_bundle(alloc, bytes)
 }
 
-/// Writes the bundle of a study and reads it. The orders that its edits inject are ones that a message can hold.
+/// Writes the bundle of a study, from a run that holds the entries themselves, and reads it. The orders that its edits inject
+/// are ones that a message can hold.
 ///
 /// # Errors
 /// Want of memory alone.
 pub fn round_trip<W: Ran>(alloc: Global, course: &Course, ran: &W) -> Result<Bundle, BundleError>
-    requires ran { IsRunOf course.now (W.count ran.now) (W.entries_of ran.now) (W.closing_of ran.now) }
+    requires ran { IsListedRunOf course.now (W.count ran.now) (W.kept_of ran.now) (W.closing_of ran.now) }
     requires spelled { AreMessagesSpelled course.now }
     ensures { Gives (bundle_back course.now) result }
 {
     runs_fit(course, ran);
+    listed_runs_are_runs();
     match written(alloc, course, ran) {
         Ok(bytes) => read_written(alloc, course, &bytes),
         Err(Memory) => Err(BundleError::Memory),

@@ -5,7 +5,7 @@ ghost use Rattle.branch_tree.specs.Names.{IsNameLength};
 ghost use Rattle.branch_tree.specs.Segments.{segment_at, segments_in};
 ghost use Rattle.market_closing.specs.Closing.{closing_at};
 ghost use Rattle.kernel_copy.specs.Segmentwise.{segment_end};
-ghost use Rattle.branch_bundle.specs.Ran.{IsRunOf};
+ghost use Rattle.branch_bundle.specs.Ran.{IsListedRunOf, IsRunOf};
 ghost use Rattle.frame_reader.specs.Frames.{HasRanges};
 ghost use Rattle.bundle_reader.specs.Bundle.{closing_list};
 ghost use Rattle.bundle_round_trip.specs.Fields.{IsTyped, IsTypedRun};
@@ -15,7 +15,8 @@ ghost use Rattle.bundle_round_trip.specs.Spelled.{AreMessagesSpelled};
 use crate::laws::texts_stay_in_range;
 use crate::typed_closing::closing_fits;
 use crate::typed_entries::entries_fit;
-use branch_bundle::Ran;
+use branch_bundle::laws::listed_runs_are_runs;
+use branch_bundle::{Ran, trace_of_segment};
 use branch_tree::Branch;
 use kernel_copy::Course;
 use kernel_copy::laws::courses_stay_in_range;
@@ -24,10 +25,10 @@ use market_closing::laws::agents_have_all_positions;
 // The entries of the segments from the root's first to this one.
 fn segments_fit<W: Ran>(course: &Course, ran: &W, segment: u32)
     requires segment { segment < length (segments_in course.now.plan) }
-    requires ran { IsRunOf course.now (W.count ran.now) (W.entries_of ran.now) (W.closing_of ran.now) }
+    requires ran { IsListedRunOf course.now (W.count ran.now) (W.kept_of ran.now) (W.closing_of ran.now) }
     ensures { All IsTyped (segment_end course.now.opening course.now.plan (segment_at course.now.plan segment)).entries }
 {
-    entries_fit(ran.entries(segment).as_slice());
+    entries_fit(trace_of_segment(course, ran, segment).as_slice());
     match course.segment(segment).parent {
         None => (),
         Some(parent) => segments_fit(course, ran, parent),
@@ -37,7 +38,7 @@ fn segments_fit<W: Ran>(course: &Course, ran: &W, segment: u32)
 // The closing of a segment's end.
 fn ending_fits<W: Ran>(course: &Course, ran: &W, segment: u32)
     requires segment { segment < length (segments_in course.now.plan) }
-    requires ran { IsRunOf course.now (W.count ran.now) (W.entries_of ran.now) (W.closing_of ran.now) }
+    requires ran { IsRunOf course.now (W.count ran.now) (W.kept_of ran.now) (W.closing_of ran.now) }
     ensures { All (HasRanges (Some (length course.now.opening.stocks))) (closing_list (closing_at course.now.opening (segment_end course.now.opening course.now.plan (segment_at course.now.plan segment)).state)) }
 {
     courses_stay_in_range();
@@ -49,9 +50,10 @@ fn ending_fits<W: Ran>(course: &Course, ran: &W, segment: u32)
 // A branch's full run.
 fn branch_fits<W: Ran>(course: &Course, ran: &W, branch: u16)
     requires branch { branch < length course.now.plan.branches }
-    requires ran { IsRunOf course.now (W.count ran.now) (W.entries_of ran.now) (W.closing_of ran.now) }
+    requires ran { IsListedRunOf course.now (W.count ran.now) (W.kept_of ran.now) (W.closing_of ran.now) }
     ensures { IsTypedRun course.now branch }
 {
+    listed_runs_are_runs();
     let _ = course.opening();
     let last = course.last_segment(branch);
     segments_fit(course, ran, last);
@@ -60,7 +62,7 @@ fn branch_fits<W: Ran>(course: &Course, ran: &W, branch: u16)
 
 // The full runs of all branches.
 fn branches_fit<W: Ran>(course: &Course, ran: &W)
-    requires { IsRunOf course.now (W.count ran.now) (W.entries_of ran.now) (W.closing_of ran.now) }
+    requires { IsListedRunOf course.now (W.count ran.now) (W.kept_of ran.now) (W.closing_of ran.now) }
     ensures { (b : ℕ) → b < length course.now.plan.branches → IsTypedRun course.now b }
 {
     let all = course.plan().branches();
@@ -82,7 +84,7 @@ fn names_fit(branches: &[Branch])
 /// What a run holds has its fields in their ranges where the orders have that edits inject: numbers and names are so by their
 /// types, and all other texts are the market's.
 pub(crate) fn runs_fit<W: Ran>(course: &Course, ran: &W)
-    requires { IsRunOf course.now (W.count ran.now) (W.entries_of ran.now) (W.closing_of ran.now) }
+    requires { IsListedRunOf course.now (W.count ran.now) (W.kept_of ran.now) (W.closing_of ran.now) }
     ensures { AreMessagesSpelled course.now → IsInRange course.now }
 {
     courses_stay_in_range();

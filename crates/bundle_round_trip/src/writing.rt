@@ -12,7 +12,7 @@ use std::alloc::Global;
 
 // Appends the traces of all branches, one after another.
 fn put_branches<W: Ran>(course: &Course, ran: &W, out: &mut Vec<u8>) -> Result<(), Memory>
-    requires { IsRunOf course.now (W.count ran.now) (W.entries_of ran.now) (W.closing_of ran.now) }
+    requires { IsRunOf course.now (W.count ran.now) (W.kept_of ran.now) (W.closing_of ran.now) }
     ensures { OnOk result (out.new.items ≡ out.old.items ++ traces_of course.now (length course.now.plan.branches)) }
 {
     let count = course.plan().branches().len() as u16;
@@ -27,7 +27,7 @@ fn put_branches<W: Ran>(course: &Course, ran: &W, out: &mut Vec<u8>) -> Result<(
 /// # Errors
 /// Want of memory alone.
 pub fn written<W: Ran>(alloc: Global, course: &Course, ran: &W) -> Result<Vec<u8>, Memory>
-    requires { IsRunOf course.now (W.count ran.now) (W.entries_of ran.now) (W.closing_of ran.now) }
+    requires { IsRunOf course.now (W.count ran.now) (W.kept_of ran.now) (W.closing_of ran.now) }
     ensures { IfOk result (λ v. v.items ≡ bundle_of course.now) }
 {
     let branches = course.plan().branches().len() as u16;

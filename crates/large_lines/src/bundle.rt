@@ -32,7 +32,7 @@ fn with_branch<W: Ran>(
     tally: Tally,
 ) -> Result<Tally, Memory>
     requires branch { branch < length course.now.plan.branches }
-    requires ran { IsRunOf course.now (W.count ran.now) (W.entries_of ran.now) (W.closing_of ran.now) }
+    requires ran { IsRunOf course.now (W.count ran.now) (W.kept_of ran.now) (W.closing_of ran.now) }
     requires room { tally.count ≤ 2 ^ 96 }
     requires small { tally.total ≤ 255 * tally.count }
     ensures { IfOk result (λ t. (before : List ℕ) (parts : ℕ) → IsTallyOf tally before parts → IsTallyOf t (before ++ trace_of course.now branch) (parts + 1)) }
@@ -49,7 +49,7 @@ fn with_branches<W: Ran>(
     ran: &W,
     mut tally: Tally,
 ) -> Result<Tally, Memory>
-    requires ran { IsRunOf course.now (W.count ran.now) (W.entries_of ran.now) (W.closing_of ran.now) }
+    requires ran { IsRunOf course.now (W.count ran.now) (W.kept_of ran.now) (W.closing_of ran.now) }
     requires header { IsTallyOf tally (header_of course.now) 1 }
     ensures { IfOk result (λ t. IsTallyOf t (header_of course.now ++ traces_of course.now (length course.now.plan.branches)) (length course.now.plan.branches + 1)) }
 {
@@ -81,7 +81,7 @@ pub(crate) fn tally_of_bundle<W: Ran>(
     course: &Course,
     ran: &W,
 ) -> Result<Tally, Memory>
-    requires { IsRunOf course.now (W.count ran.now) (W.entries_of ran.now) (W.closing_of ran.now) }
+    requires { IsRunOf course.now (W.count ran.now) (W.kept_of ran.now) (W.closing_of ran.now) }
     ensures count { IfOk result (λ t. t.count ≡ bundle_size course.now) }
     ensures total { IfOk result (λ t. t.total ≡ byte_sum course.now) }
 {

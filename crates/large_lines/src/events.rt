@@ -11,7 +11,7 @@ use kernel_copy::Course;
 // How many events a branch's full run has.
 fn events_of_branch<W: Ran>(course: &Course, ran: &W, branch: u16) -> u32
     requires branch { branch < length course.now.plan.branches }
-    requires ran { IsRunOf course.now (W.count ran.now) (W.entries_of ran.now) (W.closing_of ran.now) }
+    requires ran { IsRunOf course.now (W.count ran.now) (W.kept_of ran.now) (W.closing_of ran.now) }
     ensures { result ≡ (full_run course.now.opening course.now.plan branch).state.events }
 {
     let _ = course.opening();
@@ -20,7 +20,7 @@ fn events_of_branch<W: Ran>(course: &Course, ran: &W, branch: u16) -> u32
 
 /// How many events the full runs of all branches have.
 pub(crate) fn events_of_all<W: Ran>(course: &Course, ran: &W) -> u64
-    requires { IsRunOf course.now (W.count ran.now) (W.entries_of ran.now) (W.closing_of ran.now) }
+    requires { IsRunOf course.now (W.count ran.now) (W.kept_of ran.now) (W.closing_of ran.now) }
     ensures { result ≡ events_before course.now (length course.now.plan.branches) }
 {
     let count = course.plan().branches().len() as u16;

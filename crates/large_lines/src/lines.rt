@@ -43,7 +43,7 @@ pub fn big_lines<W: Ran>(
     ran: &W,
     distinct: u64,
 ) -> Result<String, Memory>
-    requires ran { IsRunOf course.now (W.count ran.now) (W.entries_of ran.now) (W.closing_of ran.now) }
+    requires ran { IsRunOf course.now (W.count ran.now) (W.kept_of ran.now) (W.closing_of ran.now) }
     requires distinct { distinct ≡ segmentwise.distinct course.now.opening course.now.plan }
     ensures { IfOk result (λ text. string_bytes text ≡ big_lines_of study course.now) }
 {

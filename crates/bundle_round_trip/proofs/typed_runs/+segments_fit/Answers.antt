@@ -15,7 +15,7 @@ pub returns-in-None : goal.returns-in-None
 returns-in-None g n c =
     let k : CourseTold = c.args.course.now in
     let s = c.args.segment in
-    let told = c.as_slice.ensures ∙ c.entries.ensures ∙ c.requires.ran.entries s c.requires.segment in
+    let told = c.as_slice.ensures ∙ c.trace_of_segment.ensures in
     let none : (segment_at k.plan s).parent ≡ None = sym (ap (λ (y : Segment). y.parent) c.segment.ensures.value) ∙ c.in-None.is in
     let before = subst (λ (y : Option ℕ). All IsTyped (parent_end k.opening k.plan y).entries) (sym none) (All-nil IsTyped) in
     entries-behind k s (segment-copy k.opening k.plan s (course-tree k c.segment.ensures.course) c.requires.segment) before
@@ -25,7 +25,7 @@ pub returns-in-Some : goal.returns-in-Some
 returns-in-Some g n c =
     let k : CourseTold = c.args.course.now in
     let s = c.args.segment in
-    let told = c.as_slice.ensures ∙ c.entries.ensures ∙ c.requires.ran.entries s c.requires.segment in
+    let told = c.as_slice.ensures ∙ c.trace_of_segment.ensures in
     let some : (segment_at k.plan s).parent ≡ Some c.in-Some.parent = sym (ap (λ (y : Segment). y.parent) c.segment.ensures.value) ∙ c.in-Some.is in
     let before = subst (λ (y : Option ℕ). All IsTyped (parent_end k.opening k.plan y).entries) (sym some) c.segments_fit.ensures in
     entries-behind k s (segment-copy k.opening k.plan s (course-tree k c.segment.ensures.course) c.requires.segment) before

@@ -1,4 +1,4 @@
-use Rattle.std.proofs.Common.{◌≡◌, ℕ, ◌+◌, ◌*◌, ◌≤◌, min, List, [], ◌++◌, length, sym, ap, ◌∙◌, arith, rules, length-append}
+use Rattle.std.proofs.Common.{ℕ, length, ap, ◌∙◌, arith, rules, length-append}
 use Rattle.std.specs.List.{sum}
 use Rattle.std.specs.Slice.Iter.{chunks_rest}
 use Rattle.std.proofs.lemmas.List.{nil_from_length}
