@@ -1,16 +1,22 @@
 //! The bytes of a study's bundle, part by part, to a sink.
 
 ghost use Rattle.std.specs.Prelude.{◌<◌, length};
-ghost use Rattle.bundle_frames.specs.Frames.{end_frame};
-ghost use Rattle.branch_bundle.specs.Bundle.{header_of, trace_of, traces_of};
+ghost use Rattle.std.specs.List.{flat_map};
+ghost use Rattle.bundle_frames.specs.Frames.{end_frame, entry_frames};
+ghost use Rattle.branch_bundle.specs.Bundle.{end_of_trace, header_of, opening_of_trace, trace_of, traces_of};
 ghost use Rattle.branch_bundle.specs.Ran.{IsRunOf};
+ghost use Rattle.branch_tree.specs.Segments.{segments_in, segment_at};
+ghost use Rattle.kernel_copy.specs.Full.{full_run};
+ghost use Rattle.kernel_copy.specs.Kept.{AreTimely, frames_of, kept_told};
+ghost use Rattle.kernel_copy.specs.Segmentwise.{segment_end};
 ghost use Rattle.abides_run.specs.Output.{study_bundle};
 ghost use Rattle.abides_run.specs.Performed.{Sent};
 
 use crate::status::Status;
-use branch_bundle::{Ran, write_branch, write_header};
+use branch_bundle::{Ran, write_ending, write_header, write_opening};
 use bundle_frames::put_end;
-use kernel_copy::Course;
+use kernel_copy::laws::courses_stay_in_range;
+use kernel_copy::{Course, Kept};
 use outside::{Sink, write_all};
 use plain_lists::Memory;
 use std::alloc::Global;
@@ -36,26 +42,100 @@ fn send_header<O: Sink>(alloc: Global, course: &Course, out: &mut O) -> Result<(
     }
 }
 
-// Makes the trace of a branch in place of what stands in `bytes`, and sends it.
-fn send_branch<O: Sink, W: Ran>(
+// Sends what stands in the trace of a branch before the entries.
+fn send_opening<O: Sink>(
+    alloc: Global,
+    course: &Course,
+    branch: u16,
+    out: &mut O,
+) -> Result<(), Status>
+    requires { branch < length course.now.plan.branches }
+    ensures { Sent (opening_of_trace course.now branch) (O.faults out.old) (O.faults out.new) (O.taken out.old) (O.taken out.new) result }
+{
+    let mut bytes = Vec::new(alloc);
+    match write_opening(course, branch, &mut bytes) {
+        Ok(()) => send(out, &bytes),
+        Err(Memory) => Err(Status::Memory),
+    }
+}
+
+// Sends the frames of what is kept of entries: with no copy, where their bytes are kept.
+fn send_kept<O: Sink>(alloc: Global, kept: &Kept, out: &mut O) -> Result<(), Status>
+    requires { AreTimely (kept_told kept.now) }
+    ensures { Sent (frames_of (kept_told kept.now)) (O.faults out.old) (O.faults out.new) (O.taken out.old) (O.taken out.new) result }
+{
+    if let Kept::Frames(bytes) = kept {
+        return send(out, bytes);
+    }
+    let mut bytes = Vec::new(alloc);
+    match kept.put(&mut bytes) {
+        Ok(()) => send(out, &bytes),
+        Err(Memory) => Err(Status::Memory),
+    }
+}
+
+// Sends the entries of the segments from the root's first to this one, each going on from the one before.
+fn send_entries<O: Sink, W: Ran>(
+    alloc: Global,
+    course: &Course,
+    ran: &W,
+    segment: u32,
+    out: &mut O,
+) -> Result<(), Status>
+    requires segment { segment < length (segments_in course.now.plan) }
+    requires ran { IsRunOf course.now (W.count ran.now) (W.kept_of ran.now) (W.closing_of ran.now) }
+    ensures { Sent (flat_map entry_frames (segment_end course.now.opening course.now.plan (segment_at course.now.plan segment)).entries) (O.faults out.old) (O.faults out.new) (O.taken out.old) (O.taken out.new) result }
+{
+    courses_stay_in_range();
+    let kept = ran.kept(segment);
+    match course.segment(segment).parent {
+        None => send_kept(alloc, kept, out),
+        Some(parent) => {
+            send_entries(alloc, course, ran, parent, out)?;
+            send_kept(alloc, kept, out)
+        }
+    }
+}
+
+// Sends what stands in the trace of a branch behind the entries.
+fn send_ending<O: Sink, W: Ran>(
+    alloc: Global,
     course: &Course,
     ran: &W,
     branch: u16,
-    bytes: &mut Vec<u8>,
+    out: &mut O,
+) -> Result<(), Status>
+    requires branch { branch < length course.now.plan.branches }
+    requires ran { IsRunOf course.now (W.count ran.now) (W.kept_of ran.now) (W.closing_of ran.now) }
+    ensures { Sent (end_of_trace course.now (full_run course.now.opening course.now.plan branch)) (O.faults out.old) (O.faults out.new) (O.taken out.old) (O.taken out.new) result }
+{
+    let mut bytes = Vec::new(alloc);
+    match write_ending(course, ran, branch, &mut bytes) {
+        Ok(()) => send(out, &bytes),
+        Err(Memory) => Err(Status::Memory),
+    }
+}
+
+// Sends the trace of a branch.
+fn send_branch<O: Sink, W: Ran>(
+    alloc: Global,
+    course: &Course,
+    ran: &W,
+    branch: u16,
     out: &mut O,
 ) -> Result<(), Status>
     requires branch { branch < length course.now.plan.branches }
     requires ran { IsRunOf course.now (W.count ran.now) (W.kept_of ran.now) (W.closing_of ran.now) }
     ensures { Sent (trace_of course.now branch) (O.faults out.old) (O.faults out.new) (O.taken out.old) (O.taken out.new) result }
 {
-    bytes.clear();
-    match write_branch(course, ran, branch, bytes) {
-        Ok(()) => send(out, bytes),
-        Err(Memory) => Err(Status::Memory),
-    }
+    let _ = course.opening();
+    let last = course.last_segment(branch);
+    send_opening(alloc, course, branch, out)?;
+    send_entries(alloc, course, ran, last, out)?;
+    send_ending(alloc, course, ran, branch, out)
 }
 
-// Sends the traces of all branches, one after another, each made in the room of the one before.
+// Sends the traces of all branches, one after another.
 fn send_branches<O: Sink, W: Ran>(
     alloc: Global,
     course: &Course,
@@ -66,9 +146,8 @@ fn send_branches<O: Sink, W: Ran>(
     ensures { Sent (traces_of course.now (length course.now.plan.branches)) (O.faults out.old) (O.faults out.new) (O.taken out.old) (O.taken out.new) result }
 {
     let count = course.plan().branches().len() as u16;
-    let mut bytes = Vec::new(alloc);
     for branch in 0..count {
-        send_branch(course, ran, branch, &mut bytes, out)?;
+        send_branch(alloc, course, ran, branch, out)?;
     }
     Ok(())
 }
@@ -84,7 +163,7 @@ pub fn send_end<O: Sink>(alloc: Global, branches: u16, out: &mut O) -> Result<()
     }
 }
 
-/// Sends the bundle of a study whose segments ran, the trace of one branch at a time.
+/// Sends the bundle of a study whose segments ran, the trace of one branch after another.
 pub fn send_bundle<O: Sink, W: Ran>(
     alloc: Global,
     course: &Course,

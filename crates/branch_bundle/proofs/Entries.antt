@@ -23,9 +23,6 @@ entries-more c s before own bytes copy p q =
     ∙ ap (λ (zs : List ℕ). bytes ++ zs) (sym (flat_map-append entry_frames xs ys))
     ∙ ap (λ (r : Run). bytes ++ flat_map entry_frames r.entries) (sym copy)
 
--- four parts, one after another, behind what stands there
-pub behind-four : (bytes a b c d : List ℕ) → (((bytes ++ a) ++ b) ++ c) ++ d ≡ bytes ++ (((a ++ b) ++ c) ++ d)
-behind-four bytes a b c d =
-    ap (λ (l : List ℕ). (l ++ c) ++ d) (append_assoc bytes a b)
-    ∙ ap (λ (l : List ℕ). l ++ d) (append_assoc bytes (a ++ b) c)
-    ∙ append_assoc bytes ((a ++ b) ++ c) d
+-- three parts, one after another, behind what stands there
+pub behind-three : (bytes a b c : List ℕ) → ((bytes ++ a) ++ b) ++ c ≡ bytes ++ ((a ++ b) ++ c)
+behind-three bytes a b c = ap (λ (l : List ℕ). l ++ c) (append_assoc bytes a b) ∙ append_assoc bytes (a ++ b) c

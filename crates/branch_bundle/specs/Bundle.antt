@@ -17,15 +17,18 @@ parent_written c b = if b == 0 then 65535 else (branch_at c.plan.branches b).par
 abbrev pub head_of : CourseTold → ℕ → List ℕ
 head_of c b = branch_frame b (parent_written c b) (branch_at c.plan.branches b).stop (branch_at c.plan.branches b).name
 
+-- what stands before the entries: the branch's frame, and the feed of the opening
+abbrev pub opening_of_trace : CourseTold → ℕ → List ℕ
+opening_of_trace c b = head_of c b ++ feed_frames (opening_feed c.opening)
+
 -- the end of the feed and the closing of a run
 abbrev pub end_of_trace : CourseTold → Run → List ℕ
 end_of_trace c r = message_frame (system_event r.state.time 67) ++ closing_frames (closing_at c.opening r.state)
 
--- A branch's trace: its frame, the feed of the opening, the entries of its full run, the end of the feed, and the closing.
+-- A branch's trace: its frame and the feed of the opening, the entries of its full run, the end of the feed and the closing.
 abbrev pub trace_of : CourseTold → ℕ → List ℕ
 trace_of c b =
-    head_of c b
-    ++ feed_frames (opening_feed c.opening)
+    opening_of_trace c b
     ++ flat_map entry_frames (full_run c.opening c.plan b).entries
     ++ end_of_trace c (full_run c.opening c.plan b)
 

@@ -5,8 +5,9 @@ ghost use Rattle.std.specs.List.{flat_map};
 ghost use Rattle.bundle_frames.specs.Frames.{branch_frame, entry_frames};
 ghost use Rattle.branch_tree.specs.Plan.{branch_at};
 ghost use Rattle.branch_tree.specs.Segments.{segments_in, segment_at};
+ghost use Rattle.kernel_copy.specs.Full.{full_run};
 ghost use Rattle.kernel_copy.specs.Segmentwise.{segment_end};
-ghost use Rattle.branch_bundle.specs.Bundle.{end_of_trace, head_of, header_of, parent_written, trace_of};
+ghost use Rattle.branch_bundle.specs.Bundle.{end_of_trace, head_of, header_of, opening_of_trace, parent_written, trace_of};
 ghost use Rattle.branch_bundle.specs.Ran.{IsRunOf};
 
 use crate::feed::{put_opening, system_event};
@@ -61,6 +62,19 @@ fn put_head(out: &mut Vec<u8>, course: &Course, branch: u16) -> Result<(), Memor
     put_branch_head(out, course, branch, stop)
 }
 
+/// Appends what stands in the trace of a branch before the entries: its frame, and the feed of the opening. What stands in
+/// `out` after want of memory is left open.
+///
+/// # Errors
+/// Want of memory alone.
+pub fn write_opening(course: &Course, branch: u16, out: &mut Vec<u8>) -> Result<(), Memory>
+    requires { branch < length course.now.plan.branches }
+    ensures { OnOk result (out.new.items ≡ out.old.items ++ opening_of_trace course.now branch) }
+{
+    put_head(out, course, branch)?;
+    put_opening(out, course.opening())
+}
+
 // Appends the entries of the segments from the root's first to this one, each going on from the one before.
 fn put_entries<W: Ran>(
     out: &mut Vec<u8>,
@@ -107,15 +121,34 @@ fn put_ending<W: Ran>(
     Ok(())
 }
 
+/// Appends what stands in the trace of a branch behind the entries: the end of the feed, and the closing of its full run. What
+/// stands in `out` after want of memory is left open.
+///
+/// # Errors
+/// Want of memory alone.
+pub fn write_ending<W: Ran>(
+    course: &Course,
+    ran: &W,
+    branch: u16,
+    out: &mut Vec<u8>,
+) -> Result<(), Memory>
+    requires branch { branch < length course.now.plan.branches }
+    requires ran { IsRunOf course.now (W.count ran.now) (W.kept_of ran.now) (W.closing_of ran.now) }
+    ensures { OnOk result (out.new.items ≡ out.old.items ++ end_of_trace course.now (full_run course.now.opening course.now.plan branch)) }
+{
+    let _ = course.opening();
+    put_ending(out, course, ran, course.last_segment(branch))
+}
+
 // Appends the trace of a branch.
 fn put_trace<W: Ran>(out: &mut Vec<u8>, course: &Course, ran: &W, branch: u16) -> Result<(), Memory>
     requires branch { branch < length course.now.plan.branches }
     requires ran { IsRunOf course.now (W.count ran.now) (W.kept_of ran.now) (W.closing_of ran.now) }
     ensures { OnOk result (out.new.items ≡ out.old.items ++ trace_of course.now branch) }
 {
+    let _ = course.opening();
     let last = course.last_segment(branch);
-    put_head(out, course, branch)?;
-    put_opening(out, course.opening())?;
+    write_opening(course, branch, out)?;
     put_entries(out, course, ran, last)?;
     put_ending(out, course, ran, last)?;
     Ok(())

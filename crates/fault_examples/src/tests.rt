@@ -44,8 +44,8 @@ fn taken_before_calls(alloc: Global, pieces: &[usize]) -> Result<Vec<usize>, Fai
     Ok(taken)
 }
 
-// Runs a study of so many steps once for each write, which fails, and once more; the pieces are the sizes of its header,
-// of each of its branches and of its end.
+// Runs a study of so many steps once for each write, which fails, and once more; the pieces are the sizes of its header, then
+// for each branch of what stands before the entries, of the entries of each segment and of what stands behind, and of its end.
 fn fail_each_write<R: Abort + Threads + Wait + Sync>(
     rt: &R,
     alloc: Global,
@@ -90,9 +90,11 @@ fn each_write_fails_in_turn(rt: HostRuntime) -> Result<(), Fail> {
     let alloc = rt.alloc();
     let empty = empty_study(alloc)?;
     let branched = branched_study(alloc)?;
-    let size = fail_each_write(&rt, alloc, empty.as_str(), 0, &[11, 386, 5])?;
+    let size = fail_each_write(&rt, alloc, empty.as_str(), 0, &[11, 98, 0, 288, 5])?;
     assert_eq!(rt; size, 402);
-    let pieces = [11, 802, 819, 819, 799, 5];
+    let pieces = [
+        11, 98, 90, 246, 368, 95, 90, 266, 368, 95, 90, 266, 368, 95, 90, 246, 368, 5,
+    ];
     let size = fail_each_write(&rt, alloc, branched.as_str(), 18, &pieces)?;
     assert_eq!(rt; size, 3255);
     Ok(())

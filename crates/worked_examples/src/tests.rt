@@ -241,7 +241,7 @@ fn failing_writes_leave_a_first_part(rt: HostRuntime) -> Result<(), Fail> {
     for (command, room, most, failing, counted, taken) in [
         ("run", 4000, 64, 1, 18, 0),
         ("run", 4000, 64, 2, 18, 11),
-        ("run", 4000, 64, 5, 18, 203),
+        ("run", 4000, 64, 5, 18, 173),
         ("run", 256, 64, 0, 18, 256),
         ("run", 3254, 64, 0, 18, 3254),
         ("run", 4000, 0, 0, 18, 0),

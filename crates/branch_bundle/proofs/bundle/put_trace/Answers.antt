@@ -1,17 +1,15 @@
 use Rattle.std.proofs.Common.{◌≡◌, ℕ, List, ◌++◌, sym, ap, ◌∙◌}
 use Rattle.std.specs.List.{flat_map}
-use Rattle.bundle_frames.specs.Frames.{entry_frames, feed_frames}
+use Rattle.bundle_frames.specs.Frames.{entry_frames}
 use Rattle.branch_tree.specs.Segments.{segment_at}
-use Rattle.market_opening.specs.declared.opening.Opening.{Opening}
 use Rattle.kernel_core.specs.Until.{Run}
 use Rattle.kernel_copy.specs.Courses.{CourseTold}
 use Rattle.kernel_copy.specs.Full.{full_run}
 use Rattle.kernel_copy.specs.Segmentwise.{segment_end}
 use Rattle.kernel_copy.proofs.Trees.{course-tree}
 use Rattle.kernel_copy.proofs.Walks.{full-last}
-use Rattle.branch_bundle.specs.Bundle.{end_of_trace, head_of}
-use Rattle.branch_bundle.specs.Feed.{opening_feed}
-use Rattle.branch_bundle.proofs.Entries.{behind-four}
+use Rattle.branch_bundle.specs.Bundle.{end_of_trace, opening_of_trace}
+use Rattle.branch_bundle.proofs.Entries.{behind-three}
 use Rattle.branch_bundle.proofs.bundle.put_trace.Goals as goal
 
 pub returns : goal.returns
@@ -19,8 +17,7 @@ returns g c =
     let k : CourseTold = c.args.course.now in
     let b = c.args.branch in
     let e = segment_end k.opening k.plan (segment_at k.plan c.last_segment-last.result) in
-    let head = head_of k b in
-    let feed = feed_frames (opening_feed k.opening) in
+    let head = opening_of_trace k b in
     let entries = flat_map entry_frames e.entries in
     let last = end_of_trace k e in
     let course = c.opening.ensures.course in
@@ -29,8 +26,6 @@ returns g c =
     ∙ sym (full-last k.opening k.plan b (course-tree k course) course.limit c.requires.branch) in
     c.in_ok-put_ending.ensures
     ∙ ap (λ (l : List ℕ). l ++ last) c.in_ok-put_entries.ensures
-    ∙ ap (λ (l : List ℕ). (l ++ entries) ++ last) c.in_ok-put_opening.ensures
-    ∙ ap (λ (o : Opening). ((c.put_head.new.out.items ++ feed_frames (opening_feed o)) ++ entries) ++ last) c.opening.ensures.value
-    ∙ ap (λ (l : List ℕ). ((l ++ feed) ++ entries) ++ last) c.in_ok-put_head.ensures
-    ∙ behind-four c.args.out.now.items head feed entries last
-    ∙ ap (λ (r : Run). c.args.out.now.items ++ (head ++ feed ++ flat_map entry_frames r.entries ++ end_of_trace k r)) whole
+    ∙ ap (λ (l : List ℕ). (l ++ entries) ++ last) c.in_ok-write_opening.ensures
+    ∙ behind-three c.args.out.now.items head entries last
+    ∙ ap (λ (r : Run). c.args.out.now.items ++ (head ++ flat_map entry_frames r.entries ++ end_of_trace k r)) whole
