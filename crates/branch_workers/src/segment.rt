@@ -122,7 +122,9 @@ fn advance<R: Wait, L: Ledger>(
     let kernel = begun(rt, alloc, course, shelf, seat, segment, &mut entries)?;
     let kept = Kept::of(alloc, keep, entries)?;
     let mut ran = Ran { kept, kernel };
-    pass_grid(alloc, course, shelf, seat, stride, keep, segment, &mut ran, steps)?;
+    pass_grid(
+        alloc, course, shelf, seat, stride, keep, segment, &mut ran, steps,
+    )?;
     run_to(alloc, course, keep, Key { segment, event }, &mut ran, steps)?;
     Ok(ran)
 }

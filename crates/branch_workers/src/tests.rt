@@ -128,16 +128,15 @@ fn frames<R: Threads + Wait + Sync>(
     courses_stay_in_range();
     let _ = course.plan();
     let mut steps: Steps<Counted> = Steps::new();
-    let worked = work(
-        rt, alloc, course, 5, 1, keep, 3, &OpenGate, &mut steps,
-    );
+    let worked = work(rt, alloc, course, 5, 1, keep, 3, &OpenGate, &mut steps);
     let _ = steps.close();
     let worked = worked?;
     frames_of(alloc, worked.outcomes.as_slice())
 }
 
 // Three branches, x, y and z, by one worker and by many: as one after another. Four of the five segments pass event 5, and
-// of the states there no place, one place and enough places hold none, one and all.
+// of the states there no place, one place and enough places hold none, one and all. The frames that workers keep are those of
+// the entries.
 #[test]
 fn three_branches(rt: HostRuntime) -> Result<(), Fail> {
     let alloc = rt.alloc();

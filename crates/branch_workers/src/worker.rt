@@ -171,7 +171,9 @@ pub(crate) fn run_worker<R: Wait, G: Gate, L: Ledger, B: Room>(
     for _ in rt.forever() {
         match next_segment(rt, &mut worker.lane) {
             Some(segment) => {
-                if !try_segment(rt, alloc, course, shelf, stride, keep, gate, worker, segment) {
+                if !try_segment(
+                    rt, alloc, course, shelf, stride, keep, gate, worker, segment,
+                ) {
                     return;
                 }
             }
