@@ -18,7 +18,7 @@ use crate::status::Status;
 use branch_bundle::laws::outcomes_are_a_run;
 use branch_tables::study_table;
 use branch_workers::work;
-use kernel_copy::Course;
+use kernel_copy::{Course, Keep};
 use large_lines::big_lines;
 use outside::{Gate, Ledger, Sink, Steps};
 use plain_lists::Memory;
@@ -57,6 +57,7 @@ fn run_study<R: Threads + Wait + Sync, O: Sink, G: Gate + Sync, D: Ledger + Send
         course,
         study.stride,
         NO_PLACES,
+        Keep::Frames,
         workers,
         gate,
         steps,
@@ -98,6 +99,7 @@ fn table_study<R: Threads + Wait + Sync, O: Sink, G: Gate + Sync, D: Ledger + Se
         course,
         study.stride,
         NO_PLACES,
+        Keep::Entries,
         workers,
         gate,
         steps,
@@ -144,6 +146,7 @@ fn tell_study<R: Threads + Wait + Sync, O: Sink, G: Gate + Sync, D: Ledger + Sen
         course,
         study.stride,
         NO_PLACES,
+        Keep::Frames,
         workers,
         gate,
         steps,

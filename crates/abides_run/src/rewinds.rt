@@ -26,7 +26,7 @@ use branch_workers::work;
 use checkpoint_shelf::ClosedShelf;
 use command_words::Mark;
 use kernel_copy::laws::courses_stay_in_range;
-use kernel_copy::{Checkpoint, Course};
+use kernel_copy::{Checkpoint, Course, Keep};
 use kernel_core::Kernel;
 use outside::{Gate, Ledger, Sink, Steps};
 use plain_lists::Memory;
@@ -42,7 +42,7 @@ use study_accept::Study;
 // The number of the last event of a branch's full run.
 fn last_of_branch<W: Ran>(course: &Course, ran: &W, branch: u16) -> u32
     requires branch { branch < length course.now.plan.branches }
-    requires ran { IsRunOf course.now (W.count ran.now) (W.entries_of ran.now) (W.closing_of ran.now) }
+    requires ran { IsRunOf course.now (W.count ran.now) (W.kept_of ran.now) (W.closing_of ran.now) }
     ensures { result ≡ last_event course.now branch }
 {
     let _ = course.opening();
@@ -51,7 +51,7 @@ fn last_of_branch<W: Ran>(course: &Course, ran: &W, branch: u16) -> u32
 
 // The same of each branch.
 fn last_events<W: Ran>(alloc: Global, course: &Course, ran: &W) -> Result<Vec<u32>, Memory>
-    requires { IsRunOf course.now (W.count ran.now) (W.entries_of ran.now) (W.closing_of ran.now) }
+    requires { IsRunOf course.now (W.count ran.now) (W.kept_of ran.now) (W.closing_of ran.now) }
     ensures { IfOk result (λ v. v.items ≡ lasts_of course.now) }
 {
     let mut lasts = Vec::new(alloc);
@@ -233,6 +233,7 @@ fn reach_and_write<R: Threads + Wait + Sync, O: Sink, G: Gate + Sync, D: Ledger 
         course,
         study.stride,
         places,
+        Keep::Frames,
         workers,
         gate,
         steps,

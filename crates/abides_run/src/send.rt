@@ -45,7 +45,7 @@ fn send_branch<O: Sink, W: Ran>(
     out: &mut O,
 ) -> Result<(), Status>
     requires branch { branch < length course.now.plan.branches }
-    requires ran { IsRunOf course.now (W.count ran.now) (W.entries_of ran.now) (W.closing_of ran.now) }
+    requires ran { IsRunOf course.now (W.count ran.now) (W.kept_of ran.now) (W.closing_of ran.now) }
     ensures { Sent (trace_of course.now branch) (O.faults out.old) (O.faults out.new) (O.taken out.old) (O.taken out.new) result }
 {
     bytes.clear();
@@ -62,7 +62,7 @@ fn send_branches<O: Sink, W: Ran>(
     ran: &W,
     out: &mut O,
 ) -> Result<(), Status>
-    requires { IsRunOf course.now (W.count ran.now) (W.entries_of ran.now) (W.closing_of ran.now) }
+    requires { IsRunOf course.now (W.count ran.now) (W.kept_of ran.now) (W.closing_of ran.now) }
     ensures { Sent (traces_of course.now (length course.now.plan.branches)) (O.faults out.old) (O.faults out.new) (O.taken out.old) (O.taken out.new) result }
 {
     let count = course.plan().branches().len() as u16;
@@ -91,7 +91,7 @@ pub fn send_bundle<O: Sink, W: Ran>(
     ran: &W,
     out: &mut O,
 ) -> Result<(), Status>
-    requires { IsRunOf course.now (W.count ran.now) (W.entries_of ran.now) (W.closing_of ran.now) }
+    requires { IsRunOf course.now (W.count ran.now) (W.kept_of ran.now) (W.closing_of ran.now) }
     ensures { Sent (study_bundle course.now) (O.faults out.old) (O.faults out.new) (O.taken out.old) (O.taken out.new) result }
 {
     let branches = course.plan().branches().len() as u16;

@@ -1,8 +1,7 @@
 -- The segments of a course, one more at a time.
-use Rattle.std.proofs.Common.{◌≡◌, ℕ, ◌+◌, ◌*◌, ◌^◌, ◌<◌, ◌≤◌, List, [], ◌∷◌, ◌++◌, sum_by, length, take, drop, map, Option, sym, ap, ◌∙◌, arith, suc, zero, add-one}
+use Rattle.std.proofs.Common.{◌≡◌, ℕ, ◌+◌, ◌*◌, ◌^◌, ◌<◌, ◌≤◌, List, [], ◌∷◌, ◌++◌, sum_by, length, take, drop, map, Option, refl, sym, ap, ◌∙◌, arith, suc, zero, add-one}
 use Rattle.std.proofs.lemmas.List.{take_more, take_all, take-append-drop, map-append}
 use Rattle.std.proofs.lemmas.List.Sums.{sum_by-append}
-use Rattle.market_types.specs.Told.{EntryTold}
 use Rattle.bundle_frames.specs.declared.closing.Closing.{Closing}
 use Rattle.branch_tree.specs.declared.segment.Segment.{Segment}
 use Rattle.branch_tree.specs.Plan.{Plan}
@@ -13,6 +12,9 @@ use Rattle.kernel_core.specs.Until.{Run}
 use Rattle.kernel_copy.specs.Segmentwise.{segment_end, segment_run, own_count, own_before, distinct}
 use Rattle.kernel_copy.specs.Courses.{CourseTold, IsCourse, CheckpointTold, kept_of, kept_before}
 use Rattle.market_closing.specs.Closing.{closing_at}
+use Rattle.kernel_copy.specs.declared.kept.Keep.{Keep}
+use Rattle.kernel_copy.specs.Kept.{KeptTold}
+use Rattle.kernel_copy.specs.Ran.{RanTold, ran_as}
 use Rattle.kernel_copy.specs.Outcomes.{OutcomeTold, outcome_of, outcomes_before}
 use Rattle.kernel_copy.proofs.Trees.{course-tree}
 use Rattle.kernel_copy.proofs.Walks.{segment-copy, segment-within}
@@ -41,10 +43,10 @@ pub own-all : (o : Opening) (p : Plan) (n : ℕ) → length (segments_in p) ≤ 
 own-all o p n l = ap (λ (ys : List Segment). sum_by (λ (g : Segment). own_count o p g) ys) (take_all n (segments_in p) l)
 
 -- one outcome more, where a list tells the outcomes of the segments before
-pub outcomes-more : {X : Type 0} (f : X → OutcomeTold) (c : CourseTold) (n : ℕ) (xs : List X) (x : X) → map f xs ≡ outcomes_before c n → f x ≡ outcome_of c n → map f (xs ++ x ∷ []) ≡ outcomes_before c (n + 1)
-outcomes-more f c n xs x h e =
-    map-append f xs (x ∷ []) ∙ ap (λ (ys : List OutcomeTold). ys ++ f x ∷ []) h ∙ ap (λ (y : OutcomeTold). outcomes_before c n ++ y ∷ []) e
-    ∙ sym (ap (λ (m : ℕ). outcomes_before c m) (add-one n))
+pub outcomes-more : {X : Type 0} (f : X → OutcomeTold) (c : CourseTold) (k : Keep) (n : ℕ) (xs : List X) (x : X) → map f xs ≡ outcomes_before c k n → f x ≡ outcome_of c k n → map f (xs ++ x ∷ []) ≡ outcomes_before c k (n + 1)
+outcomes-more f c k n xs x h e =
+    map-append f xs (x ∷ []) ∙ ap (λ (ys : List OutcomeTold). ys ++ f x ∷ []) h ∙ ap (λ (y : OutcomeTold). outcomes_before c k n ++ y ∷ []) e
+    ∙ sym (ap (λ (m : ℕ). outcomes_before c k m) (add-one n))
 
 -- one kept state more
 pub kept-more : {X : Type 0} (f : X → Option CheckpointTold) (c : CourseTold) (n : ℕ) (xs : List X) (x : X) → map f xs ≡ kept_before c n → f x ≡ kept_of c n → map f (xs ++ x ∷ []) ≡ kept_before c (n + 1)
@@ -58,21 +60,25 @@ pub run-ends : (c : CourseTold) (s : ℕ) (r : Run) → IsCourse c → s < lengt
 run-ends c s r h l e =
     ap (λ (q : Run). q.state) e ∙ sym (ap (λ (q : Run). q.state) (segment-copy c.opening c.plan s (course-tree c h) l))
 
-told-by : (a b m n : ℕ) (xs ys : List EntryTold) (u v : Closing) → a ≡ b → xs ≡ ys → m ≡ n → u ≡ v
-    → ◌≡◌ {A = OutcomeTold} (record { segment = a; entries = xs; events = m; closing = u }) (record { segment = b; entries = ys; events = n; closing = v })
+pub ran-ends : (c : CourseTold) (k : Keep) (s : ℕ) (x : RanTold) → IsCourse c → s < length (segments_in c.plan) → x ≡ ran_as k (segment_run c.opening c.plan (segment_at c.plan s))
+    → x.state ≡ (segment_end c.opening c.plan (segment_at c.plan s)).state
+ran-ends c k s x h l e = ap (λ (y : RanTold). y.state) e ∙ run-ends c s (segment_run c.opening c.plan (segment_at c.plan s)) h l refl
+
+told-by : (a b m n : ℕ) (xs ys : KeptTold) (u v : Closing) → a ≡ b → xs ≡ ys → m ≡ n → u ≡ v
+    → ◌≡◌ {A = OutcomeTold} (record { segment = a; kept = xs; events = m; closing = u }) (record { segment = b; kept = ys; events = n; closing = v })
 told-by a b m n xs ys u v p q r t =
-    ap (λ (x : ℕ). let z : OutcomeTold = record { segment = x; entries = xs; events = m; closing = u } in z) p
-    ∙ ap (λ (x : List EntryTold). let z : OutcomeTold = record { segment = b; entries = x; events = m; closing = u } in z) q
-    ∙ ap (λ (x : ℕ). let z : OutcomeTold = record { segment = b; entries = ys; events = x; closing = u } in z) r
-    ∙ ap (λ (x : Closing). let z : OutcomeTold = record { segment = b; entries = ys; events = n; closing = x } in z) t
+    ap (λ (x : ℕ). let z : OutcomeTold = record { segment = x; kept = xs; events = m; closing = u } in z) p
+    ∙ ap (λ (x : KeptTold). let z : OutcomeTold = record { segment = b; kept = x; events = m; closing = u } in z) q
+    ∙ ap (λ (x : ℕ). let z : OutcomeTold = record { segment = b; kept = ys; events = x; closing = u } in z) r
+    ∙ ap (λ (x : Closing). let z : OutcomeTold = record { segment = b; kept = ys; events = n; closing = x } in z) t
 
 -- what a segment's own run leaves is its outcome
-pub outcome-is : (c : CourseTold) (s : ℕ) (r : Run) (a m : ℕ) (xs : List EntryTold) (u : Closing) → IsCourse c → s < length (segments_in c.plan)
-    → r ≡ segment_run c.opening c.plan (segment_at c.plan s) → a ≡ s → xs ≡ r.entries → m ≡ r.state.events → u ≡ closing_at c.opening r.state
-    → ◌≡◌ {A = OutcomeTold} (record { segment = a; entries = xs; events = m; closing = u }) (outcome_of c s)
-outcome-is c s r a m xs u h l e number entries events closing =
-    let ends = run-ends c s r h l e in
-    told-by _ _ _ _ _ _ _ _ number (entries ∙ ap (λ (q : Run). q.entries) e) (events ∙ ap (λ (x : State). x.events) ends) (closing ∙ ap (λ (x : State). closing_at c.opening x) ends)
+pub outcome-is : (c : CourseTold) (k : Keep) (s : ℕ) (x : RanTold) (a m : ℕ) (t : KeptTold) (u : Closing) → IsCourse c → s < length (segments_in c.plan)
+    → x ≡ ran_as k (segment_run c.opening c.plan (segment_at c.plan s)) → a ≡ s → t ≡ x.kept → m ≡ x.state.events → u ≡ closing_at c.opening x.state
+    → ◌≡◌ {A = OutcomeTold} (record { segment = a; kept = t; events = m; closing = u }) (outcome_of c k s)
+outcome-is c k s x a m t u h l e number kept events closing =
+    let ends = ran-ends c k s x h l e in
+    told-by _ _ _ _ _ _ _ _ number (kept ∙ ap (λ (y : RanTold). y.kept) e) (events ∙ ap (λ (y : State). y.events) ends) (closing ∙ ap (λ (y : State). closing_at c.opening y) ends)
 
 -- a segment has no more events of its own than a study may have
 own-bound : (c : CourseTold) (s : ℕ) → IsCourse c → s < length (segments_in c.plan) → own_count c.opening c.plan (segment_at c.plan s) ≤ 1000000

@@ -6,5 +6,6 @@ pub mod Opened
 pub mod Walks
 pub mod Chains
 pub mod Keeping
+pub mod Pieces
 pub mod Adding
 pub mod Reaching

@@ -54,9 +54,10 @@ impl Kept {
         ensures { OnOk result (kept_told self.new ≡ kept_with (kept_told self.old) more.now.list) }
     {
         match self {
-            Kept::Entries(trace) => trace.append_copy(more),
-            Kept::Frames(bytes) => put_all(bytes, more.as_slice()),
+            Kept::Entries(trace) => trace.append_copy(more)?,
+            Kept::Frames(bytes) => put_all(bytes, more.as_slice())?,
         }
+        Ok(())
     }
 
     /// Appends the bytes of the frames. What stands in `out` after want of memory is left open.
@@ -68,11 +69,9 @@ impl Kept {
         ensures { OnOk result (out.new.items ≡ out.old.items ++ frames_of (kept_told self.now)) }
     {
         match self {
-            Kept::Entries(trace) => put_all(out, trace.as_slice()),
-            Kept::Frames(bytes) => {
-                out.extend_from_slice(bytes)?;
-                Ok(())
-            }
+            Kept::Entries(trace) => put_all(out, trace.as_slice())?,
+            Kept::Frames(bytes) => out.extend_from_slice(bytes)?,
         }
+        Ok(())
     }
 }

@@ -1,6 +1,6 @@
 //! Running the segments of a course one after another.
 
-ghost use Rattle.std.specs.Prelude.{◌≡◌, ◌<◌, ◌≤◌, ◌+◌, ◌^◌, [], ◌∷◌, ◌++◌, Some, None, OnOk, IfOk, length, map, option_map, nat_lt, All};
+ghost use Rattle.std.specs.Prelude.{◌≡◌, ◌<◌, ◌≤◌, ◌+◌, ◌-◌, ◌^◌, [], ◌∷◌, ◌++◌, Some, None, OnOk, IfOk, length, map, option_map, nat_lt, All};
 ghost use Rattle.branch_tree.specs.Planned.{IsTree};
 ghost use Rattle.branch_tree.specs.Segments.{segments_in, segment_at, last_of};
 ghost use Rattle.kernel_core.specs.Edited.{IsEditOf, edited_from};
@@ -82,7 +82,7 @@ fn run_in_pieces<L: Ledger>(
         piece.reserve(size as usize)?;
         let end = kernel.run_until(alloc, o, next, &mut piece, steps)?;
         kept.add(&piece)?;
-        if end.is_some() {
+        if let Some(_) = end {
             return Ok(());
         }
     }

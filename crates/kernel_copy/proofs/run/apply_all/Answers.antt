@@ -43,4 +43,5 @@ loop-i-preserved c =
       rest = ap (λ (r : Run). edited_from c.args.branch (i + 1) (drop (i + 1) xs) r) c.in_ok-apply.ensures.made
           ∙ sym (ap (λ (es : List Edit). edited_from c.args.branch i es before) left) ∙ c.loop-i.invariant.rest;
       reached = subst (λ (n : ℕ). IsReached o n c.apply.new.self) more (subst (λ (r : Run). IsReached o (2032 + i + 1) r.state) (sym c.in_ok-apply.ensures.made) one);
+      timely = λ h. c.apply.ensures.timely (c.loop-i.invariant.timely h);
     }

@@ -1,4 +1,5 @@
-use Rattle.std.proofs.Common.{◌≡◌, ◌+◌, drop}
+use Rattle.std.proofs.Common.{◌≡◌, ◌+◌, All, drop}
+use Rattle.market_types.specs.Timely.{IsTimely}
 use Rattle.kernel_core.specs.Edited.{edited_from}
 use Rattle.kernel_core.specs.Until.{Run}
 use Rattle.kernel_copy.specs.Reached.{IsReached}
@@ -8,4 +9,5 @@ abbrev pub invariant-loop-i : goal.invariant-loop-i
 invariant-loop-i l = record {
   rest : ◌≡◌ {A = Run} (edited_from l.branch l.i (drop l.i l.edits) (record { state = l.kernel; entries = l.trace.list })) (edited_from l.branch 0 l.edits (record { state = l.initial.kernel; entries = l.initial.trace.list }));
   reached : IsReached l.o (2032 + l.i) l.kernel;
+  timely : All IsTimely l.initial.trace.list → All IsTimely l.trace.list;
 }

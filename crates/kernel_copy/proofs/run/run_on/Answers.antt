@@ -2,9 +2,13 @@ use Rattle.std.proofs.Common.{◌≡◌, ap, ◌∙◌, arith}
 use Rattle.branch_tree.specs.declared.segment.Segment.{Segment}
 use Rattle.branch_tree.specs.Segments.{segment_at}
 use Rattle.market_opening.specs.declared.opening.Opening.{Opening}
+use Rattle.kernel_core.specs.State.{State}
 use Rattle.kernel_core.specs.Until.{Run, until}
-use Rattle.kernel_copy.specs.Segmentwise.{segment_run}
+use Rattle.kernel_copy.specs.Segmentwise.{afresh, segment_run}
 use Rattle.kernel_copy.specs.Courses.{CourseTold}
+use Rattle.kernel_copy.specs.Kept.{KeptTold}
+use Rattle.kernel_copy.specs.Ran.{RanTold, ran_as, ran_with}
+use Rattle.kernel_copy.proofs.Pieces.{goes_on_kept, state_afresh}
 use Rattle.kernel_copy.proofs.Walks.{own-is}
 use Rattle.kernel_copy.proofs.Trees.{course-tree}
 use Rattle.kernel_copy.proofs.run.run_on.Goals as goal
@@ -18,6 +22,7 @@ returns-in_err-run_until-clause-most g c =
     ap (λ (o : Opening). until o c.segment-stop.result.stop first) c.opening.ensures.value
     ∙ ap (λ (x : Segment). until k.opening x.stop first) c.segment-stop.ensures.value
     ∙ ap (λ (r : Run). until k.opening (segment_at k.plan s).stop r) c.requires.state in
+    let same = ap (λ (x : State). x.events) (state_afresh c.opening.result.now c.segment-stop.result.stop first) in
     let events = ap (λ (r : Run). r.state.events) whole in
     let begins = ap (λ (r : Run). r.state.events) c.requires.state in
     omega (arith, own-is k.opening k.plan s (course-tree k c.segment-stop.ensures.course) c.requires.segment, c.run_until.ensures.ticks, c.run_until.ensures.within)
@@ -26,12 +31,19 @@ pub returns-clause-ran : goal.returns-clause-ran
 returns-clause-ran g c =
     let k : CourseTold = c.args.course.now in
     let s = c.args.segment in
+    let keep = c.args.keep in
+    let o = c.opening.result.now in
+    let stop = c.segment-stop.result.stop in
     let first : Run = record { state = c.args.kernel; entries = c.args.entries.list } in
-    let whole : until c.opening.result.now c.segment-stop.result.stop first ≡ segment_run k.opening k.plan (segment_at k.plan s) =
-    ap (λ (o : Opening). until o c.segment-stop.result.stop first) c.opening.ensures.value
+    let more = until o stop (afresh c.args.kernel) in
+    let whole : until o stop first ≡ segment_run k.opening k.plan (segment_at k.plan s) =
+    ap (λ (x : Opening). until x stop first) c.opening.ensures.value
     ∙ ap (λ (x : Segment). until k.opening x.stop first) c.segment-stop.ensures.value
     ∙ ap (λ (r : Run). until k.opening (segment_at k.plan s).stop r) c.requires.state in
-    c.in_ok-run_until.ensures.ran ∙ whole
+    c.in_ok-run_until.ensures.ran
+    ∙ ap (λ (t : KeptTold). let x : RanTold = record { state = c.args.kernel; kept = t } in ran_with x more) c.in_ok-kept.ensures
+    ∙ goes_on_kept keep o stop first
+    ∙ ap (λ (r : Run). ran_as keep r) whole
 
 pub returns-clause-rose : goal.returns-clause-rose
 returns-clause-rose g c =
@@ -42,7 +54,9 @@ returns-clause-rose g c =
     ap (λ (o : Opening). until o c.segment-stop.result.stop first) c.opening.ensures.value
     ∙ ap (λ (x : Segment). until k.opening x.stop first) c.segment-stop.ensures.value
     ∙ ap (λ (r : Run). until k.opening (segment_at k.plan s).stop r) c.requires.state in
-    let events = ap (λ (r : Run). r.state.events) (c.in_ok-run_until.ensures.ran ∙ whole) in
+    let same = ap (λ (x : State). x.events) (state_afresh c.opening.result.now c.segment-stop.result.stop first) in
+    let now = ap (λ (x : RanTold). x.state.events) c.in_ok-run_until.ensures.ran in
+    let events = ap (λ (r : Run). r.state.events) whole in
     let begins = ap (λ (r : Run). r.state.events) c.requires.state in
     omega (arith, own-is k.opening k.plan s (course-tree k c.segment-stop.ensures.course) c.requires.segment, c.run_until.ensures.ticks)
 
@@ -55,6 +69,7 @@ returns-clause-most g c =
     ap (λ (o : Opening). until o c.segment-stop.result.stop first) c.opening.ensures.value
     ∙ ap (λ (x : Segment). until k.opening x.stop first) c.segment-stop.ensures.value
     ∙ ap (λ (r : Run). until k.opening (segment_at k.plan s).stop r) c.requires.state in
+    let same = ap (λ (x : State). x.events) (state_afresh c.opening.result.now c.segment-stop.result.stop first) in
     let events = ap (λ (r : Run). r.state.events) whole in
     let begins = ap (λ (r : Run). r.state.events) c.requires.state in
     omega (arith, own-is k.opening k.plan s (course-tree k c.segment-stop.ensures.course) c.requires.segment, c.run_until.ensures.ticks, c.run_until.ensures.within)

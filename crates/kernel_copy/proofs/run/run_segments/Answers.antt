@@ -5,14 +5,14 @@ use Rattle.branch_tree.specs.declared.segment.Segment.{Segment}
 use Rattle.branch_tree.specs.Plan.{Plan}
 use Rattle.branch_tree.specs.Segments.{segments_in, segment_at}
 use Rattle.market_opening.specs.declared.opening.Opening.{Opening}
-use Rattle.kernel_core.specs.Until.{Run}
 use Rattle.kernel_copy.specs.Segmentwise.{own_count, segment_run}
 use Rattle.kernel_copy.specs.Courses.{CourseTold, CheckpointTold, IsCourse}
 use Rattle.market_closing.specs.Closing.{closing_at}
+use Rattle.kernel_copy.specs.Ran.{ran_told, ran_as}
 use Rattle.kernel_copy.specs.Outcomes.{outcome_told, outcome_of}
 use Rattle.kernel_copy.specs.declared.checkpoint.Checkpoint.{Checkpoint}
 use Rattle.kernel_copy.specs.declared.run.Outcome.{Outcome}
-use Rattle.kernel_copy.proofs.Adding.{own-part, distinct-bound, own-most, own-more, outcome-is, outcomes-more, kept-more, run-ends}
+use Rattle.kernel_copy.proofs.Adding.{own-part, distinct-bound, own-most, own-more, outcome-is, outcomes-more, kept-more, ran-ends}
 use Rattle.kernel_copy.proofs.run.run_segments.Goals as goal
 
 pub run_segment-requires-clause-count : goal.run_segment-requires-clause-count
@@ -33,9 +33,9 @@ kept_end-requires-clause-state g c =
     let course : IsCourse k = subst IsCourse c.deref.ensures c.plan.ensures.course in
     let plan : c.plan.result.now ≡ k.plan = c.plan.ensures.value ∙ ap (λ (x : CourseTold). x.plan) c.deref.ensures in
     let count = ap (λ (xs : List Segment). length xs) (c.segments-count.ensures.value ∙ ap (λ (p : Plan). segments_in p) plan) in
-    let r : Run = record { state = c.in_ok-ran.ran.kernel; entries = c.in_ok-ran.ran.entries.list } in
-    run-ends k i r course (omega arith)
-    (c.in_ok-ran.ensures.ran ∙ ap (λ (x : CourseTold). segment_run x.opening x.plan (segment_at x.plan i)) c.deref-in-segments.ensures)
+    let keep = c.args.keep in
+    ran-ends k keep i (ran_told c.in_ok-ran.ran) course (omega arith)
+    (c.in_ok-ran.ensures.ran ∙ ap (λ (x : CourseTold). ran_as keep (segment_run x.opening x.plan (segment_at x.plan i))) c.deref-in-segments.ensures)
 
 pub returns-in_err-ran-clause-most : goal.returns-in_err-ran-clause-most
 returns-in_err-ran-clause-most g c =
@@ -100,16 +100,16 @@ segments-preserved g c =
     let own = ap (λ (x : CourseTold). own_count x.opening x.plan (segment_at x.plan i)) c.deref-in-segments.ensures in
     let more = own-more k.opening k.plan i (omega arith) in
     let course : IsCourse k = subst IsCourse c.deref.ensures c.plan.ensures.course in
-    let r : Run = record { state = c.in_ok-ran.ran.kernel; entries = c.in_ok-ran.ran.entries.list } in
-    let ran : r ≡ segment_run k.opening k.plan (segment_at k.plan i) =
-    c.in_ok-ran.ensures.ran ∙ ap (λ (x : CourseTold). segment_run x.opening x.plan (segment_at x.plan i)) c.deref-in-segments.ensures in
+    let keep = c.args.keep in
+    let ran : ran_told c.in_ok-ran.ran ≡ ran_as keep (segment_run k.opening k.plan (segment_at k.plan i)) =
+    c.in_ok-ran.ensures.ran ∙ ap (λ (x : CourseTold). ran_as keep (segment_run x.opening x.plan (segment_at x.plan i))) c.deref-in-segments.ensures in
     let opening = c.opening.ensures.value ∙ ap (λ (x : CourseTold). x.opening) c.deref-in-segments-2.ensures in
     let tells = c.in_ok-outcome.ensures in
-    let outcome : outcome_told c.in_ok-outcome.outcome ≡ outcome_of k i =
-    outcome-is k i r _ _ _ _ course (omega arith) ran tells.segment tells.entries tells.events
+    let outcome : outcome_told c.in_ok-outcome.outcome ≡ outcome_of k keep i =
+    outcome-is k keep i (ran_told c.in_ok-ran.ran) _ _ _ _ course (omega arith) ran tells.segment tells.kept tells.events
     (tells.closing ∙ ap (λ (o : Opening). closing_at o c.in_ok-ran.ran.kernel) opening) in
     record {
-      outcomes = ap (λ (xs : List Outcome). map outcome_told xs) c.in_ok-add-2.ensures ∙ outcomes-more outcome_told k i c.segments.outcomes.items c.in_ok-outcome.outcome v.outcomes outcome;
+      outcomes = ap (λ (xs : List Outcome). map outcome_told xs) c.in_ok-add-2.ensures ∙ outcomes-more outcome_told k keep i c.segments.outcomes.items c.in_ok-outcome.outcome v.outcomes outcome;
       kept = ap (λ (xs : List (Option (Arc Checkpoint Global))). map told xs) c.in_ok-add.ensures ∙ kept-more told k i c.segments.kept.items c.in_ok-end.end v.kept c.in_ok-end.ensures;
       kept_count = ap (λ (xs : List (Option (Arc Checkpoint Global))). length xs) c.in_ok-add.ensures ∙ omega (arith, length_push c.segments.kept.items c.in_ok-end.end, v.kept_count);
       steps = omega (arith, c.in_ok-ran.ensures.rose, v.steps);

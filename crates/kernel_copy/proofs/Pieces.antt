@@ -1,0 +1,127 @@
+-- Runs that go on piece by piece, and what is kept of them.
+use Rattle.std.proofs.Common.{◌≡◌, ℕ, ◌-◌, ◌≤◌, List, [], ◌++◌, All, Option, Some, map, refl, sym, ap, ◌∙◌, subst, append_assoc, append-nil, arith}
+use Rattle.std.specs.List.{flat_map}
+use Rattle.std.proofs.lemmas.Grind.{flat_map-append}
+use Rattle.std.proofs.lemmas.List.{get_or-map, length-map}
+use Rattle.std.proofs.lemmas.List.Folds.{flat_map-map}
+use Rattle.market_types.specs.declared.entry.Entry.{Entry}
+use Rattle.market_types.specs.declared.entry.End.{End}
+use Rattle.market_types.specs.Told.{EntryTold, entry_told}
+use Rattle.market_types.specs.Timely.{IsTimely}
+use Rattle.market_opening.specs.declared.opening.Opening.{Opening}
+use Rattle.bundle_frames.specs.Frames.{entry_frames}
+use Rattle.kernel_core.specs.State.{State}
+use Rattle.kernel_core.specs.Step.{end_of}
+use Rattle.kernel_core.specs.Until.{Run, behind, until}
+use Rattle.kernel_core.proofs.Runs.{advanced_by_ended}
+use Rattle.kernel_core.proofs.Stops.{until-grows, until-past, until-until, until-behind}
+use Rattle.kernel_copy.specs.Segmentwise.{afresh}
+use Rattle.kernel_copy.specs.declared.kept.Keep.{Keep}
+use Rattle.kernel_copy.specs.declared.kept.Keep.TheVariants as keep
+use Rattle.kernel_copy.specs.Kept.{KeptTold, entries, frames, kept_as, kept_with, frames_of, AreTimely}
+use Rattle.kernel_copy.specs.Ran.{RanTold, ran_as, ran_with}
+
+pub with_none : (t : KeptTold) → kept_with t [] ≡ t
+with_none (entries xs) = ap (λ (ys : List EntryTold). entries ys) (append-nil xs)
+with_none (frames bytes) = ap (λ (b : List ℕ). frames b) (append-nil bytes)
+
+pub with_more : (t : KeptTold) (xs ys : List EntryTold) → kept_with (kept_with t xs) ys ≡ kept_with t (xs ++ ys)
+with_more (entries zs) xs ys = ap (λ (l : List EntryTold). entries l) (append_assoc zs xs ys)
+with_more (frames bytes) xs ys =
+    ap (λ (b : List ℕ). frames b) (append_assoc bytes (flat_map entry_frames xs) (flat_map entry_frames ys) ∙ ap (λ (l : List ℕ). bytes ++ l) (sym (flat_map-append entry_frames xs ys)))
+
+pub as_with : (k : Keep) (xs ys : List EntryTold) → kept_with (kept_as k xs) ys ≡ kept_as k (xs ++ ys)
+as_with keep.Entries xs ys = refl
+as_with keep.Frames xs ys = ap (λ (b : List ℕ). frames b) (sym (flat_map-append entry_frames xs ys))
+
+-- what is kept has the frames of the entries
+pub frames_as : (k : Keep) (xs : List EntryTold) → frames_of (kept_as k xs) ≡ flat_map entry_frames xs
+frames_as keep.Entries xs = refl
+frames_as keep.Frames xs = refl
+
+pub timely_as : (k : Keep) (xs : List EntryTold) → All IsTimely xs → AreTimely (kept_as k xs)
+timely_as keep.Entries xs all = all
+timely_as keep.Frames xs all = tt
+
+-- the frames of entries are those of what they tell
+pub frames_told : (xs : List Entry) (ys : List EntryTold) → map entry_told xs ≡ ys → flat_map (λ (e : Entry). entry_frames (entry_told e)) xs ≡ flat_map entry_frames ys
+frames_told xs ys e = sym (flat_map-map entry_frames entry_told xs) ∙ ap (λ (zs : List EntryTold). flat_map entry_frames zs) e
+
+-- what holds of each entry as it is told
+pub all_told : (P : EntryTold → Type 0) (xs : List Entry) → All P (map entry_told xs) → All (λ (x : Entry). P (entry_told x)) xs
+all_told P xs all = λ i d within. subst P (get_or-map entry_told xs i d (entry_told d) within) (all i (entry_told d) (omega (arith, length-map xs entry_told)))
+
+-- a run as one that begins afresh, behind its entries
+pub fresh : (r : Run) → r ≡ behind r.entries (afresh r.state)
+fresh r = ap (λ (es : List EntryTold). let q : Run = record { state = r.state; entries = es } in q) (sym (append-nil r.entries))
+
+pub until_fresh : (o : Opening) (n : ℕ) (r : Run) → until o n r ≡ behind r.entries (until o n (afresh r.state))
+until_fresh o n r = ap (λ (q : Run). until o n q) (fresh r) ∙ until-behind o n r.entries (afresh r.state)
+
+-- a run that goes on afresh comes to the same state
+pub state_afresh : (o : Opening) (n : ℕ) (r : Run) → (until o n (afresh r.state)).state ≡ (until o n r).state
+state_afresh o n r = sym (ap (λ (q : Run). q.state) (until_fresh o n r))
+
+-- and what is kept of it is what is kept of the run
+pub goes_on_kept : (k : Keep) (o : Opening) (n : ℕ) (r : Run) → ran_with (ran_as k r) (until o n (afresh r.state)) ≡ ran_as k (until o n r)
+goes_on_kept k o n r =
+    let more = until o n (afresh r.state) in
+    ap (λ (t : KeptTold). let x : RanTold = record { state = more.state; kept = t } in x) (as_with k r.entries more.entries)
+    ∙ ap (λ (q : Run). ran_as k q) (sym (until_fresh o n r))
+
+-- A piece of a run: what is left is behind it.
+pub piece_first : (o : Opening) (n stop : ℕ) (from to : State) (xs : List EntryTold) → n ≤ stop → ◌≡◌ {A = Run} (record { state = to; entries = xs }) (until o n (afresh from))
+    → until o stop (afresh from) ≡ behind xs (until o stop (afresh to))
+piece_first o n stop from to xs l is =
+    let piece : Run = record { state = to; entries = xs } in
+    sym (until-until o n stop (afresh from) l) ∙ ap (λ (q : Run). until o stop q) (sym is) ∙ until_fresh o stop piece
+
+pub behind_behind : (xs ys : List EntryTold) (r : Run) → behind xs (behind ys r) ≡ behind (xs ++ ys) r
+behind_behind xs ys r = ap (λ (es : List EntryTold). let q : Run = record { state = r.state; entries = es } in q) (sym (append_assoc xs ys r.entries))
+
+-- where a piece ended there is no more
+pub ended_there : (o : Opening) (stop : ℕ) (s : State) (e : End) → end_of o s ≡ Some e → until o stop (afresh s) ≡ afresh s
+ended_there o stop s e is = advanced_by_ended (stop - s.events) o (afresh s) e is
+
+-- What is kept once pieces came, and how the whole run stands to the rest.
+pub record IsOnItsWay (o : Opening) (stop : ℕ) (first now : State) (before kept : KeptTold) : Type 0 where
+  pub made : List EntryTold
+  pub whole : until o stop (afresh first) ≡ behind made (until o stop (afresh now))
+  pub holds : kept ≡ kept_with before made
+
+pub begins_kept : (o : Opening) (stop : ℕ) (s : State) (t : KeptTold) → IsOnItsWay o stop s s t t
+begins_kept o stop s t = record { made = []; whole = refl; holds = sym (with_none t) }
+
+pub goes_piece : (o : Opening) (n stop : ℕ) (first from to : State) (before kept after : KeptTold) (xs : List EntryTold) → n ≤ stop
+    → ◌≡◌ {A = Run} (record { state = to; entries = xs }) (until o n (afresh from)) → after ≡ kept_with kept xs
+    → IsOnItsWay o stop first from before kept → IsOnItsWay o stop first to before after
+goes_piece o n stop first from to before kept after xs l is more h = record {
+  made = h.made ++ xs;
+  whole = h.whole ∙ ap (λ (q : Run). behind h.made q) (piece_first o n stop from to xs l is) ∙ behind_behind h.made xs (until o stop (afresh to));
+  holds = more ∙ ap (λ (t : KeptTold). kept_with t xs) h.holds ∙ with_more before h.made xs;
+}
+
+-- at the stop, or where the state ended, all of it is kept
+pub all_kept : (o : Opening) (stop : ℕ) (first now : State) (before kept : KeptTold) → until o stop (afresh now) ≡ afresh now → IsOnItsWay o stop first now before kept
+    → (now ≡ (until o stop (afresh first)).state) × (kept ≡ kept_with before (until o stop (afresh first)).entries)
+all_kept o stop first now before kept over h =
+    let whole : until o stop (afresh first) ≡ behind h.made (afresh now) = h.whole ∙ ap (λ (q : Run). behind h.made q) over in
+    let ends = whole ∙ sym (fresh (record { state = now; entries = h.made })) in
+    (sym (ap (λ (q : Run). q.state) ends), h.holds ∙ ap (λ (q : Run). kept_with before q.entries) (sym ends))
+
+-- on its way it has no more events than the whole run
+pub few_on_way : (o : Opening) (stop : ℕ) (first now : State) (before kept : KeptTold) → IsOnItsWay o stop first now before kept → now.events ≤ (until o stop (afresh first)).state.events
+few_on_way o stop first now before kept h =
+    let whole = ap (λ (q : Run). q.state.events) h.whole in
+    let grows = until-grows o stop (afresh now) in omega arith
+
+-- nor has a piece of it
+pub few_in_piece : (o : Opening) (n stop : ℕ) (first now : State) (before kept : KeptTold) (xs : List EntryTold) (m : ℕ) → n ≤ stop
+    → m ≤ (let r : Run = record { state = now; entries = xs } in until o n r).state.events → IsOnItsWay o stop first now before kept → m ≤ (until o stop (afresh first)).state.events
+few_in_piece o n stop first now before kept xs m l few h =
+    let r : Run = record { state = now; entries = xs } in
+    let part = until o n (afresh now) in
+    let same = ap (λ (s : State). s.events) (state_afresh o n r) in
+    let grows = until-grows o stop part in
+    let rest = ap (λ (q : Run). q.state.events) (until-until o n stop (afresh now) l) in
+    let whole = ap (λ (q : Run). q.state.events) h.whole in omega arith
