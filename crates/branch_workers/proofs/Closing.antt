@@ -26,6 +26,7 @@ use Rattle.shelf_core.proofs.Lists.{there, not_some, some_same, set_here, set_el
 use Rattle.checkpoint_shelf.specs.Plans.{PlanFits, KeyBelow}
 use Rattle.checkpoint_shelf.specs.Told.{SeatTold}
 use Rattle.checkpoint_shelf.specs.Seats.{all_in}
+use Rattle.kernel_copy.specs.declared.kept.Keep.{Keep}
 use Rattle.kernel_copy.specs.declared.run.Outcome.{Outcome}
 use Rattle.kernel_copy.specs.Segmentwise.{distinct}
 use Rattle.kernel_copy.specs.Courses.{CourseTold}
@@ -98,12 +99,12 @@ key_below n (k ∷ keys) key all e = ⊎_elim
     (or_either (same_key k key) (is_in key keys) e)
 
 -- Facts of each finished worker's view.
-each_view : (c : CourseTold) (plan : ShelfPlan) (Fact : SeatView → Type 0) (of : (v : SeatView) (os : List Outcome) → HasFinished c plan v os → Fact v) (seats : List (SeatTold CourseTold)) (lists : List (List Outcome))
-    → HaveFinished c plan seats lists → (i : ℕ) (v : SeatView) → slice_get (views_of seats) i ≡ Some v → Fact v
-each_view c plan Fact of [] lists h i v e = absurd (not_some v e)
-each_view c plan Fact of (s ∷ seats) [] h i v e = absurd h
-each_view c plan Fact of (s ∷ seats) (os ∷ lists) h zero v e = subst Fact (some_same s.view v e) (of s.view os h.0)
-each_view c plan Fact of (s ∷ seats) (os ∷ lists) h (suc i) v e = each_view c plan Fact of seats lists h.1 i v e
+each_view : (c : CourseTold) (keep : Keep) (plan : ShelfPlan) (Fact : SeatView → Type 0) (of : (v : SeatView) (os : List Outcome) → HasFinished c keep plan v os → Fact v) (seats : List (SeatTold CourseTold)) (lists : List (List Outcome))
+    → HaveFinished c keep plan seats lists → (i : ℕ) (v : SeatView) → slice_get (views_of seats) i ≡ Some v → Fact v
+each_view c keep plan Fact of [] lists h i v e = absurd (not_some v e)
+each_view c keep plan Fact of (s ∷ seats) [] h i v e = absurd h
+each_view c keep plan Fact of (s ∷ seats) (os ∷ lists) h zero v e = subst Fact (some_same s.view v e) (of s.view os h.0)
+each_view c keep plan Fact of (s ∷ seats) (os ∷ lists) h (suc i) v e = each_view c keep plan Fact of seats lists h.1 i v e
 
 rest_ready : (key : Key) (o : Option PlaceWord) → is_held key o ≡ true → ((w : PlaceWord) → o ≡ Some w → is_at_rest w ≡ true) → is_ready key o ≡ true
 rest_ready key None held rests = absurd (true≢false (sym held))
@@ -187,8 +188,8 @@ module _ (c : CourseTold) (plan : ShelfPlan) (s : System) (v : SeatView) (h : Or
 -- Outcomes in slots.
 
 -- The slot of each of these segments has its outcome.
-abbrev Good : CourseTold → List (Option Outcome) → List ℕ → Type 0
-Good c slots done = (g : ℕ) → 0 < times g done → (o : Outcome) × (slice_get slots g ≡ Some (Some o)) × (outcome_told o ≡ outcome_of c g)
+abbrev Good : CourseTold → Keep → List (Option Outcome) → List ℕ → Type 0
+Good c keep slots done = (g : ℕ) → 0 < times g done → (o : Outcome) × (slice_get slots g ≡ Some (Some o)) × (outcome_told o ≡ outcome_of c keep g)
 
 abbrev segments_of : List Outcome → List ℕ
 segments_of os = map (λ (o : Outcome). o.segment) os
@@ -197,27 +198,27 @@ pub length_placed : (slots : List (Option Outcome)) (os : List Outcome) → leng
 length_placed slots [] = refl
 length_placed slots (o ∷ os) = length_placed (set slots o.segment (Some o)) os ∙ Rattle.std.proofs.lemmas.List.length-set slots o.segment (Some o)
 
-good_more : (c : CourseTold) (slots : List (Option Outcome)) (done : List ℕ) (o : Outcome) → o.segment < length slots → outcome_told o ≡ outcome_of c o.segment → Good c slots done
-    → Good c (set slots o.segment (Some o)) (done ++ o.segment ∷ [])
-good_more c slots done o l told good g pos = dite (ℕ_discrete g o.segment)
+good_more : (c : CourseTold) (keep : Keep) (slots : List (Option Outcome)) (done : List ℕ) (o : Outcome) → o.segment < length slots → outcome_told o ≡ outcome_of c keep o.segment → Good c keep slots done
+    → Good c keep (set slots o.segment (Some o)) (done ++ o.segment ∷ [])
+good_more c keep slots done o l told good g pos = dite (ℕ_discrete g o.segment)
     (λ (one : g ≡ o.segment).
     let was = there slots o.segment l in
-    (o, ap (λ (i : ℕ). slice_get (set slots o.segment (Some o)) i) one ∙ set_here slots o.segment (Some o) was.0 was.1, told ∙ ap (λ (i : ℕ). outcome_of c i) (sym one)))
+    (o, ap (λ (i : ℕ). slice_get (set slots o.segment (Some o)) i) one ∙ set_here slots o.segment (Some o) was.0 was.1, told ∙ ap (λ (i : ℕ). outcome_of c keep i) (sym one)))
     (λ (ne : g ≢ o.segment).
     let t = times_append g done (o.segment ∷ []) in
     let z = times_else g o.segment [] (λ e. ne (sym e)) in
     let was = good g (omega arith) in
     (was.0, set_else slots o.segment g (Some o) ne ∙ was.1, was.2))
 
-good_all : (c : CourseTold) (slots : List (Option Outcome)) (done : List ℕ) (os : List Outcome) → All (λ (o : Outcome). o.segment < length slots) os → All (λ (o : Outcome). outcome_told o ≡ outcome_of c o.segment) os
-    → Good c slots done → Good c (placed slots os) (done ++ segments_of os)
-good_all c slots done [] below told good = λ g pos. good g (let t = times_append g done [] in omega arith)
-good_all c slots done (o ∷ os) below told good =
-    let one = good_more c slots done o (All-head (λ (x : Outcome). x.segment < length slots) o os below) (All-head (λ (x : Outcome). outcome_told x ≡ outcome_of c x.segment) o os told) good in
+good_all : (c : CourseTold) (keep : Keep) (slots : List (Option Outcome)) (done : List ℕ) (os : List Outcome) → All (λ (o : Outcome). o.segment < length slots) os → All (λ (o : Outcome). outcome_told o ≡ outcome_of c keep o.segment) os
+    → Good c keep slots done → Good c keep (placed slots os) (done ++ segments_of os)
+good_all c keep slots done [] below told good = λ g pos. good g (let t = times_append g done [] in omega arith)
+good_all c keep slots done (o ∷ os) below told good =
+    let one = good_more c keep slots done o (All-head (λ (x : Outcome). x.segment < length slots) o os below) (All-head (λ (x : Outcome). outcome_told x ≡ outcome_of c keep x.segment) o os told) good in
     let long = Rattle.std.proofs.lemmas.List.length-set slots o.segment (Some o) in
-    let rest = good_all c (set slots o.segment (Some o)) (done ++ o.segment ∷ []) os
+    let rest = good_all c keep (set slots o.segment (Some o)) (done ++ o.segment ∷ []) os
     (Rattle.std.proofs.lemmas.List.Elements.All-weaker (λ (x : Outcome). x.segment < length slots) (λ (x : Outcome). x.segment < length (set slots o.segment (Some o))) (λ x l. omega arith) os (All-tail (λ (x : Outcome). x.segment < length slots) o os below))
-    (All-tail (λ (x : Outcome). outcome_told x ≡ outcome_of c x.segment) o os told) one in
+    (All-tail (λ (x : Outcome). outcome_told x ≡ outcome_of c keep x.segment) o os told) one in
     λ g pos. rest g (
     let a = times_append g (done ++ o.segment ∷ []) (segments_of os) in let b = times_append g done (o.segment ∷ []) in
     let d = times_append g done (segments_of (o ∷ os)) in let e = times_append g (o.segment ∷ []) (segments_of os) in omega arith)
@@ -227,38 +228,38 @@ abbrev flat : List (List Outcome) → List ℕ
 flat [] = []
 flat (os ∷ lists) = segments_of os ++ flat lists
 
-good_lists : (c : CourseTold) (plan : ShelfPlan) (slots : List (Option Outcome)) (done : List ℕ) (seats : List (SeatTold CourseTold)) (lists : List (List Outcome)) → HaveFinished c plan seats lists
-    → All (λ (os : List Outcome). All (λ (o : Outcome). o.segment < length slots) os) lists → Good c slots done → Good c (placed_all slots lists) (done ++ flat lists)
-good_lists c plan slots done [] [] h below good = λ g pos. good g (let t = times_append g done [] in omega arith)
-good_lists c plan slots done [] (os ∷ lists) h below good = absurd h
-good_lists c plan slots done (s ∷ seats) [] h below good = absurd h
-good_lists c plan slots done (s ∷ seats) (os ∷ lists) h below good =
-    let one = good_all c slots done os (All-head (λ (xs : List Outcome). All (λ (o : Outcome). o.segment < length slots) xs) os lists below) h.0.told good in
+good_lists : (c : CourseTold) (keep : Keep) (plan : ShelfPlan) (slots : List (Option Outcome)) (done : List ℕ) (seats : List (SeatTold CourseTold)) (lists : List (List Outcome)) → HaveFinished c keep plan seats lists
+    → All (λ (os : List Outcome). All (λ (o : Outcome). o.segment < length slots) os) lists → Good c keep slots done → Good c keep (placed_all slots lists) (done ++ flat lists)
+good_lists c keep plan slots done [] [] h below good = λ g pos. good g (let t = times_append g done [] in omega arith)
+good_lists c keep plan slots done [] (os ∷ lists) h below good = absurd h
+good_lists c keep plan slots done (s ∷ seats) [] h below good = absurd h
+good_lists c keep plan slots done (s ∷ seats) (os ∷ lists) h below good =
+    let one = good_all c keep slots done os (All-head (λ (xs : List Outcome). All (λ (o : Outcome). o.segment < length slots) xs) os lists below) h.0.told good in
     let long = length_placed slots os in
-    let rest = good_lists c plan (placed slots os) (done ++ segments_of os) seats lists h.1
+    let rest = good_lists c keep plan (placed slots os) (done ++ segments_of os) seats lists h.1
     (Rattle.std.proofs.lemmas.List.Elements.All-weaker (λ (xs : List Outcome). All (λ (o : Outcome). o.segment < length slots) xs) (λ (xs : List Outcome). All (λ (o : Outcome). o.segment < length (placed slots os)) xs)
     (λ xs a. Rattle.std.proofs.lemmas.List.Elements.All-weaker (λ (x : Outcome). x.segment < length slots) (λ (x : Outcome). x.segment < length (placed slots os)) (λ x l. omega arith) xs a) lists (All-tail (λ (xs : List Outcome). All (λ (o : Outcome). o.segment < length slots) xs) os lists below)) one in
     λ g pos. rest g (
     let a = times_append g (done ++ segments_of os) (flat lists) in let b = times_append g done (segments_of os) in
     let d = times_append g done (flat (os ∷ lists)) in let e = times_append g (segments_of os) (flat lists) in omega arith)
 
-flat_times : (c : CourseTold) (plan : ShelfPlan) (g : ℕ) (seats : List (SeatTold CourseTold)) (lists : List (List Outcome)) → HaveFinished c plan seats lists → times g (flat lists) ≡ sum_by (λ (v : SeatView). times g v.claims) (views_of seats)
-flat_times c plan g [] [] h = refl
-flat_times c plan g [] (os ∷ lists) h = absurd h
-flat_times c plan g (s ∷ seats) [] h = absurd h
-flat_times c plan g (s ∷ seats) (os ∷ lists) h =
-    let r = flat_times c plan g seats lists h.1 in let a = times_append g (segments_of os) (flat lists) in
+flat_times : (c : CourseTold) (keep : Keep) (plan : ShelfPlan) (g : ℕ) (seats : List (SeatTold CourseTold)) (lists : List (List Outcome)) → HaveFinished c keep plan seats lists → times g (flat lists) ≡ sum_by (λ (v : SeatView). times g v.claims) (views_of seats)
+flat_times c keep plan g [] [] h = refl
+flat_times c keep plan g [] (os ∷ lists) h = absurd h
+flat_times c keep plan g (s ∷ seats) [] h = absurd h
+flat_times c keep plan g (s ∷ seats) (os ∷ lists) h =
+    let r = flat_times c keep plan g seats lists h.1 in let a = times_append g (segments_of os) (flat lists) in
     let e = ap (λ (xs : List ℕ). times g xs) h.0.segments in let b = sum_by-cons (λ (v : SeatView). times g v.claims) s.view (views_of seats) in omega arith
 
 -- Each worker's outcomes are of segments of the plan.
-pub lists_below : (c : CourseTold) (plan : ShelfPlan) (n : ℕ) (seats : List (SeatTold CourseTold)) (lists : List (List Outcome)) → HaveFinished c plan seats lists
+pub lists_below : (c : CourseTold) (keep : Keep) (plan : ShelfPlan) (n : ℕ) (seats : List (SeatTold CourseTold)) (lists : List (List Outcome)) → HaveFinished c keep plan seats lists
     → n ≡ length (segments_in c.plan) → All (λ (os : List Outcome). All (λ (o : Outcome). o.segment < n) os) lists
-lists_below c plan n [] [] h is = All-nil (λ (xs : List Outcome). All (λ (o : Outcome). o.segment < n) xs)
-lists_below c plan n [] (os ∷ lists) h is = absurd h
-lists_below c plan n (s ∷ seats) [] h is = absurd h
-lists_below c plan n (s ∷ seats) (os ∷ lists) h is = All-cons (λ (xs : List Outcome). All (λ (o : Outcome). o.segment < n) xs) os lists
+lists_below c keep plan n [] [] h is = All-nil (λ (xs : List Outcome). All (λ (o : Outcome). o.segment < n) xs)
+lists_below c keep plan n [] (os ∷ lists) h is = absurd h
+lists_below c keep plan n (s ∷ seats) [] h is = absurd h
+lists_below c keep plan n (s ∷ seats) (os ∷ lists) h is = All-cons (λ (xs : List Outcome). All (λ (o : Outcome). o.segment < n) xs) os lists
     (unmapped os (subst (λ (xs : List ℕ). All (λ g. g < n) xs) (sym h.0.segments) (subst (λ (m : ℕ). All (λ g. g < m) s.view.claims) (sym is) h.0.below)))
-    (lists_below c plan n seats lists h.1 is)
+    (lists_below c keep plan n seats lists h.1 is)
   where
     unmapped : (xs : List Outcome) → All (λ g. g < n) (segments_of xs) → All (λ (o : Outcome). o.segment < n) xs
     unmapped [] a = All-nil (λ (o : Outcome). o.segment < n)
@@ -286,17 +287,17 @@ take_one (x ∷ xs) zero o e = ap (λ (y : Outcome). y ∷ []) (some_same x o e)
 take_one (x ∷ xs) (suc k) o e = ap (λ (ys : List Outcome). x ∷ ys) (take_one xs k o e)
 
 -- Outcomes that stand in the slots of their segments are those of the segments in order.
-told_in_order : (c : CourseTold) (list : List Outcome) → ((g : ℕ) → g < length list → (o : Outcome) × (slice_get list g ≡ Some o) × (outcome_told o ≡ outcome_of c g)) → map outcome_told list ≡ outcomes_before c (length list)
-told_in_order c list each = ap (λ (xs : List Outcome). map outcome_told xs) (sym (take_all (length list) list (omega arith))) ∙ upto_here (length list) (omega arith)
+told_in_order : (c : CourseTold) (keep : Keep) (list : List Outcome) → ((g : ℕ) → g < length list → (o : Outcome) × (slice_get list g ≡ Some o) × (outcome_told o ≡ outcome_of c keep g)) → map outcome_told list ≡ outcomes_before c keep (length list)
+told_in_order c keep list each = ap (λ (xs : List Outcome). map outcome_told xs) (sym (take_all (length list) list (omega arith))) ∙ upto_here (length list) (omega arith)
   where
-    upto_here : (k : ℕ) → k ≤ length list → map outcome_told (take k list) ≡ outcomes_before c k
+    upto_here : (k : ℕ) → k ≤ length list → map outcome_told (take k list) ≡ outcomes_before c keep k
     upto_here zero l = refl
     upto_here (suc k) l =
         let here = each k (omega arith) in
         ap (λ (xs : List Outcome). map outcome_told xs) (take_one list k here.0 here.1)
         ∙ Rattle.std.proofs.lemmas.List.map-append outcome_told (take k list) (here.0 ∷ [])
         ∙ ap (λ (xs : List OutcomeTold). xs ++ outcome_told here.0 ∷ []) (upto_here k (omega arith))
-        ∙ ap (λ (x : OutcomeTold). outcomes_before c k ++ x ∷ []) here.2
+        ∙ ap (λ (x : OutcomeTold). outcomes_before c keep k ++ x ∷ []) here.2
 
 -- All workers finished: what their joined view has, and what their outcomes tell.
 module _ (c : CourseTold) (plan : ShelfPlan) (s : System) (first : SeatTold CourseTold) (seats : List (SeatTold CourseTold)) (lists : List (List Outcome)) (h : Orderly s)
@@ -310,13 +311,13 @@ module _ (c : CourseTold) (plan : ShelfPlan) (s : System) (first : SeatTold Cour
   pub all_most : sum_by (λ (x : SeatTold CourseTold). sum_by (own_of c) x.view.claims) (first ∷ seats) ≤ distinct c.opening c.plan
   all_most = let m = claims_most c plan s (all_in (views_of (first ∷ seats))) h settled at laid in let e = events_sum in omega arith
 
-  module _ (fin : HaveFinished c plan (first ∷ seats) lists) where
+  module _ (keep : Keep) (fin : HaveFinished c keep plan (first ∷ seats) lists) where
     all_states : HasAllStates c plan (all_in (views_of (first ∷ seats)))
-    all_states = joined_fact (λ v. HasAllStates c plan v) (states_join c plan) first.view (views_of seats) (each_view c plan (λ v. HasAllStates c plan v) (λ v os f. f.states) (first ∷ seats) lists fin)
+    all_states = joined_fact (λ v. HasAllStates c plan v) (states_join c plan) first.view (views_of seats) (each_view c keep plan (λ v. HasAllStates c plan v) (λ v os f. f.states) (first ∷ seats) lists fin)
 
     all_done : length (segments_in c.plan) ≤ (all_in (views_of (first ∷ seats))).done_seen
     all_done = joined_fact (λ v. length (segments_in c.plan) ≤ v.done_seen) (λ v w a b. max_more (length (segments_in c.plan)) v.done_seen w.done_seen a) first.view (views_of seats)
-        (each_view c plan (λ v. length (segments_in c.plan) ≤ v.done_seen) (λ v os f. f.done) (first ∷ seats) lists fin)
+        (each_view c keep plan (λ v. length (segments_in c.plan) ≤ v.done_seen) (λ v os f. f.done) (first ∷ seats) lists fin)
       where
         max_more : (n a b : ℕ) → n ≤ a → n ≤ max a b
         max_more n a b l = omega (arith, l)
@@ -328,7 +329,7 @@ module _ (c : CourseTold) (plan : ShelfPlan) (s : System) (first : SeatTold Cour
     all_events = sym events_sum ∙ claims_all c plan s (all_in (views_of (first ∷ seats))) h settled at laid all_done all_states
 
     flat_once : (g : ℕ) → g < length (segments_in c.plan) → times g (flat lists) ≡ 1
-    flat_once g l = flat_times c plan g (first ∷ seats) lists fin ∙ sym (added_up (λ v. times g v.claims) (λ v w. times_append g v.claims w.claims) first.view (views_of seats))
+    flat_once g l = flat_times c keep plan g (first ∷ seats) lists fin ∙ sym (added_up (λ v. times g v.claims) (λ v w. times_append g v.claims w.claims) first.view (views_of seats))
         ∙ claimed_once c plan s (all_in (views_of (first ∷ seats))) h settled at laid all_done all_states g l
 
     module _ (slots : List (Option Outcome)) (empty : slots ≡ replicate (length (segments_in c.plan)) None) where
@@ -336,10 +337,10 @@ module _ (c : CourseTold) (plan : ShelfPlan) (s : System) (first : SeatTold Cour
       long = ap (λ (xs : List (Option Outcome)). length xs) empty ∙ length-replicate (length (segments_in c.plan)) None
 
       pub all_below : All (λ (os : List Outcome). All (λ (o : Outcome). o.segment < length slots) os) lists
-      all_below = lists_below c plan (length slots) (first ∷ seats) lists fin long
+      all_below = lists_below c keep plan (length slots) (first ∷ seats) lists fin long
 
-      slot_told : (g : ℕ) → g < length (segments_in c.plan) → (o : Outcome) × (slice_get (placed_all slots lists) g ≡ Some (Some o)) × (outcome_told o ≡ outcome_of c g)
-      slot_told g l = good_lists c plan slots [] (first ∷ seats) lists fin all_below (λ i pos. absurd (none i pos)) g (let o = flat_once g l in omega arith)
+      slot_told : (g : ℕ) → g < length (segments_in c.plan) → (o : Outcome) × (slice_get (placed_all slots lists) g ≡ Some (Some o)) × (outcome_told o ≡ outcome_of c keep g)
+      slot_told g l = good_lists c keep plan slots [] (first ∷ seats) lists fin all_below (λ i pos. absurd (none i pos)) g (let o = flat_once g l in omega arith)
         where
           none : (i : ℕ) → 0 < times i [] → ⊥
           none i pos = absurd (omega arith)
@@ -347,13 +348,13 @@ module _ (c : CourseTold) (plan : ShelfPlan) (s : System) (first : SeatTold Cour
       pub all_some : All (λ (x : Option Outcome). IsSome x) (placed_all slots lists)
       all_some = some_slots (placed_all slots lists) (λ g l. let a = slot_told g (let m = length_placed_all slots lists in let n = long in omega arith) in (a.0, a.1))
 
-      pub all_told : (list : List Outcome) → map (λ (x : Outcome). Some x) list ≡ placed_all slots lists → map outcome_told list ≡ outcomes_before c (length (segments_in c.plan))
+      pub all_told : (list : List Outcome) → map (λ (x : Outcome). Some x) list ≡ placed_all slots lists → map outcome_told list ≡ outcomes_before c keep (length (segments_in c.plan))
       all_told list is =
           let n = length-map list (λ (x : Outcome). Some x) in let m = length_placed_all slots lists in let k = long in
           let e = ap (λ (xs : List (Option Outcome)). length xs) is in
           let same : length list ≡ length (segments_in c.plan) = omega arith in
-          told_in_order c list (λ g l. let a = slot_told g (omega arith) in (a.0, some_at list g a.0 (ap (λ (xs : List (Option Outcome)). slice_get xs g) is ∙ a.1), a.2))
-          ∙ ap (λ (k : ℕ). outcomes_before c k) same
+          told_in_order c keep list (λ g l. let a = slot_told g (omega arith) in (a.0, some_at list g a.0 (ap (λ (xs : List (Option Outcome)). slice_get xs g) is ∙ a.1), a.2))
+          ∙ ap (λ (k : ℕ). outcomes_before c keep k) same
 
 -- A system in which the first of some seats took in all others.
 pub record AreJoined (c : CourseTold) (plan : ShelfPlan) (s : System) (seats : List (SeatTold CourseTold)) : Type 0 where
@@ -368,24 +369,24 @@ module _ (c : CourseTold) (plan : ShelfPlan) (s : System) where
   most_of [] j = let l = j.some in absurd (omega arith)
   most_of (first ∷ rest) j = all_most c plan s first rest [] j.orderly j.settled j.at j.laid
 
-  pub events_of_all : (seats : List (SeatTold CourseTold)) (lists : List (List Outcome)) → AreJoined c plan s seats → HaveFinished c plan seats lists
+  pub events_of_all : (keep : Keep) (seats : List (SeatTold CourseTold)) (lists : List (List Outcome)) → AreJoined c plan s seats → HaveFinished c keep plan seats lists
       → sum_by (λ (x : SeatTold CourseTold). sum_by (own_of c) x.view.claims) seats ≡ distinct c.opening c.plan
-  events_of_all [] lists j fin = let l = j.some in absurd (omega arith)
-  events_of_all (first ∷ rest) lists j fin = all_events c plan s first rest lists j.orderly j.settled j.at j.laid fin
+  events_of_all keep [] lists j fin = let l = j.some in absurd (omega arith)
+  events_of_all keep (first ∷ rest) lists j fin = all_events c plan s first rest lists j.orderly j.settled j.at j.laid keep fin
 
-  pub ran_of_all : (seats : List (SeatTold CourseTold)) (lists : List (List Outcome)) → AreJoined c plan s seats → HaveFinished c plan seats lists → (workers : ℕ) → length s.views ≡ workers → RanOnce c plan workers s
-  ran_of_all [] lists j fin workers count = let l = j.some in absurd (omega arith)
-  ran_of_all (first ∷ rest) lists j fin workers count = all_ran c plan s first rest lists j.orderly j.settled j.at j.laid fin workers count
+  pub ran_of_all : (keep : Keep) (seats : List (SeatTold CourseTold)) (lists : List (List Outcome)) → AreJoined c plan s seats → HaveFinished c keep plan seats lists → (workers : ℕ) → length s.views ≡ workers → RanOnce c plan workers s
+  ran_of_all keep [] lists j fin workers count = let l = j.some in absurd (omega arith)
+  ran_of_all keep (first ∷ rest) lists j fin workers count = all_ran c plan s first rest lists j.orderly j.settled j.at j.laid keep fin workers count
 
-  pub some_of_all : (seats : List (SeatTold CourseTold)) (lists : List (List Outcome)) → AreJoined c plan s seats → HaveFinished c plan seats lists → (slots : List (Option Outcome))
+  pub some_of_all : (keep : Keep) (seats : List (SeatTold CourseTold)) (lists : List (List Outcome)) → AreJoined c plan s seats → HaveFinished c keep plan seats lists → (slots : List (Option Outcome))
       → slots ≡ replicate (length (segments_in c.plan)) None → All (λ (x : Option Outcome). IsSome x) (placed_all slots lists)
-  some_of_all [] lists j fin slots empty = let l = j.some in absurd (omega arith)
-  some_of_all (first ∷ rest) lists j fin slots empty = all_some c plan s first rest lists j.orderly j.settled j.at j.laid fin slots empty
+  some_of_all keep [] lists j fin slots empty = let l = j.some in absurd (omega arith)
+  some_of_all keep (first ∷ rest) lists j fin slots empty = all_some c plan s first rest lists j.orderly j.settled j.at j.laid keep fin slots empty
 
-  pub told_of_all : (seats : List (SeatTold CourseTold)) (lists : List (List Outcome)) → AreJoined c plan s seats → HaveFinished c plan seats lists → (slots : List (Option Outcome))
-      → slots ≡ replicate (length (segments_in c.plan)) None → (list : List Outcome) → map (λ (x : Outcome). Some x) list ≡ placed_all slots lists → map outcome_told list ≡ outcomes_before c (length (segments_in c.plan))
-  told_of_all [] lists j fin slots empty list is = let l = j.some in absurd (omega arith)
-  told_of_all (first ∷ rest) lists j fin slots empty list is = all_told c plan s first rest lists j.orderly j.settled j.at j.laid fin slots empty list is
+  pub told_of_all : (keep : Keep) (seats : List (SeatTold CourseTold)) (lists : List (List Outcome)) → AreJoined c plan s seats → HaveFinished c keep plan seats lists → (slots : List (Option Outcome))
+      → slots ≡ replicate (length (segments_in c.plan)) None → (list : List Outcome) → map (λ (x : Outcome). Some x) list ≡ placed_all slots lists → map outcome_told list ≡ outcomes_before c keep (length (segments_in c.plan))
+  told_of_all keep [] lists j fin slots empty list is = let l = j.some in absurd (omega arith)
+  told_of_all keep (first ∷ rest) lists j fin slots empty list is = all_told c plan s first rest lists j.orderly j.settled j.at j.laid keep fin slots empty list is
 
 -- One outcome more is placed.
 pub placed_more : (slots : List (Option Outcome)) (os : List Outcome) (o : Outcome) → placed slots (os ++ o ∷ []) ≡ set (placed slots os) o.segment (Some o)
@@ -396,11 +397,11 @@ pub placed_all_more : (slots : List (Option Outcome)) (lists : List (List Outcom
 placed_all_more slots [] os = refl
 placed_all_more slots (xs ∷ lists) os = placed_all_more (placed slots xs) lists os
 
-all_from_map : {X Y : Type 0} (P : X → Type 0) (f : Y → X) (ys : List Y) → All P (map f ys) → All (λ y. P (f y)) ys
+pub all_from_map : {X Y : Type 0} (P : X → Type 0) (f : Y → X) (ys : List Y) → All P (map f ys) → All (λ y. P (f y)) ys
 all_from_map P f [] a = All-nil (λ y. P (f y))
 all_from_map P f (y ∷ ys) a = All-cons (λ z. P (f z)) y ys (All-head P (f y) (map f ys) a) (all_from_map P f ys (All-tail P (f y) (map f ys) a))
 
-pub vectors_below : (c : CourseTold) (plan : ShelfPlan) (n : ℕ) (seats : List (SeatTold CourseTold)) (vs : List (Vec Outcome Global)) → HaveFinished c plan seats (map (λ v. v.items) vs)
+pub vectors_below : (c : CourseTold) (keep : Keep) (plan : ShelfPlan) (n : ℕ) (seats : List (SeatTold CourseTold)) (vs : List (Vec Outcome Global)) → HaveFinished c keep plan seats (map (λ v. v.items) vs)
     → n ≡ length (segments_in c.plan) → All (λ v. All (λ (o : Outcome). o.segment < n) v.items) vs
-vectors_below c plan n seats vs fin is =
-    all_from_map (λ (os : List Outcome). All (λ (o : Outcome). o.segment < n) os) (λ (v : Vec Outcome Global). v.items) vs (lists_below c plan n seats (map (λ (v : Vec Outcome Global). v.items) vs) fin is)
+vectors_below c keep plan n seats vs fin is =
+    all_from_map (λ (os : List Outcome). All (λ (o : Outcome). o.segment < n) os) (λ (v : Vec Outcome Global). v.items) vs (lists_below c keep plan n seats (map (λ (v : Vec Outcome Global). v.items) vs) fin is)

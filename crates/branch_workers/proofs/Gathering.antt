@@ -12,6 +12,7 @@ use Rattle.shelf_core.proofs.Lists.{not_some, some_same}
 use Rattle.branch_deques.specs.Told.{LaneTold}
 use Rattle.checkpoint_shelf.specs.Told.{ShelfTold, SeatTold}
 use Rattle.checkpoint_shelf.specs.Seats.{AllBack, NewFrom}
+use Rattle.kernel_copy.specs.declared.kept.Keep.{Keep}
 use Rattle.kernel_copy.specs.declared.run.Outcome.{Outcome}
 use Rattle.kernel_copy.specs.Courses.{CourseTold, IsCourse}
 use Rattle.kernel_copy.specs.Outcomes.{outcome_told, outcome_of}
@@ -19,10 +20,10 @@ use Rattle.branch_workers.specs.Claims.{HasPushed}
 use Rattle.branch_workers.specs.Workers.{own_of, AreNumbered, IsAtWork, HasEnded, HasFinished, HaveFinished}
 
 -- A worker that is made: its seat is new, and it has done nothing.
-pub made_ready : (c : CourseTold) (shelf : ShelfTold CourseTold) (number : ℕ) (seat : SeatTold CourseTold) (pushed : List ℕ) → IsCourse c → seat.shelf ≡ Some shelf → seat.view ≡ new_view number → HasPushed c.plan [] pushed
-    → IsAtWork c shelf number seat 0 [] pushed
-made_ready c shelf number seat pushed k at new h =
-    let ready : IsAtWork c shelf number (record { shelf = seat.shelf; view = new_view number }) 0 [] pushed = record {
+pub made_ready : (c : CourseTold) (keep : Keep) (shelf : ShelfTold CourseTold) (number : ℕ) (seat : SeatTold CourseTold) (pushed : List ℕ) → IsCourse c → seat.shelf ≡ Some shelf → seat.view ≡ new_view number → HasPushed c.plan [] pushed
+    → IsAtWork c keep shelf number seat 0 [] pushed
+made_ready c keep shelf number seat pushed k at new h =
+    let ready : IsAtWork c keep shelf number (record { shelf = seat.shelf; view = new_view number }) 0 [] pushed = record {
       course = k;
       of = at;
       numbers = refl;
@@ -31,30 +32,30 @@ made_ready c shelf number seat pushed k at new h =
       counts = refl;
       states = λ s pos. absurd (none s pos);
       segments = refl;
-      told = All-nil (λ (o : Outcome). outcome_told o ≡ outcome_of c o.segment);
+      told = All-nil (λ (o : Outcome). outcome_told o ≡ outcome_of c keep o.segment);
       counted = refl;
       lane = h;
     } in
-    subst (λ (v : SeatView). IsAtWork c shelf number (record { shelf = seat.shelf; view = v }) 0 [] pushed) (sym new) ready
+    subst (λ (v : SeatView). IsAtWork c keep shelf number (record { shelf = seat.shelf; view = v }) 0 [] pushed) (sym new) ready
   where
     none : (s : ℕ) → 0 < times s [] → ⊥
     none s pos = absurd (omega arith)
 
-module _ {X : Type 0} (c : CourseTold) (shelf : ShelfTold CourseTold) (seat : X → SeatTold CourseTold) (steps : X → ℕ) (number : X → ℕ) (outcomes : X → Vec Outcome Global) (lane : X → LaneTold) (finished : X → Bool) where
+module _ {X : Type 0} (c : CourseTold) (keep : Keep) (shelf : ShelfTold CourseTold) (seat : X → SeatTold CourseTold) (steps : X → ℕ) (number : X → ℕ) (outcomes : X → Vec Outcome Global) (lane : X → LaneTold) (finished : X → Bool) where
   -- All workers that are made are ready.
   pub all_ready : IsCourse c → (n : ℕ) (ws : List X) → ((i : ℕ) (s : SeatTold CourseTold) → slice_get (map seat ws) i ≡ Some s → (s.shelf ≡ Some shelf) × (s.view ≡ new_view (n + i)))
       → ((i m : ℕ) → slice_get (map number ws) i ≡ Some m → m ≡ n + i) → All (λ (l : LaneTold). HasPushed c.plan [] l.own.view.pushed) (map lane ws)
       → All (λ w. (steps w ≡ 0) × ((outcomes w).items ≡ []) × (finished w ≡ false)) ws
-      → All (λ w. IsAtWork c shelf (number w) (seat w) (steps w) (outcomes w).items (lane w).own.view.pushed) ws
-  all_ready k n [] seats numbers lanes idle = All-nil (λ (w : X). IsAtWork c shelf (number w) (seat w) (steps w) (outcomes w).items (lane w).own.view.pushed)
+      → All (λ w. IsAtWork c keep shelf (number w) (seat w) (steps w) (outcomes w).items (lane w).own.view.pushed) ws
+  all_ready k n [] seats numbers lanes idle = All-nil (λ (w : X). IsAtWork c keep shelf (number w) (seat w) (steps w) (outcomes w).items (lane w).own.view.pushed)
   all_ready k n (w ∷ ws) seats numbers lanes idle =
       let s = seats 0 (seat w) refl in let m : number w ≡ n + 0 = numbers 0 (number w) refl in let i = All-head (λ (w : X). (steps w ≡ 0) × ((outcomes w).items ≡ []) × (finished w ≡ false)) w ws idle in
       let l = All-head (λ (l : LaneTold). HasPushed c.plan [] l.own.view.pushed) (lane w) (map lane ws) lanes in
       let view : (seat w).view ≡ new_view (number w) = s.1 ∙ ap (λ (x : ℕ). new_view x) (sym m) in
-      let ready = made_ready c shelf (number w) (seat w) (lane w).own.view.pushed k s.0 view l in
-      All-cons (λ (w : X). IsAtWork c shelf (number w) (seat w) (steps w) (outcomes w).items (lane w).own.view.pushed) w ws
-      (subst (λ (m : ℕ). IsAtWork c shelf (number w) (seat w) m (outcomes w).items (lane w).own.view.pushed) (sym i.0)
-      (subst (λ (os : List Outcome). IsAtWork c shelf (number w) (seat w) 0 os (lane w).own.view.pushed) (sym i.1) ready))
+      let ready = made_ready c keep shelf (number w) (seat w) (lane w).own.view.pushed k s.0 view l in
+      All-cons (λ (w : X). IsAtWork c keep shelf (number w) (seat w) (steps w) (outcomes w).items (lane w).own.view.pushed) w ws
+      (subst (λ (m : ℕ). IsAtWork c keep shelf (number w) (seat w) m (outcomes w).items (lane w).own.view.pushed) (sym i.0)
+      (subst (λ (os : List Outcome). IsAtWork c keep shelf (number w) (seat w) 0 os (lane w).own.view.pushed) (sym i.1) ready))
       (all_ready k (suc n) ws
       (λ j t e. let a = seats (suc j) t e in let e2 : n + suc j ≡ suc n + j = omega arith in (a.0, a.1 ∙ ap (λ (x : ℕ). new_view x) e2))
       (λ j t e. let a = numbers (suc j) t e in omega arith)
@@ -85,10 +86,10 @@ module _ {X : Type 0} (c : CourseTold) (shelf : ShelfTold CourseTold) (seat : X 
           let r = at_number xs 0 (λ j n q. let a = nums j n q in omega arith) ends i s e in let m : 0 + i ≡ i = omega arith in
           (r.0, (r.1.0, r.1.1 ∙ ap (λ (y : ℕ). y ∷ r.1.0) m), r.2)
 
-  pub all_finished : (ws : List X) → All (λ w. finished w ≡ true) ws → All (λ w. finished w ≡ true → HasFinished c shelf.plan (seat w).view (outcomes w).items) ws
-      → HaveFinished c shelf.plan (map seat ws) (map (λ (v : Vec Outcome Global). v.items) (map outcomes ws))
+  pub all_finished : (ws : List X) → All (λ w. finished w ≡ true) ws → All (λ w. finished w ≡ true → HasFinished c keep shelf.plan (seat w).view (outcomes w).items) ws
+      → HaveFinished c keep shelf.plan (map seat ws) (map (λ (v : Vec Outcome Global). v.items) (map outcomes ws))
   all_finished [] all each = tt
-  all_finished (w ∷ ws) all each = (All-head (λ (w : X). finished w ≡ true → HasFinished c shelf.plan (seat w).view (outcomes w).items) w ws each (All-head (λ (w : X). finished w ≡ true) w ws all), all_finished ws (All-tail (λ (w : X). finished w ≡ true) w ws all) (All-tail (λ (w : X). finished w ≡ true → HasFinished c shelf.plan (seat w).view (outcomes w).items) w ws each))
+  all_finished (w ∷ ws) all each = (All-head (λ (w : X). finished w ≡ true → HasFinished c keep shelf.plan (seat w).view (outcomes w).items) w ws each (All-head (λ (w : X). finished w ≡ true) w ws all), all_finished ws (All-tail (λ (w : X). finished w ≡ true) w ws all) (All-tail (λ (w : X). finished w ≡ true → HasFinished c keep shelf.plan (seat w).view (outcomes w).items) w ws each))
 
   pub steps_most : (ws : List X) → All (λ w. HasEnded c shelf (number w) (seat w) (steps w)) ws
       → sum_by steps ws ≤ sum_by (λ (s : SeatTold CourseTold). sum_by (own_of c) s.view.claims) (map seat ws)
@@ -128,12 +129,12 @@ module _ {X : Type 0} (c : CourseTold) (shelf : ShelfTold CourseTold) (seat : X 
       sym a.2 ∙ ap number (sym x.0) ∙ same i a.0 l ∙ h i (number (get_or vs i a.0)) (get_index vs i a.0 l)
 
 -- The same of workers that are named first.
-module _ {X : Type 0} (ws : List X) (c : CourseTold) (shelf : ShelfTold CourseTold) (seat : X → SeatTold CourseTold) (steps : X → ℕ) (number : X → ℕ) (outcomes : X → Vec Outcome Global) (lane : X → LaneTold) (finished : X → Bool) where
+module _ {X : Type 0} (ws : List X) (c : CourseTold) (keep : Keep) (shelf : ShelfTold CourseTold) (seat : X → SeatTold CourseTold) (steps : X → ℕ) (number : X → ℕ) (outcomes : X → Vec Outcome Global) (lane : X → LaneTold) (finished : X → Bool) where
   pub ready : IsCourse c → (ss : List (SeatTold CourseTold)) → map seat ws ≡ ss → NewFrom shelf 0 ss → AreNumbered (map number ws)
       → (ls : List LaneTold) → map lane ws ≡ ls → All (λ (l : LaneTold). HasPushed c.plan [] l.own.view.pushed) ls
       → All (λ w. (steps w ≡ 0) × ((outcomes w).items ≡ []) × (finished w ≡ false)) ws
-      → All (λ w. IsAtWork c shelf (number w) (seat w) (steps w) (outcomes w).items (lane w).own.view.pushed) ws
-  ready k ss is new numbers ls are pushed idle = all_ready c shelf seat steps number outcomes lane finished k 0 ws
+      → All (λ w. IsAtWork c keep shelf (number w) (seat w) (steps w) (outcomes w).items (lane w).own.view.pushed) ws
+  ready k ss is new numbers ls are pushed idle = all_ready c keep shelf seat steps number outcomes lane finished k 0 ws
       (subst (λ (xs : List (SeatTold CourseTold)). NewFrom shelf 0 xs) (sym is) new)
       (λ i m e. let a = numbers i m e in omega arith)
       (subst (λ (xs : List LaneTold). All (λ (l : LaneTold). HasPushed c.plan [] l.own.view.pushed) xs) (sym are) pushed) idle
@@ -142,32 +143,32 @@ module _ {X : Type 0} (ws : List X) (c : CourseTold) (shelf : ShelfTold CourseTo
   unfinished idle = All-weaker (λ w. (steps w ≡ 0) × ((outcomes w).items ≡ []) × (finished w ≡ false)) (λ w. finished w ≡ false) (λ w i. i.2) ws idle
 
   pub handed : length ws ≡ shelf.seats → AreNumbered (map number ws) → All (λ w. HasEnded c shelf (number w) (seat w) (steps w)) ws → AllBack shelf (map seat ws)
-  handed count numbers ended = all_handed c shelf seat steps number outcomes lane finished ws count numbers ended
+  handed count numbers ended = all_handed c keep shelf seat steps number outcomes lane finished ws count numbers ended
 
-  pub finishes : All (λ w. finished w ≡ true) ws → All (λ w. finished w ≡ true → HasFinished c shelf.plan (seat w).view (outcomes w).items) ws
-      → HaveFinished c shelf.plan (map seat ws) (map (λ (v : Vec Outcome Global). v.items) (map outcomes ws))
-  finishes all each = all_finished c shelf seat steps number outcomes lane finished ws all each
+  pub finishes : All (λ w. finished w ≡ true) ws → All (λ w. finished w ≡ true → HasFinished c keep shelf.plan (seat w).view (outcomes w).items) ws
+      → HaveFinished c keep shelf.plan (map seat ws) (map (λ (v : Vec Outcome Global). v.items) (map outcomes ws))
+  finishes all each = all_finished c keep shelf seat steps number outcomes lane finished ws all each
 
   pub most_steps : All (λ w. HasEnded c shelf (number w) (seat w) (steps w)) ws → sum_by steps ws ≤ sum_by (λ (s : SeatTold CourseTold). sum_by (own_of c) s.view.claims) (map seat ws)
-  most_steps ended = steps_most c shelf seat steps number outcomes lane finished ws ended
+  most_steps ended = steps_most c keep shelf seat steps number outcomes lane finished ws ended
 
   pub all_steps : All (λ w. finished w ≡ true) ws → All (λ w. finished w ≡ true → steps w ≡ sum_by (own_of c) (seat w).view.claims) ws
       → sum_by steps ws ≡ sum_by (λ (s : SeatTold CourseTold). sum_by (own_of c) s.view.claims) (map seat ws)
-  all_steps all each = steps_all c shelf seat steps number outcomes lane finished ws all each
+  all_steps all each = steps_all c keep shelf seat steps number outcomes lane finished ws all each
 
   pub few_steps : All (λ w. HasEnded c shelf (number w) (seat w) (steps w)) ws → All (λ w. steps w < 2 ^ 52) ws
-  few_steps ended = steps_few c shelf seat steps number outcomes lane finished ws ended
+  few_steps ended = steps_few c keep shelf seat steps number outcomes lane finished ws ended
 
   pub still_numbered : (vs : List X) → length ws ≡ length vs → ((i : ℕ) (d : X) → i < length vs → number (get_or ws i d) ≡ number (get_or vs i d)) → AreNumbered (map number vs) → AreNumbered (map number ws)
-  still_numbered vs long same h = numbered_still c shelf seat steps number outcomes lane finished ws vs long same h
+  still_numbered vs long same h = numbered_still c keep shelf seat steps number outcomes lane finished ws vs long same h
 
 -- What all workers that finished tell, of equal lists.
-pub finished_told : (c d : CourseTold) (plan : ShelfPlan) → d ≡ c → (seats others : List (SeatTold CourseTold)) → others ≡ seats → (lists more : List (Vec Outcome Global)) → more ≡ lists
-    → HaveFinished c plan seats (map (λ (v : Vec Outcome Global). v.items) lists) → HaveFinished d plan others (map (λ (v : Vec Outcome Global). v.items) more)
-finished_told c d plan course seats others same lists more equal h =
-    subst (λ (x : CourseTold). HaveFinished x plan others (map (λ (v : Vec Outcome Global). v.items) more)) (sym course)
-    (subst (λ (ss : List (SeatTold CourseTold)). HaveFinished c plan ss (map (λ (v : Vec Outcome Global). v.items) more)) (sym same)
-    (subst (λ (vs : List (Vec Outcome Global)). HaveFinished c plan seats (map (λ (v : Vec Outcome Global). v.items) vs)) (sym equal) h))
+pub finished_told : (c d : CourseTold) (keep : Keep) (plan : ShelfPlan) → d ≡ c → (seats others : List (SeatTold CourseTold)) → others ≡ seats → (lists more : List (Vec Outcome Global)) → more ≡ lists
+    → HaveFinished c keep plan seats (map (λ (v : Vec Outcome Global). v.items) lists) → HaveFinished d keep plan others (map (λ (v : Vec Outcome Global). v.items) more)
+finished_told c d keep plan course seats others same lists more equal h =
+    subst (λ (x : CourseTold). HaveFinished x keep plan others (map (λ (v : Vec Outcome Global). v.items) more)) (sym course)
+    (subst (λ (ss : List (SeatTold CourseTold)). HaveFinished c keep plan ss (map (λ (v : Vec Outcome Global). v.items) more)) (sym same)
+    (subst (λ (vs : List (Vec Outcome Global)). HaveFinished c keep plan seats (map (λ (v : Vec Outcome Global). v.items) vs)) (sym equal) h))
 
 -- A fact of all of a list holds of all of an equal one.
 pub moved : {X : Type 0} (xs ys : List X) → xs ≡ ys → (P : X → Type 0) → All P ys → All P xs

@@ -8,5 +8,6 @@ pub mod Standing
 pub mod Layouts
 pub mod Ends
 pub mod Closing
+pub mod Timing
 pub mod Gathering
 pub mod Turns

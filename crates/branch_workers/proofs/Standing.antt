@@ -13,6 +13,7 @@ use Rattle.shelf_core.specs.Made.{Same, Stays}
 use Rattle.shelf_core.specs.declared.seat.SeatView.{SeatView}
 use Rattle.shelf_core.proofs.Lists.{times_here, times_else, times_append}
 use Rattle.checkpoint_shelf.specs.Told.{ShelfTold, SeatTold}
+use Rattle.kernel_copy.specs.declared.kept.Keep.{Keep}
 use Rattle.kernel_copy.specs.declared.run.Outcome.{Outcome}
 use Rattle.kernel_copy.specs.Segmentwise.{own_before, distinct}
 use Rattle.kernel_copy.specs.Courses.{CourseTold, IsCourse}
@@ -60,10 +61,10 @@ claims_more c claims g a below new = record {
 pub sum_more : (f : ℕ → ℕ) (xs : List ℕ) (g : ℕ) → sum_by f (xs ++ g ∷ []) ≡ sum_by f xs + f g
 sum_more f xs g = let a = sum_by-append f xs (g ∷ []) in let b = sum_by-cons f g [] in omega arith
 
-module _ (c : CourseTold) (shelf : ShelfTold CourseTold) (number : ℕ) (seat : SeatTold CourseTold) (steps : ℕ) (outcomes : List Outcome) (pushed : List ℕ)
-    (h : IsAtWork c shelf number seat steps outcomes pushed) where
+module _ (c : CourseTold) (keep : Keep) (shelf : ShelfTold CourseTold) (number : ℕ) (seat : SeatTold CourseTold) (steps : ℕ) (outcomes : List Outcome) (pushed : List ℕ)
+    (h : IsAtWork c keep shelf number seat steps outcomes pushed) where
   -- Nothing changed but what the seat saw.
-  pub stays_at_work : (w : SeatTold CourseTold) → w.shelf ≡ seat.shelf → Same seat.view w.view → Stays seat.view w.view → IsAtWork c shelf number w steps outcomes pushed
+  pub stays_at_work : (w : SeatTold CourseTold) → w.shelf ≡ seat.shelf → Same seat.view w.view → Stays seat.view w.view → IsAtWork c keep shelf number w steps outcomes pushed
   stays_at_work w at same stays = record {
     course = h.course;
     of = at ∙ h.of;
@@ -92,7 +93,7 @@ module _ (c : CourseTold) (shelf : ShelfTold CourseTold) (number : ℕ) (seat : 
     few = (let e = h.counted in let f = claims_few c seat.view.claims h.course h.claims in omega arith);
   }
 
-  pub finishes_here : length (segments_in c.plan) ≤ seat.view.done_seen → HasFinished c shelf.plan seat.view outcomes
+  pub finishes_here : length (segments_in c.plan) ≤ seat.view.done_seen → HasFinished c keep shelf.plan seat.view outcomes
   finishes_here done = record { below = h.claims.below; states = h.states; segments = h.segments; told = h.told; done = done }
 
   module _ (g : ℕ) (below : g < length (segments_in c.plan)) (new : times g seat.view.claims ≡ 0) (claimed : SeatView) (is : claimed ≡ with_claim g seat.view)
@@ -120,8 +121,8 @@ module _ (c : CourseTold) (shelf : ShelfTold CourseTold) (number : ℕ) (seat : 
         }
 
     -- It ran.
-    pub ran : w.view.counts ≡ claimed.counts + 1 → HasStates c shelf.plan g w.view → (o : Outcome) → outcome_told o ≡ outcome_of c g → (made : ℕ) → made ≡ steps + own_of c g
-        → IsAtWork c shelf number w made (outcomes ++ o ∷ []) (pushed ++ children_of c.plan g)
+    pub ran : w.view.counts ≡ claimed.counts + 1 → HasStates c shelf.plan g w.view → (o : Outcome) → outcome_told o ≡ outcome_of c keep g → (made : ℕ) → made ≡ steps + own_of c g
+        → IsAtWork c keep shelf number w made (outcomes ++ o ∷ []) (pushed ++ children_of c.plan g)
     ran counts states o told made rose =
         let more = claims_more c seat.view.claims g h.claims below new in
         let s = sum_more (own_of c) seat.view.claims g in
@@ -145,8 +146,8 @@ module _ (c : CourseTold) (shelf : ShelfTold CourseTold) (number : ℕ) (seat : 
               });
           segments = map-append (λ (x : Outcome). x.segment) outcomes (o ∷ []) ∙ ap (λ (xs : List ℕ). xs ++ o.segment ∷ []) h.segments
               ∙ ap (λ (x : ℕ). seat.view.claims ++ x ∷ []) (ap (λ (x : OutcomeTold). x.segment) told) ∙ sym claims_are;
-          told = All-push (λ (x : Outcome). outcome_told x ≡ outcome_of c x.segment) outcomes o h.told
-              (told ∙ ap (λ (x : ℕ). outcome_of c x) (sym (ap (λ (x : OutcomeTold). x.segment) told)));
+          told = All-push (λ (x : Outcome). outcome_told x ≡ outcome_of c keep x.segment) outcomes o h.told
+              (told ∙ ap (λ (x : ℕ). outcome_of c keep x) (sym (ap (λ (x : OutcomeTold). x.segment) told)));
           counted = (let e = h.counted in let sums : sum_by (own_of c) w.view.claims ≡ sum_by (own_of c) (seat.view.claims ++ g ∷ []) = ap (λ (xs : List ℕ). sum_by (own_of c) xs) claims_are in omega arith);
           lane = subst (λ (xs : List ℕ). HasPushed c.plan xs (pushed ++ children_of c.plan g)) (sym claims_are) (pushed_more c.plan seat.view.claims pushed g new h.lane);
         }

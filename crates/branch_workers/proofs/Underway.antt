@@ -4,12 +4,16 @@ use mathlib.Core.Logic.{dite}
 use native.Mathlib.Decide.{ℕ_discrete}
 use Rattle.branch_tree.specs.Segments.{segments_in, segment_at}
 use Rattle.kernel_core.specs.Step.{Fits}
+use Rattle.kernel_core.specs.State.{State}
 use Rattle.kernel_core.specs.Until.{Run, until}
 use Rattle.kernel_core.specs.Step.{end_of}
 use Rattle.kernel_core.proofs.Runs.{advanced_by_ended}
 use Rattle.kernel_core.proofs.Stops.{until-grows, until-within, until-until, end_cases, going-events}
 use Rattle.kernel_copy.specs.Courses.{CourseTold, IsCourse, IsKeyOf, state_at}
-use Rattle.kernel_copy.specs.Segmentwise.{segment_run, started_at, from_count}
+use Rattle.kernel_copy.specs.Ran.{RanTold, ran_as, ran_with}
+use Rattle.kernel_copy.specs.Segmentwise.{afresh, segment_run, started_at, from_count}
+use Rattle.kernel_copy.specs.declared.kept.Keep.{Keep}
+use Rattle.kernel_copy.proofs.Pieces.{goes_on_kept}
 use Rattle.kernel_copy.proofs.Trees.{course-tree}
 use Rattle.kernel_copy.proofs.Walks.{segment-after, segment-starts, segment-copy, segment-grows, own-is, segment-within, planned-at}
 use Rattle.shelf_core.specs.Plan.{is_in, is_sole}
@@ -24,15 +28,24 @@ use Rattle.branch_workers.specs.Runs.{IsPassed, IsUnderway}
 abbrev first_of : CourseTold → ℕ → Run
 first_of c s = started_at c.opening c.plan (segment_at c.plan s)
 
-pub begins : (c : CourseTold) (s : ℕ) (r : Run) → r ≡ started_at c.opening c.plan (segment_at c.plan s) → Fits c.opening r.state → IsUnderway c s 0 r
-begins c s r is fits = record {
+pub begins : (c : CourseTold) (keep : Keep) (s : ℕ) (x : RanTold) (r : Run) → x ≡ ran_as keep r → r ≡ started_at c.opening c.plan (segment_at c.plan s) → Fits c.opening r.state → IsUnderway c keep s 0 x
+begins c keep s x r kept is fits = record {
+  run = r;
+  is = kept;
   again = λ m l. ap (λ (q : Run). until c.opening m q) is;
   few = (let same = ap (λ (q : Run). q.state.events) is in let grows = until-grows c.opening (segment_at c.plan s).stop (first_of c s) in omega arith);
   fits = fits;
 }
 
-pub goes_later : (c : CourseTold) (s e m : ℕ) (r : Run) → e ≤ m → IsUnderway c s e r → IsUnderway c s m r
-goes_later c s e m r l h = record { again = λ n k. h.again n (omega arith); few = h.few; fits = h.fits }
+pub goes_later : (c : CourseTold) (keep : Keep) (s e m : ℕ) (x : RanTold) → e ≤ m → IsUnderway c keep s e x → IsUnderway c keep s m x
+goes_later c keep s e m x l h = record { run = h.run; is = h.is; again = λ n k. h.again n (omega arith); few = h.few; fits = h.fits }
+
+-- the state of a run that is under way
+pub underway_state : (c : CourseTold) (keep : Keep) (s e : ℕ) (x : RanTold) (h : IsUnderway c keep s e x) → x.state ≡ h.run.state
+underway_state c keep s e x h = ap (λ (y : RanTold). y.state) h.is
+
+pub underway_fits : (c : CourseTold) (keep : Keep) (s e : ℕ) (x : RanTold) → IsUnderway c keep s e x → Fits c.opening x.state
+underway_fits c keep s e x h = subst (λ (k : State). Fits c.opening k) (sym (underway_state c keep s e x h)) h.fits
 
 -- a run up to an event number within the segment has no more events than the segment's
 pub few_at : (c : CourseTold) (s e : ℕ) → e ≤ (segment_at c.plan s).stop → (until c.opening e (first_of c s)).state.events ≤ (segment_run c.opening c.plan (segment_at c.plan s)).state.events
@@ -42,18 +55,31 @@ few_at c s e l =
     let same = ap (λ (q : Run). q.state.events) (until-until c.opening e stop (first_of c s) l) in omega arith
 
 -- It goes on to an event number.
-module _ (c : CourseTold) (s e : ℕ) (r q : Run) (l : e ≤ (segment_at c.plan s).stop) (h : IsUnderway c s e r) where
-  pub goes_few : (n : ℕ) → n ≤ (until c.opening e r).state.events → n ≤ (segment_run c.opening c.plan (segment_at c.plan s)).state.events
-  goes_few n few = let same = ap (λ (x : Run). x.state.events) (h.again e (omega arith)) in let most = few_at c s e l in omega arith
+module _ (c : CourseTold) (keep : Keep) (s e : ℕ) (x y : RanTold) (l : e ≤ (segment_at c.plan s).stop) (h : IsUnderway c keep s e x) where
+  -- from what is kept, as from the run that it is
+  goes : ran_with x (until c.opening e (afresh x.state)) ≡ ran_as keep (until c.opening e h.run)
+  goes = ap (λ (z : RanTold). ran_with z (until c.opening e (afresh z.state))) h.is ∙ goes_on_kept keep c.opening e h.run
 
-  pub goes_to : q ≡ until c.opening e r → q ≡ until c.opening e (started_at c.opening c.plan (segment_at c.plan s))
-  goes_to is = is ∙ h.again e (omega arith)
+  goes_state : (until c.opening e (afresh x.state)).state ≡ (until c.opening e h.run).state
+  goes_state = ap (λ (z : RanTold). z.state) goes
 
-  pub goes_on : q ≡ until c.opening e r → Fits c.opening q.state → IsUnderway c s e q
+  -- no more events than the segment's
+  goes_most : (until c.opening e h.run).state.events ≤ (segment_run c.opening c.plan (segment_at c.plan s)).state.events
+  goes_most = let same = ap (λ (r : Run). r.state.events) (h.again e (omega arith)) in let most = few_at c s e l in omega arith
+
+  pub goes_few : (n : ℕ) → n ≤ (until c.opening e (afresh x.state)).state.events → n ≤ (segment_run c.opening c.plan (segment_at c.plan s)).state.events
+  goes_few n few = let same = ap (λ (k : State). k.events) goes_state in let most = goes_most in omega arith
+
+  pub goes_to : y ≡ ran_with x (until c.opening e (afresh x.state)) → y ≡ ran_as keep (until c.opening e (started_at c.opening c.plan (segment_at c.plan s)))
+  goes_to is = is ∙ goes ∙ ap (λ (r : Run). ran_as keep r) (h.again e (omega arith))
+
+  pub goes_on : y ≡ ran_with x (until c.opening e (afresh x.state)) → Fits c.opening y.state → IsUnderway c keep s e y
   goes_on is fits = record {
-    again = λ m k. ap (λ (x : Run). until c.opening m x) is ∙ until-until c.opening e m r k ∙ h.again m k;
-    few = goes_few q.state.events (let same = ap (λ (x : Run). x.state.events) is in omega arith);
-    fits = fits;
+    run = until c.opening e h.run;
+    is = is ∙ goes;
+    again = λ m k. until-until c.opening e m h.run k ∙ h.again m k;
+    few = goes_most;
+    fits = subst (λ (k : State). Fits c.opening k) (ap (λ (z : RanTold). z.state) (is ∙ goes)) fits;
   }
 
 module _ (c : CourseTold) (s : ℕ) (h : IsCourse c) (l : s < length (segments_in c.plan)) where
@@ -65,14 +91,14 @@ module _ (c : CourseTold) (s : ℕ) (h : IsCourse c) (l : s < length (segments_i
       let same = ap (λ (q : Run). q.state.events) (segment-copy c.opening c.plan s (course-tree c h) l) in omega arith
 
   -- From its start on it has the course's states.
-  pub state_there : (e : ℕ) (r : Run) → (segment_at c.plan s).start ≤ e → r ≡ until c.opening e (started_at c.opening c.plan (segment_at c.plan s)) → r.state ≡ state_at c (key_at s e)
-  state_there e r from is =
+  pub state_there : (keep : Keep) (e : ℕ) (x : RanTold) → (segment_at c.plan s).start ≤ e → x ≡ ran_as keep (until c.opening e (started_at c.opening c.plan (segment_at c.plan s))) → x.state ≡ state_at c (key_at s e)
+  state_there keep e x from is =
       let starts = segment-starts c.opening c.plan s (course-tree c h) l in
-      ap (λ (q : Run). q.state) is ∙ sym (ap (λ (q : Run). q.state) (segment-after c.opening c.plan s e (course-tree c h) l (omega arith)))
+      ap (λ (y : RanTold). y.state) is ∙ sym (ap (λ (q : Run). q.state) (segment-after c.opening c.plan s e (course-tree c h) l (omega arith)))
 
   -- Where the segment passes an event number, so many events stand there.
-  pub passed_events : (e : ℕ) (r : Run) → (segment_at c.plan s).start ≤ e → e ≤ (segment_at c.plan s).stop → r ≡ until c.opening e (started_at c.opening c.plan (segment_at c.plan s)) → IsPassed c s e → r.state.events ≡ e
-  passed_events e r from to is passed =
+  pub passed_events : (keep : Keep) (e : ℕ) (x : RanTold) → (segment_at c.plan s).start ≤ e → e ≤ (segment_at c.plan s).stop → x ≡ ran_as keep (until c.opening e (started_at c.opening c.plan (segment_at c.plan s))) → IsPassed c s e → x.state.events ≡ e
+  passed_events keep e x from to is passed =
       let stop = (segment_at c.plan s).stop in
       let y = until c.opening e (first_of c s) in
       let starts = segment-starts c.opening c.plan s (course-tree c h) l in
@@ -80,7 +106,7 @@ module _ (c : CourseTold) (s : ℕ) (h : IsCourse c) (l : s < length (segments_i
       let within = until-within c.opening e (first_of c s) (omega arith) in
       let copy = ap (λ (q : Run). q.state.events) (segment-copy c.opening c.plan s (course-tree c h) l) in
       let same = ap (λ (q : Run). q.state.events) (until-until c.opening e stop (first_of c s) to) in
-      let there = ap (λ (q : Run). q.state.events) is in
+      let there = ap (λ (z : RanTold). z.state.events) is in
       elim (end_cases (end_of c.opening y.state)) [
         | inl going ↦ let made = going-events (e - (first_of c s).state.events) c.opening (first_of c s) going in omega arith
         | inr over ↦ let stays = ap (λ (q : Run). q.state.events) (advanced_by_ended (stop - y.state.events) c.opening y over.0 over.1) in omega arith

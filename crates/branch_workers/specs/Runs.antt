@@ -11,6 +11,8 @@ use Rattle.kernel_core.specs.Step.{Fits}
 use Rattle.kernel_core.specs.Until.{Run, until}
 use Rattle.kernel_copy.specs.Courses.{CourseTold}
 use Rattle.kernel_copy.specs.Segmentwise.{segment_end, segment_run, started_at}
+use Rattle.kernel_copy.specs.Ran.{RanTold, ran_as}
+use Rattle.kernel_copy.specs.declared.kept.Keep.{Keep}
 use Rattle.branch_workers.specs.Layout.{end_key, fork_keys, key_at, grid_keys}
 
 -- The shelf is of this course, with its forks.
@@ -39,11 +41,14 @@ pub record HasStates (c : CourseTold) (plan : ShelfPlan) (s : ℕ) (v : SeatView
 abbrev pub HasAllStates : CourseTold → ShelfPlan → SeatView → Type 0
 HasAllStates c plan v = (s : ℕ) → 0 < times s v.claims → HasStates c plan s v
 
--- A run of a segment that stopped on its way, at this event number or before: it goes on as if it hadn't stopped.
-pub record IsUnderway (c : CourseTold) (s e : ℕ) (r : Run) : Type 0 where
-  pub again : (m : ℕ) → e ≤ m → until c.opening m r ≡ until c.opening m (started_at c.opening c.plan (segment_at c.plan s))
-  pub few : r.state.events ≤ (segment_run c.opening c.plan (segment_at c.plan s)).state.events
-  pub fits : Fits c.opening r.state
+-- A run of a segment, of which this is kept, that stopped on its way, at this event number or before: it goes on as if it
+-- hadn't stopped.
+pub record IsUnderway (c : CourseTold) (keep : Keep) (s e : ℕ) (x : RanTold) : Type 0 where
+  pub run : Run
+  pub is : x ≡ ran_as keep run
+  pub again : (m : ℕ) → e ≤ m → until c.opening m run ≡ until c.opening m (started_at c.opening c.plan (segment_at c.plan s))
+  pub few : run.state.events ≤ (segment_run c.opening c.plan (segment_at c.plan s)).state.events
+  pub fits : Fits c.opening run.state
 
 -- What the run of a segment leaves of a seat's view, whether it ends well or not: its numbers and claims; and of what it
 -- knew and found nothing is lost.

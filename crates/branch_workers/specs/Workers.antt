@@ -10,6 +10,7 @@ use Rattle.shelf_core.specs.declared.seat.SeatView.{SeatView}
 use Rattle.shelf_core.specs.declared.system.System.{System}
 use Rattle.shelf_core.specs.declared.words.ClaimWord.TheVariants.{Taken}
 use Rattle.checkpoint_shelf.specs.Told.{ShelfTold, SeatTold}
+use Rattle.kernel_copy.specs.declared.kept.Keep.{Keep}
 use Rattle.kernel_copy.specs.declared.run.Outcome.{Outcome}
 use Rattle.kernel_copy.specs.Segmentwise.{own_count}
 use Rattle.kernel_copy.specs.Courses.{CourseTold, IsCourse}
@@ -27,8 +28,8 @@ abbrev pub own_of : CourseTold → ℕ → ℕ
 own_of c s = own_count c.opening c.plan (segment_at c.plan s)
 
 -- Between two segments: the worker's seat is of this shelf and has its own number alone and no turn, and each segment that it
--- claimed was run by it, counted and told.
-pub record IsAtWork (c : CourseTold) (shelf : ShelfTold CourseTold) (number : ℕ) (seat : SeatTold CourseTold) (steps : ℕ)
+-- claimed was run by it, counted and told as this is to be kept of it.
+pub record IsAtWork (c : CourseTold) (keep : Keep) (shelf : ShelfTold CourseTold) (number : ℕ) (seat : SeatTold CourseTold) (steps : ℕ)
     (outcomes : List Outcome) (pushed : List ℕ) : Type 0 where
   pub course : IsCourse c
   pub of : seat.shelf ≡ Some shelf
@@ -38,7 +39,7 @@ pub record IsAtWork (c : CourseTold) (shelf : ShelfTold CourseTold) (number : �
   pub counts : seat.view.counts ≡ length seat.view.claims
   pub states : HasAllStates c shelf.plan seat.view
   pub segments : map (λ o. o.segment) outcomes ≡ seat.view.claims
-  pub told : All (λ o. outcome_told o ≡ outcome_of c o.segment) outcomes
+  pub told : All (λ o. outcome_told o ≡ outcome_of c keep o.segment) outcomes
   pub counted : steps ≡ sum_by (own_of c) seat.view.claims
   pub lane : HasPushed c.plan seat.view.claims pushed
 
@@ -50,20 +51,21 @@ pub record HasEnded (c : CourseTold) (shelf : ShelfTold CourseTold) (number : �
   pub counted : steps ≤ sum_by (own_of c) seat.view.claims
   pub few : steps < 2 ^ 52
 
--- When a worker on a shelf of this plan, with this view and these outcomes, ended since all segments are done.
-pub record HasFinished (c : CourseTold) (plan : ShelfPlan) (view : SeatView) (outcomes : List Outcome) : Type 0 where
+-- When a worker on a shelf of this plan, with this view and these outcomes, of which this is kept, ended since all segments
+-- are done.
+pub record HasFinished (c : CourseTold) (keep : Keep) (plan : ShelfPlan) (view : SeatView) (outcomes : List Outcome) : Type 0 where
   pub below : All (λ s. s < length (segments_in c.plan)) view.claims
   pub states : HasAllStates c plan view
   pub segments : map (λ o. o.segment) outcomes ≡ view.claims
-  pub told : All (λ o. outcome_told o ≡ outcome_of c o.segment) outcomes
+  pub told : All (λ o. outcome_told o ≡ outcome_of c keep o.segment) outcomes
   pub done : length (segments_in c.plan) ≤ view.done_seen
 
 -- so of all workers, with their seats and their outcomes in order
-abbrev pub HaveFinished : CourseTold → ShelfPlan → List (SeatTold CourseTold) → List (List Outcome) → Type 0
-HaveFinished c plan [] [] = Unit {0}
-HaveFinished c plan [] (os ∷ lists) = ⊥
-HaveFinished c plan (seat ∷ seats) [] = ⊥
-HaveFinished c plan (seat ∷ seats) (os ∷ lists) = HasFinished c plan seat.view os × HaveFinished c plan seats lists
+abbrev pub HaveFinished : CourseTold → Keep → ShelfPlan → List (SeatTold CourseTold) → List (List Outcome) → Type 0
+HaveFinished c keep plan [] [] = Unit {0}
+HaveFinished c keep plan [] (os ∷ lists) = ⊥
+HaveFinished c keep plan (seat ∷ seats) [] = ⊥
+HaveFinished c keep plan (seat ∷ seats) (os ∷ lists) = HasFinished c keep plan seat.view os × HaveFinished c keep plan seats lists
 
 -- A closed system of this plan in which so many workers ran each segment once, and nothing else: the segment's word names
 -- one of them, and the view that took in all of theirs has it once among its claims with the states that its run found and

@@ -17,7 +17,7 @@ use crate::staff::{first_lanes, staff};
 use crate::worker::{Worker, run_worker};
 use branch_deques::Room;
 use checkpoint_shelf::{ClosedShelf, Shelf};
-use kernel_copy::{Checkpoint, Course, Outcome};
+use kernel_copy::{Checkpoint, Course, Keep, Outcome};
 use market_types::Memory;
 use outside::{Gate, Ledger, Steps};
 use std::alloc::Global;
@@ -42,6 +42,7 @@ fn run_all<R: Threads + Wait + Sync, G: Gate + Sync, L: Ledger + Send, B: Room +
     course: &Arc<Course>,
     shelf: &Shelf<Checkpoint>,
     stride: u32,
+    keep: Keep,
     gate: &G,
     workers: &mut [Worker<L, B>],
 )
@@ -49,11 +50,11 @@ fn run_all<R: Threads + Wait + Sync, G: Gate + Sync, L: Ledger + Send, B: Room +
     requires stride { 0 < stride }
     requires room { B.room ≡ length (segments_in course.now.value.plan) }
     requires some { 0 < length workers.old }
-    requires work { All (λ w. IsAtWork course.now.value shelf.now w.number w.seat w.steps w.outcomes.items w.lane.own.view.pushed) workers.old }
+    requires work { All (λ w. IsAtWork course.now.value keep shelf.now w.number w.seat w.steps w.outcomes.items w.lane.own.view.pushed) workers.old }
     requires finished { All (λ w. w.finished ≡ false) workers.old }
     ensures numbers { (i : ℕ) (d : _) → i < length workers.old → (slice_index_or workers.new i d).number ≡ (slice_index_or workers.old i d).number }
     ensures ended { All (λ w. HasEnded course.now.value shelf.now w.number w.seat w.steps) workers.new }
-    ensures finished { All (λ w. w.finished ≡ true → HasFinished course.now.value shelf.now.plan w.seat.view w.outcomes.items) workers.new }
+    ensures finished { All (λ w. w.finished ≡ true → HasFinished course.now.value keep shelf.now.plan w.seat.view w.outcomes.items) workers.new }
     ensures counted { All (λ w. w.finished ≡ true → w.steps ≡ sum_by (own_of course.now.value) w.seat.view.claims) workers.new }
 {
     let count = workers.len();
@@ -61,7 +62,7 @@ fn run_all<R: Threads + Wait + Sync, G: Gate + Sync, L: Ledger + Send, B: Room +
         rt,
         workers,
         count,
-        &|_, worker| run_worker(rt, alloc, course, shelf, stride, gate, worker),
+        &|_, worker| run_worker(rt, alloc, course, shelf, stride, keep, gate, worker),
     );
 }
 
@@ -69,6 +70,7 @@ fn run_all<R: Threads + Wait + Sync, G: Gate + Sync, L: Ledger + Send, B: Room +
 fn finish(
     alloc: Global,
     course: &Course,
+    keep: Keep,
     shelf: Shelf<Checkpoint>,
     back: Back,
     mut slots: Vec<Option<Outcome>>,
@@ -79,8 +81,8 @@ fn finish(
     requires segments { shelf.plan.segments ≡ length (segments_in course.now.plan) }
     requires back { AllBack shelf back.seats.items }
     requires slots { slots.items ≡ replicate (length (segments_in course.now.plan)) None }
-    requires finished { back.finished ≡ true → HaveFinished course.now shelf.plan back.seats.items (map (λ v. v.items) back.outcomes.items) }
-    ensures outcomes { IfOk result (λ w. map outcome_told w.outcomes.items ≡ outcomes_before course.now (length (segments_in course.now.plan))) }
+    requires finished { back.finished ≡ true → HaveFinished course.now keep shelf.plan back.seats.items (map (λ v. v.items) back.outcomes.items) }
+    ensures outcomes { IfOk result (λ w. map outcome_told w.outcomes.items ≡ outcomes_before course.now keep (length (segments_in course.now.plan))) }
     ensures finished { OnOk result (back.finished ≡ true) }
     ensures all { OnOk result (sum_by (λ s. sum_by (own_of course.now) s.view.claims) back.seats.items ≡ distinct course.now.opening course.now.plan) }
     ensures most { sum_by (λ s. sum_by (own_of course.now) s.view.claims) back.seats.items ≤ distinct course.now.opening course.now.plan }
@@ -88,6 +90,7 @@ fn finish(
     ensures once { IfOk result (λ w. RanOnce course.now shelf.plan (length back.seats.items) w.shelf.system) }
 {
     let _ = course.plan();
+    let _ = keep;
     let Back {
         seats,
         outcomes,
@@ -109,6 +112,7 @@ fn work_in<R: Threads + Wait + Sync, G: Gate + Sync, L: Ledger + Send, B: Room +
     course: &Arc<Course>,
     stride: u32,
     places: u32,
+    keep: Keep,
     workers: u32,
     gate: &G,
     steps: &mut Steps<L>,
@@ -120,7 +124,7 @@ fn work_in<R: Threads + Wait + Sync, G: Gate + Sync, L: Ledger + Send, B: Room +
     requires steps { steps.old ≤ 2 ^ 63 }
     requires room { count ≡ B.room }
     requires count { count ≡ length (segments_in course.now.value.plan) }
-    ensures outcomes { IfOk result (λ w. map outcome_told w.outcomes.items ≡ outcomes_before course.now.value (length (segments_in course.now.value.plan))) }
+    ensures outcomes { IfOk result (λ w. map outcome_told w.outcomes.items ≡ outcomes_before course.now.value keep (length (segments_in course.now.value.plan))) }
     ensures rose { OnOk result (steps.new ≡ steps.old + distinct course.now.value.opening course.now.value.plan) }
     ensures most { steps.new ≤ steps.old + distinct course.now.value.opening course.now.value.plan }
     ensures least { steps.old ≤ steps.new }
@@ -138,11 +142,12 @@ fn work_in<R: Threads + Wait + Sync, G: Gate + Sync, L: Ledger + Send, B: Room +
         course,
         &shelf,
         stride,
+        keep,
         gate,
         workers.as_mut_slice(),
     );
     gather(&mut back, workers, steps);
-    finish(alloc, course, shelf, back, slots)
+    finish(alloc, course, keep, shelf, back, slots)
 }
 
 /// Runs each segment of a course once, by so many workers, 1 to 64, each in a thread of its own where one can be made: the
@@ -155,6 +160,10 @@ fn work_in<R: Threads + Wait + Sync, G: Gate + Sync, L: Ledger + Send, B: Room +
 /// stop of each segment, which have the places in turn. The state at each number that its segment passed stands there, if
 /// its place is no other's: so it is of all where there are as many places as multiples.
 ///
+/// Each outcome has what is to be kept of its segment's entries: they themselves, or the bytes of their frames one after
+/// another. With `Keep::Frames` a worker turns entries into bytes piece by piece while the segment runs, and holds no more
+/// than a few hundred of them at a time; with `Keep::Entries` all are held until the outcomes are let go.
+///
 /// # Errors
 /// Want of memory alone. The counter then rose by no more.
 pub fn work<R: Threads + Wait + Sync, G: Gate + Sync, L: Ledger + Send>(
@@ -163,6 +172,7 @@ pub fn work<R: Threads + Wait + Sync, G: Gate + Sync, L: Ledger + Send>(
     course: &Arc<Course>,
     stride: u32,
     places: u32,
+    keep: Keep,
     workers: u32,
     gate: &G,
     steps: &mut Steps<L>,
@@ -171,7 +181,7 @@ pub fn work<R: Threads + Wait + Sync, G: Gate + Sync, L: Ledger + Send>(
     requires places { places ≤ 128 }
     requires workers { (0 < workers) × (workers ≤ 64) }
     requires steps { steps.old ≤ 2 ^ 63 }
-    ensures outcomes { IfOk result (λ w. map outcome_told w.outcomes.items ≡ outcomes_before course.now.value (length (segments_in course.now.value.plan))) }
+    ensures outcomes { IfOk result (λ w. map outcome_told w.outcomes.items ≡ outcomes_before course.now.value keep (length (segments_in course.now.value.plan))) }
     ensures rose { OnOk result (steps.new ≡ steps.old + distinct course.now.value.opening course.now.value.plan) }
     ensures most { steps.new ≤ steps.old + distinct course.now.value.opening course.now.value.plan }
     ensures least { steps.old ≤ steps.new }
@@ -184,6 +194,6 @@ pub fn work<R: Threads + Wait + Sync, G: Gate + Sync, L: Ledger + Send>(
 {
     let count = course.plan().segments().len() as u32;
     work_in::<R, G, L, Brand>(
-        rt, alloc, course, stride, places, workers, gate, steps, count,
+        rt, alloc, course, stride, places, keep, workers, gate, steps, count,
     )
 }

@@ -7,12 +7,13 @@ ghost use Rattle.shelf_core.specs.Made.{Stays};
 ghost use Rattle.shelf_core.specs.Plan.{is_in, is_sole};
 ghost use Rattle.shelf_core.specs.Views.{times};
 ghost use Rattle.kernel_copy.specs.Courses.{IsCourse, IsKeyOf, state_at};
+ghost use Rattle.kernel_copy.specs.Ran.{ran_told, ran_as};
 ghost use Rattle.kernel_copy.specs.Segmentwise.{segment_run, started_at};
 ghost use Rattle.branch_workers.specs.Layout.{key_at};
 ghost use Rattle.branch_workers.specs.Runs.{IsPassed, IsShelfOf, IsUnderway};
 
 use checkpoint_shelf::{Begun, Key, Shelf, ShelfSeat, Turn};
-use kernel_copy::{Checkpoint, Course, Ran};
+use kernel_copy::{Checkpoint, Course, Keep, Ran};
 use kernel_core::Kernel;
 use market_types::Memory;
 use outside::{Ledger, Steps};
@@ -86,23 +87,25 @@ fn put_copy(
 pub(crate) fn run_to<L: Ledger>(
     alloc: Global,
     course: &Course,
+    keep: Keep,
     key: Key,
     ran: &mut Ran,
     steps: &mut Steps<L>,
 ) -> Result<(), Memory>
     requires segment { key.segment < length (segments_in course.now.plan) }
     requires within { key.event ≤ (segment_at course.now.plan key.segment).stop }
-    requires underway { IsUnderway course.now key.segment key.event (record { state = ran.old.kernel; entries = ran.old.entries.list }) }
+    requires underway { IsUnderway course.now keep key.segment key.event (ran_told ran.old) }
     requires count { steps.old + course.now.opening.limit < 2 ^ 64 }
     ensures course { IsCourse course.now }
-    ensures ran { OnOk result (record { state = ran.new.kernel; entries = ran.new.entries.list } ≡ until course.now.opening key.event (started_at course.now.opening course.now.plan (segment_at course.now.plan key.segment))) }
-    ensures underway { OnOk result (IsUnderway course.now key.segment key.event (record { state = ran.new.kernel; entries = ran.new.entries.list })) }
+    ensures ran { OnOk result (ran_told ran.new ≡ ran_as keep (until course.now.opening key.event (started_at course.now.opening course.now.plan (segment_at course.now.plan key.segment)))) }
+    ensures underway { OnOk result (IsUnderway course.now keep key.segment key.event (ran_told ran.new)) }
     ensures few { ran.new.kernel.events ≤ (segment_run course.now.opening course.now.plan (segment_at course.now.plan key.segment)).state.events }
     ensures ticks { steps.new + ran.old.kernel.events ≡ steps.old + ran.new.kernel.events }
     ensures grows { ran.old.kernel.events ≤ ran.new.kernel.events }
 {
     let _ = course.plan();
-    ran.kernel.run_until(alloc, course.opening(), key.event, &mut ran.entries, steps)?;
+    let _ = keep;
+    ran.run_until(alloc, course.opening(), key.event, steps)?;
     Ok(())
 }
 
@@ -114,6 +117,7 @@ fn pass<L: Ledger>(
     shelf: &Shelf<Checkpoint>,
     seat: &mut ShelfSeat<Checkpoint>,
     stride: u32,
+    keep: Keep,
     key: Key,
     ran: &mut Ran,
     steps: &mut Steps<L>,
@@ -124,12 +128,12 @@ fn pass<L: Ledger>(
     requires claim { 0 < times key.segment seat.old.view.claims }
     requires turns { seat.old.view.turns ≡ [] }
     requires key { IsKeyOf course.now.value key }
-    requires underway { IsUnderway course.now.value key.segment key.event (record { state = ran.old.kernel; entries = ran.old.entries.list }) }
+    requires underway { IsUnderway course.now.value keep key.segment key.event (ran_told ran.old) }
     requires count { steps.old + course.now.value.opening.limit < 2 ^ 64 }
     ensures same { seat.new.shelf ≡ seat.old.shelf }
     ensures stays { Stays seat.old.view seat.new.view }
     ensures turns { seat.new.view.turns ≡ [] }
-    ensures underway { OnOk result (IsUnderway course.now.value key.segment key.event (record { state = ran.new.kernel; entries = ran.new.entries.list })) }
+    ensures underway { OnOk result (IsUnderway course.now.value keep key.segment key.event (ran_told ran.new)) }
     ensures few { ran.new.kernel.events ≤ (segment_run course.now.value.opening course.now.value.plan (segment_at course.now.value.plan key.segment)).state.events }
     ensures ticks { steps.new + ran.old.kernel.events ≡ steps.old + ran.new.kernel.events }
     ensures grows { ran.old.kernel.events ≤ ran.new.kernel.events }
@@ -138,7 +142,7 @@ fn pass<L: Ledger>(
     if key.event % stride != 0 {
         return Ok(());
     }
-    run_to(alloc, course, key, ran, steps)?;
+    run_to(alloc, course, keep, key, ran, steps)?;
     if ran.kernel.events() != key.event {
         return Ok(());
     }
@@ -154,6 +158,7 @@ pub(crate) fn pass_grid<L: Ledger>(
     shelf: &Shelf<Checkpoint>,
     seat: &mut ShelfSeat<Checkpoint>,
     stride: u32,
+    keep: Keep,
     segment: u32,
     ran: &mut Ran,
     steps: &mut Steps<L>,
@@ -164,12 +169,12 @@ pub(crate) fn pass_grid<L: Ledger>(
     requires segment { segment < length (segments_in course.now.value.plan) }
     requires claim { 0 < times segment seat.old.view.claims }
     requires turns { seat.old.view.turns ≡ [] }
-    requires underway { IsUnderway course.now.value segment 0 (record { state = ran.old.kernel; entries = ran.old.entries.list }) }
+    requires underway { IsUnderway course.now.value keep segment 0 (ran_told ran.old) }
     requires count { steps.old ≤ 2 ^ 63 }
     ensures same { seat.new.shelf ≡ seat.old.shelf }
     ensures stays { Stays seat.old.view seat.new.view }
     ensures turns { seat.new.view.turns ≡ [] }
-    ensures underway { OnOk result (IsUnderway course.now.value segment (segment_at course.now.value.plan segment).stop (record { state = ran.new.kernel; entries = ran.new.entries.list })) }
+    ensures underway { OnOk result (IsUnderway course.now.value keep segment (segment_at course.now.value.plan segment).stop (ran_told ran.new)) }
     ensures few { ran.new.kernel.events ≤ (segment_run course.now.value.opening course.now.value.plan (segment_at course.now.value.plan segment)).state.events }
     ensures ticks { steps.new + ran.old.kernel.events ≡ steps.old + ran.new.kernel.events }
     ensures grows { ran.old.kernel.events ≤ ran.new.kernel.events }
@@ -178,7 +183,7 @@ pub(crate) fn pass_grid<L: Ledger>(
     let g = course.segment(segment);
     for event in g.start + 1..g.stop {
         let key = Key { segment, event };
-        pass(alloc, course, shelf, seat, stride, key, ran, steps)?;
+        pass(alloc, course, shelf, seat, stride, keep, key, ran, steps)?;
     }
     Ok(())
 }

@@ -14,7 +14,7 @@ mod worker;
 
 pub use all::{Worked, work};
 pub use checkpoint_shelf::ClosedShelf;
-pub use kernel_copy::{Checkpoint, Key, Outcome};
+pub use kernel_copy::{Checkpoint, Keep, Kept, Key, Outcome};
 pub use segment::run_segment;
 
 #[cfg(test)]

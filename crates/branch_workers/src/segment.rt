@@ -1,13 +1,15 @@
 //! One segment by one worker.
 
-ghost use Rattle.std.specs.Prelude.{◌≡◌, ℕ, ◌+◌, ◌<◌, ◌≤◌, ◌^◌, [], true, Some, IfOk, OnOk, OnErr, IsSome, length};
+ghost use Rattle.std.specs.Prelude.{◌≡◌, ℕ, ◌+◌, ◌<◌, ◌≤◌, ◌^◌, [], true, All, Some, IfOk, OnOk, OnErr, IsSome, length};
 ghost use Rattle.branch_tree.specs.Segments.{segments_in, segment_at, last_of};
 ghost use Rattle.kernel_core.specs.Step.{Fits};
+ghost use Rattle.market_types.specs.Timely.{IsTimely};
 ghost use Rattle.shelf_core.specs.Made.{Stays};
 ghost use Rattle.shelf_core.specs.Plan.{place_of, is_in, is_sole};
 ghost use Rattle.shelf_core.specs.Views.{times};
 ghost use Rattle.kernel_copy.specs.Courses.{IsCourse};
 ghost use Rattle.kernel_copy.specs.Outcomes.{outcome_told, outcome_of};
+ghost use Rattle.kernel_copy.specs.Ran.{ran_told, ran_as};
 ghost use Rattle.kernel_copy.specs.Segmentwise.{segment_end, segment_run, started_at, own_count};
 ghost use Rattle.branch_workers.specs.Layout.{end_key, key_at};
 ghost use Rattle.branch_workers.specs.Runs.{IsPassed, IsShelfOf, HasForks, HasStates, Remains};
@@ -15,7 +17,7 @@ ghost use Rattle.branch_workers.specs.Runs.{IsPassed, IsShelfOf, HasForks, HasSt
 use crate::found::wait_for;
 use crate::grid::{pass_grid, run_to};
 use checkpoint_shelf::{Begun, Key, Shelf, ShelfSeat};
-use kernel_copy::{Checkpoint, Course, Outcome, Ran, go_on, kept_end, outcome_at};
+use kernel_copy::{Checkpoint, Course, Keep, Kept, Outcome, Ran, go_on, kept_end, outcome_at};
 use kernel_core::Kernel;
 use market_types::{Memory, Trace};
 use outside::{Gate, Ledger, Steps};
@@ -65,6 +67,7 @@ fn begun<R: Wait>(
     ensures turns { seat.new.view.turns ≡ seat.old.view.turns }
     ensures course { IsCourse course.now }
     ensures state { IfOk result (λ k. record { state = k; entries = trace.new.list } ≡ started_at course.now.opening course.now.plan (segment_at course.now.plan segment)) }
+    ensures timely { All IsTimely trace.new.list }
     ensures fits { IfOk result (λ k. Fits course.now.opening k) }
     ensures found { OnOk result ((q : ℕ) → (segment_at course.now.plan segment).parent ≡ Some q → is_in (end_key course.now.plan q) seat.new.view.found ≡ true) }
 {
@@ -82,7 +85,8 @@ fn begun<R: Wait>(
     }
 }
 
-// Makes a segment's own events, and puts copies of the states at the numbers of its grid on the shelf.
+// Makes a segment's own events, of whose entries it keeps what is to be kept, and puts copies of the states at the numbers of
+// its grid on the shelf.
 fn advance<R: Wait, L: Ledger>(
     rt: &R,
     alloc: Global,
@@ -90,6 +94,7 @@ fn advance<R: Wait, L: Ledger>(
     shelf: &Shelf<Checkpoint>,
     seat: &mut ShelfSeat<Checkpoint>,
     stride: u32,
+    keep: Keep,
     segment: u32,
     steps: &mut Steps<L>,
 ) -> Result<Ran, Memory>
@@ -104,7 +109,7 @@ fn advance<R: Wait, L: Ledger>(
     ensures stays { Stays seat.old.view seat.new.view }
     ensures turns { seat.new.view.turns ≡ [] }
     ensures course { IsCourse course.now.value }
-    ensures ran { IfOk result (λ x. record { state = x.kernel; entries = x.entries.list } ≡ segment_run course.now.value.opening course.now.value.plan (segment_at course.now.value.plan segment)) }
+    ensures ran { IfOk result (λ x. ran_told x ≡ ran_as keep (segment_run course.now.value.opening course.now.value.plan (segment_at course.now.value.plan segment))) }
     ensures fits { IfOk result (λ x. Fits course.now.value.opening x.kernel) }
     ensures found { OnOk result ((q : ℕ) → (segment_at course.now.value.plan segment).parent ≡ Some q → is_in (end_key course.now.value.plan q) seat.new.view.found ≡ true) }
     ensures grid { OnOk result ((e : ℕ) → is_in (key_at segment e) shelf.now.plan.grid ≡ true → is_sole shelf.now.plan (key_at segment e) ≡ true → IsPassed course.now.value segment e → is_in (key_at segment e) seat.new.view.known ≡ true) }
@@ -115,9 +120,12 @@ fn advance<R: Wait, L: Ledger>(
     let event = course.segment(segment).stop;
     let mut entries = Trace::new(alloc);
     let kernel = begun(rt, alloc, course, shelf, seat, segment, &mut entries)?;
-    let mut ran = Ran { entries, kernel };
-    pass_grid(alloc, course, shelf, seat, stride, segment, &mut ran, steps)?;
-    run_to(alloc, course, Key { segment, event }, &mut ran, steps)?;
+    let kept = Kept::of(alloc, keep, entries)?;
+    let mut ran = Ran { kept, kernel };
+    pass_grid(
+        alloc, course, shelf, seat, stride, keep, segment, &mut ran, steps,
+    )?;
+    run_to(alloc, course, keep, Key { segment, event }, &mut ran, steps)?;
     Ok(ran)
 }
 
@@ -169,8 +177,8 @@ fn put_end(
 }
 
 /// Runs a segment that the seat claimed, from the end of its parent that the shelf keeps or is to keep, puts its end on
-/// the shelf where others go on from it, and counts it: the outcome is the segment's own, and the counter rises by the
-/// segment's own events. On its way it puts copies of the states at the multiples of the stride between the segment's
+/// the shelf where others go on from it, and counts it: the outcome is the segment's own, with what is to be kept of its
+/// entries, and the counter rises by the segment's own events. On its way it puts copies of the states at the multiples of the stride between the segment's
 /// start and its stop on the shelf, where they have places that may be written.
 ///
 /// The gate is passed before the first step. It may wait.
@@ -184,6 +192,7 @@ pub fn run_segment<R: Wait, G: Gate, L: Ledger>(
     shelf: &Shelf<Checkpoint>,
     seat: &mut ShelfSeat<Checkpoint>,
     stride: u32,
+    keep: Keep,
     worker: u32,
     segment: u32,
     gate: &G,
@@ -200,7 +209,7 @@ pub fn run_segment<R: Wait, G: Gate, L: Ledger>(
     ensures same { seat.new.shelf ≡ seat.old.shelf }
 
     // What the segment's run tells, and how many steps it took.
-    ensures outcome { IfOk result (λ x. outcome_told x ≡ outcome_of course.now.value segment) }
+    ensures outcome { IfOk result (λ x. outcome_told x ≡ outcome_of course.now.value keep segment) }
     ensures rose { OnOk result (steps.new ≡ steps.old + own_count course.now.value.opening course.now.value.plan (segment_at course.now.value.plan segment)) }
     ensures most { steps.new ≤ steps.old + own_count course.now.value.opening course.now.value.plan (segment_at course.now.value.plan segment) }
     ensures least { steps.old ≤ steps.new }
@@ -215,7 +224,7 @@ pub fn run_segment<R: Wait, G: Gate, L: Ledger>(
     ensures turns { seat.new.view.turns ≡ [] }
 {
     gate.pass(worker, segment);
-    let ran = advance(rt, alloc, course, shelf, seat, stride, segment, steps)?;
+    let ran = advance(rt, alloc, course, shelf, seat, stride, keep, segment, steps)?;
     put_end(alloc, course, shelf, seat, segment, &ran.kernel)?;
     let outcome = outcome_at(alloc, course.opening(), segment, ran)?;
     shelf.count(seat);

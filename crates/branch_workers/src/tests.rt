@@ -3,12 +3,16 @@
 mod market;
 mod seats;
 
+ghost use Rattle.std.specs.Prelude.{All};
+ghost use Rattle.kernel_copy.specs.Kept.{AreTimely, kept_told};
+
 use self::market::course;
 use crate::work;
 use checkpoint_shelf::{ClosedShelf, Key};
 use hold_gate::HoldGate;
-use kernel_copy::{Checkpoint, Course, Outcome, run_segments};
-use market_types::{Entry, Memory};
+use kernel_copy::laws::courses_stay_in_range;
+use kernel_copy::{Checkpoint, Course, Keep, Kept, Outcome, run_segments};
+use market_types::{Entry, Memory, Trace};
 use outside::{Counted, Gate, OpenGate, Steps};
 use std::alloc::Global;
 use std::sync::{Arc, Wait};
@@ -36,8 +40,8 @@ fn held(shelf: &ClosedShelf<Checkpoint>) -> u32 {
     held
 }
 
-// What so many workers, 1 to 64, made of a course with so many places, at most 128, for the grid of stride 5, and how
-// many steps they counted.
+// What so many workers, 1 to 64, that keep entries made of a course with so many places, at most 128, for the grid of
+// stride 5, and how many steps they counted.
 fn worked<R: Threads + Wait + Sync, G: Gate + Sync>(
     rt: &R,
     alloc: Global,
@@ -50,7 +54,17 @@ fn worked<R: Threads + Wait + Sync, G: Gate + Sync>(
         return (Err(Memory), 0);
     }
     let mut steps: Steps<Counted> = Steps::new();
-    let told = match work(rt, alloc, course, 5, places, workers, gate, &mut steps) {
+    let told = match work(
+        rt,
+        alloc,
+        course,
+        5,
+        places,
+        Keep::Entries,
+        workers,
+        gate,
+        &mut steps,
+    ) {
         Ok(worked) => Ok(Told {
             held: held(&worked.shelf),
             outcomes: worked.outcomes,
@@ -73,23 +87,62 @@ fn are_of_one(a: &Entry, b: &Entry) -> bool {
     }
 }
 
+// The entries that an outcome keeps, if it keeps them.
+fn entries_of(outcome: &Outcome) -> Option<&Trace> {
+    match &outcome.kept {
+        Kept::Entries(trace) => Some(trace),
+        Kept::Frames(_) => None,
+    }
+}
+
 // Whether two outcomes tell of one segment, with the same events and counters at the end.
 fn are_one(a: &Outcome, b: &Outcome) -> bool {
-    let mut events = a.entries.as_slice().iter().zip(b.entries.as_slice());
+    let (Some(first), Some(second)) = (entries_of(a), entries_of(b)) else {
+        return false;
+    };
+    let mut events = first.as_slice().iter().zip(second.as_slice());
     a.segment == b.segment
         && a.closing.counts == b.closing.counts
-        && a.entries.len() == b.entries.len()
+        && first.len() == second.len()
         && events.all(|(a, b)| are_of_one(a, b))
 }
 
+// The bytes of the frames of what outcomes keep, one after another.
+fn frames_of(alloc: Global, outcomes: &[Outcome]) -> Result<Vec<u8>, Memory>
+    requires { All (λ o. AreTimely (kept_told o.kept)) outcomes.now }
+{
+    let mut bytes = Vec::new(alloc);
+    for outcome in outcomes.iter() {
+        outcome.kept.put(&mut bytes)?;
+    }
+    Ok(bytes)
+}
+
+// The bytes of the frames of a course's entries, segment after segment, by three workers that keep this.
+fn frames<R: Threads + Wait + Sync>(
+    rt: &R,
+    alloc: Global,
+    course: &Arc<Course>,
+    keep: Keep,
+) -> Result<Vec<u8>, Memory> {
+    courses_stay_in_range();
+    let _ = course.plan();
+    let mut steps: Steps<Counted> = Steps::new();
+    let worked = work(rt, alloc, course, 5, 1, keep, 3, &OpenGate, &mut steps);
+    let _ = steps.close();
+    let worked = worked?;
+    frames_of(alloc, worked.outcomes.as_slice())
+}
+
 // Three branches, x, y and z, by one worker and by many: as one after another. Four of the five segments pass event 5, and
-// of the states there no place, one place and enough places hold none, one and all.
+// of the states there no place, one place and enough places hold none, one and all. The frames that workers keep are those of
+// the entries.
 #[test]
 fn three_branches(rt: HostRuntime) -> Result<(), Fail> {
     let alloc = rt.alloc();
     let course = course(alloc)?;
     let mut steps: Steps<Counted> = Steps::new();
-    let alone = run_segments(alloc, &course, &mut steps);
+    let alone = run_segments(alloc, &course, Keep::Entries, &mut steps);
     let ticks = steps.close();
     let alone = alone?;
     assert_eq!(rt; (ticks, alone.len()), (18, 5));
@@ -105,6 +158,9 @@ fn three_branches(rt: HostRuntime) -> Result<(), Fail> {
             assert!(rt; are_one(a, b), "{workers} workers");
         }
     }
+    let bytes = frames(&rt, alloc, &course, Keep::Frames)?;
+    assert!(rt; !bytes.is_empty());
+    assert!(rt; bytes == frames(&rt, alloc, &course, Keep::Entries)?);
     Ok(())
 }
 

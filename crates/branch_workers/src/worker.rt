@@ -10,7 +10,7 @@ use crate::order::add;
 use crate::segment::run_segment;
 use branch_deques::{Lane, Room};
 use checkpoint_shelf::{Shelf, ShelfSeat};
-use kernel_copy::{Checkpoint, Course, Outcome};
+use kernel_copy::{Checkpoint, Course, Keep, Outcome};
 use outside::{Gate, Ledger, Steps};
 use std::alloc::Global;
 use std::sync::{Arc, Wait};
@@ -77,6 +77,7 @@ fn try_segment<R: Wait, G: Gate, L: Ledger, B: Room>(
     course: &Arc<Course>,
     shelf: &Shelf<Checkpoint>,
     stride: u32,
+    keep: Keep,
     gate: &G,
     worker: &mut Worker<L, B>,
     segment: u32,
@@ -85,10 +86,10 @@ fn try_segment<R: Wait, G: Gate, L: Ledger, B: Room>(
     requires stride { 0 < stride }
     requires room { B.room ≡ length (segments_in course.now.value.plan) }
     requires segment { segment < B.room }
-    requires work { IsAtWork course.now.value shelf.now worker.old.number worker.old.seat worker.old.steps worker.old.outcomes.items worker.old.lane.own.view.pushed }
+    requires work { IsAtWork course.now.value keep shelf.now worker.old.number worker.old.seat worker.old.steps worker.old.outcomes.items worker.old.lane.own.view.pushed }
     ensures number { worker.new.number ≡ worker.old.number }
     ensures finished { worker.new.finished ≡ worker.old.finished }
-    ensures work { IsTrue result → IsAtWork course.now.value shelf.now worker.new.number worker.new.seat worker.new.steps worker.new.outcomes.items worker.new.lane.own.view.pushed }
+    ensures work { IsTrue result → IsAtWork course.now.value keep shelf.now worker.new.number worker.new.seat worker.new.steps worker.new.outcomes.items worker.new.lane.own.view.pushed }
     ensures ended { IsFalse result → HasEnded course.now.value shelf.now worker.new.number worker.new.seat worker.new.steps }
     ensures stopped { IsFalse result → worker.new.seat.view.stopped ≡ true }
 {
@@ -103,6 +104,7 @@ fn try_segment<R: Wait, G: Gate, L: Ledger, B: Room>(
         shelf,
         &mut worker.seat,
         stride,
+        keep,
         number,
         segment,
         gate,
@@ -122,17 +124,19 @@ fn try_segment<R: Wait, G: Gate, L: Ledger, B: Room>(
 // Whether a worker that found no segment ends: since all are done, which it notes, or since it is told to stop.
 fn ends<L: Ledger, B: Room>(
     course: &Arc<Course>,
+    keep: Keep,
     shelf: &Shelf<Checkpoint>,
     worker: &mut Worker<L, B>,
 ) -> bool
-    requires work { IsAtWork course.now.value shelf.now worker.old.number worker.old.seat worker.old.steps worker.old.outcomes.items worker.old.lane.own.view.pushed }
+    requires work { IsAtWork course.now.value keep shelf.now worker.old.number worker.old.seat worker.old.steps worker.old.outcomes.items worker.old.lane.own.view.pushed }
     requires finished { worker.old.finished ≡ false }
     ensures number { worker.new.number ≡ worker.old.number }
-    ensures work { IsAtWork course.now.value shelf.now worker.new.number worker.new.seat worker.new.steps worker.new.outcomes.items worker.new.lane.own.view.pushed }
+    ensures work { IsAtWork course.now.value keep shelf.now worker.new.number worker.new.seat worker.new.steps worker.new.outcomes.items worker.new.lane.own.view.pushed }
     ensures done { worker.new.finished ≡ true → length (segments_in course.now.value.plan) ≤ worker.new.seat.view.done_seen }
     ensures goes_on { IsFalse result → worker.new.finished ≡ false }
     ensures stopped { IsTrue result → worker.new.finished ≡ false → worker.new.seat.view.stopped ≡ true }
 {
+    let _ = keep;
     let count = course.plan().segments().len();
     let progress = shelf.progress(&mut worker.seat);
     if !progress.stopped && progress.done as usize == count {
@@ -149,29 +153,32 @@ pub(crate) fn run_worker<R: Wait, G: Gate, L: Ledger, B: Room>(
     course: &Arc<Course>,
     shelf: &Shelf<Checkpoint>,
     stride: u32,
+    keep: Keep,
     gate: &G,
     worker: &mut Worker<L, B>,
 )
     requires shelf { IsShelfOf course.now.value stride shelf.now }
     requires stride { 0 < stride }
     requires room { B.room ≡ length (segments_in course.now.value.plan) }
-    requires work { IsAtWork course.now.value shelf.now worker.old.number worker.old.seat worker.old.steps worker.old.outcomes.items worker.old.lane.own.view.pushed }
+    requires work { IsAtWork course.now.value keep shelf.now worker.old.number worker.old.seat worker.old.steps worker.old.outcomes.items worker.old.lane.own.view.pushed }
     requires finished { worker.old.finished ≡ false }
     ensures number { worker.new.number ≡ worker.old.number }
     ensures ended { HasEnded course.now.value shelf.now worker.new.number worker.new.seat worker.new.steps }
-    ensures finished { worker.new.finished ≡ true → HasFinished course.now.value shelf.now.plan worker.new.seat.view worker.new.outcomes.items }
+    ensures finished { worker.new.finished ≡ true → HasFinished course.now.value keep shelf.now.plan worker.new.seat.view worker.new.outcomes.items }
     ensures counted { worker.new.finished ≡ true → worker.new.steps ≡ sum_by (own_of course.now.value) worker.new.seat.view.claims }
     ensures stopped { worker.new.finished ≡ false → worker.new.seat.view.stopped ≡ true }
 {
     for _ in rt.forever() {
         match next_segment(rt, &mut worker.lane) {
             Some(segment) => {
-                if !try_segment(rt, alloc, course, shelf, stride, gate, worker, segment) {
+                if !try_segment(
+                    rt, alloc, course, shelf, stride, keep, gate, worker, segment,
+                ) {
                     return;
                 }
             }
             None => {
-                if ends(course, shelf, worker) {
+                if ends(course, keep, shelf, worker) {
                     return;
                 }
                 thread::yield_now();

@@ -8,6 +8,7 @@ ghost use Rattle.rewind_examples.specs.AfterWork.{IsAfterWork};
 use self::market::course;
 use branch_workers::work;
 use checkpoint_shelf::ClosedShelf;
+use kernel_copy::Keep;
 use market_types::Memory;
 use outside::{Counted, OpenGate, Steps};
 use rewind_desk::{Checkpoint, Course, Key, RewindError, nearest, rewind};
@@ -27,7 +28,17 @@ fn left<R: Threads + Wait + Sync>(
     ensures { IfOk result (λ s. IsAfterWork course.now.value 5 places 3 s) }
 {
     let mut steps: Steps<Counted> = Steps::new();
-    let worked = work(rt, alloc, course, 5, places, 3, &OpenGate, &mut steps);
+    let worked = work(
+        rt,
+        alloc,
+        course,
+        5,
+        places,
+        Keep::Frames,
+        3,
+        &OpenGate,
+        &mut steps,
+    );
     let _ = steps.close();
     let worked = worked?;
     Ok(worked.shelf)

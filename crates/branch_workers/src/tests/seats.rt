@@ -8,11 +8,12 @@ ghost use Rattle.shelf_core.specs.Views.{has_turn, times};
 ghost use Rattle.checkpoint_shelf.specs.Seats.{NewFrom};
 ghost use Rattle.branch_workers.specs.Runs.{IsShelfOf};
 
+use super::entries_of;
 use super::market::course;
 use crate::layout::open_shelf;
 use crate::run_segment;
 use checkpoint_shelf::{Begun, Found, Key, PlaceWord, Shelf, ShelfSeat, Turn};
-use kernel_copy::{Checkpoint, Course, Outcome};
+use kernel_copy::{Checkpoint, Course, Keep, Outcome};
 use market_types::{Entry, Memory};
 use outside::{Counted, OpenGate, Steps};
 use std::alloc::Global;
@@ -56,7 +57,17 @@ fn claim_and_run<R: Wait>(
     }
     let mut steps: Steps<Counted> = Steps::new();
     let ran = run_segment(
-        rt, alloc, course, shelf, seat, 5, 0, segment, &OpenGate, &mut steps,
+        rt,
+        alloc,
+        course,
+        shelf,
+        seat,
+        5,
+        Keep::Entries,
+        0,
+        segment,
+        &OpenGate,
+        &mut steps,
     );
     let outcome = ran.ok();
     (outcome, steps.close())
@@ -99,12 +110,12 @@ fn a_child_by_a_seat_without_the_parents_state(rt: HostRuntime) -> Result<(), Fa
     let (Some(first), Some(child)) = (told.first, told.child) else {
         return Err(Fail::from("a segment was claimed, or there was no memory"));
     };
+    let Some(entries) = entries_of(&child) else {
+        return Err(Fail::from("no entries"));
+    };
     assert_eq!(rt; (first.events, told.first_ticks), (2, 2));
-    assert_eq!(rt;
-        (child.events, told.child_ticks, child.entries.len()),
-        (6, 4, 5)
-    );
-    assert!(rt; matches!(child.entries.get(0), Some(Entry::Edit(_))));
+    assert_eq!(rt; (child.events, told.child_ticks, entries.len()), (6, 4, 5));
+    assert!(rt; matches!(entries.get(0), Some(Entry::Edit(_))));
     Ok(())
 }
 
@@ -190,6 +201,7 @@ fn claim_meet_and_run<R: Wait>(
         shelf,
         seat,
         5,
+        Keep::Entries,
         1,
         key.segment,
         &OpenGate,
@@ -273,17 +285,15 @@ fn a_run_beside_anothers_turn(rt: HostRuntime) -> Result<(), Fail> {
     let Some(outcome) = outcome else {
         return Err(Fail::from("no memory"));
     };
+    let Some(entries) = entries_of(&outcome) else {
+        return Err(Fail::from("no entries"));
+    };
     assert_eq!(rt; word, Some(PlaceWord::Writing(0)));
     assert_eq!(rt;
-        (
-            outcome.segment,
-            outcome.events,
-            ticks,
-            outcome.entries.len()
-        ),
+        (outcome.segment, outcome.events, ticks, entries.len()),
         (2, 6, 4, 5)
     );
-    assert!(rt; matches!(outcome.entries.get(0), Some(Entry::Edit(_))));
+    assert!(rt; matches!(entries.get(0), Some(Entry::Edit(_))));
     assert_eq!(rt; after, Some(PlaceWord::Free));
     Ok(())
 }

@@ -24,7 +24,7 @@ pub place_all-requires : goal.place_all-requires
 place_all-requires c =
     let k : CourseTold = c.args.course.now in
     let long : length c.args.slots.items ≡ length (Rattle.branch_tree.specs.Segments.segments_in k.plan) = ap (λ (xs : List (Option Outcome)). length xs) c.requires.slots ∙ length-replicate (length (Rattle.branch_tree.specs.Segments.segments_in k.plan)) None in
-    vectors_below k c.args.shelf.plan (length c.args.slots.items) c.args.back.seats.items c.args.back.outcomes.items (c.requires.finished c.if-not-finished.false) long
+    vectors_below k c.args.keep c.args.shelf.plan (length c.args.slots.items) c.args.back.seats.items c.args.back.outcomes.items (c.requires.finished c.if-not-finished.false) long
 
 pub in_order-requires : goal.in_order-requires
 in_order-requires c =
@@ -39,7 +39,7 @@ in_order-requires c =
       at = ap (λ (vs : List SeatView). slice_get vs 0) c.close-shelf.ensures.views;
       laid = record { laid = c.close-shelf.ensures.plan; segments = c.requires.segments; fits = c.requires.plan };
     } in
-    subst (λ (xs : List (Option Outcome)). All (λ (x : Option Outcome). IsSome x) xs) (sym c.place_all.ensures) (some_of_all k c.args.shelf.plan s seats lists j (c.requires.finished c.if-not-finished.false) c.args.slots.items c.requires.slots)
+    subst (λ (xs : List (Option Outcome)). All (λ (x : Option Outcome). IsSome x) xs) (sym c.place_all.ensures) (some_of_all k c.args.shelf.plan s c.args.keep seats lists j (c.requires.finished c.if-not-finished.false) c.args.slots.items c.requires.slots)
 
 pub returns-in_err-outcomes-clause-most : goal.returns-in_err-outcomes-clause-most
 returns-in_err-outcomes-clause-most c =
@@ -72,10 +72,10 @@ returns c =
     let all = c.requires.back.all in
     let some = c.requires.some in
     record {
-      outcomes = told_of_all k c.args.shelf.plan s seats lists j fin c.args.slots.items c.requires.slots c.in_ok-outcomes.outcomes.items (c.in_ok-outcomes.ensures ∙ c.place_all.ensures);
+      outcomes = told_of_all k c.args.shelf.plan s c.args.keep seats lists j fin c.args.slots.items c.requires.slots c.in_ok-outcomes.outcomes.items (c.in_ok-outcomes.ensures ∙ c.place_all.ensures);
       finished = c.if-not-finished.false;
-      all = events_of_all k c.args.shelf.plan s seats lists j fin;
+      all = events_of_all k c.args.shelf.plan s c.args.keep seats lists j fin;
       most = most_of k c.args.shelf.plan s seats j;
       shelf = (c.close-shelf.ensures.about.0, c.close-shelf.ensures.about.1 ∙ c.requires.course);
-      once = ran_of_all k c.args.shelf.plan s seats lists j fin (length seats) (omega arith);
+      once = ran_of_all k c.args.shelf.plan s c.args.keep seats lists j fin (length seats) (omega arith);
     }

@@ -27,8 +27,8 @@ run_all-requires-clause-work g c = λ κs lives.
     let sh = c.in_ok-shelf.shelf in
     let ws = c.in_ok-workers.workers.items in
     let made = c.in_ok-workers.ensures in
-    moved c.as_mut_slice.result.now ws c.as_mut_slice.ensures.value (λ w. IsAtWork k sh w.number w.seat w.steps w.outcomes.items w.lane.own.view.pushed)
-    (ready ws k sh (λ w. w.seat) (λ w. w.steps) (λ w. w.number) (λ w. w.outcomes) (λ w. w.lane) (λ w. w.finished) (subst IsCourse c.deref-2.ensures c.first_lanes.ensures.course)
+    moved c.as_mut_slice.result.now ws c.as_mut_slice.ensures.value (λ w. IsAtWork k c.args.keep sh w.number w.seat w.steps w.outcomes.items w.lane.own.view.pushed)
+    (ready ws k c.args.keep sh (λ w. w.seat) (λ w. w.steps) (λ w. w.number) (λ w. w.outcomes) (λ w. w.lane) (λ w. w.finished) (subst IsCourse c.deref-2.ensures c.first_lanes.ensures.course)
     c.in_ok-shelf.seats.items made.seats c.in_ok-shelf.ensures.seats made.numbers c.in_ok-lanes.lanes.items made.lanes
     (subst (λ (x : CourseTold). All (λ (l : LaneTold). HasPushed x.plan [] l.own.view.pushed) c.in_ok-lanes.lanes.items) c.deref-2.ensures c.in_ok-lanes.ensures.pushed) made.idle)
 
@@ -37,7 +37,7 @@ run_all-requires-clause-finished g c = λ κs lives.
     let k : CourseTold = c.args.course.now.value in
     let ws = c.in_ok-workers.workers.items in
     moved c.as_mut_slice.result.now ws c.as_mut_slice.ensures.value (λ w. w.finished ≡ false)
-    (unfinished ws k c.in_ok-shelf.shelf (λ w. w.seat) (λ w. w.steps) (λ w. w.number) (λ w. w.outcomes) (λ w. w.lane) (λ w. w.finished) c.in_ok-workers.ensures.idle)
+    (unfinished ws k c.args.keep c.in_ok-shelf.shelf (λ w. w.seat) (λ w. w.steps) (λ w. w.number) (λ w. w.outcomes) (λ w. w.lane) (λ w. w.finished) c.in_ok-workers.ensures.idle)
 
 -- The workers' list has what all left there.
 pub gather-requires-clause-each : goal.gather-requires-clause-each
@@ -46,7 +46,7 @@ gather-requires-clause-each g c =
     let ws = c.run_all.new.workers in
     let long : length ws ≡ c.in_ok-workers.workers.len = omega (arith, c.run_all.auto.workers, c.as_mut_slice.ensures.len) in
     moved _ ws (written_over ws _ c.in_ok-workers.workers.len long) (λ w. w.steps < 2 ^ 52)
-    (few_steps ws k c.in_ok-shelf.shelf (λ w. w.seat) (λ w. w.steps) (λ w. w.number) (λ w. w.outcomes) (λ w. w.lane) (λ w. w.finished) c.run_all.ensures.ended)
+    (few_steps ws k c.args.keep c.in_ok-shelf.shelf (λ w. w.seat) (λ w. w.steps) (λ w. w.number) (λ w. w.outcomes) (λ w. w.lane) (λ w. w.finished) c.run_all.ensures.ended)
 
 pub finish-requires-clause-back : goal.finish-requires-clause-back
 finish-requires-clause-back g c =
@@ -62,10 +62,10 @@ finish-requires-clause-back g c =
     let b = length-map vs (λ w. w.seat) in
     let d = c.in_ok-shelf.ensures.count in let s = c.in_ok-shelf.ensures.plan.1 in
     let seats : c.gather.new.back.seats.items ≡ map (λ w. w.seat) ws = c.gather.ensures.seats ∙ mapped _ ws (written_over ws _ c.in_ok-workers.workers.len long) (λ w. w.seat) in
-    let numbers = still_numbered ws k sh (λ w. w.seat) (λ w. w.steps) (λ w. w.number) (λ w. w.outcomes) (λ w. w.lane) (λ w. w.finished) us all c.run_all.ensures.numbers
+    let numbers = still_numbered ws k c.args.keep sh (λ w. w.seat) (λ w. w.steps) (λ w. w.number) (λ w. w.outcomes) (λ w. w.lane) (λ w. w.finished) us all c.run_all.ensures.numbers
     (subst AreNumbered (sym (mapped us vs c.as_mut_slice.ensures.value (λ w. w.number))) c.in_ok-workers.ensures.numbers) in
     subst (λ (ss : List (SeatTold CourseTold)). AllBack sh ss) (sym seats)
-    (handed ws k sh (λ w. w.seat) (λ w. w.steps) (λ w. w.number) (λ w. w.outcomes) (λ w. w.lane) (λ w. w.finished) (omega arith) numbers c.run_all.ensures.ended)
+    (handed ws k c.args.keep sh (λ w. w.seat) (λ w. w.steps) (λ w. w.number) (λ w. w.outcomes) (λ w. w.lane) (λ w. w.finished) (omega arith) numbers c.run_all.ensures.ended)
 
 pub finish-requires-clause-finished : goal.finish-requires-clause-finished
 finish-requires-clause-finished g c = λ all.
@@ -73,9 +73,9 @@ finish-requires-clause-finished g c = λ all.
     let ws = c.run_all.new.workers in
     let long : length ws ≡ c.in_ok-workers.workers.len = omega (arith, c.run_all.auto.workers, c.as_mut_slice.ensures.len) in
     let over = written_over ws _ c.in_ok-workers.workers.len long in
-    finished_told k c.deref-3.result.now c.in_ok-shelf.shelf.plan c.deref-3.ensures (map (λ w. w.seat) ws) c.gather.new.back.seats.items (c.gather.ensures.seats ∙ mapped _ ws over (λ w. w.seat))
+    finished_told k c.deref-3.result.now c.args.keep c.in_ok-shelf.shelf.plan c.deref-3.ensures (map (λ w. w.seat) ws) c.gather.new.back.seats.items (c.gather.ensures.seats ∙ mapped _ ws over (λ w. w.seat))
     (map (λ w. w.outcomes) ws) c.gather.new.back.outcomes.items (c.gather.ensures.outcomes ∙ mapped _ ws over (λ w. w.outcomes))
-    (finishes ws k c.in_ok-shelf.shelf (λ w. w.seat) (λ w. w.steps) (λ w. w.number) (λ w. w.outcomes) (λ w. w.lane) (λ w. w.finished)
+    (finishes ws k c.args.keep c.in_ok-shelf.shelf (λ w. w.seat) (λ w. w.steps) (λ w. w.number) (λ w. w.outcomes) (λ w. w.lane) (λ w. w.finished)
     (moved ws _ (sym over) (λ w. w.finished ≡ true) (c.gather.ensures.finished all)) c.run_all.ensures.finished)
 
 pub returns-clause-rose : goal.returns-clause-rose
@@ -91,7 +91,7 @@ returns-clause-rose g c =
     let counted = c.gather.ensures.steps in
     both_ok c.finish.result (c.gather.new.back.finished ≡ true) (sum_by claimed c.gather.new.back.seats.items ≡ distinct k.opening k.plan) (c.gather.new.steps ≡ c.args.steps.now + distinct k.opening k.plan)
     (λ all events.
-    let each = all_steps ws k c.in_ok-shelf.shelf (λ w. w.seat) (λ w. w.steps) (λ w. w.number) (λ w. w.outcomes) (λ w. w.lane) (λ w. w.finished)
+    let each = all_steps ws k c.args.keep c.in_ok-shelf.shelf (λ w. w.seat) (λ w. w.steps) (λ w. w.number) (λ w. w.outcomes) (λ w. w.lane) (λ w. w.finished)
     (moved ws _ (sym over) (λ w. w.finished ≡ true) (c.gather.ensures.finished all)) c.run_all.ensures.counted in
     omega arith)
     c.finish.ensures.finished
@@ -108,7 +108,7 @@ returns-clause-most g c =
     let sums = summed c.gather.new.back.seats.items (map (λ w. w.seat) ws) seats claimed in
     let steps = summed _ ws over (λ w. w.steps) in
     let counted = c.gather.ensures.steps in
-    let most = most_steps ws k c.in_ok-shelf.shelf (λ w. w.seat) (λ w. w.steps) (λ w. w.number) (λ w. w.outcomes) (λ w. w.lane) (λ w. w.finished) c.run_all.ensures.ended in
+    let most = most_steps ws k c.args.keep c.in_ok-shelf.shelf (λ w. w.seat) (λ w. w.steps) (λ w. w.number) (λ w. w.outcomes) (λ w. w.lane) (λ w. w.finished) c.run_all.ensures.ended in
     let all : sum_by claimed c.gather.new.back.seats.items ≤ distinct k.opening k.plan =
     subst (λ (x : CourseTold). sum_by (λ (s : SeatTold CourseTold). sum_by (own_of x) s.view.claims) c.gather.new.back.seats.items ≤ distinct x.opening x.plan) c.deref-3.ensures c.finish.ensures.most in
     omega arith

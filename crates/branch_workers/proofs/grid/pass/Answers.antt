@@ -1,7 +1,8 @@
 use Rattle.std.proofs.Common.{◌≡◌, ap, ◌∙◌, subst, arith}
 use Rattle.branch_tree.specs.Segments.{segment_at}
-use Rattle.kernel_core.specs.Until.{Run, until}
+use Rattle.kernel_core.specs.Until.{until}
 use Rattle.kernel_copy.specs.Courses.{CourseTold, IsCourse}
+use Rattle.kernel_copy.specs.Ran.{RanTold, ran_told, ran_as}
 use Rattle.kernel_copy.specs.Segmentwise.{started_at}
 use Rattle.branch_workers.proofs.Underway.{state_there, passed_events}
 use Rattle.branch_workers.proofs.grid.pass.Goals as goal
@@ -11,10 +12,10 @@ returns-then-events-key-clause-known g c = λ divides sole passed.
     let k : CourseTold = c.args.course.now.value in
     let s = c.args.key.segment in
     let e = c.args.key.event in
-    let r : Run = record { state = c.run_to.new.ran.kernel; entries = c.run_to.new.ran.entries.list } in
-    let is : r ≡ until k.opening e (started_at k.opening k.plan (segment_at k.plan s)) =
-    c.in_ok-run_to.ensures.ran ∙ ap (λ (x : CourseTold). until x.opening e (started_at x.opening x.plan (segment_at x.plan s))) c.deref.ensures in
-    let events = passed_events k s (subst IsCourse c.deref.ensures c.run_to.ensures.course) c.requires.key.segment e r c.requires.key.from c.requires.key.to is passed in
+    let x : RanTold = ran_told c.run_to.new.ran in
+    let is : x ≡ ran_as c.args.keep (until k.opening e (started_at k.opening k.plan (segment_at k.plan s))) =
+    c.in_ok-run_to.ensures.ran ∙ ap (λ (y : CourseTold). ran_as c.args.keep (until y.opening e (started_at y.opening y.plan (segment_at y.plan s)))) c.deref.ensures in
+    let events = passed_events k s (subst IsCourse c.deref.ensures c.run_to.ensures.course) c.requires.key.segment c.args.keep e x c.requires.key.from c.requires.key.to is passed in
     absurd (omega (arith, c.events.ensures, c.if-events-key.true))
 
 pub put_copy-requires-clause-state : goal.put_copy-requires-clause-state
@@ -22,7 +23,7 @@ put_copy-requires-clause-state g c =
     let k : CourseTold = c.args.course.now.value in
     let s = c.args.key.segment in
     let e = c.args.key.event in
-    let r : Run = record { state = c.run_to.new.ran.kernel; entries = c.run_to.new.ran.entries.list } in
-    let is : r ≡ until k.opening e (started_at k.opening k.plan (segment_at k.plan s)) =
-    c.in_ok-run_to.ensures.ran ∙ ap (λ (x : CourseTold). until x.opening e (started_at x.opening x.plan (segment_at x.plan s))) c.deref.ensures in
-    state_there k s (subst IsCourse c.deref.ensures c.run_to.ensures.course) c.requires.key.segment e r c.requires.key.from is
+    let x : RanTold = ran_told c.run_to.new.ran in
+    let is : x ≡ ran_as c.args.keep (until k.opening e (started_at k.opening k.plan (segment_at k.plan s))) =
+    c.in_ok-run_to.ensures.ran ∙ ap (λ (y : CourseTold). ran_as c.args.keep (until y.opening e (started_at y.opening y.plan (segment_at y.plan s)))) c.deref.ensures in
+    state_there k s (subst IsCourse c.deref.ensures c.run_to.ensures.course) c.requires.key.segment c.args.keep e x c.requires.key.from is

@@ -1,8 +1,8 @@
 use Rattle.std.proofs.Common.{◌+◌, ◌-◌, refl, ap, ◌∙◌, subst, arith}
 use Rattle.branch_tree.specs.declared.segment.Segment.{Segment}
 use Rattle.branch_tree.specs.Segments.{segment_at}
-use Rattle.kernel_core.specs.Until.{Run}
 use Rattle.kernel_copy.specs.Courses.{CourseTold, IsCourse}
+use Rattle.kernel_copy.specs.Ran.{ran_told}
 use Rattle.branch_workers.proofs.Underway.{goes_later, rises, stop_within, knows_none, knows_all}
 use Rattle.branch_workers.proofs.grid.pass_grid.Goals as goal
 
@@ -21,7 +21,6 @@ loop-event-init g c =
     let k : CourseTold = c.args.course.now.value in
     let s = c.args.segment in
     let n = c.segment-g.result.start in
-    let r : Run = record { state = c.args.ran.now.kernel; entries = c.args.ran.now.entries.list } in
     let course : IsCourse k = subst IsCourse c.deref.ensures c.segment-g.ensures.course in
     let start = ap (λ (x : Segment). x.start) (c.segment-g.ensures.value ∙ ap (λ (x : CourseTold). segment_at x.plan s) c.deref.ensures) in
     let up = rises k s course c.requires.segment in
@@ -31,7 +30,7 @@ loop-event-init g c =
       turns = c.requires.turns;
       within = omega arith;
       from = omega arith;
-      underway = goes_later k s 0 (n + 1 - 1) r (omega arith) c.requires.underway;
+      underway = goes_later k c.args.keep s 0 (n + 1 - 1) (ran_told c.args.ran.now) (omega arith) c.requires.underway;
       ticks = refl;
       grows = omega arith;
       known = knows_none k c.args.shelf.now.plan c.args.stride s (n + 1) c.args.seat.now.view (omega arith);

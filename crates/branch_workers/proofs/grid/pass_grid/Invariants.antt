@@ -1,6 +1,7 @@
 use Rattle.std.proofs.Common.{◌≡◌, ◌≤◌, ◌+◌, ◌-◌, []}
 use Rattle.branch_tree.specs.Segments.{segment_at}
 use Rattle.shelf_core.specs.Made.{Stays}
+use Rattle.kernel_copy.specs.Ran.{ran_told}
 use Rattle.branch_workers.specs.Runs.{IsUnderway}
 use Rattle.branch_workers.proofs.Underway.{KnowsBefore}
 use Rattle.branch_workers.proofs.grid.pass_grid.Given as goal
@@ -12,7 +13,7 @@ invariant-loop-event g l = record {
   turns : l.seat.view.turns ≡ [];
   within : l.event ≤ (segment_at l.course.value.plan l.segment).stop + 1;
   from : (segment_at l.course.value.plan l.segment).start + 1 ≤ l.event;
-  underway : IsUnderway l.course.value l.segment (l.event - 1) (record { state = l.ran.kernel; entries = l.ran.entries.list });
+  underway : IsUnderway l.course.value l.keep l.segment (l.event - 1) (ran_told l.ran);
   ticks : l.steps + l.initial.ran.kernel.events ≡ l.initial.steps + l.ran.kernel.events;
   grows : l.initial.ran.kernel.events ≤ l.ran.kernel.events;
   known : KnowsBefore l.course.value l.shelf.plan l.stride l.segment l.event l.seat.view;

@@ -47,7 +47,7 @@ pub returns-then-not-claim-clause-work : goal.returns-then-not-claim-clause-work
 returns-then-not-claim-clause-work g c = λ _.
     let w = c.args.worker.now in
     let kept = c.claim.ensures.kept c.if-not-claim.true in
-    stays_at_work c.args.course.now.value c.args.shelf.now w.number w.seat w.steps w.outcomes.items w.lane.own.view.pushed c.requires.work c.claim.new.seat c.claim.ensures.same kept.0 kept.1
+    stays_at_work c.args.course.now.value c.args.keep c.args.shelf.now w.number w.seat w.steps w.outcomes.items w.lane.own.view.pushed c.requires.work c.claim.new.seat c.claim.ensures.same kept.0 kept.1
 
 pub returns-in_default-clause-ended : goal.returns-in_default-clause-ended
 returns-in_default-clause-ended g c = λ _.
@@ -55,7 +55,7 @@ returns-in_default-clause-ended g c = λ _.
     let w = c.args.worker.now in
     let claimed = c.claim.ensures.claimed c.if-not-claim.false in
     let at = c.run_segment.ensures.same ∙ c.claim.ensures.same in
-    let e = fails k c.args.shelf.now w.number w.seat w.steps w.outcomes.items w.lane.own.view.pushed c.requires.work c.args.segment (omega (arith, c.requires.segment, c.requires.room)) claimed.1 c.claim.new.seat.view claimed.0
+    let e = fails k c.args.keep c.args.shelf.now w.number w.seat w.steps w.outcomes.items w.lane.own.view.pushed c.requires.work c.args.segment (omega (arith, c.requires.segment, c.requires.room)) claimed.1 c.claim.new.seat.view claimed.0
     c.run_segment.new.seat at c.run_segment.ensures.remains c.run_segment.ensures.turns c.run_segment.new.steps c.run_segment.ensures.most in
     stops_ended k c.args.shelf.now w.number c.run_segment.new.seat c.run_segment.new.steps e c.stop_others.new.seat c.stop_others.ensures.same c.stop_others.ensures.stopped
 
@@ -65,7 +65,7 @@ returns-in_default-add-clause-ended g c = λ _.
     let w = c.args.worker.now in
     let claimed = c.claim.ensures.claimed c.if-not-claim.false in
     let at = c.run_segment.ensures.same ∙ c.claim.ensures.same in
-    let e = fails k c.args.shelf.now w.number w.seat w.steps w.outcomes.items w.lane.own.view.pushed c.requires.work c.args.segment (omega (arith, c.requires.segment, c.requires.room)) claimed.1 c.claim.new.seat.view claimed.0
+    let e = fails k c.args.keep c.args.shelf.now w.number w.seat w.steps w.outcomes.items w.lane.own.view.pushed c.requires.work c.args.segment (omega (arith, c.requires.segment, c.requires.room)) claimed.1 c.claim.new.seat.view claimed.0
     c.run_segment.new.seat at c.run_segment.ensures.remains c.run_segment.ensures.turns c.run_segment.new.steps c.run_segment.ensures.most in
     stops_ended k c.args.shelf.now w.number c.run_segment.new.seat c.run_segment.new.steps e c.stop_others-in_default-add.new.seat c.stop_others-in_default-add.ensures.same c.stop_others-in_default-add.ensures.stopped
 
@@ -76,10 +76,10 @@ returns-clause-work g c = λ _.
     let claimed = c.claim.ensures.claimed c.if-not-claim.false in
     let at = c.run_segment.ensures.same ∙ c.claim.ensures.same in
     let r = c.in-Ok.ensures in
-    let s = ran k c.args.shelf.now w.number w.seat w.steps w.outcomes.items w.lane.own.view.pushed c.requires.work c.args.segment (omega (arith, c.requires.segment, c.requires.room)) claimed.1 c.claim.new.seat.view claimed.0
+    let s = ran k c.args.keep c.args.shelf.now w.number w.seat w.steps w.outcomes.items w.lane.own.view.pushed c.requires.work c.args.segment (omega (arith, c.requires.segment, c.requires.room)) claimed.1 c.claim.new.seat.view claimed.0
     c.run_segment.new.seat at c.run_segment.ensures.remains c.run_segment.ensures.turns r.counted r.states c.in-Ok.outcome r.outcome c.run_segment.new.steps r.rose in
-    subst (λ (os : List Outcome). IsAtWork k c.args.shelf.now w.number c.run_segment.new.seat c.run_segment.new.steps os c.push_children.new.lane.own.view.pushed) (sym c.in-Ok-add.ensures)
-    (subst (λ (ps : List ℕ). IsAtWork k c.args.shelf.now w.number c.run_segment.new.seat c.run_segment.new.steps (w.outcomes.items ++ c.in-Ok.outcome ∷ []) ps)
+    subst (λ (os : List Outcome). IsAtWork k c.args.keep c.args.shelf.now w.number c.run_segment.new.seat c.run_segment.new.steps os c.push_children.new.lane.own.view.pushed) (sym c.in-Ok-add.ensures)
+    (subst (λ (ps : List ℕ). IsAtWork k c.args.keep c.args.shelf.now w.number c.run_segment.new.seat c.run_segment.new.steps (w.outcomes.items ++ c.in-Ok.outcome ∷ []) ps)
     (sym (c.push_children.ensures ∙ ap (λ (x : CourseTold). w.lane.own.view.pushed ++ children_of x.plan c.args.segment) c.deref.ensures)) s)
 
 pub returns-in_default-clause-stopped : goal.returns-in_default-clause-stopped
