@@ -8,7 +8,7 @@ use Rattle.abides_run.specs.declared.request.Task.{Task}
 use Rattle.abides_run.specs.declared.request.Task.TheVariants.{Rewind}
 use Rattle.abides_run.specs.Fetched.{arguments_of}
 use Rattle.abides_run.specs.Output.{Probes, written, simulated, allowed}
-use Rattle.abides_run.specs.Verdict.{Verdict, accepted, verdict_on_task, IsStudy, output}
+use Rattle.abides_run.specs.Verdict.{Verdict, accepted, verdict_on_task, IsStudy}
 use Rattle.abides_run.specs.Statuses.{Cause, Counts, IsRefusal, IsStill, Names, NamesOne}
 use Rattle.abides_run.specs.Headline.{Seen, Fulfilled}
 use Rattle.abides_run.specs.Performed.{Finished, IsFinal, Performed, Sent, IsUnsent}

@@ -1,4 +1,6 @@
-use Rattle.std.proofs.Common.{◌≡◌, ◌<◌, ◌≤◌, ◌∙◌, ℕ, List, None, Some, length, sum_by, sym, ap, arith}
+use Rattle.std.proofs.Common.{◌≡◌, ◌<◌, ◌≤◌, ◌∙◌, ℕ, List, None, Some, length, sum_by, sym, ap, arith, map, subst}
+use Rattle.kernel_copy.specs.Outcomes.{outcome_told, outcomes_before}
+use Rattle.kernel_copy.specs.declared.kept.Keep.TheVariants as keep
 use Rattle.branch_tree.specs.Segments.{segments_in}
 use Rattle.branch_workers.proofs.Forks.{segments_few}
 use Rattle.kernel_copy.specs.Courses.{CourseTold}
@@ -103,3 +105,9 @@ returns g c =
     c.requires.targets none c.nameless-in-Err-send_rewinds.ensures
     (sent_some (rewinds_of k ts) (study_events k) (sum_by (steps_to s c.args.places) ts) reads (g.O.Sink.faults c.args.out.now) (g.O.Sink.faults c.send_rewinds.new.out) c.args.steps.now c.send_rewinds.new.steps (g.O.Sink.taken c.args.out.now) (g.O.Sink.taken c.send_rewinds.new.out) c.in-Err-send_rewinds.status
     (omega (arith, c.in-Ok.ensures.rose, c.send_rewinds.ensures.least)) (omega (arith, c.in-Ok.ensures.rose, c.send_rewinds.ensures.most, saved)) c.in-Err-send_rewinds.ensures.sent)
+
+pub last_events-requires : goal.last_events-requires
+last_events-requires g c =
+    let xs = c.in-Ok.worked.outcomes.items in
+    c.outcomes_are_a_run.ensures.run c.deref.result.now keep.Frames xs
+    (subst (λ (k : CourseTold). map outcome_told xs ≡ outcomes_before k keep.Frames (length (segments_in k.plan))) (sym c.deref.ensures) c.in-Ok.ensures.outcomes)
