@@ -37,11 +37,7 @@ fn sink(alloc: Global) -> Result<MemorySink, AllocError> {
 
 /// The status with which a check of the study ends. One that refuses writes a line to the notes and nothing else, any other
 /// a line to the output and nothing else; it is an error where that is not so.
-pub fn judged<R: Threads + Wait + Sync>(
-    rt: &R,
-    alloc: Global,
-    study: &[Entry],
-) -> Result<Status> {
+pub fn judged<R: Threads + Wait + Sync>(rt: &R, alloc: Global, study: &[Entry]) -> Result<Status> {
     let mut words = Vec::with_capacity(alloc, 2)?;
     words.push(String::from_str(alloc, "check")?)?;
     words.push(String::from_str(alloc, "s")?)?;
