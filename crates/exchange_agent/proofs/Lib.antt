@@ -1,4 +1,5 @@
 pub mod Accepts
+pub mod Admissions
 pub mod Bytewise
 pub mod Conserved
 pub mod Crossings

@@ -78,6 +78,16 @@ verdict_of s agent e =
     else (if is_memory_full s then verdict.Forgotten 79
     else verdict_at s e (stock_number_of e.stock s.stocks))
 
+-- line 1 or 2, where 131,072 pairs are remembered
+abbrev pub verdict_when_full : State → ℕ → Enter → Verdict
+verdict_when_full s agent e = if is_remembered s agent e then verdict.Ignored else verdict.Forgotten 79
+
+-- the line that answers where the first is not asked while there is room for a pair
+abbrev pub verdict_found : State → ℕ → Enter → Verdict
+verdict_found s agent e =
+    if is_memory_full s then verdict_when_full s agent e
+    else verdict_at s e (stock_number_of e.stock s.stocks)
+
 -- from line 3 on the pair is remembered
 abbrev pub remembering : State → ℕ → Enter → State
 remembering s agent e = record s { pairs = with_pair (pair_of agent e.token) s.pairs }
@@ -159,6 +169,10 @@ entered_by s time agent e verdict.Ignored =
 entered_by s time agent e (verdict.Forgotten reason) = replied s agent (rejection_of time e reason)
 entered_by s time agent e (verdict.Refused reason) = replied (remembering s agent e) agent (rejection_of time e reason)
 entered_by s time agent e (verdict.Accepted k) = accepted (remembering s agent e) time agent e k
+
+-- what comes of a verdict on an Enter, unless its pair is remembered
+abbrev pub entered_unless : State → ℕ → ℕ → Enter → Verdict → Outcome
+entered_unless s time agent e v = entered_by s time agent e (if is_remembered s agent e then verdict.Ignored else v)
 
 abbrev pub entered : State → ℕ → ℕ → Enter → Outcome
 entered s time agent e = entered_by s time agent e (verdict_of s agent e)

@@ -1,7 +1,9 @@
 //! Enters.
 
-ghost use Rattle.std.specs.Prelude.{◌≡◌, ◌<◌, ◌≤◌, ◌+◌, ◌*◌, ◌++◌, ◌∷◌, ◌^◌, [], pos, false, OnOk, OnErr, All, map, length, position, bytes_eq};
-ghost use Rattle.exchange_agent.specs.Enter.{acceptance_of, accepted, entered, is_remembered, price_is_refused, shares_are_refused, terms_are_refused, rejection_of, remembering, verdict_of, verdict_there, way_of};
+ghost use Rattle.std.specs.Prelude.{◌≡◌, ◌<◌, ◌≤◌, ◌+◌, ◌*◌, ◌++◌, ◌∷◌, ◌^◌, [], pos, not, OnOk, OnErr, IfOk, All, map, length, position, bytes_eq};
+ghost use Rattle.std.specs.Bool.{OnFalse, OnTrue};
+ghost use Rattle.exchange_agent.specs.declared.verdict.Verdict.TheVariants as verdict;
+ghost use Rattle.exchange_agent.specs.Enter.{acceptance_of, entered, entered_unless, is_remembered, price_is_refused, shares_are_refused, terms_are_refused, rejection_of, remembering, verdict_found, verdict_there, verdict_when_full, way_of};
 ghost use Rattle.exchange_agent.specs.Pairs.{has_pair, pair_of, with_pair};
 ghost use Rattle.exchange_agent.specs.Sound.{IsSoundStock, IsWithin};
 ghost use Rattle.exchange_agent.specs.State.{stock_number_of, resting_over};
@@ -97,9 +99,22 @@ fn acceptance(time: Time, e: &Enter, reference: u64) -> Reply
 }
 
 impl Exchange {
-    // Which of the nine lines answers an Enter.
+    // Which of the nine lines answers an Enter; while there is room for a pair, the first line is not asked.
     fn verdict(&self, agent: AgentNo, e: &Enter) -> Verdict
-        ensures { result ≡ verdict_of self.now agent e.now }
+        ensures { result ≡ verdict_found self.now agent e.now }
+    {
+        if self.pairs.len() >= MOST_PAIRS {
+            return self.verdict_when_full(agent, e);
+        }
+        match stock_number(self.stocks.as_slice(), &e.stock) {
+            Some(stock) => self.verdict_there(e, stock),
+            None => Verdict::Refused(b'S'),
+        }
+    }
+
+    // Which of the first two lines answers it, where so many pairs are remembered as may be.
+    fn verdict_when_full(&self, agent: AgentNo, e: &Enter) -> Verdict
+        ensures { result ≡ verdict_when_full self.now agent e.now }
     {
         let pair = Pair {
             agent,
@@ -108,13 +123,7 @@ impl Exchange {
         if self.pairs.contains(&pair) {
             return Verdict::Ignored;
         }
-        if self.pairs.len() >= MOST_PAIRS {
-            return Verdict::Forgotten(b'O');
-        }
-        match stock_number(self.stocks.as_slice(), &e.stock) {
-            Some(stock) => self.verdict_there(e, stock),
-            None => Verdict::Refused(b'S'),
-        }
+        Verdict::Forgotten(b'O')
     }
 
     // Which of the lines from the fourth on answers it, at the stock of this number.
@@ -141,21 +150,22 @@ impl Exchange {
         Verdict::Accepted(stock)
     }
 
-    // The pair of agent and token is remembered. After want of memory the exchange is as it was.
-    fn remember(&mut self, agent: AgentNo, e: &Enter) -> Result<(), Memory>
+    // The pair of agent and token is remembered; whether it was not before. After want of memory the exchange is as it was.
+    fn remember(&mut self, agent: AgentNo, e: &Enter) -> Result<bool, Memory>
         requires { length self.old.pairs < 131072 }
+        ensures new { IfOk result (λ new. new ≡ not (is_remembered self.old agent e.now)) }
         ensures state { OnOk result (self.new ≡ remembering self.old agent e.now) }
+        ensures same { IfOk result (λ new. OnFalse new (self.new ≡ self.old)) }
         ensures refused { OnErr result (self.new ≡ self.old) }
     {
         let pair = Pair {
             agent,
             token: e.token.0,
         };
-        self.pairs.insert(pair)?;
-        Ok(())
+        Ok(self.pairs.insert(pair)?)
     }
 
-    // An Enter is rejected, and the pair is remembered.
+    // An Enter is rejected and the pair is remembered, unless it was: then the Enter is ignored.
     fn reject(
         &mut self,
         time: Time,
@@ -164,16 +174,25 @@ impl Exchange {
         reason: u8,
         out: &mut Handled,
     ) -> Result<(), Memory>
-        requires { length self.old.pairs < 131072 }
-        ensures state { OnOk result (self.new ≡ remembering self.old from e.now) }
-        ensures replies { OnOk result (out.new.replies.list ≡ out.old.replies.list ++ record { to = from; body = Body.Answer (rejection_of time e.now reason) } ∷ []) }
-        ensures feed { out.new.feed.list ≡ out.old.feed.list }
-        ensures fee { out.new.fee ≡ out.old.fee }
+        requires room { length self.old.pairs < 131072 }
+        requires ignored { self.old.counts.enters < 2 ^ 63 }
+        requires no_replies { out.old.replies.list ≡ [] }
+        requires no_feed { out.old.feed.list ≡ [] }
+        requires no_fee { out.old.fee ≡ pos 0 }
+        ensures state { OnOk result (self.new ≡ (entered_unless self.old time from e.now (verdict.Refused reason)).state) }
+        ensures replies { OnOk result (out.new.replies.list ≡ (entered_unless self.old time from e.now (verdict.Refused reason)).replies) }
+        ensures feed { OnOk result (out.new.feed.list ≡ (entered_unless self.old time from e.now (verdict.Refused reason)).feed) }
+        ensures fee { OnOk result (out.new.fee ≡ (entered_unless self.old time from e.now (verdict.Refused reason)).fee) }
         ensures exchange_refused { OnErr result (self.new ≡ self.old) }
         ensures replies_refused { OnErr result (out.new.replies.list ≡ out.old.replies.list) }
+        ensures feed_refused { OnErr result (out.new.feed.list ≡ out.old.feed.list) }
+        ensures fee_refused { OnErr result (out.new.fee ≡ out.old.fee) }
     {
         out.reserve(1, 0)?;
-        self.remember(from, e)?;
+        if !self.remember(from, e)? {
+            self.ignore_enter();
+            return Ok(());
+        }
         out.reply(
             from,
             Body::Answer(Reply::Rejected {
@@ -205,8 +224,8 @@ fn forget(time: Time, from: AgentNo, e: &Enter, reason: u8, out: &mut Handled) -
     Ok(())
 }
 
-// Room is made and the pair is remembered; then nothing fails, and the order trades. After want of memory all is
-// as it was.
+// Room is made and the pair is remembered; then nothing fails, and the order trades. Answers whether it did: where the
+// pair was remembered before, and after want of memory, all is as it was.
 fn admit(
     listing: &mut Listing,
     cash: &mut Vec<Money>,
@@ -215,25 +234,26 @@ fn admit(
     taking: &Taking,
     e: &Enter,
     out: &mut Handled,
-) -> Result<(), Memory>
+) -> Result<bool, Memory>
     requires same_side { taking.now.side ≡ e.now.side }
     requires same_token { taking.now.token ≡ e.now.token }
     requires few { e.now.shares < 1000000 }
     requires trader { 1 ≤ taking.now.agent }
     requires exists { taking.now.agent ≤ length cash.old.items }
     requires stock { IsSoundStock (length cash.old.items) counts.old.orders pairs.old.keys (stock_of listing.old) }
-    requires new { has_pair (pair_of taking.now.agent e.now.token) pairs.old.keys ≡ false }
     requires some_orders { counts.old.orders < 131072 }
     requires matches { counts.old.matches ≤ 1000000 * counts.old.orders }
     requires money { All (IsWithin (2 ^ 63 + 2 ^ 61 * counts.old.orders)) cash.old.items }
     requires no_fee { out.old.fee ≡ pos 0 }
-    ensures way { OnOk result (way_at listing.new cash.new.items counts.new.matches out.new ≡ way_of taking.now e.now (counts.old.orders + 1) (record (way_at listing.old cash.old.items counts.old.matches out.old) { replies = out.old.replies.list ++ record { to = taking.now.agent; body = Body.Answer (acceptance_of taking.now.time e.now (counts.old.orders + 1)) } ∷ [] })) }
-    ensures pairs { OnOk result (pairs.new.keys ≡ with_pair (pair_of taking.now.agent e.now.token) pairs.old.keys) }
-    ensures counts { OnOk result (counts.new ≡ record counts.old { orders = counts.old.orders + 1; matches = counts.new.matches }) }
-    ensures stock { OnOk result (IsSoundStock (length cash.new.items) counts.new.orders pairs.new.keys (stock_of listing.new)) }
-    ensures matches { OnOk result (counts.new.matches ≤ 1000000 * (counts.old.orders + 1)) }
-    ensures money { OnOk result (All (IsWithin (2 ^ 63 + 2 ^ 61 * (counts.old.orders + 1))) cash.new.items) }
+    ensures new { IfOk result (λ new. new ≡ not (has_pair (pair_of taking.now.agent e.now.token) pairs.old.keys)) }
+    ensures way { IfOk result (λ new. OnTrue new (way_at listing.new cash.new.items counts.new.matches out.new ≡ way_of taking.now e.now (counts.old.orders + 1) (record (way_at listing.old cash.old.items counts.old.matches out.old) { replies = out.old.replies.list ++ record { to = taking.now.agent; body = Body.Answer (acceptance_of taking.now.time e.now (counts.old.orders + 1)) } ∷ [] }))) }
+    ensures pairs { IfOk result (λ new. OnTrue new (pairs.new.keys ≡ with_pair (pair_of taking.now.agent e.now.token) pairs.old.keys)) }
+    ensures counts { IfOk result (λ new. OnTrue new (counts.new ≡ record counts.old { orders = counts.old.orders + 1; matches = counts.new.matches })) }
+    ensures stock { IfOk result (λ new. OnTrue new (IsSoundStock (length cash.new.items) counts.new.orders pairs.new.keys (stock_of listing.new))) }
+    ensures matches { IfOk result (λ new. OnTrue new (counts.new.matches ≤ 1000000 * (counts.old.orders + 1))) }
+    ensures money { IfOk result (λ new. OnTrue new (All (IsWithin (2 ^ 63 + 2 ^ 61 * (counts.old.orders + 1))) cash.new.items)) }
     ensures same { length cash.new.items ≡ length cash.old.items }
+    ensures ignored { IfOk result (λ new. OnFalse new ((stock_of listing.new ≡ stock_of listing.old) × (cash.new.items ≡ cash.old.items) × (pairs.new.keys ≡ pairs.old.keys) × (counts.new ≡ counts.old) × (out.new.replies.list ≡ out.old.replies.list) × (out.new.feed.list ≡ out.old.feed.list) × (out.new.fee ≡ out.old.fee))) }
     ensures stock_refused { OnErr result (stock_of listing.new ≡ stock_of listing.old) }
     ensures cash_refused { OnErr result (cash.new.items ≡ cash.old.items) }
     ensures pairs_refused { OnErr result (pairs.new.keys ≡ pairs.old.keys) }
@@ -250,18 +270,20 @@ fn admit(
         agent: taking.agent,
         token: e.token.0,
     };
-    pairs.insert(pair)?;
+    if !pairs.insert(pair)? {
+        return Ok(false);
+    }
     counts.orders += 1;
     out.reply(
         taking.agent,
         Body::Answer(acceptance(taking.time, e, counts.orders)),
     );
     listing.trade(taking, e, counts.orders, cash, &mut counts.matches, out);
-    Ok(())
+    Ok(true)
 }
 
 impl Exchange {
-    // An Enter is accepted at the stock of this number.
+    // An Enter is accepted at the stock of this number, unless its pair was remembered: then it is ignored.
     fn accept(
         &mut self,
         time: Time,
@@ -272,17 +294,17 @@ impl Exchange {
     ) -> Result<(), Memory>
         requires stock { stock < length self.old.stocks }
         requires few { e.now.shares < 1000000 }
-        requires new { is_remembered self.old from e.now ≡ false }
+        requires ignored { self.old.counts.enters < 2 ^ 63 }
         requires room { length self.old.pairs < 131072 }
         requires trader { 1 ≤ from }
         requires exists { from ≤ length self.old.cash }
         requires no_replies { out.old.replies.list ≡ [] }
         requires no_feed { out.old.feed.list ≡ [] }
         requires no_fee { out.old.fee ≡ pos 0 }
-        ensures state { OnOk result (self.new ≡ (accepted (remembering self.old from e.now) time from e.now stock).state) }
-        ensures replies { OnOk result (out.new.replies.list ≡ (accepted (remembering self.old from e.now) time from e.now stock).replies) }
-        ensures feed { OnOk result (out.new.feed.list ≡ (accepted (remembering self.old from e.now) time from e.now stock).feed) }
-        ensures fee { OnOk result (out.new.fee ≡ (accepted (remembering self.old from e.now) time from e.now stock).fee) }
+        ensures state { OnOk result (self.new ≡ (entered_unless self.old time from e.now (verdict.Accepted stock)).state) }
+        ensures replies { OnOk result (out.new.replies.list ≡ (entered_unless self.old time from e.now (verdict.Accepted stock)).replies) }
+        ensures feed { OnOk result (out.new.feed.list ≡ (entered_unless self.old time from e.now (verdict.Accepted stock)).feed) }
+        ensures fee { OnOk result (out.new.fee ≡ (entered_unless self.old time from e.now (verdict.Accepted stock)).fee) }
         ensures exchange_refused { OnErr result (self.new ≡ self.old) }
         ensures replies_refused { OnErr result (out.new.replies.list ≡ out.old.replies.list) }
         ensures feed_refused { OnErr result (out.new.feed.list ≡ out.old.feed.list) }
@@ -296,7 +318,7 @@ impl Exchange {
             side: e.side,
             token: e.token,
         };
-        admit(
+        let admitted = admit(
             listing,
             &mut self.cash,
             &mut self.pairs,
@@ -305,6 +327,9 @@ impl Exchange {
             e,
             out,
         )?;
+        if !admitted {
+            self.ignore_enter();
+        }
         Ok(())
     }
 

@@ -1,4 +1,4 @@
-use Rattle.std.proofs.Common.{◌≡◌, ◌≤◌, ◌<◌, ◌+◌, ℕ, pos, List, All, length, true, arith, ap, ◌∙◌, sym, subst}
+use Rattle.std.proofs.Common.{◌≡◌, ◌≤◌, ◌<◌, ◌+◌, ℕ, pos, List, All, length, true, arith, ap, ◌∙◌, sym, subst, false}
 use Rattle.std.specs.Prelude.{nat_le, ◌&&◌}
 use Rattle.std.proofs.lemmas.Bool.Decides.{nat_tests}
 use Rattle.std.proofs.lemmas.List.Elements.{All-weaker}
@@ -10,6 +10,7 @@ use Rattle.exchange_agent.specs.Pairs.{has_pair, pair_of, with_pair}
 use Rattle.exchange_agent.specs.Sound.{IsSmall, IsSoundStock, is_known, is_trader}
 use Rattle.exchange_agent.specs.View.{stock_of, way_at}
 use Rattle.exchange_agent.proofs.Accepts.{lacks-known, later-known, sound-traded, started, traders-known, money-traded}
+use Rattle.exchange_agent.proofs.Admissions.{not-there}
 use Rattle.exchange_agent.proofs.Knowns.{and-both, known-more}
 use Rattle.exchange_agent.proofs.Withins.{small-more}
 use Rattle.exchange_agent.proofs.enter.admit.Goals as goal
@@ -31,8 +32,9 @@ trade-requires-clause-fresh c =
     let agent = c.args.taking.now.agent in
     let token = c.args.e.now.token in
     let book = c.args.listing.now.book.list in
+    let new : has_pair (pair_of agent token) c.args.pairs.now.keys ≡ false = not-there _ _ c.in_ok-insert.ensures.added c.if-not-branch.false in
     ap (λ (b : List Resting). order_of agent token b) c.reserve-2.ensures.list
-    ∙ c.changes_keep.ensures.lacks agent token book (lacks-known (length c.args.cash.now.items) c.args.counts.now.orders agent token c.args.pairs.now.keys book c.requires.new c.requires.stock.known)
+    ∙ c.changes_keep.ensures.lacks agent token book (lacks-known (length c.args.cash.now.items) c.args.counts.now.orders agent token c.args.pairs.now.keys book new c.requires.stock.known)
 
 trader-is : (n agent : ℕ) → 1 ≤ agent → agent ≤ n → (nat_le 1 agent && nat_le agent n) ≡ true
 trader-is n agent low high = grind (arith, nat_tests)
