@@ -7,13 +7,13 @@ ghost use Rattle.branch_bundle.specs.Bundle.{end_of_trace, header_of, opening_of
 ghost use Rattle.branch_bundle.specs.Ran.{IsRunOf};
 ghost use Rattle.branch_tree.specs.Segments.{segments_in, segment_at};
 ghost use Rattle.kernel_copy.specs.Full.{full_run};
-ghost use Rattle.kernel_copy.specs.Kept.{AreTimely, frames_of, kept_told};
+ghost use Rattle.kernel_copy.specs.Kept.{IsWritable, frames_of, kept_told};
 ghost use Rattle.kernel_copy.specs.Segmentwise.{segment_end};
 ghost use Rattle.abides_run.specs.Output.{study_bundle};
 ghost use Rattle.abides_run.specs.Performed.{Sent};
 
 use crate::status::Status;
-use branch_bundle::{Ran, write_ending, write_header, write_opening};
+use branch_bundle::{Ran, ending_bytes, opening_bytes, write_header};
 use bundle_frames::put_end;
 use kernel_copy::laws::courses_stay_in_range;
 use kernel_copy::{Course, Kept};
@@ -52,16 +52,15 @@ fn send_opening<O: Sink>(
     requires { branch < length course.now.plan.branches }
     ensures { Sent (opening_of_trace course.now branch) (O.faults out.old) (O.faults out.new) (O.taken out.old) (O.taken out.new) result }
 {
-    let mut bytes = Vec::new(alloc);
-    match write_opening(course, branch, &mut bytes) {
-        Ok(()) => send(out, &bytes),
+    match opening_bytes(alloc, course, branch) {
+        Ok(bytes) => send(out, &bytes),
         Err(Memory) => Err(Status::Memory),
     }
 }
 
 // Sends the frames of what is kept of entries: with no copy, where their bytes are kept.
 fn send_kept<O: Sink>(alloc: Global, kept: &Kept, out: &mut O) -> Result<(), Status>
-    requires { AreTimely (kept_told kept.now) }
+    requires { IsWritable (kept_told kept.now) }
     ensures { Sent (frames_of (kept_told kept.now)) (O.faults out.old) (O.faults out.new) (O.taken out.old) (O.taken out.new) result }
 {
     if let Kept::Frames(bytes) = kept {
@@ -109,9 +108,8 @@ fn send_ending<O: Sink, W: Ran>(
     requires ran { IsRunOf course.now (W.count ran.now) (W.kept_of ran.now) (W.closing_of ran.now) }
     ensures { Sent (end_of_trace course.now (full_run course.now.opening course.now.plan branch)) (O.faults out.old) (O.faults out.new) (O.taken out.old) (O.taken out.new) result }
 {
-    let mut bytes = Vec::new(alloc);
-    match write_ending(course, ran, branch, &mut bytes) {
-        Ok(()) => send(out, &bytes),
+    match ending_bytes(alloc, course, ran, branch) {
+        Ok(bytes) => send(out, &bytes),
         Err(Memory) => Err(Status::Memory),
     }
 }

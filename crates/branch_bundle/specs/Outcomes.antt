@@ -5,7 +5,7 @@ use Rattle.kernel_copy.specs.declared.run.Outcome.{Outcome}
 use Rattle.kernel_copy.specs.Kept.{entries}
 use Rattle.kernel_copy.specs.Outcomes.{OutcomeTold, outcome_told}
 
--- the outcome of no segment
+-- the closing of no segment
 abbrev pub no_closing : Closing
 no_closing = record {
   counts = record { end = 0; events = 0; time = 0; next_seq = 0; waiting = 0; dropped = 0; enters = 0; cancels = 0; orders = 0; matches = 0 };
@@ -14,6 +14,7 @@ no_closing = record {
   agents = [];
 }
 
+-- the outcome of no segment
 abbrev pub no_outcome : OutcomeTold
 no_outcome = record { segment = 0; kept = entries []; events = 0; closing = no_closing }
 

@@ -1,6 +1,7 @@
 -- The bundle of a course of two branches, byte by byte: one watcher would first wake after the close, so that no event comes.
 use Rattle.std.specs.Prelude.{ℕ, List, [], ◌∷◌, ◌++◌, replicate, codes}
 use Rattle.market_opening.specs.Worked.{market, watcher}
+use Rattle.market_types.specs.Told.{EntryTold, edit}
 use Rattle.kernel_copy.specs.Courses.{CourseTold}
 
 -- the root, and a branch from it before the first event that changes nothing
@@ -47,3 +48,11 @@ abbrev pub quiet_bundle : List ℕ
 quiet_bundle =
     header_bytes ++ (root_bytes ++ feed_bytes ++ closing_bytes) ++ (fork_bytes ++ feed_bytes ++ closing_bytes)
     ++ 0 ∷ 3 ∷ 122 ∷ 0 ∷ 2 ∷ []
+
+-- the edit of this place of branch 1 at the opening, a halt
+abbrev pub halt_at : ℕ → EntryTold
+halt_at index = edit (record { events = 0; time = 1000; branch = 1; index = index; letter = 84; feed = [] })
+
+-- its frame
+abbrev pub halt_bytes : ℕ → List ℕ
+halt_bytes index = 0 ∷ 18 ∷ 100 ∷ 0 ∷ 0 ∷ 0 ∷ 0 ∷ 0 ∷ 0 ∷ 0 ∷ 0 ∷ 0 ∷ 0 ∷ 3 ∷ 232 ∷ 0 ∷ 1 ∷ 0 ∷ index ∷ 84 ∷ []

@@ -1,6 +1,6 @@
 //! The bundle of a study, part by part.
 
-ghost use Rattle.std.specs.Prelude.{◌≡◌, ◌<◌, ◌++◌, [], OnOk, OnErr, length};
+ghost use Rattle.std.specs.Prelude.{◌≡◌, ◌<◌, ◌++◌, [], OnOk, OnErr, IfOk, length};
 ghost use Rattle.std.specs.List.{flat_map};
 ghost use Rattle.bundle_frames.specs.Frames.{branch_frame, entry_frames};
 ghost use Rattle.branch_tree.specs.Plan.{branch_at};
@@ -17,6 +17,7 @@ use kernel_copy::Course;
 use kernel_copy::laws::courses_stay_in_range;
 use market_closing::laws::agents_have_all_positions;
 use market_types::Memory;
+use std::alloc::Global;
 
 /// Appends the header of a study's bundle.
 ///
@@ -62,17 +63,26 @@ fn put_head(out: &mut Vec<u8>, course: &Course, branch: u16) -> Result<(), Memor
     put_branch_head(out, course, branch, stop)
 }
 
-/// Appends what stands in the trace of a branch before the entries: its frame, and the feed of the opening. What stands in
-/// `out` after want of memory is left open.
-///
-/// # Errors
-/// Want of memory alone.
-pub fn write_opening(course: &Course, branch: u16, out: &mut Vec<u8>) -> Result<(), Memory>
+// Appends what stands in the trace of a branch before the entries.
+fn put_start(out: &mut Vec<u8>, course: &Course, branch: u16) -> Result<(), Memory>
     requires { branch < length course.now.plan.branches }
     ensures { OnOk result (out.new.items ≡ out.old.items ++ opening_of_trace course.now branch) }
 {
     put_head(out, course, branch)?;
     put_opening(out, course.opening())
+}
+
+/// What stands in the trace of a branch before the entries: its frame, and the feed of the opening.
+///
+/// # Errors
+/// Want of memory alone.
+pub fn opening_bytes(alloc: Global, course: &Course, branch: u16) -> Result<Vec<u8>, Memory>
+    requires { branch < length course.now.plan.branches }
+    ensures { IfOk result (λ v. v.items ≡ opening_of_trace course.now branch) }
+{
+    let mut bytes = Vec::new(alloc);
+    put_start(&mut bytes, course, branch)?;
+    Ok(bytes)
 }
 
 // Appends the entries of the segments from the root's first to this one, each going on from the one before.
@@ -121,23 +131,24 @@ fn put_ending<W: Ran>(
     Ok(())
 }
 
-/// Appends what stands in the trace of a branch behind the entries: the end of the feed, and the closing of its full run. What
-/// stands in `out` after want of memory is left open.
+/// What stands in the trace of a branch behind the entries: the end of the feed, and the closing of its full run.
 ///
 /// # Errors
 /// Want of memory alone.
-pub fn write_ending<W: Ran>(
+pub fn ending_bytes<W: Ran>(
+    alloc: Global,
     course: &Course,
     ran: &W,
     branch: u16,
-    out: &mut Vec<u8>,
-) -> Result<(), Memory>
+) -> Result<Vec<u8>, Memory>
     requires branch { branch < length course.now.plan.branches }
     requires ran { IsRunOf course.now (W.count ran.now) (W.kept_of ran.now) (W.closing_of ran.now) }
-    ensures { OnOk result (out.new.items ≡ out.old.items ++ end_of_trace course.now (full_run course.now.opening course.now.plan branch)) }
+    ensures { IfOk result (λ v. v.items ≡ end_of_trace course.now (full_run course.now.opening course.now.plan branch)) }
 {
     let _ = course.opening();
-    put_ending(out, course, ran, course.last_segment(branch))
+    let mut bytes = Vec::new(alloc);
+    put_ending(&mut bytes, course, ran, course.last_segment(branch))?;
+    Ok(bytes)
 }
 
 // Appends the trace of a branch.
@@ -148,7 +159,7 @@ fn put_trace<W: Ran>(out: &mut Vec<u8>, course: &Course, ran: &W, branch: u16) -
 {
     let _ = course.opening();
     let last = course.last_segment(branch);
-    write_opening(course, branch, out)?;
+    put_start(out, course, branch)?;
     put_entries(out, course, ran, last)?;
     put_ending(out, course, ran, last)?;
     Ok(())

@@ -9,6 +9,6 @@ mod outcomes;
 mod ran;
 pub mod worked;
 
-pub use bundle::{put_branch_head, write_branch, write_ending, write_header, write_opening};
+pub use bundle::{ending_bytes, opening_bytes, put_branch_head, write_branch, write_header};
 pub use listed::trace_of_segment;
 pub use ran::Ran;

@@ -178,13 +178,13 @@ fn put_end(
 
 /// Runs a segment that the seat claimed, from the end of its parent that the shelf keeps or is to keep, puts its end on
 /// the shelf where others go on from it, and counts it: the outcome is the segment's own, with what is to be kept of its
-/// entries, and the counter rises by the segment's own events. On its way it puts copies of the states at the multiples of the stride between the segment's
-/// start and its stop on the shelf, where they have places that may be written.
+/// entries, and the counter rises by the segment's own events. On its way it puts copies of the states at the multiples of
+/// the stride between the segment's start and its stop on the shelf, where they have places that may be written.
 ///
 /// The gate is passed before the first step. It may wait.
 ///
 /// # Errors
-/// Want of memory alone. The counter then rose by no more, or not at all, and the seat's count is as it was.
+/// Want of memory alone. The counter then rose by at most the segment's own events, and the seat's count is as it was.
 pub fn run_segment<R: Wait, G: Gate, L: Ledger>(
     rt: &R,
     alloc: Global,

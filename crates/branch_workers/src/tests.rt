@@ -4,7 +4,7 @@ mod market;
 mod seats;
 
 ghost use Rattle.std.specs.Prelude.{All};
-ghost use Rattle.kernel_copy.specs.Kept.{AreTimely, kept_told};
+ghost use Rattle.kernel_copy.specs.Kept.{IsWritable, kept_told};
 
 use self::market::course;
 use crate::work;
@@ -109,7 +109,7 @@ fn are_one(a: &Outcome, b: &Outcome) -> bool {
 
 // The bytes of the frames of what outcomes keep, one after another.
 fn frames_of(alloc: Global, outcomes: &[Outcome]) -> Result<Vec<u8>, Memory>
-    requires { All (λ o. AreTimely (kept_told o.kept)) outcomes.now }
+    requires { All (λ o. IsWritable (kept_told o.kept)) outcomes.now }
 {
     let mut bytes = Vec::new(alloc);
     for outcome in outcomes.iter() {

@@ -1,8 +1,8 @@
 -- Runs that go on piece by piece, and what is kept of them.
-use Rattle.std.proofs.Common.{◌≡◌, ℕ, ◌-◌, ◌≤◌, List, [], ◌++◌, All, Some, map, refl, sym, ap, ◌∙◌, subst, append_assoc, append-nil, arith}
+use Rattle.std.proofs.Common.{◌≡◌, ℕ, ◌-◌, ◌≤◌, ◌<◌, ◌+◌, List, [], ◌++◌, All, Some, map, refl, sym, ap, ◌∙◌, subst, append_assoc, append-nil, length-append, arith}
 use Rattle.std.specs.List.{flat_map}
 use Rattle.std.proofs.lemmas.Grind.{flat_map-append}
-use Rattle.std.proofs.lemmas.List.{get_or-map, length-map}
+use Rattle.std.proofs.lemmas.List.{get_or-map, get_or_append_left, length-map}
 use Rattle.std.proofs.lemmas.List.Folds.{flat_map-map}
 use Rattle.market_types.specs.declared.entry.Entry.{Entry}
 use Rattle.market_types.specs.declared.entry.End.{End}
@@ -18,7 +18,7 @@ use Rattle.kernel_core.proofs.Stops.{until-grows, until-until, until-behind}
 use Rattle.kernel_copy.specs.Segmentwise.{afresh}
 use Rattle.kernel_copy.specs.declared.kept.Keep.{Keep}
 use Rattle.kernel_copy.specs.declared.kept.Keep.TheVariants as keep
-use Rattle.kernel_copy.specs.Kept.{KeptTold, entries, frames, kept_as, kept_with, frames_of, AreTimely}
+use Rattle.kernel_copy.specs.Kept.{KeptTold, entries, frames, kept_as, kept_with, frames_of, IsWritable}
 use Rattle.kernel_copy.specs.Ran.{RanTold, ran_as, ran_with}
 
 pub with_none : (t : KeptTold) → kept_with t [] ≡ t
@@ -39,7 +39,7 @@ pub frames_as : (k : Keep) (xs : List EntryTold) → frames_of (kept_as k xs) �
 frames_as keep.Entries xs = refl
 frames_as keep.Frames xs = refl
 
-pub timely_as : (k : Keep) (xs : List EntryTold) → All IsTimely xs → AreTimely (kept_as k xs)
+pub timely_as : (k : Keep) (xs : List EntryTold) → All IsTimely xs → IsWritable (kept_as k xs)
 timely_as keep.Entries xs all = all
 timely_as keep.Frames xs all = tt
 
@@ -125,3 +125,25 @@ few_in_piece o n stop first now before kept xs m l few h =
     let grows = until-grows o stop part in
     let rest = ap (λ (q : Run). q.state.events) (until-until o n stop (afresh now) l) in
     let whole = ap (λ (q : Run). q.state.events) h.whole in omega arith
+
+-- what holds of each entry of a run that went on holds of the entries of the run before
+pub all_first : (P : EntryTold → Type 0) (o : Opening) (n : ℕ) (r : Run) → All P (until o n r).entries → All P r.entries
+all_first P o n r all =
+    let more = (until o n (afresh r.state)).entries in
+    let whole = subst (λ (q : Run). All P q.entries) (until_fresh o n r) all in
+    λ i d within. subst P (get_or_append_left r.entries more d i within) (whole i d (omega (arith, length-append r.entries more)))
+
+-- A state that so many events led to, and what goes on from it: all of it is from the first.
+pub made_on : (o : Opening) (first now next : State) → now ≡ (until o now.events (afresh first)).state → now.events ≤ next.events → next ≡ (until o next.events (afresh now)).state → next ≡ (until o next.events (afresh first)).state
+made_on o first now next is grows more =
+    let r = until o now.events (afresh first) in
+    more
+    ∙ ap (λ (s : State). (until o next.events (afresh s)).state) is
+    ∙ state_afresh o next.events r
+    ∙ ap (λ (q : Run). q.state) (until-until o now.events next.events (afresh first) grows)
+
+-- a run by events that are counted is one to a number of them
+pub made_as : (o : Opening) (from to : State) (xs ys : List EntryTold) → (let r : Run = record { state = to; entries = ys } in r) ≡ (let q : Run = record { state = from; entries = xs } in until o to.events q) → to ≡ (until o to.events (afresh from)).state
+made_as o from to xs ys is =
+    let q : Run = record { state = from; entries = xs } in
+    ap (λ (r : Run). r.state) is ∙ sym (state_afresh o to.events q)

@@ -33,7 +33,7 @@ pub record IsCourse (c : CourseTold) : Type 0 where
   pub accepted : plan_refusal c.plan.branches c.plan.limit ≡ None
   pub edits : All (λ (b : Branch). AreEdits c.opening b.edits) c.plan.branches
 
--- A segment has this parent: an earlier segment that isn't its branch's last.
+-- A segment may go on from this one: it is earlier, and isn't its branch's last.
 pub record GoesOnFrom (p : Plan) (s q : ℕ) : Type 0 where
   pub earlier : q < s
   pub unfinished : q < last_of p.branches (segment_at p q).branch

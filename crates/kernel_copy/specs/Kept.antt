@@ -33,7 +33,7 @@ abbrev pub frames_of : KeptTold → List ℕ
 frames_of (entries xs) = flat_map entry_frames xs
 frames_of (frames bytes) = bytes
 
--- entries whose feeds a frame can hold
-abbrev pub AreTimely : KeptTold → Type 0
-AreTimely (entries xs) = All IsTimely xs
-AreTimely (frames bytes) = Unit {0}
+-- Its frames can be written: the times of each entry's feed fit a frame; bytes are written already.
+abbrev pub IsWritable : KeptTold → Type 0
+IsWritable (entries xs) = All IsTimely xs
+IsWritable (frames bytes) = Unit {0}

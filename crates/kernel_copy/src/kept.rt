@@ -2,7 +2,7 @@
 
 ghost use Rattle.std.specs.Prelude.{◌≡◌, ◌++◌, OnOk, IfOk, All};
 ghost use Rattle.market_types.specs.Timely.{IsTimely};
-ghost use Rattle.kernel_copy.specs.Kept.{AreTimely, frames_of, kept_told, kept_as, kept_with};
+ghost use Rattle.kernel_copy.specs.Kept.{IsWritable, frames_of, kept_told, kept_as};
 
 use bundle_frames::put_all;
 use market_types::{Memory, Trace};
@@ -45,27 +45,12 @@ impl Kept {
         }
     }
 
-    /// Keeps what is to be kept of more entries. What is kept after want of memory is left open.
-    ///
-    /// # Errors
-    /// Want of memory alone.
-    pub fn add(&mut self, more: &Trace) -> Result<(), Memory>
-        requires { All IsTimely more.now.list }
-        ensures { OnOk result (kept_told self.new ≡ kept_with (kept_told self.old) more.now.list) }
-    {
-        match self {
-            Kept::Entries(trace) => trace.append_copy(more)?,
-            Kept::Frames(bytes) => put_all(bytes, more.as_slice())?,
-        }
-        Ok(())
-    }
-
     /// Appends the bytes of the frames. What stands in `out` after want of memory is left open.
     ///
     /// # Errors
     /// Want of memory alone.
     pub fn put(&self, out: &mut Vec<u8>) -> Result<(), Memory>
-        requires { AreTimely (kept_told self.now) }
+        requires { IsWritable (kept_told self.now) }
         ensures { OnOk result (out.new.items ≡ out.old.items ++ frames_of (kept_told self.now)) }
     {
         match self {

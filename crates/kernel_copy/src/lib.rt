@@ -13,5 +13,5 @@ mod run;
 pub use checkpoint::Checkpoint;
 pub use course::Course;
 pub use kept::{Keep, Kept};
-pub use run::{Outcome, Ran, go_on, goes_on, kept_end, outcome_at, run_on, run_segments};
+pub use run::{Outcome, Ran, go_on, goes_on, kept_end, outcome_at, run_segments};
 pub use shelf_core::Key;

@@ -10,7 +10,7 @@ ghost use Rattle.kernel_core.specs.Until.{until};
 ghost use Rattle.market_types.specs.Timely.{IsTimely};
 ghost use Rattle.market_closing.specs.Closing.{closing_at};
 ghost use Rattle.kernel_copy.specs.Courses.{kept_of, kept_before};
-ghost use Rattle.kernel_copy.specs.Kept.{kept_told, kept_with};
+ghost use Rattle.kernel_copy.specs.Kept.{frames, kept_told, kept_with};
 ghost use Rattle.kernel_copy.specs.Outcomes.{outcome_told, outcomes_before};
 ghost use Rattle.kernel_copy.specs.Ran.{ran_told, ran_as, ran_with};
 ghost use Rattle.kernel_copy.specs.Reached.{IsReached};
@@ -21,7 +21,7 @@ use crate::course::Course;
 use crate::kept::{Keep, Kept};
 use crate::laws::courses_stay_in_range;
 use branch_tree::BranchPlan;
-use bundle_frames::Closing;
+use bundle_frames::{Closing, put_all};
 use kernel_core::Kernel;
 use market_closing::closing_of;
 use market_opening::Opening;
@@ -54,22 +54,24 @@ pub struct Ran {
     pub kernel: Kernel,
 }
 
-// How many events make a piece of a run whose entries are dropped as it goes on.
-const PIECE: u32 = 256;
+// How many events make a piece of a run whose entries are dropped as it goes on. So few entries stay in a processor's nearest
+// memory until their frames are written.
+const PIECE: u32 = 32;
 
-// Runs a kernel on, piece by piece, and keeps what is to be kept of each piece.
+// Runs a kernel on, piece by piece, and appends the frames of each piece.
 fn run_in_pieces<L: Ledger>(
     alloc: Global,
     o: &Opening,
     stop: u32,
     kernel: &mut Kernel,
-    kept: &mut Kept,
+    bytes: &mut Vec<u8>,
     steps: &mut Steps<L>,
 ) -> Result<(), Memory>
     requires fits { Fits o.now kernel.old }
     requires count { steps.old + (stop - kernel.old.events) < 2 ^ 64 }
     ensures state { OnOk result (kernel.new ≡ (until o.now stop (afresh kernel.old)).state) }
-    ensures kept { OnOk result (kept_told kept.new ≡ kept_with (kept_told kept.old) (until o.now stop (afresh kernel.old)).entries) }
+    ensures kept { OnOk result (frames bytes.new.items ≡ kept_with (frames bytes.old.items) (until o.now stop (afresh kernel.old)).entries) }
+    ensures made { kernel.new ≡ (until o.now kernel.new.events (afresh kernel.old)).state }
     ensures ticks { steps.new + kernel.old.events ≡ steps.old + kernel.new.events }
     ensures grows { kernel.old.events ≤ kernel.new.events }
     ensures within { kernel.new.events ≤ (until o.now stop (afresh kernel.old)).state.events }
@@ -81,7 +83,7 @@ fn run_in_pieces<L: Ledger>(
         let mut piece = Trace::new(alloc);
         piece.reserve(size as usize)?;
         let end = kernel.run_until(alloc, o, next, &mut piece, steps)?;
-        kept.add(&piece)?;
+        put_all(bytes, piece.as_slice())?;
         if let Some(_) = end {
             return Ok(());
         }
@@ -104,16 +106,22 @@ impl Ran {
         requires fits { Fits o.now self.old.kernel }
         requires count { steps.old + (stop - self.old.kernel.events) < 2 ^ 64 }
         ensures ran { OnOk result (ran_told self.new ≡ ran_with (ran_told self.old) (until o.now stop (afresh self.old.kernel))) }
+        ensures made { self.new.kernel ≡ (until o.now self.new.kernel.events (afresh self.old.kernel)).state }
         ensures ticks { steps.new + self.old.kernel.events ≡ steps.old + self.new.kernel.events }
         ensures grows { self.old.kernel.events ≤ self.new.kernel.events }
         ensures within { self.new.kernel.events ≤ (until o.now stop (afresh self.old.kernel)).state.events }
         ensures fitting { Fits o.now self.new.kernel }
     {
-        if let Kept::Entries(trace) = &mut self.kept {
-            self.kernel.run_until(alloc, o, stop, trace, steps)?;
-            return Ok(());
+        match &mut self.kept {
+            Kept::Entries(trace) => {
+                self.kernel.run_until(alloc, o, stop, trace, steps)?;
+                Ok(())
+            }
+            Kept::Frames(bytes) => {
+                run_in_pieces(alloc, o, stop, &mut self.kernel, bytes, steps)?;
+                Ok(())
+            }
         }
-        run_in_pieces(alloc, o, stop, &mut self.kernel, &mut self.kept, steps)
     }
 }
 
@@ -195,7 +203,7 @@ fn resumed(
 /// the segment's.
 ///
 /// # Errors
-/// Want of memory alone.
+/// Want of memory alone. Which of the edits kernel and trace then have is left open.
 pub fn go_on(
     alloc: Global,
     course: &Course,
@@ -237,7 +245,6 @@ fn gone_on(
     requires branch { branch < length course.now.plan.branches }
     requires empty { trace.old.list ≡ [] }
     ensures state { IfOk result (λ k. record { state = k; entries = trace.new.list } ≡ started_from course.now.opening course.now.plan branch (Some parent)) }
-    ensures timely { All IsTimely trace.new.list }
     ensures fits { IfOk result (λ k. Fits course.now.opening k) }
 {
     courses_stay_in_range();
@@ -259,7 +266,6 @@ fn begun(
     requires segment { segment < length (segments_in course.now.plan) }
     requires empty { trace.old.list ≡ [] }
     ensures state { IfOk result (λ k. record { state = k; entries = trace.new.list } ≡ started_at course.now.opening course.now.plan (segment_at course.now.plan segment)) }
-    ensures timely { All IsTimely trace.new.list }
     ensures fits { IfOk result (λ k. Fits course.now.opening k) }
 {
     let g = course.segment(segment);
@@ -275,11 +281,9 @@ fn begun(
     }
 }
 
-/// Runs a segment from its beginning to its stop, and keeps what is to be kept of its entries.
-///
-/// # Errors
-/// Want of memory alone. The counter then rose by no more than the segment's own events.
-pub fn run_on<L: Ledger>(
+// Runs a segment from its beginning to its stop, and keeps what is to be kept of its entries. After want of memory the counter
+// rose by no more than the segment's own events.
+fn run_on<L: Ledger>(
     alloc: Global,
     course: &Course,
     keep: Keep,
@@ -290,7 +294,6 @@ pub fn run_on<L: Ledger>(
 ) -> Result<Ran, Memory>
     requires segment { segment < length (segments_in course.now.plan) }
     requires state { record { state = kernel; entries = entries.list } ≡ started_at course.now.opening course.now.plan (segment_at course.now.plan segment) }
-    requires timely { All IsTimely entries.list }
     requires fits { Fits course.now.opening kernel }
     requires count { steps.old + course.now.opening.limit < 2 ^ 64 }
     ensures ran { IfOk result (λ x. ran_told x ≡ ran_as keep (segment_run course.now.opening course.now.plan (segment_at course.now.plan segment))) }
@@ -299,6 +302,7 @@ pub fn run_on<L: Ledger>(
     ensures least { steps.old ≤ steps.new }
     ensures most { steps.new ≤ steps.old + own_count course.now.opening course.now.plan (segment_at course.now.plan segment) }
 {
+    courses_stay_in_range();
     let stop = course.segment(segment).stop;
     let kept = Kept::of(alloc, keep, entries)?;
     let mut ran = Ran { kept, kernel };

@@ -4,7 +4,7 @@ use Rattle.bundle_frames.specs.Frames.{entry_frames}
 use Rattle.branch_tree.specs.declared.segment.Segment.{Segment}
 use Rattle.branch_tree.specs.Segments.{segment_at}
 use Rattle.kernel_copy.specs.Courses.{CourseTold}
-use Rattle.kernel_copy.specs.Kept.{AreTimely, KeptTold, frames_of, kept_told}
+use Rattle.kernel_copy.specs.Kept.{IsWritable, KeptTold, frames_of, kept_told}
 use Rattle.kernel_copy.specs.Segmentwise.{parent_end, segment_end, segment_entries}
 use Rattle.kernel_copy.proofs.Pieces.{frames_as, timely_as}
 use Rattle.kernel_copy.proofs.Trees.{course-tree}
@@ -17,7 +17,7 @@ put-requires g n c =
     let k : CourseTold = c.args.course.now in
     let s = c.args.segment in
     let told = c.kept-kept.ensures ∙ c.requires.ran.kept s c.requires.segment in
-    subst (λ (x : KeptTold). AreTimely x) (sym told)
+    subst (λ (x : KeptTold). IsWritable x) (sym told)
     (timely_as c.requires.ran.keep (segment_entries k.opening k.plan (segment_at k.plan s)) (c.courses_stay_in_range.ensures.segments k s c.segment.ensures.course c.requires.segment))
 
 pub put-requires-in-Some : goal.put-requires-in-Some
@@ -25,7 +25,7 @@ put-requires-in-Some g n c =
     let k : CourseTold = c.args.course.now in
     let s = c.args.segment in
     let told = c.kept-kept.ensures ∙ c.requires.ran.kept s c.requires.segment in
-    subst (λ (x : KeptTold). AreTimely x) (sym told)
+    subst (λ (x : KeptTold). IsWritable x) (sym told)
     (timely_as c.requires.ran.keep (segment_entries k.opening k.plan (segment_at k.plan s)) (c.courses_stay_in_range.ensures.segments k s c.segment.ensures.course c.requires.segment))
 
 pub returns-in_ok-put-in-None : goal.returns-in_ok-put-in-None

@@ -26,6 +26,6 @@ returns g c =
     ∙ sym (full-last k.opening k.plan b (course-tree k course) course.limit c.requires.branch) in
     c.in_ok-put_ending.ensures
     ∙ ap (λ (l : List ℕ). l ++ last) c.in_ok-put_entries.ensures
-    ∙ ap (λ (l : List ℕ). (l ++ entries) ++ last) c.in_ok-write_opening.ensures
+    ∙ ap (λ (l : List ℕ). (l ++ entries) ++ last) c.in_ok-put_start.ensures
     ∙ behind-three c.args.out.now.items head entries last
     ∙ ap (λ (r : Run). c.args.out.now.items ++ (head ++ flat_map entry_frames r.entries ++ end_of_trace k r)) whole

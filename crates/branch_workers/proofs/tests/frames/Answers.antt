@@ -1,7 +1,7 @@
 use Rattle.std.proofs.Common.{sym, ◌∙◌, subst}
 use Rattle.kernel_copy.specs.declared.run.Outcome.{Outcome}
 use Rattle.kernel_copy.specs.Courses.{CourseTold, IsCourse}
-use Rattle.kernel_copy.specs.Kept.{AreTimely, kept_told}
+use Rattle.kernel_copy.specs.Kept.{IsWritable, kept_told}
 use Rattle.branch_workers.proofs.Gathering.{moved}
 use Rattle.branch_workers.proofs.Timing.{outcomes_timely}
 use Rattle.branch_workers.proofs.tests.frames.Goals as goal
@@ -11,5 +11,5 @@ frames_of-requires g c =
     let k : CourseTold = c.args.course.now.value in
     let course = subst IsCourse c.deref.ensures c.plan.ensures.course in
     let os = c.in_ok-worked.worked.outcomes.items in
-    moved c.as_slice.result.now os c.as_slice.ensures.value (λ (o : Outcome). AreTimely (kept_told o.kept))
+    moved c.as_slice.result.now os c.as_slice.ensures.value (λ (o : Outcome). IsWritable (kept_told o.kept))
     (outcomes_timely k c.args.keep (λ s l. c.courses_stay_in_range.ensures.segments k s course l) os c.in_ok-worked.ensures.outcomes)

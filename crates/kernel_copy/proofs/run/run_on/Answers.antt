@@ -1,6 +1,7 @@
-use Rattle.std.proofs.Common.{◌≡◌, ap, ◌∙◌, arith}
+use Rattle.std.proofs.Common.{◌≡◌, All, ap, sym, subst, ◌∙◌, arith}
 use Rattle.branch_tree.specs.declared.segment.Segment.{Segment}
 use Rattle.branch_tree.specs.Segments.{segment_at}
+use Rattle.market_types.specs.Timely.{IsTimely}
 use Rattle.market_opening.specs.declared.opening.Opening.{Opening}
 use Rattle.kernel_core.specs.State.{State}
 use Rattle.kernel_core.specs.Until.{Run, until}
@@ -8,7 +9,7 @@ use Rattle.kernel_copy.specs.Segmentwise.{afresh, segment_run}
 use Rattle.kernel_copy.specs.Courses.{CourseTold}
 use Rattle.kernel_copy.specs.Kept.{KeptTold}
 use Rattle.kernel_copy.specs.Ran.{RanTold, ran_as, ran_with}
-use Rattle.kernel_copy.proofs.Pieces.{goes_on_kept, state_afresh}
+use Rattle.kernel_copy.proofs.Pieces.{all_first, goes_on_kept, state_afresh}
 use Rattle.kernel_copy.proofs.Walks.{own-is}
 use Rattle.kernel_copy.proofs.Trees.{course-tree}
 use Rattle.kernel_copy.proofs.run.run_on.Goals as goal
@@ -73,3 +74,12 @@ returns-clause-most g c =
     let events = ap (λ (r : Run). r.state.events) whole in
     let begins = ap (λ (r : Run). r.state.events) c.requires.state in
     omega (arith, own-is k.opening k.plan s (course-tree k c.segment-stop.ensures.course) c.requires.segment, c.run_until.ensures.ticks, c.run_until.ensures.within)
+
+pub of-requires : goal.of-requires
+of-requires g c =
+    let k : CourseTold = c.args.course.now in
+    let s = c.args.segment in
+    let stop = (segment_at k.plan s).stop in
+    let first : Run = record { state = c.args.kernel; entries = c.args.entries.list } in
+    all_first IsTimely k.opening stop first
+    (subst (λ (r : Run). All IsTimely (until k.opening stop r).entries) (sym c.requires.state) (c.courses_stay_in_range.ensures.segments k s c.segment-stop.ensures.course c.requires.segment))

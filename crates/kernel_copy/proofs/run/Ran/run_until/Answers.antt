@@ -5,7 +5,7 @@ use Rattle.kernel_copy.specs.declared.kept.Kept.{Kept}
 use Rattle.kernel_copy.specs.Kept.{entries, kept_told, kept_with}
 use Rattle.kernel_copy.specs.Ran.{RanTold}
 use Rattle.kernel_copy.specs.Segmentwise.{afresh}
-use Rattle.kernel_copy.proofs.Pieces.{until_fresh, state_afresh}
+use Rattle.kernel_copy.proofs.Pieces.{until_fresh, state_afresh, made_as}
 use Rattle.kernel_copy.proofs.run.Ran.run_until.Goals as goal
 
 pub returns-in_err-run_until-clause-within : goal.returns-in_err-run_until-clause-within
@@ -24,3 +24,9 @@ pub returns-in-Entries-clause-within : goal.returns-in-Entries-clause-within
 returns-in-Entries-clause-within g c =
     let r : Run = record { state = c.args.self.now.kernel; entries = c.in-Entries.trace.list } in
     let same = ap (λ (s : State). s.events) (state_afresh c.args.o.now c.args.stop r) in omega (arith, c.run_until.ensures.within)
+
+pub returns-in_err-run_until-clause-made : goal.returns-in_err-run_until-clause-made
+returns-in_err-run_until-clause-made g c = made_as c.args.o.now c.args.self.now.kernel c.run_until.new.self c.in-Entries.trace.list c.run_until.new.trace.list c.run_until.ensures.made
+
+pub returns-in-Entries-clause-made : goal.returns-in-Entries-clause-made
+returns-in-Entries-clause-made g c = made_as c.args.o.now c.args.self.now.kernel c.run_until.new.self c.in-Entries.trace.list c.run_until.new.trace.list c.run_until.ensures.made

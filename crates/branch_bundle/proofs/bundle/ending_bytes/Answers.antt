@@ -1,4 +1,4 @@
-use Rattle.std.proofs.Common.{◌≡◌, ◌++◌, ℕ, OnOk, sym, ap, ◌∙◌, subst}
+use Rattle.std.proofs.Common.{◌≡◌, ◌++◌, ℕ, List, sym, ap, ◌∙◌}
 use Rattle.branch_tree.specs.Segments.{segment_at}
 use Rattle.kernel_core.specs.Until.{Run}
 use Rattle.kernel_copy.specs.Courses.{CourseTold}
@@ -7,7 +7,7 @@ use Rattle.kernel_copy.specs.Segmentwise.{segment_end}
 use Rattle.kernel_copy.proofs.Trees.{course-tree}
 use Rattle.kernel_copy.proofs.Walks.{full-last}
 use Rattle.branch_bundle.specs.Bundle.{end_of_trace}
-use Rattle.branch_bundle.proofs.bundle.write_ending.Goals as goal
+use Rattle.branch_bundle.proofs.bundle.ending_bytes.Goals as goal
 
 pub returns : goal.returns
 returns g c =
@@ -17,4 +17,6 @@ returns g c =
     let whole : segment_end k.opening k.plan (segment_at k.plan c.last_segment.result) ≡ full_run k.opening k.plan b =
     ap (λ (n : ℕ). segment_end k.opening k.plan (segment_at k.plan n)) c.last_segment.ensures.last
     ∙ sym (full-last k.opening k.plan b (course-tree k course) course.limit c.requires.branch) in
-    subst (λ (r : Run). OnOk c.put_ending.result (c.put_ending.new.out.items ≡ c.args.out.now.items ++ end_of_trace k r)) whole c.put_ending.ensures
+    c.in_ok-put_ending.ensures
+    ∙ ap (λ (l : List ℕ). l ++ end_of_trace k (segment_end k.opening k.plan (segment_at k.plan c.last_segment.result))) c.new-bytes.ensures.items
+    ∙ ap (λ (r : Run). end_of_trace k r) whole
