@@ -47,7 +47,10 @@ impl Ord for Due {
     ghost matches_eq = { Prim.search (comparing, rules) };
 
     fn cmp(&self, other: &Due) -> Ordering {
-        other.time.cmp(&self.time).then(other.seq.cmp(&self.seq))
+        match other.time.cmp(&self.time) {
+            Ordering::Equal => other.seq.cmp(&self.seq),
+            order => order,
+        }
     }
 }
 

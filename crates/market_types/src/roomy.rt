@@ -78,10 +78,8 @@ impl<T: Drop> Roomy<T> {
         requires { 0 < self.old.spare }
         ensures { self.new ≡ record { list = self.old.list ++ value ∷ []; spare = self.old.spare - 1 } }
     {
-        match self.items.push(value) {
-            Ok(()) => self.spare -= 1,
-            Err(_) => unreachable!(),
-        }
+        self.items.push_reserved(value);
+        self.spare -= 1;
     }
 
     /// Appends the values of another list.
