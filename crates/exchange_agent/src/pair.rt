@@ -51,9 +51,10 @@ impl Ord for Pair {
     ghost matches_eq = { Prim.search (comparing, rules) };
 
     fn cmp(&self, other: &Pair) -> Ordering {
-        self.agent
-            .cmp(&other.agent)
-            .then(compared(&self.token, &other.token))
+        match self.agent.cmp(&other.agent) {
+            Ordering::Equal => compared(&self.token, &other.token),
+            order => order,
+        }
     }
 }
 
@@ -77,9 +78,10 @@ impl PartialOrd for Pair {
 fn compared(left: &[u8; 14], right: &[u8; 14]) -> Ordering
     ensures { result ≡ slice_cmp nat_cmp left.now right.now }
 {
-    head(left)
-        .cmp(&head(right))
-        .then(tail(left).cmp(&tail(right)))
+    match head(left).cmp(&head(right)) {
+        Ordering::Equal => tail(left).cmp(&tail(right)),
+        order => order,
+    }
 }
 
 // The number of a token's first eight bytes, the first byte the highest.
