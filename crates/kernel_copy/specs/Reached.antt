@@ -29,7 +29,7 @@ pub record IsReachedFloor (o : Opening) (events edits : ℕ) (f : FloorState) : 
   pub offsets : All (IsWithin (2000000000 * edits)) f.offsets
 
 -- A state after so many edits: the opening fits it, its time is within the hours, no message is due before the start, and at
--- most those of one event and one of each edit were dropped.
+-- most 2,000,066 messages and one of each edit were dropped (one event drops at most 2,000,002 of them).
 pub record IsReached (o : Opening) (edits : ℕ) (s : State) : Type 0 where
   pub fits : Fits o s
   pub close : s.time ≤ o.close

@@ -93,10 +93,7 @@ fn put_with_body(out: &mut Vec<u8>, head: &[u8], body: &Body) -> Result<(), Memo
     }
 }
 
-/// Appends the frame of a waiting message.
-///
-/// # Errors
-/// Want of memory alone. The bytes are then as they were.
+// Appends the frame of a waiting message. After want of memory the bytes are as they were.
 #[tactic(auto, unfolding(crate::specs::States::waiting_frame))]
 fn put_waiting(out: &mut Vec<u8>, message: &Message) -> Result<(), Memory>
     ensures appended { OnOk result (out.new.items ≡ out.old.items ++ waiting_frame message.now) }
