@@ -14,7 +14,7 @@ use Rattle.kernel_core.specs.State.{State}
 use Rattle.kernel_core.specs.Step.{end_of}
 use Rattle.kernel_core.specs.Until.{Run, behind, until}
 use Rattle.kernel_core.proofs.Runs.{advanced_by_ended}
-use Rattle.kernel_core.proofs.Stops.{until-grows, until-until, until-behind}
+use Rattle.kernel_core.proofs.Stops.{until-grows, until-past, until-until, until-behind}
 use Rattle.kernel_copy.specs.Segmentwise.{afresh}
 use Rattle.kernel_copy.specs.declared.kept.Keep.{Keep}
 use Rattle.kernel_copy.specs.declared.kept.Keep.TheVariants as keep
@@ -147,3 +147,7 @@ pub made_as : (o : Opening) (from to : State) (xs ys : List EntryTold) → (let 
 made_as o from to xs ys is =
     let q : Run = record { state = from; entries = xs } in
     ap (λ (r : Run). r.state) is ∙ sym (state_afresh o to.events q)
+
+-- a state that nothing has led on from is one that no event led to
+pub begins_made : (o : Opening) (s : State) → s ≡ (until o s.events (afresh s)).state
+begins_made o s = sym (ap (λ (q : Run). q.state) (until-past o s.events (afresh s) (omega arith)))
