@@ -1,5 +1,5 @@
 -- What outcomes keep can be put into frames.
-use Rattle.std.proofs.Common.{◌≡◌, ◌<◌, ◌≤◌, ◌+◌, ℕ, zero, suc, List, All, length, map, sym, subst, arith}
+use Rattle.std.proofs.Common.{◌≡◌, ◌<◌, ◌≤◌, ℕ, zero, suc, List, All, length, map, sym, subst, arith}
 use Rattle.std.proofs.lemmas.List.Elements.{All-nil, All-push}
 use Rattle.branch_tree.specs.Segments.{segments_in, segment_at}
 use Rattle.market_types.specs.Timely.{IsTimely}

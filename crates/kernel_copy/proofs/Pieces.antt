@@ -1,5 +1,5 @@
 -- Runs that go on piece by piece, and what is kept of them.
-use Rattle.std.proofs.Common.{◌≡◌, ℕ, ◌-◌, ◌≤◌, ◌<◌, ◌+◌, List, [], ◌++◌, All, Some, map, refl, sym, ap, ◌∙◌, subst, append_assoc, append-nil, length-append, arith}
+use Rattle.std.proofs.Common.{◌≡◌, ℕ, ◌-◌, ◌≤◌, ◌+◌, List, [], ◌++◌, All, Some, map, refl, sym, ap, ◌∙◌, subst, append_assoc, append-nil, length-append, arith}
 use Rattle.std.specs.List.{flat_map}
 use Rattle.std.proofs.lemmas.Grind.{flat_map-append}
 use Rattle.std.proofs.lemmas.List.{get_or-map, get_or_append_left, length-map}
