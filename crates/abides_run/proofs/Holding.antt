@@ -1,119 +1,26 @@
--- Workers leave on their shelf what they surely leave.
-use Rattle.std.proofs.Common.{◌≡◌, ◌<◌, ◌≤◌, ◌+◌, ℕ, suc, ◌&&◌, sum_by, Bool, true, false, List, [], ◌∷◌, ◌++◌, length, get_or, nat_lt, if◌then◌else◌, ◌||◌, refl, sym, ap, ◌∙◌, subst, inl, inr, ◌⊎◌, arith}
-use Rattle.std.proofs.lemmas.Bool.{and_parts}
-use Rattle.branch_tree.specs.declared.segment.Segment.{Segment}
-use Rattle.branch_tree.specs.Plan.{Plan}
-use Rattle.branch_tree.specs.Segments.{segments_in, segment_at, last_of, no_segment}
-use Rattle.shelf_core.specs.declared.plan.Key.{Key}
-use Rattle.shelf_core.specs.declared.plan.ShelfPlan.{ShelfPlan}
-use Rattle.shelf_core.specs.Plan.{is_in, is_sole, same_key}
-use Rattle.shelf_core.proofs.Plans.{key_is, or_either}
+-- No more steps lead from the states that workers leave to targets than from those that are sure to be kept.
+use Rattle.std.proofs.Common.{◌≡◌, ◌≤◌, ℕ, List, sum_by, ap, ◌∙◌, arith}
 use Rattle.checkpoint_shelf.specs.Told.{ClosedTold}
 use Rattle.kernel_copy.specs.Courses.{CourseTold}
-use Rattle.branch_workers.specs.Layout.{end_key, fork_keys, forks_from, layout}
-use Rattle.branch_workers.specs.Workers.{RanOnce}
-use Rattle.rewind_desk.specs.Best.{best, is_held, keys_in}
-use Rattle.rewind_desk.specs.Sure.{HoldsSure, end_events, is_sure, sure}
+use Rattle.shelf_core.specs.declared.plan.ShelfPlan.{ShelfPlan}
+use Rattle.branch_workers.specs.Layout.{layout}
+use Rattle.rewind_desk.specs.Best.{best}
+use Rattle.rewind_desk.specs.Sure.{HoldsSure, sure}
+use Rattle.rewind_reach.specs.AfterWork.{IsAfterWork}
 use Rattle.rewind_targets.specs.declared.target.Target.{Target}
 use Rattle.study_accept.specs.Accepted.{StudyTold}
 use Rattle.abides_run.specs.Rewinds.{steps_from, steps_to}
 use Rattle.abides_run.proofs.Aiming.{sum-fewer}
-use Rattle.std.specs.Prelude.{nat_le}
 
-or_right : (a b : Bool) → b ≡ true → (a || b) ≡ true
-or_right true b i = refl
-or_right false b i = i
-
--- a key of two lists is one of the first or of the second
-in-either : (k : Key) (xs ys : List Key) → is_in k (xs ++ ys) ≡ true → (is_in k xs ≡ true) ⊎ (is_in k ys ≡ true)
-in-either k [] ys h = inr h
-in-either k (x ∷ xs) ys h = elim (or_either (same_key x k) (is_in k (xs ++ ys)) h) [
-  | inl same ↦ inl (ap (λ (t : Bool). t || is_in k xs) same)
-  | inr rest ↦ elim (in-either k xs ys rest) [
-    | inl first ↦ inl (or_right (same_key x k) (is_in k xs) first)
-    | inr second ↦ inr second
-  ]
-]
-
--- a key is that of the end of a segment from which others go on
-record IsEnd (p : Plan) (k : Key) : Type 0 where
-  segment : ℕ
-  below : segment < length (segments_in p)
-  unfinished : segment < last_of p.branches (segment_at p segment).branch
-  key : k ≡ end_key p segment
-
--- the segments of a plan from this number on
-record AreFrom (p : Plan) (n : ℕ) (gs : List Segment) : Type 0 where
-  each : (j : ℕ) → j < length gs → get_or gs j no_segment ≡ segment_at p (n + j)
-  all : n + length gs ≡ length (segments_in p)
-
-from-next : (p : Plan) (n : ℕ) (g : Segment) (gs : List Segment) → AreFrom p n (g ∷ gs) → AreFrom p (n + 1) gs
-from-next p n g gs f = record {
-  each = λ j less. let up : n + suc j ≡ n + 1 + j = omega arith in f.each (suc j) (omega (arith, less)) ∙ ap (λ (k : ℕ). segment_at p k) up;
-  all = omega (arith, f.all);
-}
-
-from-first : (p : Plan) (n : ℕ) (g : Segment) (gs : List Segment) → AreFrom p n (g ∷ gs) → g ≡ segment_at p n
-from-first p n g gs f = let here : n + 0 ≡ n = omega arith in f.each 0 (omega arith) ∙ ap (λ (k : ℕ). segment_at p k) here
-
-forks-end : (p : Plan) (k : Key) (n : ℕ) (gs : List Segment) → AreFrom p n gs → is_in k (forks_from p n gs) ≡ true → IsEnd p k
-forks-end p k n [] f h = absurd (cc h)
-forks-end p k n (g ∷ gs) f h =
-    let is = from-first p n g gs f in
-    let here : Key = record { segment = n; event = g.stop } in
-    let more = forks_from p (n + 1) gs in
-    elim (nat_lt n (last_of p.branches g.branch)) as (λ b. nat_lt n (last_of p.branches g.branch) ≡ b → is_in k (if b then here ∷ more else more) ≡ true → IsEnd p k) [
-      | true ↦ λ e i. elim (or_either (same_key here k) (is_in k more) i) [
-        | inl same ↦ record {
-          segment = n;
-          below = omega (arith, f.all);
-          unfinished = let less : n < last_of p.branches g.branch = grind (arith, e) in subst (λ (x : Segment). n < last_of p.branches x.branch) is less;
-          key = sym (key_is here k same) ∙ ap (λ (x : Segment). record { segment = n; event = x.stop }) is;
-        }
-        | inr rest ↦ forks-end p k (n + 1) gs (from-next p n g gs f) rest
-      ]
-      | false ↦ λ e i. forks-end p k (n + 1) gs (from-next p n g gs f) i
-    ] refl h
-
-fork-is-end : (p : Plan) (k : Key) → is_in k (fork_keys p) ≡ true → IsEnd p k
-fork-is-end p k h =
-    forks-end p k 0 (segments_in p) (record { each = λ j less. let up : j ≡ 0 + j = omega arith in ap (λ (i : ℕ). segment_at p i) up; all = omega arith }) h
-
-module _ (shelf : ClosedTold CourseTold) (stride places workers : ℕ) (laid : shelf.plan ≡ layout shelf.course.plan stride places)
-    (ran : RanOnce shelf.course (layout shelf.course.plan stride places) workers shelf.system) where
-  fork-held : (k : Key) → is_in k (fork_keys shelf.course.plan) ≡ true → is_held shelf k ≡ true
-  fork-held k h =
-      let end = fork-is-end shelf.course.plan k h in
-      subst (λ (x : Key). is_held shelf x ≡ true) (sym end.key) (ran.forks end.segment end.below end.unfinished)
-
-  sure-held : (plan : ShelfPlan) → plan ≡ layout shelf.course.plan stride places → (k : Key) → is_in k (keys_in plan) ≡ true → is_sure shelf.course plan k ≡ true
-      → is_held shelf k ≡ true
-  sure-held plan is k inside sure = elim (in-either k plan.forks plan.grid inside) [
-    | inl fork ↦ fork-held k (subst (λ (x : ShelfPlan). is_in k x.forks ≡ true) is fork)
-    | inr between ↦ elim (or_either (is_in k plan.forks) (is_sole plan k && nat_le k.event (end_events shelf.course k.segment)) sure) [
-      | inl fork ↦ fork-held k (subst (λ (x : ShelfPlan). is_in k x.forks ≡ true) is fork)
-      | inr both ↦
-          let parts = and_parts (is_sole plan k) (nat_le k.event (end_events shelf.course k.segment)) both in
-          ran.grid k.segment k.event (subst (λ (x : ShelfPlan). is_in k x.grid ≡ true) is between) (subst (λ (x : ShelfPlan). is_sole x k ≡ true) is parts.0) (grind (arith, parts.1))
-    ]
-  ]
-
-  -- each state that the workers surely leave is held
-  pub holds-sure : HoldsSure shelf
-  holds-sure k inside sure = sure-held shelf.plan laid k inside sure
-
--- No more steps lead from the nearest states to targets than from the states that are sure to be kept.
 pub saved-steps : (shelf : ClosedTold CourseTold) (s : StudyTold) (places workers : ℕ) (ts : List Target)
     → ((x : ClosedTold CourseTold) (b e : ℕ) → HoldsSure x → sure x.course x.plan b e ≤ best x b e)
-    → shelf.plan ≡ layout s.course.plan s.stride places → shelf.course ≡ s.course → RanOnce s.course (layout s.course.plan s.stride places) workers shelf.system
+    → ((c : CourseTold) (stride places workers : ℕ) (x : ClosedTold CourseTold) → IsAfterWork c stride places workers x → HoldsSure x)
+    → IsAfterWork s.course s.stride places workers shelf
     → sum_by (steps_from shelf) ts ≤ sum_by (steps_to s places) ts
-saved-steps shelf s places workers ts law laid same ran =
-    let is : shelf.plan ≡ layout shelf.course.plan s.stride places = laid ∙ ap (λ (c : CourseTold). layout c.plan s.stride places) (sym same) in
-    let ran_here : RanOnce shelf.course (layout shelf.course.plan s.stride places) workers shelf.system =
-    subst (λ (c : CourseTold). RanOnce c (layout c.plan s.stride places) workers shelf.system) (sym same) ran in
-    let held = holds-sure shelf s.stride places workers is ran_here in
+saved-steps shelf s places workers ts law leaves after =
+    let held = leaves s.course s.stride places workers shelf after in
     sum-fewer (steps_from shelf) (steps_to s places) ts (λ t.
     let least = law shelf t.branch t.event held in
     let told : sure shelf.course shelf.plan t.branch t.event ≡ sure s.course (layout s.course.plan s.stride places) t.branch t.event =
-    ap (λ (c : CourseTold). sure c shelf.plan t.branch t.event) same ∙ ap (λ (p : ShelfPlan). sure s.course p t.branch t.event) laid in
+    ap (λ (c : CourseTold). sure c shelf.plan t.branch t.event) after.course ∙ ap (λ (p : ShelfPlan). sure s.course p t.branch t.event) after.plan in
     omega (arith, least, told))

@@ -18,6 +18,7 @@ use crate::status::Status;
 use branch_bundle::laws::outcomes_are_a_run;
 use branch_tables::study_table;
 use branch_workers::work;
+use kernel_copy::laws::segments_have_few_events;
 use kernel_copy::{Course, Keep};
 use large_lines::big_lines;
 use outside::{Gate, Ledger, Sink, Steps};
@@ -51,6 +52,7 @@ fn run_study<R: Threads + Wait + Sync, O: Sink, G: Gate + Sync, D: Ledger + Send
 {
     outcomes_are_a_run();
     let course = &study.course;
+    segments_have_few_events(course);
     let worked = match work(
         rt,
         alloc,
@@ -93,6 +95,7 @@ fn table_study<R: Threads + Wait + Sync, O: Sink, G: Gate + Sync, D: Ledger + Se
 {
     outcomes_are_a_run();
     let course = &study.course;
+    segments_have_few_events(course);
     let worked = match work(
         rt,
         alloc,
@@ -139,6 +142,7 @@ fn tell_study<R: Threads + Wait + Sync, O: Sink, G: Gate + Sync, D: Ledger + Sen
 {
     outcomes_are_a_run();
     let course = &study.course;
+    segments_have_few_events(course);
     let before = steps.count();
     let worked = match work(
         rt,

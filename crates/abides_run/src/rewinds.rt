@@ -25,13 +25,14 @@ use branch_bundle::{Ran, put_branch_head};
 use branch_workers::work;
 use checkpoint_shelf::ClosedShelf;
 use command_words::Mark;
-use kernel_copy::laws::courses_stay_in_range;
+use kernel_copy::laws::{courses_stay_in_range, segments_have_few_events};
 use kernel_copy::{Checkpoint, Course, Keep};
 use kernel_core::Kernel;
 use outside::{Gate, Ledger, Sink, Steps};
 use plain_lists::Memory;
 use rewind_desk::laws::sure_states_are_held;
 use rewind_desk::{RewindError, rewind};
+use rewind_reach::laws::rewinds_after_work;
 use rewind_targets::{Aimed, Past, Target, aim, first_past};
 use state_frames::state_frames;
 use std::alloc::{AllocError, Global};
@@ -226,7 +227,9 @@ fn reach_and_write<R: Threads + Wait + Sync, O: Sink, G: Gate + Sync, D: Ledger 
 {
     outcomes_are_a_run();
     sure_states_are_held();
+    rewinds_after_work();
     let course = &study.course;
+    segments_have_few_events(course);
     let worked = match work(
         rt,
         alloc,

@@ -1,9 +1,10 @@
 //! The bundle of an accepted study, read back.
 
-ghost use Rattle.std.specs.Prelude.{◌≡◌, ◌≤◌, ◌^◌, Ok, Err, IfOk, IfErr, option_map};
+ghost use Rattle.std.specs.Prelude.{◌≡◌, ◌≤◌, ◌+◌, ◌^◌, Ok, Err, IfOk, IfErr, OnOk, option_map};
 ghost use Rattle.toml.specs.View.{table_view};
 ghost use Rattle.study_tables.specs.declared.refusal.Refusal.{Refusal};
-ghost use Rattle.study_accept.specs.Accepted.{study_of, study_told};
+ghost use Rattle.study_accept.specs.Accepted.{StudyTold, study_of, study_told};
+ghost use Rattle.kernel_copy.specs.Segmentwise.{distinct};
 ghost use Rattle.branch_bundle.specs.Ran.{IsListedRunOf};
 ghost use Rattle.bundle_reader.specs.Reads.{Gives};
 ghost use Rattle.bundle_reader.specs.Told.{bundle_told};
@@ -46,16 +47,21 @@ pub fn round_trip<W: Ran>(
 /// split as reading splits it.
 ///
 /// # Errors
-/// The first broken rule of the study; or want of memory.
+/// The first broken rule of the study, and no step was counted; or want of memory. The counter rises by the events of all
+/// segments, and after want of memory by no more.
 pub fn run_and_read<L: Ledger>(
     alloc: Global,
     raw: &RawStudy,
     series: Option<&[u8]>,
     steps: &mut Steps<L>,
 ) -> Result<Bundle, AcceptError>
-    requires { steps.old ≤ 2 ^ 63 }
+    requires { (s : StudyTold) → study_of (table_view raw.now.table) (option_map (λ text. text.now) series) ≡ Ok s → steps.old + distinct s.course.opening s.course.plan < 2 ^ 64 }
     ensures back { IfOk result (λ b. IsBackOf (study_of (table_view raw.now.table) (option_map (λ text. text.now) series.entry)) (bundle_told b)) }
     ensures refused { IfErr result (λ e. (r : Refusal) → e ≡ AcceptError.Refused r → study_of (table_view raw.now.table) (option_map (λ text. text.now) series.entry) ≡ Err r) }
+    ensures rose { OnOk result ((s : StudyTold) → study_of (table_view raw.now.table) (option_map (λ text. text.now) series.entry) ≡ Ok s → steps.new ≡ steps.old + distinct s.course.opening s.course.plan) }
+    ensures unmoved { (r : Refusal) → study_of (table_view raw.now.table) (option_map (λ text. text.now) series.entry) ≡ Err r → steps.new ≡ steps.old }
+    ensures most { (s : StudyTold) → study_of (table_view raw.now.table) (option_map (λ text. text.now) series.entry) ≡ Ok s → steps.new ≤ steps.old + distinct s.course.opening s.course.plan }
+    ensures least { steps.old ≤ steps.new }
 {
     let study = accept(alloc, raw, series)?;
     let Ok(ran) = run_segments(alloc, &study.course, Keep::Entries, steps) else {

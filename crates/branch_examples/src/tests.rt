@@ -14,6 +14,7 @@ use branch_bundle::laws::outcomes_are_a_run;
 use branch_bundle::{write_branch, write_header};
 use branch_tree::{Branch, Name, plan};
 use bundle_frames::put_end;
+use kernel_copy::laws::segments_have_few_events;
 use kernel_copy::{Course, Keep, Kept, Outcome, run_segments};
 use kernel_core::Kernel;
 use market_closing::closing_of;
@@ -241,6 +242,7 @@ fn run_keeping(alloc: Global, keep: Keep, branches: Vec<Branch>) -> Result<Simul
     requires { AreBranches branches.items }
 {
     let course = course(alloc, branches)?;
+    segments_have_few_events(&course);
     let mut steps: Steps<Counted> = Steps::new();
     let ran = run_segments(alloc, &course, keep, &mut steps);
     let ticks = steps.close();

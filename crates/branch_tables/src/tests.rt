@@ -13,6 +13,7 @@ use crate::study_table;
 use agent_shell::{Kind, TraderSetting};
 use branch_bundle::laws::outcomes_are_a_run;
 use branch_tree::{Branch, Name, plan};
+use kernel_copy::laws::segments_have_few_events;
 use kernel_copy::{Course, Keep, Outcome, run_segments};
 use market_opening::Opening;
 use market_opening::worked::{markets_are_openings, opening};
@@ -192,6 +193,7 @@ fn course(alloc: Global, opening: Opening, branches: Vec<Branch>) -> Result<Arc<
 fn ran(alloc: Global, course: &Arc<Course>) -> Result<Vec<Outcome>, Fail>
     ensures { IfOk result (λ v. map outcome_told v.items ≡ outcomes_before course.now.value keeping.Entries (length (segments_in course.now.value.plan))) }
 {
+    segments_have_few_events(course);
     let mut steps: Steps<Counted> = Steps::new();
     let ran = run_segments(alloc, course, Keep::Entries, &mut steps);
     let _ = steps.close();

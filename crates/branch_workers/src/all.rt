@@ -121,7 +121,7 @@ fn work_in<R: Threads + Wait + Sync, G: Gate + Sync, L: Ledger + Send, B: Room +
     requires stride { 0 < stride }
     requires places { places ≤ 128 }
     requires workers { (0 < workers) × (workers ≤ 64) }
-    requires steps { steps.old ≤ 2 ^ 63 }
+    requires steps { steps.old + distinct course.now.value.opening course.now.value.plan < 2 ^ 64 }
     requires room { count ≡ B.room }
     requires count { count ≡ length (segments_in course.now.value.plan) }
     ensures outcomes { IfOk result (λ w. map outcome_told w.outcomes.items ≡ outcomes_before course.now.value keep (length (segments_in course.now.value.plan))) }
@@ -146,8 +146,11 @@ fn work_in<R: Threads + Wait + Sync, G: Gate + Sync, L: Ledger + Send, B: Room +
         gate,
         workers.as_mut_slice(),
     );
-    gather(&mut back, workers, steps);
-    finish(alloc, course, keep, shelf, back, slots)
+    let mut counted = steps.split();
+    gather(&mut back, workers, &mut counted);
+    let worked = finish(alloc, course, keep, shelf, back, slots);
+    steps.join(counted);
+    worked
 }
 
 /// Runs each segment of a course once, by so many workers, 1 to 64, each in a thread of its own where one can be made: the
@@ -180,7 +183,7 @@ pub fn work<R: Threads + Wait + Sync, G: Gate + Sync, L: Ledger + Send>(
     requires stride { 0 < stride }
     requires places { places ≤ 128 }
     requires workers { (0 < workers) × (workers ≤ 64) }
-    requires steps { steps.old ≤ 2 ^ 63 }
+    requires steps { steps.old + distinct course.now.value.opening course.now.value.plan < 2 ^ 64 }
     ensures outcomes { IfOk result (λ w. map outcome_told w.outcomes.items ≡ outcomes_before course.now.value keep (length (segments_in course.now.value.plan))) }
     ensures rose { OnOk result (steps.new ≡ steps.old + distinct course.now.value.opening course.now.value.plan) }
     ensures most { steps.new ≤ steps.old + distinct course.now.value.opening course.now.value.plan }

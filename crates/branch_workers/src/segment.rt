@@ -205,7 +205,7 @@ pub fn run_segment<R: Wait, G: Gate, L: Ledger>(
     requires claim { 0 < times segment seat.old.view.claims }
     requires more { seat.old.view.counts < length seat.old.view.claims }
     requires turns { seat.old.view.turns ≡ [] }
-    requires count { steps.old ≤ 2 ^ 63 }
+    requires count { steps.old + own_count course.now.value.opening course.now.value.plan (segment_at course.now.value.plan segment) < 2 ^ 64 }
     ensures same { seat.new.shelf ≡ seat.old.shelf }
 
     // What the segment's run tells, and how many steps it took.
@@ -224,7 +224,12 @@ pub fn run_segment<R: Wait, G: Gate, L: Ledger>(
     ensures turns { seat.new.view.turns ≡ [] }
 {
     gate.pass(worker, segment);
-    let ran = advance(rt, alloc, course, shelf, seat, stride, keep, segment, steps)?;
+    let mut own = steps.split();
+    let made = advance(
+        rt, alloc, course, shelf, seat, stride, keep, segment, &mut own,
+    );
+    steps.join(own);
+    let ran = made?;
     put_end(alloc, course, shelf, seat, segment, &ran.kernel)?;
     let outcome = outcome_at(alloc, course.opening(), segment, ran)?;
     shelf.count(seat);

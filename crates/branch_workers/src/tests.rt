@@ -10,7 +10,7 @@ use self::market::course;
 use crate::work;
 use checkpoint_shelf::{ClosedShelf, Key};
 use hold_gate::HoldGate;
-use kernel_copy::laws::courses_stay_in_range;
+use kernel_copy::laws::{courses_stay_in_range, segments_have_few_events};
 use kernel_copy::{Checkpoint, Course, Keep, Kept, Outcome, run_segments};
 use market_types::{Entry, Memory, Trace};
 use outside::{Counted, Gate, OpenGate, Steps};
@@ -53,6 +53,7 @@ fn worked<R: Threads + Wait + Sync, G: Gate + Sync>(
     if workers == 0 || workers > 64 || places > 128 {
         return (Err(Memory), 0);
     }
+    segments_have_few_events(course);
     let mut steps: Steps<Counted> = Steps::new();
     let told = match work(
         rt,
@@ -126,6 +127,7 @@ fn frames<R: Threads + Wait + Sync>(
     keep: Keep,
 ) -> Result<Vec<u8>, Memory> {
     courses_stay_in_range();
+    segments_have_few_events(course);
     let _ = course.plan();
     let mut steps: Steps<Counted> = Steps::new();
     let worked = work(rt, alloc, course, 5, 1, keep, 3, &OpenGate, &mut steps);
@@ -141,6 +143,7 @@ fn frames<R: Threads + Wait + Sync>(
 fn three_branches(rt: HostRuntime) -> Result<(), Fail> {
     let alloc = rt.alloc();
     let course = course(alloc)?;
+    segments_have_few_events(&course);
     let mut steps: Steps<Counted> = Steps::new();
     let alone = run_segments(alloc, &course, Keep::Entries, &mut steps);
     let ticks = steps.close();

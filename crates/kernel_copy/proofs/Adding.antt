@@ -81,7 +81,7 @@ outcome-is c k s x a m t u h l e number kept events closing =
     told-by _ _ _ _ _ _ _ _ number (kept ∙ ap (λ (y : RanTold). y.kept) e) (events ∙ ap (λ (y : State). y.events) ends) (closing ∙ ap (λ (y : State). closing_at c.opening y) ends)
 
 -- a segment has no more events of its own than a study may have
-own-bound : (c : CourseTold) (s : ℕ) → IsCourse c → s < length (segments_in c.plan) → own_count c.opening c.plan (segment_at c.plan s) ≤ 1000000
+pub own-bound : (c : CourseTold) (s : ℕ) → IsCourse c → s < length (segments_in c.plan) → own_count c.opening c.plan (segment_at c.plan s) ≤ 1000000
 own-bound c s h l = omega (arith, segment-within c.opening c.plan s (course-tree c h) l, h.limit, h.opening.limit)
 
 own-bound_before : (c : CourseTold) (n : ℕ) → IsCourse c → n ≤ length (segments_in c.plan) → own_before c.opening c.plan n ≤ n * 1000000

@@ -1,6 +1,6 @@
 //! What runs by segments give.
 
-ghost use Rattle.std.specs.Prelude.{◌≡◌, ◌<◌, ◌≤◌, ℕ, ◌+◌, None, Some, All, length, sum_by};
+ghost use Rattle.std.specs.Prelude.{◌≡◌, ◌<◌, ◌≤◌, ℕ, ◌+◌, ◌^◌, None, Some, All, length, sum_by};
 ghost use Rattle.std.specs.List.{flat_map};
 ghost use Rattle.market_types.specs.Timely.{IsTimely};
 ghost use Rattle.branch_tree.specs.Plan.{branch_at};
@@ -10,11 +10,13 @@ ghost use Rattle.kernel_core.specs.Until.{behind, until};
 ghost use Rattle.kernel_copy.specs.Courses.{CourseTold, IsCourse};
 ghost use Rattle.kernel_copy.specs.Full.{opening_run, full, full_run};
 ghost use Rattle.kernel_copy.specs.Reached.{IsReached};
-ghost use Rattle.kernel_copy.specs.Segmentwise.{segment_end, segment_run, segment_entries, started_at, parent_end, from_count, own_count, chain_of};
+ghost use Rattle.kernel_copy.specs.Segmentwise.{segment_end, segment_run, segment_entries, started_at, parent_end, from_count, own_count, distinct, chain_of};
 
+use crate::course::Course;
 use branch_tree::BranchPlan;
 use exchange_agent::laws::books_stay_short;
 use market_opening::Opening;
+use std::sync::Arc;
 
 /// Branches that run segment by segment, each from its parent's end, give each branch's full run.
 ///
@@ -46,4 +48,13 @@ pub fn courses_stay_in_range()
     ensures segments { (c : CourseTold) (s : ℕ) → IsCourse c → s < length (segments_in c.plan) → All IsTimely (segment_entries c.opening c.plan (segment_at c.plan s)) }
 {
     books_stay_short();
+}
+
+/// The segments of a course have few events: each at most 1,000,000 of its own, and all together fewer than 2 ^ 52. So a
+/// counter of steps that stands at 2 ^ 63 or below has room for them.
+pub fn segments_have_few_events(course: &Arc<Course>)
+    ensures each { (s : ℕ) → s < length (segments_in course.now.value.plan) → own_count course.now.value.opening course.now.value.plan (segment_at course.now.value.plan s) ≤ 1000000 }
+    ensures all { distinct course.now.value.opening course.now.value.plan < 2 ^ 52 }
+{
+    let _ = course.plan().segments().len();
 }

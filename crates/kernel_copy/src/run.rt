@@ -322,16 +322,20 @@ fn run_segment<L: Ledger>(
     requires kept { map (λ k. option_map (λ c. c.value) k) kept.now ≡ kept_before course.now (length kept.now) }
     requires next { segment ≡ length kept.now }
     requires segment { segment < length (segments_in course.now.plan) }
-    requires count { steps.old + course.now.opening.limit < 2 ^ 64 }
+    requires count { steps.old + own_count course.now.opening course.now.plan (segment_at course.now.plan segment) < 2 ^ 64 }
     ensures ran { IfOk result (λ x. ran_told x ≡ ran_as keep (segment_run course.now.opening course.now.plan (segment_at course.now.plan segment))) }
     ensures fits { IfOk result (λ x. Fits course.now.opening x.kernel) }
     ensures rose { OnOk result (steps.new ≡ steps.old + own_count course.now.opening course.now.plan (segment_at course.now.plan segment)) }
     ensures least { steps.old ≤ steps.new }
     ensures most { steps.new ≤ steps.old + own_count course.now.opening course.now.plan (segment_at course.now.plan segment) }
 {
+    let _ = course.plan();
     let mut entries = Trace::new(alloc);
     let kernel = begun(alloc, course, kept, segment, &mut entries)?;
-    run_on(alloc, course, keep, segment, kernel, entries, steps)
+    let mut own = steps.split();
+    let ran = run_on(alloc, course, keep, segment, kernel, entries, &mut own);
+    steps.join(own);
+    ran
 }
 
 /// What a segment's run tells.
@@ -372,7 +376,7 @@ pub fn run_segments<L: Ledger>(
     keep: Keep,
     steps: &mut Steps<L>,
 ) -> Result<Vec<Outcome>, Memory>
-    requires { steps.old ≤ 2 ^ 63 }
+    requires { steps.old + distinct course.now.value.opening course.now.value.plan < 2 ^ 64 }
     ensures outcomes { IfOk result (λ v. map outcome_told v.items ≡ outcomes_before course.now.value keep (length (segments_in course.now.value.plan))) }
     ensures rose { OnOk result (steps.new ≡ steps.old + distinct course.now.value.opening course.now.value.plan) }
     ensures least { steps.old ≤ steps.new }

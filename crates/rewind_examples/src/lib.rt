@@ -1,6 +1,5 @@
-//! Rewinds over the shelf that workers give back: how near its states are, and rewinds of a small course.
+//! Rewinds of a small course over the shelf that its workers give back: tests alone.
 #![tactic(auto)]
 
-pub mod laws;
 #[cfg(test)]
 mod tests;

@@ -3,12 +3,13 @@
 mod market;
 
 ghost use Rattle.std.specs.Prelude.{◌≡◌, ◌≤◌, IfOk};
-ghost use Rattle.rewind_examples.specs.AfterWork.{IsAfterWork};
+ghost use Rattle.rewind_reach.specs.AfterWork.{IsAfterWork};
 
 use self::market::course;
 use branch_workers::work;
 use checkpoint_shelf::ClosedShelf;
 use kernel_copy::Keep;
+use kernel_copy::laws::segments_have_few_events;
 use market_types::Memory;
 use outside::{Counted, OpenGate, Steps};
 use rewind_desk::{Checkpoint, Course, Key, RewindError, nearest, rewind};
@@ -27,6 +28,7 @@ fn left<R: Threads + Wait + Sync>(
     requires places { places ≤ 128 }
     ensures { IfOk result (λ s. IsAfterWork course.now.value 5 places 3 s) }
 {
+    segments_have_few_events(course);
     let mut steps: Steps<Counted> = Steps::new();
     let worked = work(
         rt,

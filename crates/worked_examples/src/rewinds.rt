@@ -1,7 +1,7 @@
 //! Rewinds: the states that they write, their steps, and what is refused.
 
 use crate::runs::{library, run_over, sink};
-use crate::tests::{BRANCHES, KEY, WATCHERS, study};
+use crate::tests::{BRANCHES, INJECTED, KEY, WATCHERS, study};
 use abides_run::Status;
 use large_study::study_text;
 use outside::MemorySink;
@@ -41,23 +41,31 @@ fn written<R: Threads + Wait + Sync>(
     }
 }
 
-// The sizes, the sums of bytes and the steps are those of another program.
+// The sizes and the sums of bytes are those of another program. The last branch forks where the root had ended.
 #[test]
-fn rewinds_of_three_branches(rt: HostRuntime) -> Result<(), Fail> {
+fn rewinds_of_each_branch(rt: HostRuntime) -> Result<(), Fail> {
     let alloc = rt.alloc();
-    let text = study(alloc, KEY, 2000, 30, WATCHERS, BRANCHES)?;
-    for (line, size, total, counted) in [
-        ("rewind s root:0 x:2 root:6", 1308, 12_617, 22),
+    for (branches, line, size, total, counted) in [
+        (BRANCHES, "rewind s root:0 x:2 root:6", 1308, 12_617, 22),
         (
+            BRANCHES,
             "rewind s root:0 x:2 --places=0 --workers 3 root:6",
             1308,
             12_617,
             22,
         ),
-        ("rewind --places 128 s x:0000006", 420, 2749, 22),
-        ("rewind s y:5 z:5 root:3", 1444, 12_977, 25),
-        ("rewind s x:0 x:6 y:0 y:6 z:0 z:6", 2495, 19_439, 30),
+        (BRANCHES, "rewind --places 128 s x:0000006", 420, 2749, 22),
+        (BRANCHES, "rewind s y:5 z:5 root:3", 1444, 12_977, 25),
+        (
+            BRANCHES,
+            "rewind s x:0 x:6 y:0 y:6 z:0 z:6",
+            2495,
+            19_439,
+            30,
+        ),
+        (INJECTED, "rewind s i:0 i:6 i:8 root:6", 1787, 18_349, 10),
     ] {
+        let text = study(alloc, KEY, 2000, 30, WATCHERS, branches)?;
         let (out, steps) = written(&rt, alloc, text.as_str(), line)?;
         let bytes = out.taken();
         assert_eq!(rt;
@@ -66,9 +74,16 @@ fn rewinds_of_three_branches(rt: HostRuntime) -> Result<(), Fail> {
             "{line}"
         );
     }
+    Ok(())
+}
+
+// Each branch has the event as its stop, and behind it stand the counters: how the state ended and how many events it has.
+#[test]
+fn rewinds_of_three_branches(rt: HostRuntime) -> Result<(), Fail> {
+    let alloc = rt.alloc();
+    let text = study(alloc, KEY, 2000, 30, WATCHERS, BRANCHES)?;
     let (out, _) = written(&rt, alloc, text.as_str(), "rewind s root:0 x:2 root:6")?;
     let bytes = out.taken();
-    // each branch with the event as its stop, and behind it the counters: how the state ended and how many events it has
     for (at, branch, counters) in [
         (
             0,

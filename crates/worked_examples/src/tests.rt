@@ -33,7 +33,7 @@ pub const BRANCHES: &str =
     "\n[[branch]]\nname = \"x\"\nparent = \"root\"\nat = 2\nedit = [{ kind = \"latency\", from = 0, to = 0, base = 50, jitter = 0 }]\n\n[[branch]]\nname = \"y\"\nparent = \"root\"\nat = 2\nedit = [{ kind = \"latency\", from = 0, to = 0, base = 7, jitter = 0 }]\n\n[[branch]]\nname = \"z\"\nparent = \"root\"\nat = 2\n";
 
 // A branch that injects a sell order behind the root's end.
-const INJECTED: &str =
+pub const INJECTED: &str =
     "\n[[branch]]\nname = \"i\"\nparent = \"root\"\nat = 50\nedit = [{ kind = \"inject\", agent = 1, after = 100, message = \"4f5430303031303030303030303031530000006441424d2020202020000186a00001869f4142494459504e000000004e4e\" }]\n";
 
 /// The text of a study with these values.

@@ -13,6 +13,7 @@ use super::market::course;
 use crate::layout::open_shelf;
 use crate::run_segment;
 use checkpoint_shelf::{Begun, Found, Key, PlaceWord, Shelf, ShelfSeat, Turn};
+use kernel_copy::laws::segments_have_few_events;
 use kernel_copy::{Checkpoint, Course, Keep, Outcome};
 use market_types::{Entry, Memory};
 use outside::{Counted, OpenGate, Steps};
@@ -55,6 +56,7 @@ fn claim_and_run<R: Wait>(
     if !shelf.claim(seat, segment) {
         return (None, 0);
     }
+    segments_have_few_events(course);
     let mut steps: Steps<Counted> = Steps::new();
     let ran = run_segment(
         rt,
@@ -193,6 +195,7 @@ fn claim_meet_and_run<R: Wait>(
         return None;
     }
     let word = refusal(shelf, seat, key);
+    segments_have_few_events(course);
     let mut steps: Steps<Counted> = Steps::new();
     let ran = run_segment(
         rt,

@@ -85,7 +85,7 @@ returns-in-Ok-send_rewinds g c =
     let shelf = c.in-Ok.worked.shelf in
     let lasts : c.deref-2.result.now ≡ lasts_of k = c.deref-2.ensures.value ∙ c.in-Ok-last_events.ensures ∙ ap (λ (x : CourseTold). lasts_of x) c.deref.ensures in
     let none : past_of (lasts_of k) ts ≡ None = ap (λ (l : List ℕ). past_of l ts) (sym lasts) ∙ sym c.in_default.ensures in
-    let saved : sum_by (steps_from shelf) ts ≤ sum_by (steps_to s c.args.places) ts = saved-steps shelf s c.args.places c.args.workers ts c.sure_states_are_held.ensures c.in-Ok.ensures.shelf.0 c.in-Ok.ensures.shelf.1 c.in-Ok.ensures.once in
+    let saved : sum_by (steps_from shelf) ts ≤ sum_by (steps_to s c.args.places) ts = saved-steps shelf s c.args.places c.args.workers ts c.sure_states_are_held.ensures c.rewinds_after_work.ensures.held (record { plan = c.in-Ok.ensures.shelf.0; course = c.in-Ok.ensures.shelf.1; once = c.in-Ok.ensures.once }) in
     λ reads probes. aimed-finishes c.args.marks.now c.args.places s ts probes _ _ _ _ c.nameless-in-Ok-send_rewinds.result.status _
     c.requires.targets none c.nameless-in-Ok-send_rewinds.ensures
     (sent_all (rewinds_of k ts) (study_events k) (sum_by (steps_to s c.args.places) ts) reads (g.O.Sink.faults c.args.out.now) (g.O.Sink.faults c.send_rewinds.new.out) c.args.steps.now c.send_rewinds.new.steps (g.O.Sink.taken c.args.out.now) (g.O.Sink.taken c.send_rewinds.new.out)
@@ -100,7 +100,7 @@ returns g c =
     let shelf = c.in-Ok.worked.shelf in
     let lasts : c.deref-2.result.now ≡ lasts_of k = c.deref-2.ensures.value ∙ c.in-Ok-last_events.ensures ∙ ap (λ (x : CourseTold). lasts_of x) c.deref.ensures in
     let none : past_of (lasts_of k) ts ≡ None = ap (λ (l : List ℕ). past_of l ts) (sym lasts) ∙ sym c.in_default.ensures in
-    let saved : sum_by (steps_from shelf) ts ≤ sum_by (steps_to s c.args.places) ts = saved-steps shelf s c.args.places c.args.workers ts c.sure_states_are_held.ensures c.in-Ok.ensures.shelf.0 c.in-Ok.ensures.shelf.1 c.in-Ok.ensures.once in
+    let saved : sum_by (steps_from shelf) ts ≤ sum_by (steps_to s c.args.places) ts = saved-steps shelf s c.args.places c.args.workers ts c.sure_states_are_held.ensures c.rewinds_after_work.ensures.held (record { plan = c.in-Ok.ensures.shelf.0; course = c.in-Ok.ensures.shelf.1; once = c.in-Ok.ensures.once }) in
     λ reads probes. aimed-finishes c.args.marks.now c.args.places s ts probes _ _ _ _ c.nameless-in-Err-send_rewinds.result.status _
     c.requires.targets none c.nameless-in-Err-send_rewinds.ensures
     (sent_some (rewinds_of k ts) (study_events k) (sum_by (steps_to s c.args.places) ts) reads (g.O.Sink.faults c.args.out.now) (g.O.Sink.faults c.send_rewinds.new.out) c.args.steps.now c.send_rewinds.new.steps (g.O.Sink.taken c.args.out.now) (g.O.Sink.taken c.send_rewinds.new.out) c.in-Err-send_rewinds.status

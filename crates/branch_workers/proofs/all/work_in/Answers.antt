@@ -48,8 +48,8 @@ gather-requires-clause-each g c =
     moved _ ws (written_over ws _ c.in_ok-workers.workers.len long) (λ w. w.steps < 2 ^ 52)
     (few_steps ws k c.args.keep c.in_ok-shelf.shelf (λ w. w.seat) (λ w. w.steps) (λ w. w.number) (λ w. w.outcomes) (λ w. w.lane) (λ w. w.finished) c.run_all.ensures.ended)
 
-pub finish-requires-clause-back : goal.finish-requires-clause-back
-finish-requires-clause-back g c =
+pub finish-worked-requires-clause-back : goal.finish-worked-requires-clause-back
+finish-worked-requires-clause-back g c =
     let k : CourseTold = c.args.course.now.value in
     let sh = c.in_ok-shelf.shelf in
     let ws = c.run_all.new.workers in
@@ -67,8 +67,8 @@ finish-requires-clause-back g c =
     subst (λ (ss : List (SeatTold CourseTold)). AllBack sh ss) (sym seats)
     (handed ws k c.args.keep sh (λ w. w.seat) (λ w. w.steps) (λ w. w.number) (λ w. w.outcomes) (λ w. w.lane) (λ w. w.finished) (omega arith) numbers c.run_all.ensures.ended)
 
-pub finish-requires-clause-finished : goal.finish-requires-clause-finished
-finish-requires-clause-finished g c = λ all.
+pub finish-worked-requires-clause-finished : goal.finish-worked-requires-clause-finished
+finish-worked-requires-clause-finished g c = λ all.
     let k : CourseTold = c.args.course.now.value in
     let ws = c.run_all.new.workers in
     let long : length ws ≡ c.in_ok-workers.workers.len = omega (arith, c.run_all.auto.workers, c.as_mut_slice.ensures.len) in
@@ -89,13 +89,33 @@ returns-clause-rose g c =
     let sums = summed c.gather.new.back.seats.items (map (λ w. w.seat) ws) seats claimed in
     let steps = summed _ ws over (λ w. w.steps) in
     let counted = c.gather.ensures.steps in
-    both_ok c.finish.result (c.gather.new.back.finished ≡ true) (sum_by claimed c.gather.new.back.seats.items ≡ distinct k.opening k.plan) (c.gather.new.steps ≡ c.args.steps.now + distinct k.opening k.plan)
+    let none = c.split-counted.ensures in
+    let joined = c.join.ensures in
+    both_ok c.finish-worked.result (c.gather.new.back.finished ≡ true) (sum_by claimed c.gather.new.back.seats.items ≡ distinct k.opening k.plan) (c.join.new.self ≡ c.args.steps.now + distinct k.opening k.plan)
     (λ all events.
     let each = all_steps ws k c.args.keep c.in_ok-shelf.shelf (λ w. w.seat) (λ w. w.steps) (λ w. w.number) (λ w. w.outcomes) (λ w. w.lane) (λ w. w.finished)
     (moved ws _ (sym over) (λ w. w.finished ≡ true) (c.gather.ensures.finished all)) c.run_all.ensures.counted in
     omega arith)
-    c.finish.ensures.finished
-    (subst (λ (x : CourseTold). OnOk c.finish.result (sum_by (λ (s : SeatTold CourseTold). sum_by (own_of x) s.view.claims) c.gather.new.back.seats.items ≡ distinct x.opening x.plan)) c.deref-3.ensures c.finish.ensures.all)
+    c.finish-worked.ensures.finished
+    (subst (λ (x : CourseTold). OnOk c.finish-worked.result (sum_by (λ (s : SeatTold CourseTold). sum_by (own_of x) s.view.claims) c.gather.new.back.seats.items ≡ distinct x.opening x.plan)) c.deref-3.ensures c.finish-worked.ensures.all)
+
+pub join-requires : goal.join-requires
+join-requires g c =
+    let k : CourseTold = c.args.course.now.value in
+    let ws = c.run_all.new.workers in
+    let claimed : SeatTold CourseTold → ℕ = λ s. sum_by (own_of k) s.view.claims in
+    let long : length ws ≡ c.in_ok-workers.workers.len = omega (arith, c.run_all.auto.workers, c.as_mut_slice.ensures.len) in
+    let over = written_over ws _ c.in_ok-workers.workers.len long in
+    let seats : c.gather.new.back.seats.items ≡ map (λ w. w.seat) ws = c.gather.ensures.seats ∙ mapped _ ws over (λ w. w.seat) in
+    let sums = summed c.gather.new.back.seats.items (map (λ w. w.seat) ws) seats claimed in
+    let steps = summed _ ws over (λ w. w.steps) in
+    let counted = c.gather.ensures.steps in
+    let none = c.split-counted.ensures in
+    let some = c.requires.steps in
+    let most = most_steps ws k c.args.keep c.in_ok-shelf.shelf (λ w. w.seat) (λ w. w.steps) (λ w. w.number) (λ w. w.outcomes) (λ w. w.lane) (λ w. w.finished) c.run_all.ensures.ended in
+    let all : sum_by claimed c.gather.new.back.seats.items ≤ distinct k.opening k.plan =
+    subst (λ (x : CourseTold). sum_by (λ (s : SeatTold CourseTold). sum_by (own_of x) s.view.claims) c.gather.new.back.seats.items ≤ distinct x.opening x.plan) c.deref-3.ensures c.finish-worked.ensures.most in
+    omega arith
 
 pub returns-clause-most : goal.returns-clause-most
 returns-clause-most g c =
@@ -108,9 +128,11 @@ returns-clause-most g c =
     let sums = summed c.gather.new.back.seats.items (map (λ w. w.seat) ws) seats claimed in
     let steps = summed _ ws over (λ w. w.steps) in
     let counted = c.gather.ensures.steps in
+    let none = c.split-counted.ensures in
+    let joined = c.join.ensures in
     let most = most_steps ws k c.args.keep c.in_ok-shelf.shelf (λ w. w.seat) (λ w. w.steps) (λ w. w.number) (λ w. w.outcomes) (λ w. w.lane) (λ w. w.finished) c.run_all.ensures.ended in
     let all : sum_by claimed c.gather.new.back.seats.items ≤ distinct k.opening k.plan =
-    subst (λ (x : CourseTold). sum_by (λ (s : SeatTold CourseTold). sum_by (own_of x) s.view.claims) c.gather.new.back.seats.items ≤ distinct x.opening x.plan) c.deref-3.ensures c.finish.ensures.most in
+    subst (λ (x : CourseTold). sum_by (λ (s : SeatTold CourseTold). sum_by (own_of x) s.view.claims) c.gather.new.back.seats.items ≤ distinct x.opening x.plan) c.deref-3.ensures c.finish-worked.ensures.most in
     omega arith
 
 pub returns-clause-once : goal.returns-clause-once
@@ -128,14 +150,14 @@ returns-clause-once g c =
     let count : length c.gather.new.back.seats.items ≡ c.args.workers = omega (arith, c.as_mut_slice.ensures.len) in
     let plan = c.in_ok-shelf.shelf.plan in
     let laid : plan ≡ layout k.plan c.args.stride c.args.places = c.in_ok-shelf.ensures.plan.0 ∙ ap (λ (x : CourseTold). layout x.plan c.args.stride c.args.places) c.deref.ensures in
-    IfOk-weaker c.finish.result _ _
+    IfOk-weaker c.finish-worked.result _ _
     (λ w once. subst (λ (x : CourseTold). RanOnce x (layout k.plan c.args.stride c.args.places) c.args.workers w.shelf.system) c.deref-3.ensures
     (subst (λ (p : ShelfPlan). RanOnce c.deref-3.result.now p c.args.workers w.shelf.system) laid
     (subst (λ (n : ℕ). RanOnce c.deref-3.result.now plan n w.shelf.system) count once)))
-    c.finish.ensures.once
+    c.finish-worked.ensures.once
 
 pub returns-clause-shelf : goal.returns-clause-shelf
 returns-clause-shelf g c =
     let k : CourseTold = c.args.course.now.value in
     let laid : c.in_ok-shelf.shelf.plan ≡ layout k.plan c.args.stride c.args.places = c.in_ok-shelf.ensures.plan.0 ∙ ap (λ (x : CourseTold). layout x.plan c.args.stride c.args.places) c.deref.ensures in
-    IfOk-weaker c.finish.result _ _ (λ w h. (h.0 ∙ laid, h.1 ∙ c.deref-3.ensures)) c.finish.ensures.shelf
+    IfOk-weaker c.finish-worked.result _ _ (λ w h. (h.0 ∙ laid, h.1 ∙ c.deref-3.ensures)) c.finish-worked.ensures.shelf

@@ -9,7 +9,7 @@ use Rattle.branch_workers.proofs.segment.run_segment.Goals as goal
 pub put_end-requires-clause-state : goal.put_end-requires-clause-state
 put_end-requires-clause-state g c =
     let x : RanTold = ran_told c.in_ok-ran.ran in
-    ran-ends c.args.course.now.value c.args.keep c.args.segment x c.advance.ensures.course c.requires.segment c.in_ok-ran.ensures.ran
+    ran-ends c.args.course.now.value c.args.keep c.args.segment x c.advance-made.ensures.course c.requires.segment c.in_ok-ran.ensures.ran
 
 pub returns-clause-outcome : goal.returns-clause-outcome
 returns-clause-outcome g c =
@@ -17,5 +17,5 @@ returns-clause-outcome g c =
     let x : RanTold = ran_told c.in_ok-ran.ran in
     let opening = c.opening.ensures.value ∙ ap (λ (x : CourseTold). x.opening) c.deref.ensures in
     let tells = c.in_ok-outcome.ensures in
-    outcome-is k c.args.keep c.args.segment x _ _ _ _ c.advance.ensures.course c.requires.segment c.in_ok-ran.ensures.ran tells.segment tells.kept tells.events
+    outcome-is k c.args.keep c.args.segment x _ _ _ _ c.advance-made.ensures.course c.requires.segment c.in_ok-ran.ensures.ran tells.segment tells.kept tells.events
     (tells.closing ∙ ap (λ (o : Opening). closing_at o c.in_ok-ran.ran.kernel) opening)

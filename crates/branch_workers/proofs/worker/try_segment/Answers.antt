@@ -3,6 +3,7 @@ use Rattle.branch_tree.specs.Segments.{segments_in, children_of}
 use Rattle.shelf_core.specs.declared.seat.SeatView.{SeatView}
 use Rattle.kernel_copy.specs.Courses.{CourseTold}
 use Rattle.kernel_copy.specs.declared.run.Outcome.{Outcome}
+use Rattle.kernel_copy.proofs.Adding.{own-bound}
 use Rattle.branch_workers.specs.Workers.{IsAtWork}
 use Rattle.branch_workers.proofs.Children.{are_below}
 use Rattle.branch_workers.proofs.Standing.{claims_few, claimed_more, stays_at_work, fails, ran, stops_ended, pushes_few}
@@ -21,6 +22,7 @@ run_segment-requires-clause-count g c =
     let k : CourseTold = c.args.course.now.value in
     let h = c.requires.work in
     let f = claims_few k c.args.worker.now.seat.view.claims h.course h.claims in
+    let own = own-bound k c.args.segment h.course (omega (arith, c.requires.segment, c.requires.room)) in
     let e = h.counted in omega arith
 
 pub push_children-requires-clause-segment : goal.push_children-requires-clause-segment

@@ -1,4 +1,4 @@
-use Rattle.std.proofs.Common.{◌≡◌, ◌<◌, ◌^◌, List, Option, subst, option_map, Global, map, length, ap, ◌∙◌, arith}
+use Rattle.std.proofs.Common.{◌≡◌, List, Option, subst, option_map, Global, map, length, ap, ◌∙◌, arith}
 use Rattle.std.proofs.lemmas.List.{length_push}
 use Rattle.std.specs.declared.sync.Arc.{Arc}
 use Rattle.branch_tree.specs.declared.segment.Segment.{Segment}
@@ -12,19 +12,18 @@ use Rattle.kernel_copy.specs.Ran.{ran_told, ran_as}
 use Rattle.kernel_copy.specs.Outcomes.{outcome_told, outcome_of}
 use Rattle.kernel_copy.specs.declared.checkpoint.Checkpoint.{Checkpoint}
 use Rattle.kernel_copy.specs.declared.run.Outcome.{Outcome}
-use Rattle.kernel_copy.proofs.Adding.{own-part, distinct-bound, own-most, own-more, outcome-is, outcomes-more, kept-more, ran-ends}
+use Rattle.kernel_copy.proofs.Adding.{own-most, own-more, outcome-is, outcomes-more, kept-more, ran-ends}
 use Rattle.kernel_copy.proofs.run.run_segments.Goals as goal
 
 pub run_segment-requires-clause-count : goal.run_segment-requires-clause-count
 run_segment-requires-clause-count g c =
     let k : CourseTold = c.args.course.now.value in
     let i = c.segments.i in
-    let course : IsCourse k = subst IsCourse c.deref.ensures c.plan.ensures.course in
     let plan : c.plan.result.now ≡ k.plan = c.plan.ensures.value ∙ ap (λ (x : CourseTold). x.plan) c.deref.ensures in
     let count = ap (λ (xs : List Segment). length xs) (c.segments-count.ensures.value ∙ ap (λ (p : Plan). segments_in p) plan) in
-    let few : length (segments_in k.plan) < 2 ^ 32 = omega (arith, c.segments-count.ensures.few) in
-    let limit = ap (λ (x : CourseTold). x.opening.limit) c.deref-in-segments.ensures in
-    omega (arith, c.segments.invariant.steps, own-part k.opening k.plan i, distinct-bound k course few, course.opening.limit, c.requires)
+    let own = ap (λ (x : CourseTold). own_count x.opening x.plan (segment_at x.plan i)) c.deref-in-segments.ensures in
+    let most = own-most k.opening k.plan i (omega arith) in
+    omega (arith, c.segments.invariant.steps, c.requires)
 
 pub kept_end-requires-clause-state : goal.kept_end-requires-clause-state
 kept_end-requires-clause-state g c =

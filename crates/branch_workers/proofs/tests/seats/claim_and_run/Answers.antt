@@ -12,3 +12,6 @@ run_segment-ran-requires-clause-more g c =
 
 pub run_segment-ran-requires-clause-turns : goal.run_segment-ran-requires-clause-turns
 run_segment-ran-requires-clause-turns g c = ap (λ (v : SeatView). v.turns) (c.claim.ensures.claimed c.if-not-claim.false).0 ∙ c.requires.turns
+
+pub run_segment-ran-requires-clause-count : goal.run_segment-ran-requires-clause-count
+run_segment-ran-requires-clause-count g c = omega (arith, c.segments_have_few_events.ensures.each c.args.segment c.requires.segment)

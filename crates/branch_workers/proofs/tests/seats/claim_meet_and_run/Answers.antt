@@ -19,3 +19,6 @@ run_segment-ran-requires-clause-more g c =
     let d = c.refusal-word.ensures.stays.counts in
     let e = ap (λ (claims : List ℕ). length claims) c.refusal-word.ensures.stays.claims in
     omega (arith, c.requires.counts)
+
+pub run_segment-ran-requires-clause-count : goal.run_segment-ran-requires-clause-count
+run_segment-ran-requires-clause-count g c = omega (arith, c.segments_have_few_events.ensures.each c.args.key.segment c.requires.segment)

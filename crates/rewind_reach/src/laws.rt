@@ -8,7 +8,7 @@ ghost use Rattle.branch_workers.specs.Layout.{grid_keys, layout};
 ghost use Rattle.rewind_desk.specs.Best.{best};
 ghost use Rattle.rewind_desk.specs.Rewinds.{last_event};
 ghost use Rattle.rewind_desk.specs.Sure.{HoldsSure, IsLaidFor, AreAllSole, IsWholeAtForks};
-ghost use Rattle.rewind_examples.specs.AfterWork.{IsAfterWork};
+ghost use Rattle.rewind_reach.specs.AfterWork.{IsAfterWork};
 
 use rewind_desk::laws::rewinds_stay_within_the_stride;
 

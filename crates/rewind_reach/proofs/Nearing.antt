@@ -8,9 +8,9 @@ use Rattle.branch_workers.specs.Workers.{RanOnce}
 use Rattle.rewind_desk.specs.Best.{best}
 use Rattle.rewind_desk.specs.Rewinds.{last_event}
 use Rattle.rewind_desk.specs.Sure.{HoldsSure, IsLaidFor, AreAllSole, IsWholeAtForks}
-use Rattle.rewind_examples.specs.AfterWork.{IsAfterWork}
-use Rattle.rewind_examples.proofs.Holding.{holds-sure}
-use Rattle.rewind_examples.proofs.Laying.{is-laid}
+use Rattle.rewind_reach.specs.AfterWork.{IsAfterWork}
+use Rattle.rewind_reach.proofs.Holding.{holds-sure}
+use Rattle.rewind_reach.proofs.Laying.{is-laid}
 
 pub after-held : (c : CourseTold) (stride places workers : ℕ) (shelf : ClosedTold CourseTold) → IsAfterWork c stride places workers shelf → HoldsSure shelf
 after-held c stride places workers shelf after =

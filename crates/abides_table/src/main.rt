@@ -1,0 +1,12 @@
+//! The program at a table, whose columns its stored run shows: each probe has its own, in the order of their names.
+#![tactic(auto)]
+
+use abides_program::run_command_line;
+use outside::{ErrSink, OutSink};
+use std::process::ExitCode;
+
+fn main(rt: HostRuntime) -> ExitCode {
+    let mut out = OutSink::new(rt.stdout());
+    let mut notes = ErrSink::new(rt.stderr());
+    run_command_line(&rt, &mut out, &mut notes)
+}
