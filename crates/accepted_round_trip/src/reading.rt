@@ -1,6 +1,6 @@
 //! The bundle of an accepted study, read back.
 
-ghost use Rattle.std.specs.Prelude.{◌≡◌, ◌≤◌, ◌+◌, ◌^◌, Ok, Err, IfOk, IfErr, OnOk, option_map};
+ghost use Rattle.std.specs.Prelude.{◌≡◌, ◌<◌, ◌≤◌, ◌+◌, ◌^◌, Ok, Err, IfOk, IfErr, OnOk, option_map};
 ghost use Rattle.toml.specs.View.{table_view};
 ghost use Rattle.study_tables.specs.declared.refusal.Refusal.{Refusal};
 ghost use Rattle.study_accept.specs.Accepted.{StudyTold, study_of, study_told};
