@@ -1,6 +1,6 @@
 //! The bundle of an accepted study, read back.
 
-ghost use Rattle.std.specs.Prelude.{◌≡◌, ◌<◌, ◌≤◌, ◌+◌, ◌^◌, Ok, Err, IfOk, IfErr, OnOk, option_map};
+ghost use Rattle.std.specs.Prelude.{◌≡◌, ◌≤◌, ◌+◌, ◌^◌, Ok, Err, IfOk, IfErr, OnOk, option_map};
 ghost use Rattle.toml.specs.View.{table_view};
 ghost use Rattle.study_tables.specs.declared.refusal.Refusal.{Refusal};
 ghost use Rattle.study_accept.specs.Accepted.{StudyTold, study_of, study_told};
@@ -15,6 +15,7 @@ use crate::laws::accepted_messages_are_spelled;
 use branch_bundle::Ran;
 use branch_bundle::laws::outcomes_are_a_run;
 use bundle_reader::{Bundle, BundleError};
+use kernel_copy::laws::segments_have_few_events;
 use kernel_copy::{Keep, run_segments};
 use outside::{Ledger, Steps};
 use std::alloc::Global;
@@ -55,7 +56,7 @@ pub fn run_and_read<L: Ledger>(
     series: Option<&[u8]>,
     steps: &mut Steps<L>,
 ) -> Result<Bundle, AcceptError>
-    requires { (s : StudyTold) → study_of (table_view raw.now.table) (option_map (λ text. text.now) series) ≡ Ok s → steps.old + distinct s.course.opening s.course.plan < 2 ^ 64 }
+    requires { steps.old ≤ 2 ^ 63 }
     ensures back { IfOk result (λ b. IsBackOf (study_of (table_view raw.now.table) (option_map (λ text. text.now) series.entry)) (bundle_told b)) }
     ensures refused { IfErr result (λ e. (r : Refusal) → e ≡ AcceptError.Refused r → study_of (table_view raw.now.table) (option_map (λ text. text.now) series.entry) ≡ Err r) }
     ensures rose { OnOk result ((s : StudyTold) → study_of (table_view raw.now.table) (option_map (λ text. text.now) series.entry) ≡ Ok s → steps.new ≡ steps.old + distinct s.course.opening s.course.plan) }
@@ -64,6 +65,7 @@ pub fn run_and_read<L: Ledger>(
     ensures least { steps.old ≤ steps.new }
 {
     let study = accept(alloc, raw, series)?;
+    segments_have_few_events(&study.course);
     let Ok(ran) = run_segments(alloc, &study.course, Keep::Entries, steps) else {
         return Err(AcceptError::Memory);
     };
