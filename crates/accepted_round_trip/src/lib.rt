@@ -5,6 +5,3 @@ pub mod laws;
 mod reading;
 
 pub use reading::{round_trip, run_and_read};
-
-#[cfg(test)]
-mod tests;

@@ -18,6 +18,3 @@ pub use sending::{Sending, Sends};
 pub use setting::{Kind, Levels, TraderSetting};
 pub use shell::{OwnOrder, Shell};
 pub use wish::Wish;
-
-#[cfg(test)]
-mod tests;

@@ -13,6 +13,3 @@ pub use lane::Lane;
 pub use lanes::open_lanes;
 pub use plain_lists::Memory;
 pub use rule::{LaneView, Room};
-
-#[cfg(test)]
-mod tests;

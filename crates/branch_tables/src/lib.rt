@@ -9,6 +9,3 @@ mod tables;
 pub mod worked;
 
 pub use tables::study_table;
-
-#[cfg(test)]
-mod tests;

@@ -19,6 +19,3 @@ pub use branch_plan::{BranchPlan, plan};
 pub use error::PlanError;
 pub use name::Name;
 pub use segment::Segment;
-
-#[cfg(test)]
-mod tests;

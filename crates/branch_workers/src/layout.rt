@@ -85,7 +85,7 @@ fn shelf_plan(alloc: Global, course: &Course, stride: u32, places: u32) -> Resul
 }
 
 // The shelf on which a course's segments meet, with so many places for a stride's grid, and a seat for each worker.
-pub(crate) fn open_shelf(
+pub fn open_shelf(
     alloc: Global,
     course: &Course,
     stride: u32,

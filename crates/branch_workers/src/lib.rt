@@ -15,7 +15,5 @@ mod worker;
 pub use all::{Worked, work};
 pub use checkpoint_shelf::ClosedShelf;
 pub use kernel_copy::{Checkpoint, Keep, Kept, Key, Outcome};
+pub use layout::open_shelf;
 pub use segment::run_segment;
-
-#[cfg(test)]
-mod tests;

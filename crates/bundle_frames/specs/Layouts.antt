@@ -57,3 +57,7 @@ position_kinds = Number 8 ∷ []
 -- `z`: branches
 abbrev pub end_kinds : List Kind
 end_kinds = Number 2 ∷ []
+
+-- `w` before the body: when it is due, message's number, sender, receiver, kind of body
+abbrev pub waiting_kinds : List Kind
+waiting_kinds = Number 8 ∷ Number 8 ∷ Number 2 ∷ Number 2 ∷ OneOf (codes "wioaq") ∷ []

@@ -17,6 +17,3 @@ pub use layouts::{
 };
 pub use worked::{one_of_each, published_kinds, published_layouts};
 pub use written::{Written, put_all};
-
-#[cfg(test)]
-mod tests;

@@ -9,6 +9,3 @@ mod reading;
 mod take;
 
 pub use bundle::{Bundle, BundleError, Told, read_bundle};
-
-#[cfg(test)]
-mod tests;

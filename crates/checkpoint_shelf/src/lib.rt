@@ -28,6 +28,3 @@ pub use progress::Progress;
 pub use seat::ShelfSeat;
 pub use shelf::Shelf;
 pub use shelf_core::{Key, PlaceWord, ShelfPlan};
-
-#[cfg(test)]
-mod tests;

@@ -14,6 +14,3 @@ pub use laws::marks_are_spelled;
 pub use mark::Mark;
 pub use plain_lists::{Memory, Sequence};
 pub use text::Text;
-
-#[cfg(test)]
-mod tests;

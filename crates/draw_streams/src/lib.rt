@@ -18,8 +18,6 @@ pub use stream::Stream;
 
 pub mod laws;
 mod stream;
-#[cfg(test)]
-mod tests;
 pub mod worked;
 
 /// The draw at a place of a stream: word `place` of ChaCha20 under `key`, whose nonce is `stream`.

@@ -9,8 +9,6 @@
 mod due;
 pub mod laws;
 mod queue;
-#[cfg(test)]
-mod tests;
 pub mod worked;
 
 pub use queue::Queue;

@@ -16,8 +16,6 @@ mod meet;
 mod pair;
 mod readers;
 mod settle;
-#[cfg(test)]
-mod tests;
 mod told;
 mod verdict;
 pub mod worked;

@@ -6,7 +6,7 @@ use Rattle.wire_fields.specs.declared.kind.Kind.{Kind}
 use Rattle.wire_fields.specs.Values.{FieldValue}
 use Rattle.wire_fields.specs.Wire.{Wire}
 use Rattle.wire_fields.specs.Back.{number_in, bytes_in, byte_in, side_in, side_back}
-use Rattle.bundle_frames.specs.Layouts.{header_kinds, branch_kinds, event_kinds, edit_kinds, counts_kinds, stock_kinds, order_kinds, agent_kinds, end_kinds}
+use Rattle.bundle_frames.specs.Layouts.{header_kinds, branch_kinds, event_kinds, edit_kinds, counts_kinds, stock_kinds, order_kinds, agent_kinds, end_kinds, waiting_kinds}
 use Rattle.bundle_frames.specs.declared.closing.ClosingCounts.{ClosingCounts}
 use Rattle.bundle_frames.specs.declared.closing.ClosingOrder.{ClosingOrder}
 use Rattle.frame_parts.specs.declared.head.Head.{Head}
@@ -20,7 +20,7 @@ use Rattle.frame_parts.specs.declared.head.AgentHead.{AgentHead}
 use Rattle.frame_parts.specs.declared.head.WaitingHead.{WaitingHead}
 use Rattle.frame_parts.specs.declared.head_type.HeadType.{HeadType}
 use Rattle.frame_parts.specs.declared.head_type.HeadType.TheVariants.{Header, Branch, Event, Edit, Counts, Stock, Order, Agent, Waiting, End}
-use Rattle.frame_parts.specs.Heads.{waiting_kinds, head_wire, head_layout}
+use Rattle.frame_parts.specs.Heads.{head_wire, head_layout}
 
 -- the letter of a type
 abbrev pub head_letter : HeadType → ℕ

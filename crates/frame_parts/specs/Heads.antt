@@ -4,7 +4,7 @@ use Rattle.wire_fields.specs.declared.kind.Kind.{Kind}
 use Rattle.wire_fields.specs.declared.kind.Kind.TheVariants.{Number, OneOf}
 use Rattle.wire_fields.specs.Values.{number}
 use Rattle.wire_fields.specs.Wire.{Wire, IsInRange, spelling}
-use Rattle.bundle_frames.specs.Layouts.{header_kinds, branch_kinds, event_kinds, edit_kinds, counts_kinds, stock_kinds, order_kinds, agent_kinds, end_kinds}
+use Rattle.bundle_frames.specs.Layouts.{header_kinds, branch_kinds, event_kinds, edit_kinds, counts_kinds, stock_kinds, order_kinds, agent_kinds, end_kinds, waiting_kinds}
 use Rattle.bundle_frames.specs.Wires.{byte, counts_wire, order_wire, end_wire}
 use Rattle.frame_parts.specs.declared.head.Head.{Head}
 use Rattle.frame_parts.specs.declared.head.Head.TheVariants.{Header, Branch, Event, Edit, Counts, Stock, Order, Agent, Waiting, End}
@@ -15,10 +15,6 @@ use Rattle.frame_parts.specs.declared.head.EditHead.{EditHead}
 use Rattle.frame_parts.specs.declared.head.StockHead.{StockHead}
 use Rattle.frame_parts.specs.declared.head.AgentHead.{AgentHead}
 use Rattle.frame_parts.specs.declared.head.WaitingHead.{WaitingHead}
-
--- `w` before the body: when it is due, message's number, sender, receiver, kind of body
-abbrev pub waiting_kinds : List Kind
-waiting_kinds = Number 8 ∷ Number 8 ∷ Number 2 ∷ Number 2 ∷ OneOf (codes "wioaq") ∷ []
 
 abbrev pub header_head : HeaderHead → Wire
 header_head h = record {

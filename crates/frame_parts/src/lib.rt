@@ -12,6 +12,3 @@ pub use head::{
     AgentHead, BranchHead, EditHead, EventHead, Head, HeaderHead, StockHead, WaitingHead,
 };
 pub use heads::read_head;
-
-#[cfg(test)]
-mod tests;

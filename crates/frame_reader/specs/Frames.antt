@@ -1,5 +1,6 @@
 -- The frames of a bundle, each behind its length. What a frame is written as is said by the crate that writes them.
 use Rattle.std.specs.Prelude.{◌≡◌, ◌≤◌, ℕ, ℤ, List, [], ◌∷◌, ◌++◌, length, Option, Some, None, All}
+use Rattle.bundle_frames.specs.Layouts.{waiting_kinds}
 use Rattle.std.specs.Int.{w64, w128}
 use Rattle.std.specs.Int.RustNames.{FitsSigned}
 use Rattle.market_types.specs.declared.feed.Feed.{Feed}
@@ -10,7 +11,6 @@ use Rattle.itch_codec.specs.Frames.{framed}
 use Rattle.itch_codec.specs.Messages.{feed_wire}
 use Rattle.branch_tree.specs.Names.{IsNameLength}
 use Rattle.bundle_frames.specs.Wires.{header_wire, branch_wire, event_wire, edit_wire, counts_wire, stock_wire, order_wire, agent_wire, end_wire, positions_bytes, body_bytes, letter_of_body, byte}
-use Rattle.frame_parts.specs.Heads.{waiting_kinds}
 use Rattle.frame_parts.specs.Bodies.{HasRanges as HasBodyRanges}
 use Rattle.frame_parts.specs.declared.head.EditHead.{EditHead}
 use Rattle.frame_reader.specs.declared.frame.Frame.{Frame}

@@ -12,6 +12,3 @@ pub use frame::{BranchFrame, EventFrame, Frame, HeaderFrame, WaitingFrame};
 pub use next::{FrameError, next_frame};
 pub use payload::read_payload;
 pub use worked::frames_are_those_that_are_written;
-
-#[cfg(test)]
-mod tests;

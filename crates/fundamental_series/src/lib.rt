@@ -10,8 +10,6 @@ mod rows;
 mod rule;
 mod series;
 mod table;
-#[cfg(test)]
-mod tests;
 pub mod worked;
 
 pub use rule::{SeriesRow, SeriesRule, with_offset};

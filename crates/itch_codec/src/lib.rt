@@ -13,6 +13,3 @@ pub use reading::decode_feed;
 pub use worked::{
     added_order, one_spelling, published_layouts, published_types, refused_feed, small_frames,
 };
-
-#[cfg(test)]
-mod tests;

@@ -9,8 +9,6 @@
 mod jitter;
 pub mod laws;
 mod mail;
-#[cfg(test)]
-mod tests;
 pub mod worked;
 
 pub use mail::Mail;

@@ -8,6 +8,4 @@ mod tally;
 pub mod worked;
 
 pub use lines::big_lines;
-
-#[cfg(test)]
-mod tests;
+pub use tally::Tally;

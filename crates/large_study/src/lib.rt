@@ -5,6 +5,3 @@ mod text;
 pub mod worked;
 
 pub use text::study_text;
-
-#[cfg(test)]
-mod tests;

@@ -8,8 +8,6 @@
 
 mod groups;
 mod rows;
-#[cfg(test)]
-mod tests;
 pub mod worked;
 
 pub use groups::Groups;

@@ -15,6 +15,3 @@ pub mod worked;
 pub use floor::Floor;
 pub use postings::{Happening, Postings};
 pub use ruling::applied_by;
-
-#[cfg(test)]
-mod tests;

@@ -7,8 +7,6 @@
 pub mod laws;
 mod opening;
 mod posting;
-#[cfg(test)]
-mod tests;
 pub mod worked;
 
 pub use opening::{Opening, group_number};

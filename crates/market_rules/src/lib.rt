@@ -12,8 +12,6 @@ mod error;
 mod fees;
 pub mod laws;
 mod refusals;
-#[cfg(test)]
-mod tests;
 mod ticks;
 mod view;
 pub mod worked;

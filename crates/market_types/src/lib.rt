@@ -46,6 +46,3 @@ pub type AgentNo = u16;
 
 /// The number of a stock, from 0 in the study's order.
 pub type StockNo = u16;
-
-#[cfg(test)]
-mod tests;

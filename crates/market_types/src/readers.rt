@@ -81,6 +81,3 @@ fn padded_right<const N: usize>(text: &[u8]) -> [u8; N]
     bytes[..text.len()].copy_from_slice(text);
     bytes
 }
-
-#[cfg(test)]
-mod tests;

@@ -9,6 +9,3 @@ mod worked;
 pub use inbound::{decode_in, encode_cancel, encode_enter};
 pub use outbound::{ReplyBytes, decode_out, encode_reply};
 pub use worked::{entered_order, one_spelling, published_layouts, published_types, refused_orders};
-
-#[cfg(test)]
-mod tests;

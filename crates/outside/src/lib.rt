@@ -25,6 +25,3 @@ pub use plain_lists::Memory;
 pub use sink::{Sink, write_all};
 pub use steps::{Counted, Ledger, Steps};
 pub use stream_sink::{ErrSink, OutSink, StreamSink};
-
-#[cfg(test)]
-mod tests;

@@ -9,6 +9,3 @@ mod sequence;
 pub use copies::copied;
 pub use memory::Memory;
 pub use sequence::Sequence;
-
-#[cfg(test)]
-mod tests;

@@ -13,8 +13,6 @@ mod levels;
 mod lowering;
 mod resting;
 mod search;
-#[cfg(test)]
-mod tests;
 pub mod worked;
 
 pub use book::Book;

@@ -16,6 +16,3 @@ pub use probe::Probe;
 pub use spread_sum::SpreadSum;
 pub use volume::Volume;
 pub use watching::{restart_all, values, watch};
-
-#[cfg(test)]
-mod tests;

@@ -8,6 +8,3 @@ mod quoter;
 pub mod worked;
 
 pub use quoter::Quoter;
-
-#[cfg(test)]
-mod tests;

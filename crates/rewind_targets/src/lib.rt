@@ -13,6 +13,3 @@ pub use named::branch_named;
 pub use past::{Past, first_past};
 pub use plain_lists::{Memory, Sequence};
 pub use target::Target;
-
-#[cfg(test)]
-mod tests;

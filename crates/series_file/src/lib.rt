@@ -7,8 +7,6 @@ mod file;
 mod late;
 mod row;
 mod tables;
-#[cfg(test)]
-mod tests;
 pub mod worked;
 
 pub use file::{SeriesError, read_series};

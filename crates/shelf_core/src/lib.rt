@@ -20,6 +20,3 @@ pub use run::{law, step};
 pub use seat::SeatView;
 pub use system::System;
 pub use words::{ClaimWord, PlaceWord, Seen, Word};
-
-#[cfg(test)]
-mod tests;

@@ -1,5 +1,6 @@
 -- The frames of a state: its closing, and the messages that wait.
 use Rattle.std.specs.Prelude.{ℕ, List, [], ◌∷◌, ◌++◌}
+use Rattle.bundle_frames.specs.Layouts.{waiting_kinds}
 use Rattle.std.specs.List.{flat_map}
 use Rattle.market_types.specs.declared.message.Message.{Message}
 use Rattle.wire_fields.specs.Values.{number}
@@ -7,7 +8,6 @@ use Rattle.wire_fields.specs.Wire.{Wire, spelling}
 use Rattle.itch_codec.specs.Frames.{framed}
 use Rattle.bundle_frames.specs.Frames.{closing_frames}
 use Rattle.bundle_frames.specs.Wires.{byte, body_bytes, letter_of_body}
-use Rattle.frame_parts.specs.Heads.{waiting_kinds}
 use Rattle.event_queue.specs.InOrder.{in_order}
 use Rattle.market_opening.specs.declared.opening.Opening.{Opening}
 use Rattle.market_closing.specs.Closing.{closing_at}

@@ -5,6 +5,3 @@ mod study;
 
 pub use study::{AcceptError, Study, accept};
 pub use study_refusals::Refusal;
-
-#[cfg(test)]
-mod tests;

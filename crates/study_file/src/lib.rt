@@ -17,6 +17,3 @@ pub use values::{
     broken_unless, has_between, is_at_most, is_between, list_at, list_in, number_at, number_in,
     number_or, string_at,
 };
-
-#[cfg(test)]
-mod tests;

@@ -6,8 +6,6 @@ mod changes;
 mod counts;
 mod dates;
 mod refusal;
-#[cfg(test)]
-mod tests;
 pub mod worked;
 
 pub use refusal::{Judged, judge};

@@ -11,6 +11,3 @@ mod writing;
 pub use difference::{first_difference, first_difference_of_parts};
 pub use row::TableRow;
 pub use writing::table;
-
-#[cfg(test)]
-mod tests;

@@ -15,6 +15,3 @@ pub use market::{bases, group_number, is_group, jitters, span};
 pub use refusal::{Refusal, market_refusal, stock_refusal};
 pub use stock::{few_stocks, goes_by, has_fees, is_by_rows, stock_symbol, stocks};
 pub use trial::{EntryTrial, first_failed};
-
-#[cfg(test)]
-mod tests;

@@ -6,6 +6,3 @@ mod taker;
 pub mod worked;
 
 pub use taker::Taker;
-
-#[cfg(test)]
-mod tests;

@@ -5,6 +5,3 @@ mod party;
 pub mod worked;
 
 pub use party::Party;
-
-#[cfg(test)]
-mod tests;

@@ -1,0 +1,13 @@
+use Rattle.std.proofs.Common.{◌≡◌}
+use Rattle.base_tests.proofs.checkpoint_shelf_tests.hammer.give.Given as goal
+
+abbrev pub invariant-loop : goal.invariant-loop
+invariant-loop g l = record {
+  can : (goal.iterator-loop g).can_next l.iterator';
+  fin : (goal.iterator-loop g).is_finite l.iterator';
+  same : l.seat.shelf ≡ l.initial.seat.shelf;
+  numbers : l.seat.view.numbers ≡ l.initial.seat.view.numbers;
+  claims : l.seat.view.claims ≡ l.initial.seat.view.claims;
+  counts : l.seat.view.counts ≡ l.initial.seat.view.counts;
+  turns : l.seat.view.turns ≡ l.initial.seat.view.turns;
+}

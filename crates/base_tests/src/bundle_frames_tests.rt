@@ -1,0 +1,117 @@
+ghost use Rattle.std.specs.Prelude.{◌≡◌, [], IfOk, length};
+
+use bundle_frames::{put_all, put_branch, put_end, put_header, ClosingAgent, ClosingCounts, ClosingOrder, ClosingStock, Written};
+use market_types::{Body, EditMark, Entry, Feed, FeedList, Record, Sequence, Side, Token, What};
+use std::alloc::Global;
+use std::test::*;
+
+const COUNTS: ClosingCounts = ClosingCounts {
+    end: b'-',
+    events: 1,
+    time: 1000,
+    next_seq: 1,
+    waiting: 0,
+    dropped: 0,
+    enters: 0,
+    cancels: 0,
+    orders: 1,
+    matches: 0,
+};
+
+const STOCK: ClosingStock = ClosingStock {
+    stock: 0,
+    state: b'T',
+    last: 0,
+    matched: 0,
+    fees: 0,
+    offset: 0,
+    live: 1,
+};
+
+const ORDER: ClosingOrder = ClosingOrder {
+    reference: 1,
+    agent: 1,
+    token: Token(*b"T0001000000001"),
+    side: Side::Buy,
+    intended: 100,
+    left: 100,
+    stock: 0,
+    price: 100_000,
+    tif: 99_999,
+};
+
+fn wakeup(alloc: Global) -> Record
+    ensures before { result.before.list ≡ [] }
+    ensures after { result.after.list ≡ [] }
+{
+    Record {
+        number: 1,
+        time: 1000,
+        seq: 0,
+        from: 1,
+        to: 1,
+        put_back: false,
+        until: 1000,
+        fee: 0,
+        body: Body::Wake,
+        before: FeedList::new(alloc),
+        after: FeedList::new(alloc),
+    }
+}
+
+fn edit(alloc: Global) -> EditMark
+    ensures { result.feed.list ≡ [] }
+{
+    EditMark {
+        events: 1,
+        time: 1000,
+        branch: 0,
+        index: 0,
+        letter: b'T',
+        feed: FeedList::new(alloc),
+    }
+}
+
+fn agent(alloc: Global) -> Result<ClosingAgent, Fail>
+    ensures { IfOk result (λ a. length a.positions ≡ 1) }
+{
+    let mut positions = Vec::new(alloc);
+    positions.push(100)?;
+    Ok(ClosingAgent {
+        agent: 1,
+        silenced: false,
+        time: 1000,
+        tokens: 1,
+        draws: 0,
+        cash: 0,
+        own_cash: 0,
+        own_position: 100,
+        live: 1,
+        quotes: 0,
+        positions: Sequence::new(positions),
+    })
+}
+
+#[test]
+fn each_frame_has_its_length(rt: HostRuntime) -> Result<(), Fail> {
+    let alloc = rt.alloc();
+    let mut out = Vec::new(alloc);
+    assert!(rt; put_header(&mut out, 2, 1, 1).is_ok());
+    assert!(rt; put_branch(&mut out, 0, 65_535, 0, b"root").is_ok());
+    let ended = Feed {
+        locate: 0,
+        tracking: 0,
+        time: 1000,
+        what: What::System { code: b'C' },
+    };
+    assert!(rt; ended.put(&mut out).is_ok());
+    assert!(rt; Entry::Event(wakeup(alloc)).put(&mut out).is_ok());
+    assert!(rt; Entry::Edit(edit(alloc)).put(&mut out).is_ok());
+    assert!(rt; COUNTS.put(&mut out).is_ok());
+    assert!(rt; put_all(&mut out, &[STOCK, STOCK]).is_ok());
+    assert!(rt; put_all(&mut out, &[ORDER]).is_ok());
+    assert!(rt; agent(alloc)?.put(&mut out).is_ok());
+    assert!(rt; put_end(&mut out, 1).is_ok());
+    assert!(rt; out.len() == 11 + 16 + 14 + 45 + 20 + 68 + 46 + 46 + 46 + 80 + 5);
+    Ok(())
+}

@@ -1,0 +1,69 @@
+//! A shelf that is closed.
+
+ghost use Rattle.std.specs.Prelude.{◌≡◌, ◌<◌, IfSome, IsSome, Some, []};
+ghost use Rattle.std.specs.Arc.{arc_value};
+ghost use Rattle.shelf_core.specs.Views.{new_view};
+
+use checkpoint_shelf::{Key, Shelf, ShelfSeat};
+use plain_lists::Memory;
+use std::alloc::Global;
+use std::sync::Arc;
+use std::test::Fail;
+use super::Item;
+use super::seats::{claimed, fill, fork_plan, two_new, value_of};
+
+// A seat claims a segment and spends the turn of a key of it, with a value or with none.
+fn spend(shelf: &Shelf<Item>, seat: &mut ShelfSeat<Item>, k: Key, value: Option<Arc<Item>>) -> bool
+    requires seat { seat.old.shelf ≡ Some shelf.now }
+    requires segment { k.segment < shelf.now.plan.segments }
+    requires value { IfSome value (λ a. ((arc_value a).key ≡ k) × ((arc_value a).course ≡ shelf.now.course)) }
+    ensures same { seat.new.shelf ≡ seat.old.shelf }
+    ensures numbers { seat.new.view.numbers ≡ seat.old.view.numbers }
+    ensures turns { seat.new.view.turns ≡ seat.old.view.turns }
+{
+    if shelf.place_of(k).is_none() || !claimed(shelf, seat, k.segment) {
+        return false;
+    }
+    fill(shelf, seat, k, value)
+}
+
+// Whether the value of a key is there, once two seats handed a shelf back.
+fn is_there(
+    alloc: Global,
+    shelf: Shelf<Item>,
+    zero: ShelfSeat<Item>,
+    one: ShelfSeat<Item>,
+    k: Key,
+) -> Result<bool, Memory>
+    requires two { shelf.seats ≡ 2 }
+    requires zero { (zero.shelf ≡ Some shelf) × (zero.view.numbers ≡ (new_view 0).numbers) × (zero.view.turns ≡ []) }
+    requires one { (one.shelf ≡ Some shelf) × (one.view.numbers ≡ (new_view 1).numbers) × (one.view.turns ≡ []) }
+{
+    let mut seats = Vec::new(alloc);
+    seats.push(zero)?;
+    seats.push(one)?;
+    let closed = shelf.close(seats);
+    Ok(closed.get(k).is_some())
+}
+
+// Whether the turn of a fork was got and spent, with a value or with none, and the value is there at the end.
+fn closed_fork(alloc: Global, with_value: bool) -> Result<(bool, bool), Memory> {
+    let k = Key {
+        segment: 0,
+        event: 2,
+    };
+    let value = value_of(alloc, k, with_value)?;
+    let (shelf, seats) = Shelf::<Item>::open(alloc, &7, fork_plan(alloc)?, 2)?;
+    let Some((mut zero, one)) = two_new(&shelf, seats) else {
+        return Ok((false, false));
+    };
+    let spent = spend(&shelf, &mut zero, k, value);
+    Ok((spent, is_there(alloc, shelf, zero, one, k)?))
+}
+
+#[test]
+fn a_closed_shelf_has_what_was_published(rt: HostRuntime) -> Result<(), Fail> {
+    assert_eq!(rt; closed_fork(rt.alloc(), true)?, (true, true));
+    assert_eq!(rt; closed_fork(rt.alloc(), false)?, (true, false));
+    Ok(())
+}

@@ -1,0 +1,81 @@
+use draw_streams::{below, centred, draw, worked::COUNTING_KEY, worked::ZERO_KEY, Stream};
+
+// Words of RFC 8439 that follow one another in a key stream.
+#[derive(Clone, Copy)]
+struct Known {
+    key: [u8; 32],
+    stream: u64,
+    start: u64,
+    words: [u32; 4],
+}
+
+const FIRST_BLOCK: Known = Known {
+    key: ZERO_KEY,
+    stream: 0,
+    start: 0,
+    words: [0xade0b876, 0x903df1a0, 0xe56a5d40, 0x28bd8653],
+};
+
+const SECOND_BLOCK: Known = Known {
+    start: 16,
+    words: [0xbee7079f, 0x7a385155, 0x7c97ba98, 0x0d082d73],
+    ..FIRST_BLOCK
+};
+
+// The nonce whose last byte is 2.
+const OTHER_STREAM: Known = Known {
+    stream: 0x0200000000000000,
+    words: [0x374dc6c2, 0x3736d58c, 0xb904e24a, 0xcd3f93ef],
+    ..FIRST_BLOCK
+};
+
+const WORKED_BLOCK: Known = Known {
+    key: COUNTING_KEY,
+    stream: 0x4a000000,
+    start: 0x9000000000000010,
+    words: [0xe4e7f110, 0x15593bd1, 0x1fdd0f50, 0xc47120a3],
+};
+
+#[test]
+fn draws_the_words_of_the_standard(rt: HostRuntime) {
+    for known in [FIRST_BLOCK, SECOND_BLOCK, OTHER_STREAM, WORKED_BLOCK] {
+        for (i, word) in known.words.iter().enumerate() {
+            let place = known.start.wrapping_add(i as u64);
+            assert_eq!(rt;
+                draw(&known.key, known.stream, place),
+                *word,
+                "place {place}"
+            );
+        }
+    }
+}
+
+#[test]
+fn scales_words(rt: HostRuntime) {
+    assert_eq!(rt; below(0x903df1a0, 10), 5);
+    assert_eq!(rt; below(0x903df1a0, 1), 0);
+    assert_eq!(rt; below(0x903df1a0, 1 << 32), 0x903df1a0);
+    assert_eq!(rt; centred(0xade0b876, 1000), 359);
+    assert_eq!(rt; centred(0xade0b876, 0), 0);
+    assert_eq!(rt; centred(0, 1_000_000_000), -1_000_000_000);
+}
+
+#[test]
+fn a_stream_gives_the_same_words(rt: HostRuntime) {
+    let mut stream = Stream::new(0);
+    for (place, word) in [
+        (0, 0xade0b876),
+        (1, 0x903df1a0),
+        (2, 0xe56a5d40),
+        (16, 0xbee7079f),
+        (17, 0x7a385155),
+        (1, 0x903df1a0),
+    ] {
+        assert_eq!(rt; stream.draw(&ZERO_KEY, place), word, "place {place}");
+    }
+    let mut other = Stream::new(0x4a000000);
+    let place = 0x9000000000000010;
+    assert_eq!(rt; other.draw(&COUNTING_KEY, place), 0xe4e7f110);
+    assert_eq!(rt; other.draw(&COUNTING_KEY, place + 1), 0x15593bd1);
+    assert_eq!(rt; other.draw(&ZERO_KEY, 5), draw(&ZERO_KEY, 0x4a000000, 5));
+}

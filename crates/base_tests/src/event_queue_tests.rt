@@ -1,0 +1,161 @@
+ghost use Rattle.std.specs.Prelude.{◌≡◌, ◌<◌, ◌≤◌, ◌+◌, ◌-◌, All};
+
+use event_queue::Queue;
+use market_types::{Body, Message};
+use std::process::Abort;
+
+const PUSHES: u64 = 4_000;
+
+fn wakeup(time: u64, seq: u64) -> Message
+    ensures { result.seq ≡ seq }
+{
+    Message {
+        time,
+        seq,
+        from: 1,
+        to: 1,
+        body: Body::Wake,
+    }
+}
+
+// A message joins under the next number.
+fn join(queue: &mut Queue, time: u64, next: u64)
+    requires room { 0 < queue.old.spare }
+    requires before { All (λ m. m.seq < next) queue.old.list }
+    ensures before { All (λ m. m.seq < next + 1) queue.new.list }
+    ensures spare { queue.new.spare ≡ queue.old.spare - 1 }
+{
+    queue.push(wakeup(time, next));
+}
+
+// The least message is put back to a time.
+fn put_back(queue: &mut Queue, time: u64, next: u64) -> Option<Message>
+    requires before { All (λ m. m.seq < next) queue.old.list }
+    ensures before { All (λ m. m.seq < next) queue.new.list }
+    ensures spare { queue.new.spare ≡ queue.old.spare }
+{
+    let m = queue.pop_least()?;
+    queue.push(Message { time, ..m });
+    Some(m)
+}
+
+// The least message gets a time and the next number.
+fn replace(queue: &mut Queue, time: u64, next: u64) -> Option<Message>
+    requires before { All (λ m. m.seq < next) queue.old.list }
+    ensures before { All (λ m. m.seq < next + 1) queue.new.list }
+    ensures spare { queue.new.spare ≡ queue.old.spare }
+{
+    queue.replace_least(time, next)
+}
+
+// The least message leaves.
+fn leave(queue: &mut Queue, next: u64) -> Option<Message>
+    requires before { All (λ m. m.seq < next) queue.old.list }
+    ensures before { All (λ m. m.seq < next) queue.new.list }
+    ensures spare { queue.old.spare ≤ queue.new.spare }
+{
+    queue.pop_least()
+}
+
+// The queue as a plain program: a list that each call walks.
+#[derive(Drop)]
+struct PlainQueue {
+    messages: Vec<Message>,
+}
+
+// Whether a message is due before another.
+fn is_before(a: &Message, b: &Message) -> bool {
+    a.time < b.time || (a.time == b.time && a.seq < b.seq)
+}
+
+impl PlainQueue {
+    fn push(&mut self, rt: &impl Abort, m: Message) {
+        assert!(rt; self.messages.push(m).is_ok());
+    }
+
+    fn least(&self) -> Option<Message> {
+        let mut least: Option<Message> = None;
+        for m in &self.messages {
+            match least {
+                Some(x) if is_before(&x, m) => {}
+                _ => least = Some(*m),
+            }
+        }
+        least
+    }
+
+    fn pop_least(&mut self) -> Option<Message> {
+        let least = self.least()?;
+        let at = self.messages.iter().position(|m| m.seq == least.seq)?;
+        Some(self.messages.remove(at))
+    }
+}
+
+// Compares a list of messages, and all that leaves a queue, with what leaves the plain queue.
+fn assert_same(rt: &impl Abort, listed: &[Message], queue: &mut Queue, plain: &mut PlainQueue) {
+    assert_eq!(rt; listed.len(), plain.messages.len());
+    for message in listed {
+        let least = plain.pop_least();
+        assert_eq!(rt; Some(*message), least);
+        assert_eq!(rt; queue.peek_least().copied(), least);
+        assert_eq!(rt; queue.pop_least(), least);
+    }
+    assert_eq!(rt; queue.len(), 0);
+    assert_eq!(rt; queue.peek_least().copied(), None);
+    assert_eq!(rt; queue.pop_least(), None);
+}
+
+#[test]
+fn agrees_with_a_plain_list(rt: HostRuntime) {
+    let mut queue = Queue::new(rt.alloc());
+    assert!(rt; queue.reserve(PUSHES as usize).is_ok());
+    let mut plain = PlainQueue {
+        messages: Vec::new(rt.alloc()),
+    };
+    for next in 0..PUSHES {
+        let time = next.wrapping_mul(7919) % 101;
+        join(&mut queue, time, next);
+        plain.push(&rt, wakeup(time, next));
+        if next % 5 == 3 {
+            let moved = put_back(&mut queue, time + 50, next + 1);
+            let least = plain.pop_least();
+            assert_eq!(rt; moved, least);
+            if let Some(m) = least {
+                plain.push(
+                    &rt,
+                    Message {
+                        time: time + 50,
+                        ..m
+                    },
+                );
+            }
+        } else if next % 5 < 3 {
+            let left = leave(&mut queue, next + 1);
+            assert_eq!(rt; left, plain.pop_least());
+        }
+        assert_eq!(rt; queue.len(), plain.messages.len());
+    }
+    let (Ok(listed), Ok(mut copy)) = (queue.messages(rt.alloc()), queue.copy(rt.alloc())) else {
+        panic!(rt; "out of memory");
+    };
+    assert_same(&rt, listed.as_slice(), &mut copy, &mut plain);
+    assert_eq!(rt; queue.len(), listed.len());
+}
+
+#[test]
+fn replaces_the_least_among_several(rt: HostRuntime) {
+    let mut queue = Queue::new(rt.alloc());
+    assert!(rt; queue.reserve(4).is_ok());
+    join(&mut queue, 1005, 0);
+    join(&mut queue, 1003, 1);
+    join(&mut queue, 1004, 2);
+    join(&mut queue, 1009, 3);
+    assert_eq!(rt; replace(&mut queue, 1006, 4), Some(wakeup(1003, 1)));
+    assert_eq!(rt; replace(&mut queue, 1006, 5), Some(wakeup(1004, 2)));
+    assert_eq!(rt; queue.len(), 4);
+    assert_eq!(rt; leave(&mut queue, 6), Some(wakeup(1005, 0)));
+    assert_eq!(rt; leave(&mut queue, 6), Some(wakeup(1006, 4)));
+    assert_eq!(rt; leave(&mut queue, 6), Some(wakeup(1006, 5)));
+    assert_eq!(rt; leave(&mut queue, 6), Some(wakeup(1009, 3)));
+    assert_eq!(rt; replace(&mut queue, 1010, 6), None);
+}

@@ -1,0 +1,147 @@
+ghost use Rattle.std.specs.Prelude.{◌≡◌, ◌<◌, ◌≤◌, ◌-◌, ◌/◌, IfOk};
+ghost use Rattle.fundamental_series.specs.Made.{by_rows, first_time_of};
+ghost use Rattle.fundamental_series.specs.Worked.{two_rows};
+
+use draw_streams::{worked::COUNTING_KEY, worked::ZERO_KEY};
+use fundamental_series::{series_by_rule, series_from_rows, with_offset, Series, SeriesRow, SeriesRule};
+use market_types::{Memory, Time};
+use std::alloc::Global;
+
+const OPEN: Time = 1000;
+
+// A rule without shocks, with a step every 100 nanoseconds.
+const CALM: SeriesRule = SeriesRule {
+    start: 100_000,
+    mean: 110_000,
+    pull: 100_000,
+    shock: 0,
+    every: 100,
+};
+
+const HALF_WAY: SeriesRule = SeriesRule {
+    start: 100_001,
+    mean: 100_000,
+    pull: 500_000,
+    ..CALM
+};
+
+const SHOCKED: SeriesRule = SeriesRule {
+    mean: 100_000,
+    pull: 50_000,
+    shock: 500,
+    ..CALM
+};
+
+// Shocks that leave the range of prices.
+const WILD: SeriesRule = SeriesRule {
+    start: 100,
+    mean: 100,
+    pull: 0,
+    shock: 1_000_000_000,
+    ..CALM
+};
+
+#[test]
+fn goes_by_its_rule(rt: HostRuntime) {
+    let (Ok(calm), Ok(half)) = (
+        series_by_rule(rt.alloc(), &ZERO_KEY, 0, &CALM, OPEN, 1250),
+        series_by_rule(rt.alloc(), &COUNTING_KEY, 3, &HALF_WAY, OPEN, 1250),
+    ) else {
+        panic!(rt; "out of memory");
+    };
+    assert_eq!(rt; calm.value_at(1000), 100_000);
+    assert_eq!(rt; calm.value_at(1099), 100_000);
+    assert_eq!(rt; calm.value_at(1100), 101_000);
+    assert_eq!(rt; calm.value_at(1200), 101_900);
+    assert_eq!(rt; calm.value_at(5000), 101_900);
+    assert_eq!(rt; half.value_at(1100), 100_000);
+}
+
+// The value so many nanoseconds after the opening.
+fn later(series: &Series, nanoseconds: u32) -> u32
+    requires { first_time_of series.now ≤ OPEN }
+{
+    series.value_at(OPEN + Time::from(nanoseconds))
+}
+
+// The values at the starts of six steps and after the close.
+fn shown(series: &Series) -> [u32; 7]
+    requires { first_time_of series.now ≤ OPEN }
+{
+    [
+        later(series, 0),
+        later(series, 100),
+        later(series, 200),
+        later(series, 300),
+        later(series, 400),
+        later(series, 500),
+        later(series, 8999),
+    ]
+}
+
+// What another program gives, which was written from the rule apart from this one.
+#[test]
+fn takes_its_shocks_from_its_own_stream(rt: HostRuntime) {
+    let (Ok(first), Ok(second), Ok(wild)) = (
+        series_by_rule(rt.alloc(), &ZERO_KEY, 0, &SHOCKED, OPEN, 1500),
+        series_by_rule(rt.alloc(), &COUNTING_KEY, 1, &SHOCKED, OPEN, 1500),
+        series_by_rule(rt.alloc(), &ZERO_KEY, 0, &WILD, OPEN, 1500),
+    ) else {
+        panic!(rt; "out of memory");
+    };
+    assert_eq!(rt;
+        shown(&first),
+        [100_000, 99_697, 100_183, 99_982, 99_838, 100_008, 100_008]
+    );
+    assert_eq!(rt;
+        shown(&second),
+        [100_000, 100_215, 100_380, 100_157, 100_302, 99_943, 99_943]
+    );
+    assert_eq!(rt;
+        shown(&wild),
+        [
+            100,
+            1,
+            941_479_420,
+            558_917_008,
+            271_500_302,
+            594_216_091,
+            594_216_091
+        ]
+    );
+}
+
+// 9.90 dollars from 900 nanoseconds past midnight on, 9.80 from 1500 on.
+fn file_series(alloc: Global) -> Result<Series, Memory>
+    ensures { IfOk result (λ s. s ≡ by_rows two_rows) }
+{
+    let first = SeriesRow {
+        time: 900,
+        value: 99_000,
+    };
+    let second = SeriesRow {
+        time: 1500,
+        value: 98_000,
+    };
+    series_from_rows(alloc, &[first, second])
+}
+
+#[test]
+fn goes_by_its_rows(rt: HostRuntime) {
+    let Ok(series) = file_series(rt.alloc()) else {
+        panic!(rt; "out of memory");
+    };
+    assert_eq!(rt; series.value_at(900), 99_000);
+    assert_eq!(rt; series.value_at(1499), 99_000);
+    assert_eq!(rt; series.value_at(1500), 98_000);
+    assert_eq!(rt; series.value_at(9999), 98_000);
+}
+
+#[test]
+fn offsets_stay_prices(rt: HostRuntime) {
+    assert_eq!(rt; with_offset(99_000, -500), 98_500);
+    assert_eq!(rt; with_offset(99_000, -99_000), 1);
+    assert_eq!(rt; with_offset(99_000, 2_000_000_000), 1_999_999_900);
+    assert_eq!(rt; with_offset(99_000, i64::MIN), 1);
+    assert_eq!(rt; with_offset(99_000, i64::MAX), 1_999_999_900);
+}

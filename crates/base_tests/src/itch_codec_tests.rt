@@ -1,0 +1,163 @@
+ghost use Rattle.std.specs.Prelude.{◌≡◌, ◌<◌, ◌^◌};
+
+use itch_codec::{decode_feed, encode_feed, frame, frame_of_two, unframe};
+use market_types::{CodecError, Feed, Side, Symbol, What};
+use std::test::*;
+
+const STOCK: Symbol = Symbol(*b"ABM     ");
+
+const SYSTEM_BYTES: [u8; 12] = *b"S\x00\x00\x00\x00\x00\x00\x00\x00\x03\xe8O";
+
+const DIRECTORY_BYTES: [u8; 39] =
+    *b"R\x00\x01\x00\x00\x00\x00\x00\x00\x03\xe8ABM     QN\x00\x00\x00\x64NCZ TNN N\x00\x00\x00\x00N";
+
+const TRADING_BYTES: [u8; 25] = *b"H\x00\x01\x00\x00\x00\x00\x00\x00\x03\xe8ABM     T     ";
+
+const ADD_BYTES: [u8; 36] =
+    *b"A\x00\x01\x00\x00\x00\x00\x00\x00\x07\xd0\x00\x00\x00\x00\x00\x00\x00\x01B\x00\x0f\x42\x3fABM     \x00\x01\x86\xa0";
+
+const EXECUTED_BYTES: [u8; 31] =
+    *b"E\x00\x01\x00\x00\x00\x00\x00\x00\x0b\xb8\x00\x00\x00\x00\x00\x00\x00\x02\x00\x00\x00\xc8\x00\x00\x00\x00\x00\x00\x00\x01";
+
+const CANCEL_BYTES: [u8; 23] =
+    *b"X\x00\x01\x00\x00\x00\x00\x00\x00\x0b\xb8\x00\x00\x00\x00\x00\x00\x00\x02\x00\x00\x00\x96";
+
+const DELETE_BYTES: [u8; 19] =
+    *b"D\x00\x00\x00\x00\x00\x00\x00\x00\x00\x00\x00\x00\x00\x00\x00\x00\x00\x00";
+
+const TRADE_BYTES: [u8; 44] =
+    *b"P\x00\x02\x00\x03\x01\x02\x03\x04\x05\x06\x00\x00\x00\x00\x00\x00\x00\x09S\x00\x00\x00\x64ABM     \x00\x01\x86\xa0\x00\x00\x00\x00\x00\x00\x00\x07";
+
+const CROSS_BYTES: [u8; 40] =
+    *b"Q\x00\x01\x00\x00\x00\x00\x00\x00\x0b\xb8\x00\x00\x00\x01\x00\x00\x01\xf4ABM     \x00\x01\x86\xa0\x00\x00\x00\x00\x00\x00\x00\x08H";
+
+fn goes_both_ways(m: &Feed, bytes: &[u8]) -> bool
+    requires { m.now.time < 2 ^ 48 }
+{
+    encode_feed(m).as_slice() == bytes && decode_feed(bytes) == Ok(*m)
+}
+
+fn feed(locate: u16, time: u64, what: What) -> Feed
+    ensures { result.time ≡ time }
+{
+    Feed {
+        locate,
+        tracking: 0,
+        time,
+        what,
+    }
+}
+
+#[test]
+fn states_both_ways(rt: HostRuntime) {
+    let system = feed(0, 1000, What::System { code: b'O' });
+    assert!(rt; goes_both_ways(&system, &SYSTEM_BYTES));
+    let directory = What::Directory {
+        stock: STOCK,
+        category: b'Q',
+        financial: b'N',
+        lot: 100,
+        lots_only: b'N',
+        class: b'C',
+        sub_type: *b"Z ",
+        authenticity: b'T',
+        short_sale: b'N',
+        ipo: b'N',
+        tier: b' ',
+        etp: b'N',
+        leverage: 0,
+        inverse: b'N',
+    };
+    assert!(rt; goes_both_ways(&feed(1, 1000, directory), &DIRECTORY_BYTES));
+    let trading = What::Trading {
+        stock: STOCK,
+        state: b'T',
+        reserved: b' ',
+        reason: *b"    ",
+    };
+    assert!(rt; goes_both_ways(&feed(1, 1000, trading), &TRADING_BYTES));
+}
+
+#[test]
+fn orders_both_ways(rt: HostRuntime) {
+    let add = What::Add {
+        reference: 1,
+        side: Side::Buy,
+        shares: 999_999,
+        stock: STOCK,
+        price: 100_000,
+    };
+    assert!(rt; goes_both_ways(&feed(1, 2000, add), &ADD_BYTES));
+    let executed = What::Executed {
+        reference: 2,
+        shares: 200,
+        number: 1,
+    };
+    assert!(rt; goes_both_ways(&feed(1, 3000, executed), &EXECUTED_BYTES));
+    let cancel = What::Cancel {
+        reference: 2,
+        shares: 150,
+    };
+    assert!(rt; goes_both_ways(&feed(1, 3000, cancel), &CANCEL_BYTES));
+    assert!(rt; goes_both_ways(&feed(0, 0, What::Delete { reference: 0 }), &DELETE_BYTES));
+}
+
+#[test]
+fn trades_both_ways(rt: HostRuntime) {
+    let trade = Feed {
+        locate: 2,
+        tracking: 3,
+        time: 0x0102_0304_0506,
+        what: What::Trade {
+            reference: 9,
+            side: Side::Sell,
+            shares: 100,
+            stock: STOCK,
+            price: 100_000,
+            number: 7,
+        },
+    };
+    assert!(rt; goes_both_ways(&trade, &TRADE_BYTES));
+    let cross = What::Cross {
+        shares: 0x0001_0000_01f4,
+        stock: STOCK,
+        price: 100_000,
+        number: 8,
+        kind: b'H',
+    };
+    assert!(rt; goes_both_ways(&feed(1, 3000, cross), &CROSS_BYTES));
+}
+
+#[test]
+fn refused_codes(rt: HostRuntime) {
+    assert!(rt; decode_feed(&[]) == Err(CodecError::WrongLength(0, 1)));
+    assert!(rt; decode_feed(b"Z") == Err(CodecError::UnknownType(0x5a)));
+    assert!(rt; decode_feed(b"D") == Err(CodecError::WrongLength(1, 19)));
+    let mut other_state = TRADING_BYTES;
+    other_state[19] = b'X';
+    assert!(rt; decode_feed(&other_state) == Err(CodecError::BadField(19)));
+    other_state[11] = b' ';
+    assert!(rt; decode_feed(&other_state) == Err(CodecError::BadField(11)));
+}
+
+#[test]
+fn frames(rt: HostRuntime) {
+    let mut out = Vec::new(rt.alloc());
+    assert!(rt; frame(b"abc", &mut out).is_ok());
+    assert!(rt; frame(&[], &mut out).is_ok());
+    assert!(rt; out.as_slice() == b"\x00\x03abc\x00\x00".as_slice());
+    let mut parts = Vec::new(rt.alloc());
+    assert!(rt; frame_of_two(b"ab", b"c", &mut parts).is_ok());
+    assert!(rt; parts.as_slice() == b"\x00\x03abc".as_slice());
+    assert!(rt;
+        matches!(
+            unframe(&out),
+            Ok((payload, rest)) if payload == b"abc".as_slice() && rest == b"\x00\x00".as_slice()
+        )
+    );
+    assert!(rt;
+        matches!(unframe(&[0, 0]), Ok((payload, rest)) if payload.is_empty() && rest.is_empty())
+    );
+    assert!(rt; matches!(unframe(b"\x00\x03\x57"), Err(CodecError::Cut(3))));
+    assert!(rt; matches!(unframe(b"\x00"), Err(CodecError::Cut(1))));
+}

@@ -1,0 +1,173 @@
+use market_rules::{Band, Change, Dated, DatedList, Edit, FeeTable, Param, RuleError, TickTable, View};
+use market_types::Symbol;
+use std::alloc::Global;
+use std::process::Abort;
+
+const TWO_BANDS: [Band; 2] = [
+    Band { from: 0, tick: 100 },
+    Band {
+        from: 1_000_000,
+        tick: 500,
+    },
+];
+
+fn two_bands(rt: &impl Abort, alloc: Global) -> TickTable {
+    let Ok(table) = TickTable::new(alloc, &TWO_BANDS) else {
+        panic!(rt; "no table");
+    };
+    table
+}
+
+// The allowed prices next to a number.
+fn nearest(table: &TickTable, price: i32) -> (i64, i64) {
+    (table.down(i64::from(price)), table.up(i64::from(price)))
+}
+
+#[test]
+fn prices_move_to_their_ticks(rt: HostRuntime) {
+    let table = two_bands(&rt, rt.alloc());
+    let key = [0; 32];
+    let view = View {
+        time: 5,
+        key: &key,
+        symbol: Symbol(*b"ABM     "),
+        value: 100_000,
+        ticks: &table,
+    };
+    for (price, down, up) in [
+        (-1, 0, 0),
+        (0, 0, 0),
+        (99, 0, 100),
+        (999_950, 999_900, 1_000_000),
+        (1_000_000, 1_000_000, 1_000_000),
+        (1_000_001, 1_000_000, 1_000_500),
+        (1_000_499, 1_000_000, 1_000_500),
+    ] {
+        assert_eq!(rt; nearest(view.ticks, price), (down, up), "at {price}");
+    }
+    for (price, tick, allowed) in [
+        (0, 100, true),
+        (50, 100, false),
+        (999_999, 100, false),
+        (1_000_000, 500, true),
+        (1_000_100, 500, false),
+        (4_294_967_000, 500, true),
+    ] {
+        assert_eq!(rt; table.tick_at(price), tick, "at {price}");
+        assert_eq!(rt; table.allowed(price), allowed, "at {price}");
+    }
+}
+
+fn refusal(alloc: Global, bands: &[Band]) -> Option<RuleError> {
+    TickTable::new(alloc, bands).err()
+}
+
+#[test]
+fn bad_bands_are_refused(rt: HostRuntime) {
+    let alloc = rt.alloc();
+    let [cent, nickel] = TWO_BANDS;
+    let none = Band { from: 7, tick: 0 };
+    let off = Band {
+        from: 150,
+        tick: 100,
+    };
+    assert_eq!(rt; refusal(alloc, &[]), Some(RuleError::BandsNotRising(0)));
+    assert_eq!(rt;
+        refusal(alloc, &[cent, cent]),
+        Some(RuleError::BandsNotRising(1))
+    );
+    assert_eq!(rt;
+        refusal(alloc, &[off, none, cent]),
+        Some(RuleError::BandsNotRising(1))
+    );
+    assert_eq!(rt; refusal(alloc, &[none, off]), Some(RuleError::ZeroTick(0)));
+    assert_eq!(rt;
+        refusal(alloc, &[cent, off]),
+        Some(RuleError::BandOffTick(1))
+    );
+    assert_eq!(rt; refusal(alloc, &[nickel]), Some(RuleError::BandOffTick(0)));
+    assert_eq!(rt; refusal(alloc, &[cent, nickel]), None);
+}
+
+fn halt(time: u64) -> Dated {
+    Dated {
+        time,
+        stock: 0,
+        change: Change::Halt,
+    }
+}
+
+// Changes at these times.
+fn dated(rt: &impl Abort, alloc: Global, times: &[u64]) -> Result<DatedList, RuleError> {
+    let mut list = Vec::new(alloc);
+    for time in times {
+        assert!(rt; list.push(halt(*time)).is_ok());
+    }
+    DatedList::new(list)
+}
+
+#[test]
+fn changes_keep_their_order(rt: HostRuntime) {
+    let Ok(list) = dated(&rt, rt.alloc(), &[5, 5, 7]) else {
+        panic!(rt; "no list");
+    };
+    for (time, count) in [(4, 0), (5, 2), (6, 2), (7, 3), (u64::MAX, 3)] {
+        assert_eq!(rt; list.rules_at(time), count, "at {time}");
+    }
+    assert_eq!(rt; list.as_slice().len(), 3);
+    assert!(rt; dated(&rt, rt.alloc(), &[]).is_ok());
+    let refused = dated(&rt, rt.alloc(), &[5, 6, 4, 3]).err();
+    assert_eq!(rt; refused, Some(RuleError::DatesNotRising(2)));
+}
+
+// One edit of each kind but the one of a message, with its letter.
+fn edits(table: TickTable) -> [(Edit, u8); 8] {
+    let fees = FeeTable { add: -20, take: 30 };
+    let (stock, agent, from, to) = (3, 7, 0, 1);
+    let (base, jitter, offset) = (500, 9, -5);
+    let (name, value) = (Param::Pause, 9);
+    [
+        (Edit::Tick { stock, table }, b't'),
+        (Edit::Fee { stock, fees }, b'f'),
+        (Edit::Halt { stock }, b'h'),
+        (Edit::Resume { stock }, b'r'),
+        (
+            Edit::Latency {
+                from,
+                to,
+                base,
+                jitter,
+            },
+            b'l',
+        ),
+        (Edit::Agent { agent, name, value }, b'p'),
+        (Edit::Silence { agent }, b's'),
+        (Edit::Series { stock, offset }, b'v'),
+    ]
+}
+
+#[test]
+fn copies_are_equal(rt: HostRuntime) {
+    let alloc = rt.alloc();
+    for (edit, letter) in edits(two_bands(&rt, alloc)) {
+        let Ok(copy) = edit.copy(alloc) else {
+            panic!(rt; "out of memory");
+        };
+        assert_eq!(rt; copy, edit);
+        assert_eq!(rt; copy.letter(), letter);
+    }
+    let change = Change::Tick(two_bands(&rt, alloc));
+    let Ok(copy) = change.copy(alloc) else {
+        panic!(rt; "out of memory");
+    };
+    assert_eq!(rt; copy, change);
+    assert!(rt; copy != Change::Halt);
+}
+
+#[test]
+fn fees_go_by_the_flag(rt: HostRuntime) {
+    let fees = FeeTable { add: -20, take: 30 };
+    assert_eq!(rt; fees.fee(b'A', 100), -2_000);
+    assert_eq!(rt; fees.fee(b'R', 100), 3_000);
+    assert_eq!(rt; fees.fee(b'A', 999_999), -19_999_980);
+}

@@ -1,0 +1,35 @@
+use market_types::{read_price, read_shares, read_symbol, read_token, Symbol, Token, TypeError};
+use std::test::*;
+
+#[test]
+fn numbers(rt: HostRuntime) {
+    for (n, want) in [
+        (0, Err(TypeError::BadPrice)),
+        (1, Ok(1)),
+        (1_999_999_900, Ok(1_999_999_900)),
+        (1_999_999_901, Err(TypeError::BadPrice)),
+        (1 << 32 | 1, Err(TypeError::BadPrice)),
+    ] {
+        assert!(rt; read_price(n) == want, "price {n}");
+    }
+    for (n, want) in [
+        (0, Err(TypeError::BadShares)),
+        (999_999, Ok(999_999)),
+        (1_000_000, Err(TypeError::BadShares)),
+    ] {
+        assert!(rt; read_shares(n) == want, "shares {n}");
+    }
+}
+
+#[test]
+fn names(rt: HostRuntime) {
+    assert!(rt; read_symbol(b"") == Err(TypeError::BadSymbol));
+    assert!(rt; read_symbol(b"ABM") == Ok(Symbol(*b"ABM     ")));
+    assert!(rt; read_symbol(b"ABCDEFGH") == Ok(Symbol(*b"ABCDEFGH")));
+    assert!(rt; read_symbol(b"A M") == Err(TypeError::BadSymbol));
+    assert!(rt; read_symbol(b"ABCDEFGHI") == Err(TypeError::BadSymbol));
+    assert!(rt; read_token(b"T0001000000001") == Ok(Token(*b"T0001000000001")));
+    assert!(rt; read_token(b"T00010000000011") == Err(TypeError::BadToken));
+    assert!(rt; read_token(b"t1") == Ok(Token(*b"t1            ")));
+    assert!(rt; read_token(b"T-1") == Err(TypeError::BadToken));
+}

@@ -1,0 +1,326 @@
+ghost use Rattle.std.specs.Prelude.{◌≡◌, ◌<◌, ◌≤◌, ◌+◌, ◌^◌, All, length};
+
+use market_types::{AgentNo, Side, Token};
+use price_time_book::{keeping::changes_keep, Best, Book, Fill, Resting};
+use std::process::Abort;
+
+const ROUNDS: u64 = 3000;
+
+const FIRST: Token = Token(*b"FIRST         ");
+
+const SECOND: Token = Token(*b"SECOND        ");
+
+// An order comes to rest under the next reference, if its agent has none with its token.
+fn add(book: &mut Book, order: Resting, next: u64) -> bool
+    requires room { 0 < book.old.spare }
+    requires live { 0 < order.left }
+    requires intended { order.left ≤ order.intended }
+    requires reference { order.reference ≡ next }
+    requires before { All (λ o. o.reference < next) book.old.list }
+    requires few { length book.old.list ≤ next }
+    requires small { next < 10000 }
+    ensures before { All (λ o. o.reference < next + 1) book.new.list }
+    ensures few { length book.new.list ≤ next + 1 }
+    ensures room { book.old.spare ≤ book.new.spare + 1 }
+{
+    if book.find(order.agent, &order.token).is_some() {
+        return false;
+    }
+    book.rest(order);
+    true
+}
+
+// What the next order gives to one that wants so many shares.
+fn take(book: &mut Book, side: Side, limit: u32, wanted: u32, next: u64) -> Option<Fill>
+    requires before { All (λ o. o.reference < next) book.old.list }
+    ensures before { All (λ o. o.reference < next) book.new.list }
+    ensures few { length book.new.list ≤ length book.old.list }
+    ensures room { book.old.spare ≤ book.new.spare }
+{
+    if wanted == 0 {
+        return None;
+    }
+    changes_keep();
+    book.match_next(side, limit, wanted)
+}
+
+// Half of an order's open shares leave.
+fn halve(book: &mut Book, agent: AgentNo, token: &Token, next: u64) -> Option<Resting>
+    requires before { All (λ o. o.reference < next) book.old.list }
+    ensures before { All (λ o. o.reference < next) book.new.list }
+    ensures few { length book.new.list ≤ length book.old.list }
+    ensures room { book.old.spare ≤ book.new.spare }
+{
+    changes_keep();
+    let held = *book.find(agent, token)?;
+    book.reduce(held.reference, held.left / 2)
+}
+
+fn sell(reference: u64, agent: AgentNo, token: Token, price: u32, left: u32) -> Resting
+    ensures reference { result.reference ≡ reference }
+    ensures left { result.left ≡ left }
+    ensures intended { result.intended ≡ left }
+{
+    Resting {
+        reference,
+        agent,
+        token,
+        side: Side::Sell,
+        price,
+        intended: left,
+        left,
+        tif: 99_999,
+    }
+}
+
+// What a fill says: the reference, the price and the shares.
+fn said(fill: Option<Fill>) -> Option<(u64, u32, u32)> {
+    fill.map(|f| (f.resting.reference, f.resting.price, f.shares))
+}
+
+#[test]
+fn sweeps_three_sells(rt: HostRuntime) {
+    let mut book = Book::new(rt.alloc());
+    assert!(rt; book.reserve(3).is_ok());
+    assert!(rt; add(&mut book, sell(1, 2, FIRST, 100_100, 100), 1));
+    assert!(rt; add(&mut book, sell(2, 2, SECOND, 100_000, 200), 2));
+    assert!(rt; add(&mut book, sell(3, 3, FIRST, 100_000, 300), 3));
+    assert_eq!(rt;
+        book.best(Side::Sell),
+        Some(Best {
+            price: 100_000,
+            shares: 500
+        })
+    );
+    assert_eq!(rt; book.best(Side::Buy), None);
+    assert_eq!(rt; said(take(&mut book, Side::Buy, 99_999, 700, 4)), None);
+    assert_eq!(rt;
+        said(take(&mut book, Side::Buy, 100_100, 700, 4)),
+        Some((2, 100_000, 200))
+    );
+    assert_eq!(rt;
+        said(take(&mut book, Side::Buy, 100_100, 500, 4)),
+        Some((3, 100_000, 300))
+    );
+    assert_eq!(rt;
+        said(take(&mut book, Side::Buy, 100_100, 200, 4)),
+        Some((1, 100_100, 100))
+    );
+    assert_eq!(rt; said(take(&mut book, Side::Buy, 100_100, 100, 4)), None);
+    assert_eq!(rt; book.depth(Side::Sell), 0);
+}
+
+// The next state of a small generator (a linear congruence over 64 bits).
+fn stirred(seed: u64) -> u64 {
+    seed.wrapping_mul(6_364_136_223_846_793_005)
+        .wrapping_add(1_442_695_040_888_963_407)
+}
+
+// One of sixteen tokens.
+fn token_of(roll: u64) -> Token {
+    Token([b'A' + (roll % 16) as u8; 14])
+}
+
+// One of seven agents.
+fn agent_of(roll: u64) -> AgentNo {
+    1 + (roll / 16 % 7) as AgentNo
+}
+
+// One of nine prices.
+fn price_of(roll: u64) -> u32 {
+    100_000 + (roll / 128 % 9) as u32 * 100
+}
+
+// One of the two sides.
+fn side_of(roll: u64) -> Side {
+    if roll / 2048 % 2 == 0 {
+        Side::Buy
+    } else {
+        Side::Sell
+    }
+}
+
+// One to forty shares.
+fn shares_of(roll: u64) -> u32
+    ensures some { 0 < result }
+    ensures few { result ≤ 40 }
+{
+    1 + (roll / 4096 % 40) as u32
+}
+
+// An order for the comparison with a plain list.
+fn made(next: u64, roll: u64) -> Resting
+    ensures reference { result.reference ≡ next }
+    ensures live { 0 < result.left }
+    ensures intended { result.left ≤ result.intended }
+{
+    Resting {
+        reference: next,
+        agent: agent_of(roll),
+        token: token_of(roll),
+        side: side_of(roll),
+        price: price_of(roll),
+        intended: 40,
+        left: shares_of(roll),
+        tif: 99_999,
+    }
+}
+
+// Where a price stands among those of its side: less is better.
+fn rank(order: &Resting) -> u32 {
+    match order.side {
+        Side::Buy => u32::MAX - order.price,
+        Side::Sell => order.price,
+    }
+}
+
+// The least of the pairs (rank, reference) of one side.
+fn first(plain: &[Resting], side: Side) -> Option<(u32, u64)> {
+    plain
+        .iter()
+        .filter(|o| o.side == side)
+        .map(|o| (rank(o), o.reference))
+        .min()
+}
+
+// The open shares of one side at a rank.
+fn sum(plain: &[Resting], side: Side, wanted: u32) -> u64 {
+    let mut shares = 0u64;
+    for order in plain {
+        if order.side == side && rank(order) == wanted {
+            shares = shares.saturating_add(u64::from(order.left));
+        }
+    }
+    shares
+}
+
+// Whether an order crosses one of this side with this limit.
+fn crosses(order: &Resting, side: Side, limit: u32) -> bool {
+    match side {
+        Side::Buy => order.side == Side::Sell && order.price <= limit,
+        Side::Sell => order.side == Side::Buy && order.price >= limit,
+    }
+}
+
+// So many shares of the order with this reference leave.
+fn lower(plain: &mut Vec<Resting>, reference: u64, shares: u32, intended: u32) -> Option<Resting> {
+    let at = plain.iter().position(|o| o.reference == reference)?;
+    let was = plain[at];
+    plain[at].left = was.left.saturating_sub(shares);
+    plain[at].intended = was.intended.saturating_sub(intended);
+    plain.retain(|o| o.left > 0);
+    Some(was)
+}
+
+// The order that an agent sent under a token.
+fn sent(plain: &[Resting], agent: AgentNo, token: &Token) -> Option<Resting> {
+    plain
+        .iter()
+        .copied()
+        .find(|o| o.agent == agent && o.token == *token)
+}
+
+// The first order of the other side gives shares, if its price is within the limit.
+fn give(plain: &mut Vec<Resting>, side: Side, limit: u32, wanted: u32) -> Option<Resting> {
+    let (_, reference) = first(plain.as_slice(), side.opposite())?;
+    let at = plain.iter().position(|o| o.reference == reference)?;
+    let order = plain[at];
+    if !crosses(&order, side, limit) {
+        return None;
+    }
+    lower(plain, reference, wanted, 0)
+}
+
+// Compares what a side tells.
+fn assert_same_side(rt: &impl Abort, book: &Book, plain: &[Resting], side: Side) {
+    let best = first(plain, side).map(|p| p.0);
+    let shares = best.map(|rank| sum(plain, side, rank));
+    assert_eq!(rt; book.best(side).map(|b| b.shares), shares);
+    assert_eq!(rt;
+        book.depth(side),
+        plain.iter().filter(|o| o.side == side).count()
+    );
+    assert_eq!(rt;
+        book.crossing(side, 100_300),
+        plain.iter().filter(|o| crosses(o, side, 100_300)).count()
+    );
+}
+
+// Compares all that a book tells.
+fn assert_same(rt: &impl Abort, book: &Book, plain: &[Resting]) {
+    assert_same_side(rt, book, plain, Side::Buy);
+    assert_same_side(rt, book, plain, Side::Sell);
+    assert_eq!(rt; book.len(), plain.len());
+    assert_eq!(rt; book.is_empty(), plain.is_empty());
+}
+
+// An incoming order meets the first order of the other side.
+fn match_some(rt: &impl Abort, book: &mut Book, plain: &mut Vec<Resting>, roll: u64, next: u64)
+    requires before { All (λ o. o.reference < next) book.old.list }
+    ensures before { All (λ o. o.reference < next) book.new.list }
+    ensures few { length book.new.list ≤ length book.old.list }
+    ensures room { book.old.spare ≤ book.new.spare }
+{
+    let (side, limit, wanted) = (side_of(roll), price_of(roll), shares_of(roll));
+    let fill = take(book, side, limit, wanted, next);
+    let want = give(plain, side, limit, wanted);
+    assert_eq!(rt; fill.map(|f| f.resting), want);
+    assert_eq!(rt; fill.map(|f| f.shares), want.map(|o| o.left.min(wanted)));
+}
+
+// Half of an agent's order leaves, if it has one under the token.
+fn lower_some(rt: &impl Abort, book: &mut Book, plain: &mut Vec<Resting>, roll: u64, next: u64)
+    requires before { All (λ o. o.reference < next) book.old.list }
+    ensures before { All (λ o. o.reference < next) book.new.list }
+    ensures few { length book.new.list ≤ length book.old.list }
+    ensures room { book.old.spare ≤ book.new.spare }
+{
+    let (agent, token) = (agent_of(roll), token_of(roll));
+    let was = halve(book, agent, &token, next);
+    let want = sent(plain.as_slice(), agent, &token);
+    assert_eq!(rt; was, want);
+    if let Some(order) = want {
+        let open = order.left - order.left / 2;
+        let _ = lower(plain, order.reference, open, open);
+    }
+}
+
+// An order comes to rest, if its agent has none with its token.
+fn rest_some(rt: &impl Abort, book: &mut Book, plain: &mut Vec<Resting>, roll: u64, next: u64)
+    requires before { All (λ o. o.reference < next) book.old.list }
+    requires few { length book.old.list ≤ next }
+    requires small { next < 10000 }
+    ensures before { All (λ o. o.reference < next + 1) book.new.list }
+    ensures few { length book.new.list ≤ next + 1 }
+{
+    assert!(rt; book.reserve(1).is_ok());
+    let order = made(next, roll);
+    let known = sent(plain.as_slice(), order.agent, &order.token).is_some();
+    assert_eq!(rt; add(book, order, next), !known);
+    if !known {
+        assert!(rt; plain.push(order).is_ok());
+    }
+}
+
+#[test]
+fn agrees_with_a_plain_list(rt: HostRuntime) {
+    let mut book = Book::new(rt.alloc());
+    let mut plain: Vec<Resting> = Vec::new(rt.alloc());
+    let mut seed = 7;
+    for next in 0..ROUNDS {
+        seed = stirred(seed);
+        rest_some(&rt, &mut book, &mut plain, seed >> 33, next);
+        seed = stirred(seed);
+        if seed >> 63 == 0 {
+            match_some(&rt, &mut book, &mut plain, seed >> 33, next + 1);
+        } else {
+            lower_some(&rt, &mut book, &mut plain, seed >> 33, next + 1);
+        }
+        assert_same(&rt, &book, plain.as_slice());
+    }
+    let (Ok(listed), Ok(copy)) = (book.orders(rt.alloc()), book.copy(rt.alloc())) else {
+        panic!(rt; "out of memory");
+    };
+    assert_eq!(rt; listed.as_slice(), plain.as_slice());
+    assert_same(&rt, &copy, plain.as_slice());
+}

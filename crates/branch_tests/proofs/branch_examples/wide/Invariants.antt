@@ -1,0 +1,5 @@
+use Rattle.branch_tests.specs.Worked.{AreBranches}
+use Rattle.branch_tests.proofs.branch_examples.wide.Given as goal
+
+abbrev pub invariant-loop-k : goal.invariant-loop-k
+invariant-loop-k l = AreBranches l.branches.items

@@ -1,0 +1,181 @@
+//! A small course by one worker and by many.
+
+mod market;
+mod seats;
+
+ghost use Rattle.std.specs.Prelude.{All};
+ghost use Rattle.kernel_copy.specs.Kept.{IsWritable, kept_told};
+
+use branch_workers::work;
+use checkpoint_shelf::{ClosedShelf, Key};
+use hold_gate::HoldGate;
+use kernel_copy::{laws::courses_stay_in_range, laws::segments_have_few_events, run_segments, Checkpoint, Course, Keep, Kept, Outcome};
+use market_types::{Entry, Memory, Trace};
+use outside::{Counted, Gate, OpenGate, Steps};
+use self::market::course;
+use std::alloc::Global;
+use std::sync::{Arc, Wait};
+use std::test::Fail;
+use std::thread::Threads;
+
+// What workers made of a course.
+#[derive(Drop)]
+struct Told {
+    outcomes: Vec<Outcome>,
+    // How many of the states of segments 0 to 4 after 5 events stand on the shelf.
+    held: u32,
+}
+
+// How many of the states of segments 0 to 4 after 5 events stand on a shelf.
+fn held(shelf: &ClosedShelf<Checkpoint>) -> u32 {
+    let mut held = 0;
+    for segment in 0u32..5 {
+        if let Some(kept) = shelf.get(Key { segment, event: 5 }) {
+            if kept.events() == 5 {
+                held += 1;
+            }
+        }
+    }
+    held
+}
+
+// What so many workers, 1 to 64, that keep entries made of a course with so many places, at most 128, for the grid of
+// stride 5, and how many steps they counted.
+fn worked<R: Threads + Wait + Sync, G: Gate + Sync>(
+    rt: &R,
+    alloc: Global,
+    course: &Arc<Course>,
+    places: u32,
+    workers: u32,
+    gate: &G,
+) -> (Result<Told, Memory>, u64) {
+    if workers == 0 || workers > 64 || places > 128 {
+        return (Err(Memory), 0);
+    }
+    segments_have_few_events(course);
+    let mut steps: Steps<Counted> = Steps::new();
+    let told = match work(
+        rt,
+        alloc,
+        course,
+        5,
+        places,
+        Keep::Entries,
+        workers,
+        gate,
+        &mut steps,
+    ) {
+        Ok(worked) => Ok(Told {
+            held: held(&worked.shelf),
+            outcomes: worked.outcomes,
+        }),
+        Err(refused) => Err(refused),
+    };
+    (told, steps.close())
+}
+
+// Whether two entries are of one event, or of one edit.
+fn are_of_one(a: &Entry, b: &Entry) -> bool {
+    match (a, b) {
+        (Entry::Event(a), Entry::Event(b)) => {
+            (a.number, a.time, a.seq, a.to) == (b.number, b.time, b.seq, b.to)
+        }
+        (Entry::Edit(a), Entry::Edit(b)) => {
+            (a.events, a.time, a.branch, a.index) == (b.events, b.time, b.branch, b.index)
+        }
+        _ => false,
+    }
+}
+
+// The entries that an outcome keeps, if it keeps them.
+fn entries_of(outcome: &Outcome) -> Option<&Trace> {
+    match &outcome.kept {
+        Kept::Entries(trace) => Some(trace),
+        Kept::Frames(_) => None,
+    }
+}
+
+// Whether two outcomes tell of one segment, with the same events and counters at the end.
+fn are_one(a: &Outcome, b: &Outcome) -> bool {
+    let (Some(first), Some(second)) = (entries_of(a), entries_of(b)) else {
+        return false;
+    };
+    let mut events = first.as_slice().iter().zip(second.as_slice());
+    a.segment == b.segment
+        && a.closing.counts == b.closing.counts
+        && first.len() == second.len()
+        && events.all(|(a, b)| are_of_one(a, b))
+}
+
+// The bytes of the frames of what outcomes keep, one after another.
+fn frames_of(alloc: Global, outcomes: &[Outcome]) -> Result<Vec<u8>, Memory>
+    requires { All (λ o. IsWritable (kept_told o.kept)) outcomes.now }
+{
+    let mut bytes = Vec::new(alloc);
+    for outcome in outcomes.iter() {
+        outcome.kept.put(&mut bytes)?;
+    }
+    Ok(bytes)
+}
+
+// The bytes of the frames of a course's entries, segment after segment, by three workers that keep this.
+fn frames<R: Threads + Wait + Sync>(
+    rt: &R,
+    alloc: Global,
+    course: &Arc<Course>,
+    keep: Keep,
+) -> Result<Vec<u8>, Memory> {
+    courses_stay_in_range();
+    segments_have_few_events(course);
+    let _ = course.plan();
+    let mut steps: Steps<Counted> = Steps::new();
+    let worked = work(rt, alloc, course, 5, 1, keep, 3, &OpenGate, &mut steps);
+    let _ = steps.close();
+    let worked = worked?;
+    frames_of(alloc, worked.outcomes.as_slice())
+}
+
+// Three branches, x, y and z, by one worker and by many: as one after another. Four of the five segments pass event 5, and
+// of the states there no place, one place and enough places hold none, one and all. The frames that workers keep are those of
+// the entries.
+#[test]
+fn three_branches(rt: HostRuntime) -> Result<(), Fail> {
+    let alloc = rt.alloc();
+    let course = course(alloc)?;
+    segments_have_few_events(&course);
+    let mut steps: Steps<Counted> = Steps::new();
+    let alone = run_segments(alloc, &course, Keep::Entries, &mut steps);
+    let ticks = steps.close();
+    let alone = alone?;
+    assert_eq!(rt; (ticks, alone.len()), (18, 5));
+    for (workers, places, held) in [(1, 0, 0), (3, 1, 1), (64, 128, 4)] {
+        let (told, ticks) = worked(&rt, alloc, &course, places, workers, &OpenGate);
+        let told = told?;
+        assert_eq!(rt;
+            (ticks, told.outcomes.len(), told.held),
+            (18, 5, held),
+            "{workers} workers"
+        );
+        for (a, b) in alone.iter().zip(told.outcomes.iter()) {
+            assert!(rt; are_one(a, b), "{workers} workers");
+        }
+    }
+    let bytes = frames(&rt, alloc, &course, Keep::Frames)?;
+    assert!(rt; !bytes.is_empty());
+    assert!(rt; bytes == frames(&rt, alloc, &course, Keep::Entries)?);
+    Ok(())
+}
+
+// Two segments are under way at once: each of two branches waits for the other to begin.
+#[test]
+fn two_segments_at_once(rt: HostRuntime) -> Result<(), Fail> {
+    let alloc = rt.alloc();
+    let course = course(alloc)?;
+    for (held, until) in [(2, 3), (3, 2)] {
+        let gate = HoldGate::new(held, until, 100_000_000);
+        let (told, ticks) = worked(&rt, alloc, &course, 1, 2, &gate);
+        assert_eq!(rt; (told?.outcomes.len(), ticks), (5, 18));
+        assert_eq!(rt; (gate.exceeded(), gate.passes()), (false, 5));
+    }
+    Ok(())
+}

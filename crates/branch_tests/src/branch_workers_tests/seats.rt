@@ -1,0 +1,300 @@
+//! Two seats: one that never had the state from which its segment goes on, and one that meets the other's turn.
+
+ghost use Rattle.std.specs.Prelude.{◌≡◌, ◌<◌, [], true, Some, IfSome, IsSome, length};
+ghost use Rattle.branch_tree.specs.Segments.{segments_in};
+ghost use Rattle.shelf_core.specs.Made.{Stays};
+ghost use Rattle.shelf_core.specs.Plan.{place_of};
+ghost use Rattle.shelf_core.specs.Views.{has_turn, times};
+ghost use Rattle.checkpoint_shelf.specs.Seats.{NewFrom};
+ghost use Rattle.branch_workers.specs.Runs.{IsShelfOf};
+
+use branch_workers::{open_shelf, run_segment};
+use checkpoint_shelf::{Begun, Found, Key, PlaceWord, Shelf, ShelfSeat, Turn};
+use kernel_copy::{laws::segments_have_few_events, Checkpoint, Course, Keep, Outcome};
+use market_types::{Entry, Memory};
+use outside::{Counted, OpenGate, Steps};
+use std::alloc::Global;
+use std::sync::{Arc, Wait};
+use std::test::Fail;
+use super::entries_of;
+use super::market::course;
+
+// The two seats of a new shelf, in order of number.
+fn two_new(
+    shelf: &Shelf<Checkpoint>,
+    mut seats: Vec<ShelfSeat<Checkpoint>>,
+) -> Option<(ShelfSeat<Checkpoint>, ShelfSeat<Checkpoint>)>
+    requires new { NewFrom shelf.now 0 seats.items }
+    requires two { length seats.items ≡ 2 }
+    ensures zero { IfSome result (λ both. (both.0.shelf ≡ Some shelf.now) × (both.0.view.counts ≡ length both.0.view.claims) × (both.0.view.turns ≡ [])) }
+    ensures one { IfSome result (λ both. (both.1.shelf ≡ Some shelf.now) × (both.1.view.counts ≡ length both.1.view.claims) × (both.1.view.turns ≡ [])) }
+{
+    let _ = shelf;
+    let Some(one) = seats.pop() else { return None };
+    let Some(zero) = seats.pop() else { return None };
+    Some((zero, one))
+}
+
+// A seat claims a segment and runs it, with a grid of stride 5: what came of it, and how many steps it counted.
+fn claim_and_run<R: Wait>(
+    rt: &R,
+    alloc: Global,
+    course: &Arc<Course>,
+    shelf: &Shelf<Checkpoint>,
+    seat: &mut ShelfSeat<Checkpoint>,
+    segment: u32,
+) -> (Option<Outcome>, u64)
+    requires seat { seat.old.shelf ≡ Some shelf.now }
+    requires shelf { IsShelfOf course.now.value 5 shelf.now }
+    requires segment { segment < length (segments_in course.now.value.plan) }
+    requires counts { seat.old.view.counts ≡ length seat.old.view.claims }
+    requires turns { seat.old.view.turns ≡ [] }
+    ensures same { seat.new.shelf ≡ seat.old.shelf }
+{
+    if !shelf.claim(seat, segment) {
+        return (None, 0);
+    }
+    segments_have_few_events(course);
+    let mut steps: Steps<Counted> = Steps::new();
+    let ran = run_segment(
+        rt,
+        alloc,
+        course,
+        shelf,
+        seat,
+        5,
+        Keep::Entries,
+        0,
+        segment,
+        &OpenGate,
+        &mut steps,
+    );
+    let outcome = ran.ok();
+    (outcome, steps.close())
+}
+
+// What two seats made of segments 0 and 2 of a course.
+#[derive(Drop)]
+struct Told {
+    first: Option<Outcome>,
+    first_ticks: u64,
+    child: Option<Outcome>,
+    child_ticks: u64,
+}
+
+// One seat runs a course's first segment, and another, which ran nothing before, the segment 2.
+fn two_seats<R: Wait>(rt: &R, alloc: Global, course: &Arc<Course>) -> Result<Option<Told>, Memory> {
+    let (shelf, seats) = open_shelf(alloc, course, 5, 1, 2)?;
+    if course.plan().segments().len() < 3 {
+        return Ok(None);
+    }
+    let Some((mut zero, mut one)) = two_new(&shelf, seats) else {
+        return Ok(None);
+    };
+    let (first, first_ticks) = claim_and_run(rt, alloc, course, &shelf, &mut zero, 0);
+    let (child, child_ticks) = claim_and_run(rt, alloc, course, &shelf, &mut one, 2);
+    Ok(Some(Told {
+        first,
+        first_ticks,
+        child,
+        child_ticks,
+    }))
+}
+
+#[test]
+fn a_child_by_a_seat_without_the_parents_state(rt: HostRuntime) -> Result<(), Fail> {
+    let course = course(rt.alloc())?;
+    let Some(told) = two_seats(&rt, rt.alloc(), &course)? else {
+        return Err(Fail::from("no seats"));
+    };
+    let (Some(first), Some(child)) = (told.first, told.child) else {
+        return Err(Fail::from("a segment was claimed, or there was no memory"));
+    };
+    let Some(entries) = entries_of(&child) else {
+        return Err(Fail::from("no entries"));
+    };
+    assert_eq!(rt; (first.events, told.first_ticks), (2, 2));
+    assert_eq!(rt; (child.events, told.child_ticks, entries.len()), (6, 4, 5));
+    assert!(rt; matches!(entries.get(0), Some(Entry::Edit(_))));
+    Ok(())
+}
+
+// The word at which `begin` of a key gave a seat no turn; a turn is spent with no value.
+fn refusal(
+    shelf: &Shelf<Checkpoint>,
+    seat: &mut ShelfSeat<Checkpoint>,
+    key: Key,
+) -> Option<PlaceWord>
+    requires seat { seat.old.shelf ≡ Some shelf.now }
+    requires claim { 0 < times key.segment seat.old.view.claims }
+    requires place { IsSome (place_of shelf.now.plan key) }
+    requires turns { seat.old.view.turns ≡ [] }
+    ensures same { seat.new.shelf ≡ seat.old.shelf }
+    ensures stays { Stays seat.old.view seat.new.view }
+    ensures turns { seat.new.view.turns ≡ [] }
+{
+    match shelf.begin(seat, key) {
+        Begun::Taken(word) => Some(word),
+        Begun::Turn(turn) => {
+            shelf.abandon(seat, turn);
+            None
+        }
+    }
+}
+
+// A seat claims the segment of a key and takes the turn to write the key's place.
+fn claim_and_begin(
+    shelf: &Shelf<Checkpoint>,
+    seat: &mut ShelfSeat<Checkpoint>,
+    key: Key,
+) -> Option<Turn>
+    requires seat { seat.old.shelf ≡ Some shelf.now }
+    requires segment { key.segment < shelf.now.plan.segments }
+    requires place { IsSome (place_of shelf.now.plan key) }
+    ensures same { seat.new.shelf ≡ seat.old.shelf }
+    ensures turn { IfSome result (λ turn. has_turn turn seat.new.view.turns ≡ true) }
+{
+    if !shelf.claim(seat, key.segment) {
+        return None;
+    }
+    match shelf.begin(seat, key) {
+        Begun::Taken(_) => None,
+        Begun::Turn(turn) => Some(turn),
+    }
+}
+
+// What a seat made of the segment of a key, whose place another seat had the turn to write.
+#[derive(Drop)]
+struct Met {
+    // The word at which it got no turn.
+    word: Option<PlaceWord>,
+    outcome: Option<Outcome>,
+    ticks: u64,
+}
+
+// A seat claims the segment of a key, begins the key, and then runs the segment, with a grid of stride 5.
+fn claim_meet_and_run<R: Wait>(
+    rt: &R,
+    alloc: Global,
+    course: &Arc<Course>,
+    shelf: &Shelf<Checkpoint>,
+    seat: &mut ShelfSeat<Checkpoint>,
+    key: Key,
+) -> Option<Met>
+    requires seat { seat.old.shelf ≡ Some shelf.now }
+    requires shelf { IsShelfOf course.now.value 5 shelf.now }
+    requires segment { key.segment < length (segments_in course.now.value.plan) }
+    requires place { IsSome (place_of shelf.now.plan key) }
+    requires counts { seat.old.view.counts ≡ length seat.old.view.claims }
+    requires turns { seat.old.view.turns ≡ [] }
+    ensures same { seat.new.shelf ≡ seat.old.shelf }
+{
+    if !shelf.claim(seat, key.segment) {
+        return None;
+    }
+    let word = refusal(shelf, seat, key);
+    segments_have_few_events(course);
+    let mut steps: Steps<Counted> = Steps::new();
+    let ran = run_segment(
+        rt,
+        alloc,
+        course,
+        shelf,
+        seat,
+        5,
+        Keep::Entries,
+        1,
+        key.segment,
+        &OpenGate,
+        &mut steps,
+    );
+    let outcome = ran.ok();
+    Some(Met {
+        word,
+        outcome,
+        ticks: steps.close(),
+    })
+}
+
+// The word of a key's place, where the key's value isn't there.
+fn word_without_value(
+    shelf: &Shelf<Checkpoint>,
+    seat: &mut ShelfSeat<Checkpoint>,
+    key: Key,
+) -> Option<PlaceWord>
+    requires seat { seat.old.shelf ≡ Some shelf.now }
+    requires place { IsSome (place_of shelf.now.plan key) }
+    ensures same { seat.new.shelf ≡ seat.old.shelf }
+{
+    match shelf.find(seat, key) {
+        Ok(Found::NotYet(word)) => Some(word),
+        _ => None,
+    }
+}
+
+// Two keys share the one place of a course's grid. One seat, which ran the course's first segment, has the turn to write the
+// place for the first key while another begins the second key and runs its segment. Behind it stands the place's word once
+// the turn was spent with no value.
+fn beside_a_turn<R: Wait>(
+    rt: &R,
+    alloc: Global,
+    course: &Arc<Course>,
+    first: Key,
+    second: Key,
+) -> Result<Option<(Met, Option<PlaceWord>)>, Memory> {
+    let (shelf, seats) = open_shelf(alloc, course, 5, 1, 2)?;
+    let segments = course.plan().segments().len();
+    if segments <= first.segment as usize || segments <= second.segment as usize {
+        return Ok(None);
+    }
+    if shelf.place_of(first).is_none() || shelf.place_of(second).is_none() {
+        return Ok(None);
+    }
+    let Some((mut zero, mut one)) = two_new(&shelf, seats) else {
+        return Ok(None);
+    };
+    let _ = claim_and_run(rt, alloc, course, &shelf, &mut zero, 0);
+    let Some(turn) = claim_and_begin(&shelf, &mut zero, first) else {
+        return Ok(None);
+    };
+    let met = claim_meet_and_run(rt, alloc, course, &shelf, &mut one, second);
+    shelf.abandon(&mut zero, turn);
+    let after = word_without_value(&shelf, &mut one, second);
+    Ok(met.map(|met| (met, after)))
+}
+
+// A seat finds the place of its own key taken: its run goes on without a copy there, and tells what it tells.
+#[test]
+fn a_run_beside_anothers_turn(rt: HostRuntime) -> Result<(), Fail> {
+    let course = course(rt.alloc())?;
+    let first = Key {
+        segment: 1,
+        event: 5,
+    };
+    let second = Key {
+        segment: 2,
+        event: 5,
+    };
+    let Some((met, after)) = beside_a_turn(&rt, rt.alloc(), &course, first, second)? else {
+        return Err(Fail::from("no seats, or no turn"));
+    };
+    let Met {
+        word,
+        outcome,
+        ticks,
+    } = met;
+    let Some(outcome) = outcome else {
+        return Err(Fail::from("no memory"));
+    };
+    let Some(entries) = entries_of(&outcome) else {
+        return Err(Fail::from("no entries"));
+    };
+    assert_eq!(rt; word, Some(PlaceWord::Writing(0)));
+    assert_eq!(rt;
+        (outcome.segment, outcome.events, ticks, entries.len()),
+        (2, 6, 4, 5)
+    );
+    assert!(rt; matches!(entries.get(0), Some(Entry::Edit(_))));
+    assert_eq!(rt; after, Some(PlaceWord::Free));
+    Ok(())
+}

@@ -1,0 +1,110 @@
+use branch_tree::Name;
+use bundle_frames::{put_branch, put_header, Written};
+use frame_reader::{next_frame, read_payload, Frame, FrameError};
+use market_types::{Body, Feed, Memory, What};
+use std::test::*;
+
+// What stands from a byte on.
+fn from(bytes: &[u8], at: usize) -> &[u8] {
+    bytes.get(at..).unwrap_or(&[])
+}
+
+// An agent that owes cash and shares.
+const AGENT: &[u8] =
+    b"\x00\x56a\x00\x01Y\x00\x00\x00\x00\x00\x00\x07\xd0\x00\x00\x00\x04\x00\x00\x00\x00\x00\x00\x00\x05\xff\xff\xff\xff\xff\xff\xff\xfe\xff\xff\xff\xff\xff\xff\xff\xff\x00\x00\x00\x00\x00\x00\x00\x00\x00\x00\x00\x00\x00\x00\x00\x07\xff\xff\xff\xff\xff\xff\xff\xf8\x00\x09\x00\x00\x00\x0a\xff\xff\xff\xff\xff\xff\xff\xfd\x00\x00\x00\x00\x00\x00\x00\x05";
+
+// What was read of bytes.
+type Read<'a> = Result<(Frame, &'a [u8]), FrameError>;
+
+fn is_header(read: &Read) -> bool {
+    match read {
+        Ok((Frame::Header(h), rest)) => {
+            h.agents == 3 && h.stocks == 1 && h.branches == 2 && rest.len() == 16
+        }
+        _ => false,
+    }
+}
+
+fn is_root(read: &Read) -> bool {
+    match read {
+        Ok((Frame::Branch(b), rest)) => {
+            b.name.as_slice() == b"root".as_slice()
+                && b.stop == 100
+                && b.parent == 65_535
+                && rest.is_empty()
+        }
+        _ => false,
+    }
+}
+
+fn is_agent(read: &Read) -> bool {
+    match read {
+        Ok((Frame::Agent(a), rest)) => {
+            a.silenced
+                && a.own_position == -8
+                && a.cash == -18_446_744_073_709_551_617
+                && a.own_cash == 7
+                && a.quotes == 10
+                && a.positions.as_slice() == [-3, 5].as_slice()
+                && rest.is_empty()
+        }
+        _ => false,
+    }
+}
+
+fn is_message(read: &Read, message: Feed) -> bool {
+    match read {
+        Ok((Frame::Message(m), rest)) => *m == message && rest.is_empty(),
+        _ => false,
+    }
+}
+
+fn is_event(read: &Result<Option<Frame>, Memory>) -> bool {
+    match read {
+        Ok(Some(Frame::Event(e))) => {
+            e.put_back && e.fee == -2 && e.seq == 7 && e.body == Body::Ask(2)
+        }
+        _ => false,
+    }
+}
+
+#[test]
+fn heads_are_read_back(rt: HostRuntime) -> Result<(), Fail> {
+    let alloc = rt.alloc();
+    let mut bytes = Vec::new(alloc);
+    put_header(&mut bytes, 3, 1, 2)?;
+    put_branch(&mut bytes, 0, 65_535, 100, b"root")?;
+    assert!(rt; is_header(&next_frame(alloc, None, &bytes)));
+    assert!(rt; is_root(&next_frame(alloc, None, from(&bytes, 11))));
+    assert!(rt; next_frame(alloc, None, b"\x00\x01?").err() == Some(FrameError::Bad));
+    assert!(rt; next_frame(alloc, None, from(&bytes, 26)).err() == Some(FrameError::Cut));
+    Ok(())
+}
+
+#[test]
+fn an_agent_is_read_back(rt: HostRuntime) {
+    let alloc = rt.alloc();
+    assert!(rt; is_agent(&next_frame(alloc, Some(2), AGENT)));
+    assert!(rt; is_agent(&next_frame(alloc, None, AGENT)));
+    assert!(rt; next_frame(alloc, Some(1), AGENT).err() == Some(FrameError::Bad));
+}
+
+#[test]
+fn bodies_and_messages(rt: HostRuntime) -> Result<(), Fail> {
+    let alloc = rt.alloc();
+    let event =
+        b"e\x00\x00\x00\x01\x00\x00\x00\x00\x00\x00\x03\xe8\x00\x00\x00\x00\x00\x00\x00\x07\x00\x01\x00\x00P\x00\x00\x00\x00\x00\x00\x03\xe9\xff\xff\xff\xff\xff\xff\xff\xfea\x00\x02";
+    assert!(rt; is_event(&read_payload(alloc, None, event)));
+    let start = Feed {
+        locate: 0,
+        tracking: 0,
+        time: 1000,
+        what: What::System { code: b'O' },
+    };
+    let mut bytes = Vec::new(alloc);
+    start.put(&mut bytes)?;
+    assert!(rt; is_message(&next_frame(alloc, Some(1), &bytes), start));
+    assert!(rt; !is_event(&read_payload(alloc, None, b"q")));
+    assert!(rt; Name::new(b"").is_none());
+    Ok(())
+}

@@ -1,0 +1,23 @@
+//! Tests of branches: their runs by workers, their bundles written and read, rewinds and tables.
+#![tactic(auto)]
+
+#[cfg(test)]
+mod accepted_round_trip_tests;
+#[cfg(test)]
+mod branch_examples;
+#[cfg(test)]
+mod branch_tables_tests;
+#[cfg(test)]
+mod branch_workers_tests;
+#[cfg(test)]
+mod bundle_reader_tests;
+#[cfg(test)]
+mod frame_parts_tests;
+#[cfg(test)]
+mod frame_reader_tests;
+#[cfg(test)]
+mod rewind_examples;
+#[cfg(test)]
+mod rewind_targets_tests;
+#[cfg(test)]
+mod study_report_tests;

@@ -1,0 +1,11 @@
+use Rattle.std.proofs.Common.{◌≡◌, rules, subst, sym}
+use Rattle.market_opening.specs.declared.opening.Opening.{Opening}
+use Rattle.market_opening.specs.Opening.{IsOpening}
+use Rattle.market_floor.specs.Worked.{halting}
+use Rattle.market_floor.proofs.Halting.{halting-opens}
+use Rattle.kernel_tests.proofs.market_floor_tests.halting_opening.Goals as goal
+
+pub returns-clause-opening : goal.returns-clause-opening
+returns-clause-opening c =
+    let value : record c.in_ok-o.o { dated = c.in_ok-dated.dated } ≡ halting = search rules in
+    subst (λ (o : Opening). IsOpening o) (sym value) (halting-opens c.markets_are_openings.ensures)

@@ -1,0 +1,188 @@
+//! Deliveries, halts at their times, copies and edits of a floor.
+
+ghost use Rattle.std.specs.Prelude.{◌≡◌, ◌<◌, ◌+◌, IfOk};
+ghost use Rattle.market_opening.specs.Opening.{IsOpening};
+ghost use Rattle.market_floor.specs.Edited.{IsEdit};
+ghost use Rattle.market_floor.specs.Floor.{floor_at_opening};
+ghost use Rattle.market_floor.specs.Sound.{FitsFloor, IsSoundFloor};
+ghost use Rattle.market_floor.specs.Worked.{halting};
+
+use agent_shell::{Kind, TraderSetting};
+use market_floor::{applied_by, laws::floors_stay_sound, Floor, Happening};
+use market_opening::{worked::markets_are_openings, worked::opening, Opening, Posting};
+use market_rules::{Change, Dated, DatedList, Edit};
+use market_types::{AgentNo, Body, Message, Quote, Time};
+use std::alloc::Global;
+use std::process::Abort;
+use std::test::Fail;
+
+// A halt of the first stock at a time.
+fn halt_at(time: Time) -> Dated
+    ensures { result ≡ record { time = time; stock = 0; change = Change.Halt } }
+{
+    Dated {
+        time,
+        stock: 0,
+        change: Change::Halt,
+    }
+}
+
+// Two halts.
+fn halts(alloc: Global) -> Result<DatedList, Fail>
+    ensures { IfOk result (λ d. d ≡ halting.dated) }
+{
+    let mut dates = Vec::new(alloc);
+    dates.push(halt_at(1400))?;
+    dates.push(halt_at(1600))?;
+    match DatedList::new(dates) {
+        Ok(dated) => Ok(dated),
+        Err(_) => Err(Fail::from("no dates")),
+    }
+}
+
+// The market of the worked examples: one watcher, an exchange that computes for 7 nanoseconds, halts at 1400 and 1600.
+fn halting_opening(alloc: Global) -> Result<Opening, Fail>
+    ensures value { IfOk result (λ o. o ≡ halting) }
+    ensures opening { IfOk result (λ o. IsOpening o) }
+{
+    markets_are_openings();
+    let mut traders = Vec::new(alloc);
+    traders.push(TraderSetting {
+        kind: Kind::Watcher,
+        group: 0,
+        stock: 0,
+        first: 1000,
+        every: 1_000_000,
+        wobble: 0,
+        delay: 0,
+        cash: 0,
+    })?;
+    let dated = halts(alloc)?;
+    let mut o = opening(alloc, 2000, 100, 7, traders)?;
+    o.dated = dated;
+    Ok(o)
+}
+
+// Delivers a message, after so many events.
+fn deliver(
+    rt: &impl Abort,
+    alloc: Global,
+    o: &Opening,
+    floor: &mut Floor,
+    events: u32,
+    time: Time,
+    from: AgentNo,
+    to: AgentNo,
+    body: Body,
+) -> Result<Happening, Fail>
+    requires fits { FitsFloor o.now floor.old }
+    requires sound { IsSoundFloor events floor.old }
+    requires few { events < 1000 }
+    ensures fits { FitsFloor o.now floor.new }
+    ensures sound { IsSoundFloor (events + 1) floor.new }
+{
+    floors_stay_sound();
+    let traders = floor.traders();
+    assert!(rt; usize::from(from) <= traders);
+    assert!(rt; usize::from(to) <= traders);
+    assert!(rt; to > 0 || from > 0);
+    assert!(rt; o.start <= time);
+    assert!(rt; time <= o.close);
+    if let Body::Ask(stock) = body {
+        assert!(rt; usize::from(stock) < o.stocks.len());
+    }
+    let m = Message {
+        time,
+        seq: 3,
+        from,
+        to,
+        body,
+    };
+    let happening = floor.deliver(alloc, o, 0, &m)?;
+    Ok(happening)
+}
+
+// Whether the first posting is a quote of this state to agent 1.
+fn is_quote(happening: &Happening, state: u8) -> bool {
+    match happening.postings.get(0) {
+        Some(
+            Posting::To {
+                to: 1,
+                body: Body::Quote(quote),
+                ..
+            },
+        ) => quote.state == state,
+        _ => false,
+    }
+}
+
+const QUOTE: Body = Body::Quote(Quote {
+    stock: 0,
+    state: b'T',
+    bid: 0,
+    bid_shares: 0,
+    ask: 0,
+    ask_shares: 0,
+    last: 0,
+});
+
+#[test]
+fn a_watcher_wakes_and_hears(rt: HostRuntime) -> Result<(), Fail> {
+    let alloc = rt.alloc();
+    let o = halting_opening(alloc)?;
+    let mut floor = Floor::open(alloc, &o)?;
+    let woken = deliver(&rt, alloc, &o, &mut floor, 0, 1000, 1, 1, Body::Wake)?;
+    assert!(rt; woken.postings.len() == 2 && woken.delay == 0);
+    assert!(rt; matches!(woken.postings.get(1), Some(Posting::WakeAt(1_001_000))));
+    let heard = deliver(&rt, alloc, &o, &mut floor, 1, 1017, 0, 1, QUOTE)?;
+    assert!(rt; heard.postings.len() == 0 && floor.traders() == 1);
+    let told = floor.trader(1);
+    assert!(rt; told.quotes == 1 && told.draws == 1);
+    Ok(())
+}
+
+// The halt of 1400 is made with the question of that time.
+#[test]
+fn a_halt_comes_at_its_time(rt: HostRuntime) -> Result<(), Fail> {
+    let alloc = rt.alloc();
+    let o = halting_opening(alloc)?;
+    let mut floor = Floor::open(alloc, &o)?;
+    let early = deliver(&rt, alloc, &o, &mut floor, 0, 1399, 1, 0, Body::Ask(0))?;
+    assert!(rt; is_quote(&early, b'T') && early.before.len() == 0 && early.delay == 7);
+    let late = deliver(&rt, alloc, &o, &mut floor, 1, 1400, 1, 0, Body::Ask(0))?;
+    assert!(rt; is_quote(&late, b'H') && late.before.len() == 1);
+    Ok(())
+}
+
+// A copy goes its own way: the halts are made on it alone.
+#[test]
+fn a_copy_halts(rt: HostRuntime) -> Result<(), Fail> {
+    let alloc = rt.alloc();
+    let o = halting_opening(alloc)?;
+    let floor = Floor::open(alloc, &o)?;
+    let mut copy = floor.copy(alloc)?;
+    let feed = copy.rule(alloc, &o, 0, 1600)?;
+    assert!(rt; feed.len() == 1 && applied_by(&o, 0, 1600) == 2);
+    Ok(())
+}
+
+// A fresh floor after an edit at 1500, and how many feed messages it told.
+fn edited(alloc: Global, edit: &Edit) -> Result<(Floor, usize), Fail>
+    requires { IsEdit (floor_at_opening halting) edit.now }
+{
+    let o = halting_opening(alloc)?;
+    let mut floor = Floor::open(alloc, &o)?;
+    let feed = floor.edit(alloc, 1500, edit)?;
+    Ok((floor, feed.len()))
+}
+
+#[test]
+fn edits_are_made(rt: HostRuntime) -> Result<(), Fail> {
+    let alloc = rt.alloc();
+    let (_, told) = edited(alloc, &Edit::Halt { stock: 0 })?;
+    assert!(rt; told == 1);
+    let (floor, _) = edited(alloc, &Edit::Silence { agent: 1 })?;
+    assert!(rt; floor.traders() == 1);
+    assert!(rt; floor.silenced(1));
+    Ok(())
+}

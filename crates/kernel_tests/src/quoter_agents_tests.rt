@@ -1,0 +1,140 @@
+ghost use Rattle.std.specs.Prelude.{[]};
+ghost use Rattle.agent_shell.specs.Parameters.{IsKind};
+ghost use Rattle.quoter_agents.specs.Quoter.{IsQuoterKind};
+
+use agent_shell::{Kind, Sending, Sends, TraderSetting};
+use market_rules::{Band, TickTable, View};
+use market_types::{Body, Inbound, Memory, Quote, Side, Symbol};
+use quoter_agents::Quoter;
+use std::alloc::Global;
+use std::process::Abort;
+use std::test::Fail;
+
+const KEY: [u8; 32] = [0; 32];
+
+fn cents(alloc: Global) -> Result<TickTable, Fail> {
+    match TickTable::new(alloc, &[Band { from: 0, tick: 100 }]) {
+        Ok(ticks) => Ok(ticks),
+        Err(_) => Err(Fail::from("no ticks")),
+    }
+}
+
+// Decides on a message at 1000 with a value of 100,000, where the counts and the account are small.
+fn decide(
+    rt: &impl Abort,
+    trader: &mut Quoter,
+    ticks: &TickTable,
+    body: &Body,
+    out: &mut Sends,
+) -> Result<(), Memory> {
+    let told = trader.told();
+    assert!(rt; told.tokens < 1000 && told.draws < 1000 && told.quotes < 1000);
+    let position = told.account.position;
+    let cash = told.account.cash;
+    assert!(rt; -1_000_000 < position);
+    assert!(rt; position < 1_000_000);
+    assert!(rt; -1_000_000_000_000 < cash);
+    assert!(rt; cash < 1_000_000_000_000);
+    let view = View {
+        time: 1000,
+        key: &KEY,
+        symbol: Symbol(*b"ABM     "),
+        value: 100_000,
+        ticks,
+    };
+    trader.decide(&view, body, out)
+}
+
+// What agent 1 sends for these messages. It wakes each 500 nanoseconds, and goes on as a copy of itself
+// after each message.
+fn sends_of(rt: &impl Abort, alloc: Global, kind: Kind, bodies: &[Body]) -> Result<Sends, Fail>
+    requires range { IsKind kind }
+    requires quoter { IsQuoterKind kind [] }
+{
+    let ticks = cents(alloc)?;
+    let setting = TraderSetting {
+        kind,
+        group: 0,
+        stock: 0,
+        first: 1000,
+        every: 500,
+        wobble: 0,
+        delay: 12,
+        cash: 0,
+    };
+    let mut out = Sends::new(alloc);
+    let mut trader = Quoter::open(alloc, 1, &setting)?;
+    for body in bodies {
+        decide(rt, &mut trader, &ticks, body, &mut out)?;
+        trader = trader.copy()?;
+    }
+    Ok(out)
+}
+
+fn quote(state: u8, bid: u32, ask: u32, last: u32) -> Body {
+    Body::Quote(Quote {
+        stock: 0,
+        state,
+        bid,
+        bid_shares: 0,
+        ask,
+        ask_shares: 0,
+        last,
+    })
+}
+
+// Whether the sending at a place is this order.
+fn is_at(out: &Sends, place: usize, side: Side, price: u32, tif: u32) -> bool {
+    match out.as_slice().get(place) {
+        Some(
+            Sending::To {
+                body: Body::Order(Inbound::Enter(order)),
+                ..
+            },
+        ) => order.side == side && order.price == price && order.tif == tif,
+        _ => false,
+    }
+}
+
+// Round the value of 100,000: 100,000 - 150 goes down to 99,800, 100,150 goes up to 100,200; the second level is 100
+// further out. Sixteen quotes of two levels fill the list with 64 orders, and the next one sends nothing. A wakeup takes
+// back all 64, asks, and wakes again.
+#[test]
+fn a_maker_quotes_until_its_list_is_full(rt: HostRuntime) -> Result<(), Fail> {
+    let mut bodies = [quote(b'T', 0, 0, 0); 18];
+    bodies[17] = Body::Wake;
+    let kind = Kind::Maker {
+        size: 10,
+        half: 150,
+        step: 100,
+        levels: 2,
+        pause: 7,
+    };
+    let out = sends_of(&rt, rt.alloc(), kind, &bodies)?;
+    assert!(rt; is_at(&out, 0, Side::Buy, 99_800, 99_999));
+    assert!(rt; is_at(&out, 1, Side::Sell, 100_200, 99_999));
+    assert!(rt; is_at(&out, 2, Side::Buy, 99_700, 99_999));
+    assert!(rt; is_at(&out, 3, Side::Sell, 100_300, 99_999));
+    assert!(rt; out.as_slice().len() == 64 + 64 + 2);
+    Ok(())
+}
+
+// One middle against two: after 100,000 and 100,200 it buys at the ask, at once or not at all; after 99,800 it sells at
+// the bid.
+#[test]
+fn momentum_follows_its_middles(rt: HostRuntime) -> Result<(), Fail> {
+    let bodies = [
+        quote(b'T', 99_900, 100_100, 0),
+        quote(b'T', 100_100, 100_300, 0),
+        quote(b'T', 99_700, 99_900, 0),
+    ];
+    let kind = Kind::Momentum {
+        size: 10,
+        short: 1,
+        long: 2,
+    };
+    let out = sends_of(&rt, rt.alloc(), kind, &bodies)?;
+    assert!(rt; is_at(&out, 0, Side::Buy, 100_300, 0));
+    assert!(rt; is_at(&out, 1, Side::Sell, 99_700, 0));
+    Ok(())
+}

@@ -1,0 +1,125 @@
+ghost use Rattle.agent_shell.specs.Parameters.{IsKind};
+ghost use Rattle.taker_agents.specs.Taker.{IsTakerKind};
+
+use agent_shell::{Kind, Sending, Sends, TraderSetting};
+use market_rules::{Band, TickTable, View};
+use market_types::{Body, Inbound, Memory, Quote, Side, Symbol};
+use std::alloc::Global;
+use std::process::Abort;
+use std::test::Fail;
+use taker_agents::Taker;
+
+// Under the zero key the words of stream 0 are 0xade0b876, 0x903df1a0, 0xe56a5d40, 0x28bd8653, 0xb819d2bd,
+// 0x1aed8da0, 0xccef36a8, 0xc70d778b, 0x7c5941da: a word is tails where it is 0x80000000 or more.
+const ZERO_KEY: [u8; 32] = [0; 32];
+
+fn cents(alloc: Global) -> Result<TickTable, Fail> {
+    match TickTable::new(alloc, &[Band { from: 0, tick: 100 }]) {
+        Ok(ticks) => Ok(ticks),
+        Err(_) => Err(Fail::from("no ticks")),
+    }
+}
+
+// Decides on a message at 1000 with a value of 100,050, where the counts and the account are small.
+fn decide(
+    rt: &impl Abort,
+    trader: &mut Taker,
+    ticks: &TickTable,
+    body: &Body,
+    out: &mut Sends,
+) -> Result<(), Memory> {
+    let told = trader.told();
+    assert!(rt; told.tokens < 1000 && told.draws < 1000 && told.quotes < 1000);
+    let position = told.account.position;
+    let cash = told.account.cash;
+    assert!(rt; -1_000_000 < position);
+    assert!(rt; position < 1_000_000);
+    assert!(rt; -1_000_000_000_000 < cash);
+    assert!(rt; cash < 1_000_000_000_000);
+    let view = View {
+        time: 1000,
+        key: &ZERO_KEY,
+        symbol: Symbol(*b"ABM     "),
+        value: 100_050,
+        ticks,
+    };
+    trader.decide(&view, body, out)
+}
+
+// What agent 0 sends for these messages. It wakes each 500 nanoseconds and up to 9 more, and goes on as a copy of itself
+// after each message.
+fn sends_of(rt: &impl Abort, alloc: Global, kind: Kind, bodies: &[Body]) -> Result<Sends, Fail>
+    requires range { IsKind kind }
+    requires taker { IsTakerKind kind }
+{
+    let ticks = cents(alloc)?;
+    let setting = TraderSetting {
+        kind,
+        group: 0,
+        stock: 0,
+        first: 1000,
+        every: 500,
+        wobble: 9,
+        delay: 12,
+        cash: 1000,
+    };
+    let mut out = Sends::new(alloc);
+    let mut trader = Taker::open(alloc, 0, &setting)?;
+    for body in bodies {
+        decide(rt, &mut trader, &ticks, body, &mut out)?;
+        trader = trader.copy()?;
+    }
+    Ok(out)
+}
+
+fn quote(state: u8, bid: u32, ask: u32) -> Body {
+    Body::Quote(Quote {
+        stock: 0,
+        state,
+        bid,
+        bid_shares: 10,
+        ask,
+        ask_shares: 10,
+        last: 0,
+    })
+}
+
+// Whether the sending at a place is this order.
+fn is_at(out: &Sends, place: usize, side: Side, shares: u32, price: u32) -> bool {
+    match out.as_slice().get(place) {
+        Some(
+            Sending::To {
+                body: Body::Order(Inbound::Enter(order)),
+                ..
+            },
+        ) => order.side == side && order.shares == shares && order.price == price,
+        _ => false,
+    }
+}
+
+// Whether the sending at a place is a wakeup at this time.
+fn is_wakeup(out: &Sends, place: usize, time: u64) -> bool {
+    match out.as_slice().get(place) {
+        Some(Sending::WakeAt(at)) => *at == time,
+        _ => false,
+    }
+}
+
+// Words 0 and 1 are tails and 57 of 100; a halted quote draws nothing; word 2 picks 8 of 0 to 9 for the wakeup, after
+// the question; words 3 and 4 are heads and 72 of 100; words 5 and 6 are heads and 81.
+#[test]
+fn noise_trades_by_the_toss_of_a_coin(rt: HostRuntime) -> Result<(), Fail> {
+    let bodies = [
+        quote(b'T', 99_900, 0),
+        quote(b'H', 99_900, 0),
+        Body::Wake,
+        quote(b'T', 0, 100_300),
+        quote(b'T', 0, 0),
+    ];
+    let out = sends_of(&rt, rt.alloc(), Kind::Noise { size: 100 }, &bodies)?;
+    assert!(rt; is_at(&out, 0, Side::Sell, 57, 99_900));
+    assert!(rt; is_wakeup(&out, 2, 1508));
+    assert!(rt; is_at(&out, 3, Side::Buy, 72, 100_300));
+    assert!(rt; is_at(&out, 4, Side::Buy, 81, 100_000));
+    Ok(())
+}

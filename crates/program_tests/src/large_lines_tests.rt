@@ -1,0 +1,13 @@
+use large_lines::Tally;
+
+#[test]
+fn tallies(rt: HostRuntime) {
+    let tally = Tally::new().with(&[255, 255]).with(&[0, 1]);
+    assert_eq!(rt;
+        tally,
+        Tally {
+            count: 4,
+            total: 511
+        }
+    );
+}

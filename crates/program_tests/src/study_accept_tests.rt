@@ -1,0 +1,98 @@
+//! Studies that are accepted, and what they are refused for.
+
+use std::alloc::Global;
+use std::test::Fail;
+use study_accept::{accept, AcceptError, Refusal, Study};
+use study_file::read_tables;
+
+const STUDY: &str = "version = 1
+key = \"00112233445566778899aabbccddeeff0123456789abcdef0123456789abcdef\"
+open = 1000
+close = 2000
+events = 100
+series = \"rows.csv\"
+exchange = { group = 1, delay = 7 }
+latency = { base = [[5, 6], [7, 8]], jitter = [[0, 1], [2, 4294967295]] }
+stock = [
+  { symbol = \"ABM\", bands = [[0, 100]], add = -20, take = 30, series = \"rule\", start = 100000, mean = 110000, pull = 3, shock = 4, every = 1000000 },
+  { symbol = \"XYZ\", bands = [[0, 100], [1000000, 500]], add = 0, take = -1, series = \"rows\" },
+  { symbol = \"W\", bands = [[0, 1]], add = 5, take = 6, series = \"rows\" },
+]
+change = [
+  { time = 1000, stock = \"ABM\", kind = \"halt\" },
+  { time = 1500, stock = \"XYZ\", kind = \"tick\", bands = [[0, 1]] },
+  { time = 1500, stock = \"W\", kind = \"fee\", add = 1, take = 2 },
+  { time = 2000, stock = \"ABM\", kind = \"resume\" },
+]
+agent = [
+  { kind = \"watcher\", group = 0, stock = \"W\", first = 1000, every = 1, count = 3, spread = 10, cash = -5 },
+  { kind = \"noise\", group = 1, stock = \"XYZ\", first = 1001, every = 2, wobble = 9, delay = 8, cash = 1000000, size = 11 },
+  { kind = \"value\", group = 1, stock = \"ABM\", first = 1002, every = 3, size = 12, noise = 13, margin = 14 },
+  { kind = \"momentum\", group = 1, stock = \"XYZ\", first = 1003, every = 4, size = 15, short = 16, long = 17 },
+  { kind = \"maker\", group = 1, stock = \"ABM\", first = 1004, every = 5, size = 18, half = 19, step = 20, levels = 8, pause = 22 },
+]
+";
+
+const ROWS: &str = "symbol,time,value
+XYZ,900,99000
+W,1000,5
+XYZ,1500,98000
+";
+
+// What comes of the study and its rows with one text in place of another.
+fn changed(alloc: Global, old: &str, new: &str) -> Result<Result<Study, AcceptError>, Fail> {
+    let study = STUDY.replacen(alloc, old, new, 1)?;
+    let rows = ROWS.replacen(alloc, old, new, 1)?;
+    let raw = read_tables(alloc, study.as_bytes())?;
+    Ok(accept(alloc, &raw, Some(rows.as_bytes())))
+}
+
+// How many stocks, changes, traders, branches and segments the study has with one text in place of another, and its stride.
+fn counts(alloc: Global, old: &str, new: &str) -> Result<[usize; 6], Fail> {
+    let study = changed(alloc, old, new)??;
+    let opening = study.course.opening();
+    let plan = study.course.plan();
+    Ok([
+        opening.stocks.len(),
+        opening.dated.as_slice().len(),
+        opening.traders.len(),
+        plan.branches().len(),
+        plan.segments().len(),
+        study.stride as usize,
+    ])
+}
+
+// The rule and the place that refuse the study with one text in place of another; 0 where it is accepted.
+fn refused(alloc: Global, old: &str, new: &str) -> Result<(u32, u32), Fail> {
+    match changed(alloc, old, new)? {
+        Ok(_) => Ok((0, 0)),
+        Err(AcceptError::Refused(Refusal { rule, place })) => Ok((rule, place)),
+        Err(AcceptError::Memory) => Ok((99, 99)),
+    }
+}
+
+#[test]
+fn studies_are_accepted_or_refused(rt: HostRuntime) -> Result<(), Fail> {
+    let cases: [(&str, &str, u32, u32); 5] = [
+        ("version", "version", 0, 0),
+        ("events = 100", "events = 0", 5, 0),
+        ("XYZ,900", "XYZ,1001", 20, 1),
+        ("first = 1000", "first = 999", 27, 0),
+        (
+            "agent = [",
+            "branch = [{ name = \"x\", parent = \"y\", at = 2 }]\nagent = [",
+            32,
+            0,
+        ),
+    ];
+    for (old, new, rule, place) in cases {
+        assert!(rt; refused(rt.alloc(), old, new)? == (rule, place));
+    }
+    assert!(rt; counts(rt.alloc(), "version", "version")? == [3, 4, 7, 1, 1, 10_000]);
+    let branch = "branch = [{ name = \"x\", parent = \"root\", at = 2 }]\nagent = [";
+    assert!(rt; counts(rt.alloc(), "agent = [", branch)? == [3, 4, 7, 2, 3, 10_000]);
+    assert!(rt;
+        counts(rt.alloc(), "events = 100", "events = 100\nstride = 500")? == [3, 4, 7, 1, 1, 500]
+    );
+    Ok(())
+}

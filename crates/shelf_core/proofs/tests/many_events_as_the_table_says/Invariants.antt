@@ -1,5 +1,0 @@
-use Rattle.shelf_core.specs.Orderly.{Orderly}
-use Rattle.shelf_core.proofs.tests.many_events_as_the_table_says.Given as goal
-
-abbrev pub invariant-loop-i : goal.invariant-loop-i
-invariant-loop-i g l = Orderly l.s

@@ -1,5 +1,0 @@
-use Rattle.shelf_core.specs.Orderly.{Orderly}
-use Rattle.shelf_core.proofs.tests.two_seats_at_one_fork.Given as goal
-
-abbrev pub invariant-loop-i : goal.invariant-loop-i
-invariant-loop-i g l = Orderly l.s
