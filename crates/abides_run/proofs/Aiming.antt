@@ -11,11 +11,11 @@ use Rattle.branch_tree.specs.declared.branch.Branch.{Branch}
 use Rattle.checkpoint_shelf.specs.Told.{ClosedTold}
 use Rattle.kernel_copy.specs.Courses.{CourseTold}
 use Rattle.rewind_desk.specs.Rewinds.{last_event}
-use Rattle.rewind_targets.specs.declared.aimed.Aimed.{Aimed}
-use Rattle.rewind_targets.specs.declared.aimed.Aimed.TheVariants.{At, NoBranch}
-use Rattle.rewind_targets.specs.declared.past.Past.{Past}
-use Rattle.rewind_targets.specs.declared.target.Target.{Target}
-use Rattle.rewind_targets.specs.Targets.{aimed_at, aimed_from, aimed_next, branch_of, has_name, last_event_for, past_from, target_of}
+use Rattle.rewind_desk.specs.declared.aimed.Aimed.{Aimed}
+use Rattle.rewind_desk.specs.declared.aimed.Aimed.TheVariants.{At, NoBranch}
+use Rattle.rewind_desk.specs.declared.past.Past.{Past}
+use Rattle.rewind_desk.specs.declared.target.Target.{Target}
+use Rattle.rewind_desk.specs.Targets.{aimed_at, aimed_from, aimed_next, branch_of, has_name, last_event_for, past_from, target_of}
 use Rattle.abides_run.specs.Fetched.{IsAmong}
 use Rattle.abides_run.specs.Rewinds.{IsThere, lasts_before, lasts_of, steps_from, argument_at}
 

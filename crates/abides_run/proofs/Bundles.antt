@@ -7,7 +7,7 @@ use Rattle.std.proofs.lemmas.List.{flat_map_more, take-append-drop}
 use Rattle.outside.specs.Rose.{Rose}
 use Rattle.outside.specs.Taken.{appended, TookPrefix}
 use Rattle.kernel_copy.specs.Courses.{CourseTold}
-use Rattle.branch_bundle.specs.Bundle.{trace_of, traces_of}
+use Rattle.trace_bundle.specs.Bundle.{trace_of, traces_of}
 use Rattle.abides_run.specs.Performed.{Sent}
 use Rattle.abides_run.specs.declared.status.Status.{Status}
 

@@ -3,15 +3,15 @@ use Rattle.std.proofs.Common.{◌≡◌, ◌⊎◌, ℕ, List, [], ◌∷◌, Op
 use Rattle.toml.specs.Data.{Members}
 use Rattle.outside.specs.Files.{Content, absent, too_long, whole, held, content}
 use Rattle.study_file.specs.Tables.{table_of}
-use Rattle.study_tables.specs.declared.refusal.Refusal.{Refusal}
-use Rattle.study_accept.specs.Accepted.{StudyTold, study_of, study_told}
-use Rattle.study_accept.specs.declared.study.Study.{Study}
+use Rattle.study_market.specs.declared.early_refusal.Refusal.{Refusal}
+use Rattle.study_rules.specs.Accepted.{StudyTold, study_of, study_told}
+use Rattle.study_rules.specs.declared.study.Study.{Study}
 use Rattle.command_words.specs.declared.mark.Mark.{Mark}
-use Rattle.rewind_targets.specs.declared.aimed.Aimed.{Aimed}
-use Rattle.rewind_targets.specs.declared.aimed.Aimed.TheVariants.{At, NoBranch}
-use Rattle.rewind_targets.specs.declared.past.Past.{Past}
-use Rattle.rewind_targets.specs.Targets.{aimed_at, past_of}
-use Rattle.large_study.specs.LargeStudy.{large_study}
+use Rattle.rewind_desk.specs.declared.aimed.Aimed.{Aimed}
+use Rattle.rewind_desk.specs.declared.aimed.Aimed.TheVariants.{At, NoBranch}
+use Rattle.rewind_desk.specs.declared.past.Past.{Past}
+use Rattle.rewind_desk.specs.Targets.{aimed_at, past_of}
+use Rattle.study_file.specs.LargeStudy.{large_study}
 use Rattle.abides_run.specs.declared.ending.Ending.{Ending}
 use Rattle.abides_run.specs.declared.found.Found.{Found}
 use Rattle.abides_run.specs.declared.request.Request.{Request}

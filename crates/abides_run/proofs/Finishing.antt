@@ -1,14 +1,14 @@
 -- How a rewind ends.
 use Rattle.std.proofs.Common.{◌≡◌, ◌⊎◌, ◌≤◌, ◌+◌, ℕ, List, Option, None, Some, refl, sym, ap, ◌∙◌, subst, inl, inr, arith}
 use Rattle.command_words.specs.declared.mark.Mark.{Mark}
-use Rattle.rewind_targets.specs.declared.past.Past.{Past}
-use Rattle.rewind_targets.specs.declared.aimed.Aimed.{Aimed}
-use Rattle.rewind_targets.specs.declared.aimed.Aimed.TheVariants.{At}
-use Rattle.rewind_targets.specs.declared.target.Target.{Target}
-use Rattle.rewind_targets.specs.Targets.{aimed_at, past_of}
+use Rattle.rewind_desk.specs.declared.past.Past.{Past}
+use Rattle.rewind_desk.specs.declared.aimed.Aimed.{Aimed}
+use Rattle.rewind_desk.specs.declared.aimed.Aimed.TheVariants.{At}
+use Rattle.rewind_desk.specs.declared.target.Target.{Target}
+use Rattle.rewind_desk.specs.Targets.{aimed_at, past_of}
 use Rattle.abides_run.specs.declared.request.Task.TheVariants.{Rewind}
 use Rattle.abides_run.specs.Rewinds.{lasts_of, rewinds_of, steps_to_all, targets_in, argument_at}
-use Rattle.study_accept.specs.Accepted.{StudyTold}
+use Rattle.study_rules.specs.Accepted.{StudyTold}
 use Rattle.abides_run.specs.Fetched.{IsAmong}
 use Rattle.abides_run.specs.Notes.{past_event}
 use Rattle.abides_run.specs.Output.{Probes, study_events}

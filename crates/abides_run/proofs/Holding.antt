@@ -6,9 +6,9 @@ use Rattle.shelf_core.specs.declared.plan.ShelfPlan.{ShelfPlan}
 use Rattle.branch_workers.specs.Layout.{layout}
 use Rattle.rewind_desk.specs.Best.{best}
 use Rattle.rewind_desk.specs.Sure.{HoldsSure, sure}
-use Rattle.rewind_reach.specs.AfterWork.{IsAfterWork}
-use Rattle.rewind_targets.specs.declared.target.Target.{Target}
-use Rattle.study_accept.specs.Accepted.{StudyTold}
+use Rattle.rewind_desk.specs.AfterWork.{IsAfterWork}
+use Rattle.rewind_desk.specs.declared.target.Target.{Target}
+use Rattle.study_rules.specs.Accepted.{StudyTold}
 use Rattle.abides_run.specs.Rewinds.{steps_from, steps_to}
 use Rattle.abides_run.proofs.Aiming.{sum-fewer}
 

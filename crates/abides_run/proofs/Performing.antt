@@ -3,7 +3,7 @@ use Rattle.std.proofs.Common.{◌≡◌, ◌⊎◌, ◌≤◌, ◌+◌, ℕ, Lis
 use Rattle.command_words.specs.declared.mark.Mark.{Mark}
 use Rattle.outside.specs.Rose.{Rose}
 use Rattle.outside.specs.Taken.{appended, TookPrefix}
-use Rattle.study_accept.specs.Accepted.{StudyTold}
+use Rattle.study_rules.specs.Accepted.{StudyTold}
 use Rattle.abides_run.specs.declared.request.Task.{Task}
 use Rattle.abides_run.specs.declared.request.Task.TheVariants.{Rewind}
 use Rattle.abides_run.specs.Fetched.{arguments_of}

@@ -4,14 +4,14 @@ use Rattle.std.specs.Prelude.{Result}
 use Rattle.std.specs.Option.{option_or}
 use Rattle.toml.specs.Data.{Members}
 use Rattle.fundamental_series.specs.declared.rule.SeriesRow.{SeriesRow}
-use Rattle.study_tables.specs.declared.refusal.Refusal.{Refusal}
-use Rattle.study_tables.specs.FirstBroken.{first_of_rules}
-use Rattle.study_refusals.specs.FirstBroken.{early_refusal, first_broken, last_refusal, late_refusal, series_refusal, tables_of}
-use Rattle.study_branches.specs.FirstBroken.{branch_rules}
-use Rattle.study_parts.specs.Opening.{stride_of}
-use Rattle.study_parts.proofs.Held.{are-held, both-none}
-use Rattle.study_parts.proofs.Openings.{limits}
-use Rattle.study_accept.specs.Accepted.{StudyTold, first_refusal, rows_in, told_of, study_of}
+use Rattle.study_market.specs.declared.early_refusal.Refusal.{Refusal}
+use Rattle.study_market.specs.FirstBroken.{first_of_rules}
+use Rattle.study_market.specs.FirstOfMarket.{early_refusal, first_broken, last_refusal, late_refusal, series_refusal, tables_of}
+use Rattle.study_rules.specs.FirstBroken.{branch_rules}
+use Rattle.study_market.specs.Opening.{stride_of}
+use Rattle.study_market.proofs.Held.{are-held, both-none}
+use Rattle.study_market.proofs.Openings.{limits}
+use Rattle.study_rules.specs.Accepted.{StudyTold, first_refusal, rows_in, told_of, study_of}
 use Rattle.abides_run.specs.Performed.{IsStride}
 
 some-rows : (r : Result (List (List SeriesRow)) ℕ) (t : Members)

@@ -4,11 +4,11 @@ use Rattle.std.specs.Fmt.{decimal}
 use Rattle.branch_tree.specs.Segments.{segments_in}
 use Rattle.kernel_copy.specs.Segmentwise as segmentwise
 use Rattle.kernel_copy.specs.Courses.{CourseTold}
-use Rattle.branch_bundle.specs.Bundle.{bundle_of}
-use Rattle.study_accept.specs.Accepted.{StudyTold}
+use Rattle.trace_bundle.specs.Bundle.{bundle_of}
+use Rattle.study_rules.specs.Accepted.{StudyTold}
 use Rattle.probe_desk.specs.Probe.{Meaning}
-use Rattle.branch_tables.specs.Tables as tables
-use Rattle.large_lines.specs.Report.{big_lines_of}
+use Rattle.study_report.specs.Tables as tables
+use Rattle.trace_bundle.specs.Report.{big_lines_of}
 use Rattle.abides_run.specs.Rewinds.{rewinds_of, steps_to_all, targets_of}
 use Rattle.abides_run.specs.declared.request.Task.{Task}
 use Rattle.abides_run.specs.declared.request.Task.TheVariants.{Run, Check, Table, Lines, Rewind}

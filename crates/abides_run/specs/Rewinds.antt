@@ -7,13 +7,13 @@ use Rattle.kernel_core.specs.State.{State}
 use Rattle.kernel_copy.specs.Courses.{CourseTold}
 use Rattle.kernel_copy.specs.Full.{full}
 use Rattle.bundle_frames.specs.Frames.{branch_frame, end_frame}
-use Rattle.branch_bundle.specs.Bundle.{parent_written}
-use Rattle.state_frames.specs.States.{state_frames_of}
-use Rattle.study_accept.specs.Accepted.{StudyTold}
-use Rattle.rewind_targets.specs.declared.target.Target.{Target}
-use Rattle.rewind_targets.specs.declared.aimed.Aimed.{Aimed}
-use Rattle.rewind_targets.specs.declared.aimed.Aimed.TheVariants.{At, NoBranch}
-use Rattle.rewind_targets.specs.Targets.{aimed_at}
+use Rattle.trace_bundle.specs.Bundle.{parent_written}
+use Rattle.kernel_copy.specs.States.{state_frames_of}
+use Rattle.study_rules.specs.Accepted.{StudyTold}
+use Rattle.rewind_desk.specs.declared.target.Target.{Target}
+use Rattle.rewind_desk.specs.declared.aimed.Aimed.{Aimed}
+use Rattle.rewind_desk.specs.declared.aimed.Aimed.TheVariants.{At, NoBranch}
+use Rattle.rewind_desk.specs.Targets.{aimed_at}
 use Rattle.checkpoint_shelf.specs.Told.{ClosedTold}
 use Rattle.rewind_desk.specs.Best.{best}
 use Rattle.rewind_desk.specs.Rewinds.{last_event}

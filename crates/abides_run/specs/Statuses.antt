@@ -1,6 +1,6 @@
 -- What each status of a run says.
 use Rattle.std.specs.Prelude.{◌≡◌, ℕ, ◌+◌, ◌≤◌, List, Option}
-use Rattle.study_accept.specs.Accepted.{StudyTold}
+use Rattle.study_rules.specs.Accepted.{StudyTold}
 use Rattle.abides_run.specs.Verdict.{Verdict, usage, no_file, file_too_long, refused, no_branch, no_event, accepted, IsStudy, IsAsked}
 use Rattle.abides_run.specs.Words.{asked_of}
 use Rattle.abides_run.specs.Fetched.{IsAmong, files_of}

@@ -1,10 +1,10 @@
 -- The empty run, byte by byte: one watcher would first wake after the close, so that no event comes.
 use Rattle.std.specs.Prelude.{ℕ, List, [], ◌∷◌, ◌++◌, replicate, codes}
-use Rattle.market_opening.specs.Worked.{market, watcher}
+use Rattle.market_floor.specs.OpeningWorked.{market, watcher}
 use Rattle.market_rules.specs.declared.edit.Edit.TheVariants.{Latency}
 use Rattle.branch_tree.specs.declared.branch.Branch.{Branch}
 use Rattle.kernel_copy.specs.Courses.{CourseTold}
-use Rattle.study_accept.specs.Accepted.{StudyTold}
+use Rattle.study_rules.specs.Accepted.{StudyTold}
 use Rattle.command_words.specs.declared.mark.Mark.{Mark}
 
 abbrev pub root : Branch

@@ -5,9 +5,9 @@ ghost use Rattle.toml.specs.View.{table_view};
 ghost use Rattle.outside.specs.Rose.{Rose};
 ghost use Rattle.outside.specs.Files.{whole, held, content};
 ghost use Rattle.study_file.specs.Tables.{table_of};
-ghost use Rattle.study_accept.specs.Accepted.{study_told, study_of};
+ghost use Rattle.study_rules.specs.Accepted.{study_told, study_of};
 ghost use Rattle.abides_run.specs.declared.request.Task.{Task as TaskTold};
-ghost use Rattle.large_study.specs.LargeStudy.{large_study};
+ghost use Rattle.study_file.specs.LargeStudy.{large_study};
 ghost use Rattle.abides_run.specs.Words.{texts, asked_of, workers_of, IsLarge, IsTask};
 ghost use Rattle.abides_run.specs.Verdict.{verdict, verdict_on_study, verdict_on_bytes, verdict_on_table, verdict_on_large, verdict_on_task, judged, large_limit, most_bytes, series_of};
 ghost use Rattle.abides_run.specs.Fetched.{arguments_in, arguments_of, fetched as fetched_names, series_after, series_behind, named as named_file};
@@ -20,12 +20,11 @@ use crate::found::Found;
 use crate::request::{Job, Request, Task};
 use crate::status::Status;
 use crate::words::asked;
-use large_study::study_text;
+use study_file::{read_tables, series_name, study_text, RawStudy, StudyError};
 use outside::{FetchError, Fetched, Library};
 use plain_lists::Memory;
 use std::alloc::Global;
-use study_accept::{AcceptError, Study, accept};
-use study_file::{RawStudy, StudyError, read_tables, series_name};
+use study_rules::{AcceptError, Study, accept};
 
 // A study file or a series file may have so many bytes.
 const MOST_BYTES: u64 = 16_777_216;

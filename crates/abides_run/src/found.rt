@@ -1,7 +1,7 @@
 //! A study that was found.
 
 use crate::request::Task;
-use study_accept::Study;
+use study_rules::Study;
 
 /// An accepted study, what is to be done with it, and by how many workers.
 #[derive(Drop)]

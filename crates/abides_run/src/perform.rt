@@ -7,7 +7,7 @@ ghost use Rattle.abides_run.specs.Output.{counts_line, study_bundle, study_event
 ghost use Rattle.abides_run.specs.Performed.{Finished, IsStride, Performed};
 ghost use Rattle.abides_run.specs.Verdict.{verdict_on_task};
 ghost use Rattle.abides_run.specs.Words.{IsTask};
-ghost use Rattle.study_accept.specs.Accepted.{study_told};
+ghost use Rattle.study_rules.specs.Accepted.{study_told};
 
 use crate::ending::{Ending, nameless};
 use crate::found::Found;
@@ -15,19 +15,18 @@ use crate::request::Task;
 use crate::rewinds::rewind_study;
 use crate::send::{send, send_bundle};
 use crate::status::Status;
-use branch_bundle::laws::outcomes_are_a_run;
-use branch_tables::study_table;
+use trace_bundle::{big_lines, laws::outcomes_are_a_run};
+use study_report::study_table;
 use branch_workers::work;
 use kernel_copy::laws::segments_have_few_events;
 use kernel_copy::{Course, Keep};
-use large_lines::big_lines;
 use outside::{Gate, Ledger, Sink, Steps};
 use plain_lists::Memory;
 use probe_desk::Probe;
 use std::alloc::{AllocError, Global};
 use std::sync::Wait;
 use std::thread::Threads;
-use study_accept::Study;
+use study_rules::Study;
 
 // Nothing that is asked for here but a rewind goes on from a state on the way.
 const NO_PLACES: u32 = 0;

@@ -3,12 +3,12 @@
 ghost use Rattle.std.specs.Prelude.{◌≡◌, ◌⊎◌, ◌+◌, ◌<◌, ◌≤◌, ◌^◌, ℕ, All, IfOk, IfErr, OnOk, None, length, map, string_bytes, sum_by};
 ghost use Rattle.std.specs.List.{flat_map};
 ghost use Rattle.bundle_frames.specs.Frames.{end_frame};
-ghost use Rattle.branch_bundle.specs.Ran.{IsRunOf};
+ghost use Rattle.trace_bundle.specs.Ran.{IsRunOf};
 ghost use Rattle.command_words.specs.Ranges.{AreMarks};
 ghost use Rattle.kernel_copy.specs.Courses.{IsCourse};
 ghost use Rattle.rewind_desk.specs.Rewinds.{last_event};
-ghost use Rattle.rewind_targets.specs.Targets.{aimed_at, past_of};
-ghost use Rattle.study_accept.specs.Accepted.{study_told};
+ghost use Rattle.rewind_desk.specs.Targets.{aimed_at, past_of};
+ghost use Rattle.study_rules.specs.Accepted.{study_told};
 ghost use Rattle.abides_run.specs.Fetched.{arguments_of};
 ghost use Rattle.abides_run.specs.Notes.{past_event};
 ghost use Rattle.abides_run.specs.Output.{Probes};
@@ -20,25 +20,19 @@ ghost use Rattle.abides_run.specs.declared.request.Task.TheVariants as task;
 use crate::ending::{Ending, named, nameless};
 use crate::send::{send, send_end};
 use crate::status::Status;
-use branch_bundle::laws::outcomes_are_a_run;
-use branch_bundle::{Ran, put_branch_head};
+use trace_bundle::{laws::outcomes_are_a_run, put_branch_head, Ran};
 use branch_workers::work;
 use checkpoint_shelf::ClosedShelf;
 use command_words::Mark;
-use kernel_copy::laws::{courses_stay_in_range, segments_have_few_events};
-use kernel_copy::{Checkpoint, Course, Keep};
+use kernel_copy::{laws::{courses_stay_in_range, segments_have_few_events}, state_frames, Checkpoint, Course, Keep};
 use kernel_core::Kernel;
 use outside::{Gate, Ledger, Sink, Steps};
 use plain_lists::Memory;
-use rewind_desk::laws::sure_states_are_held;
-use rewind_desk::{RewindError, rewind};
-use rewind_reach::laws::rewinds_after_work;
-use rewind_targets::{Aimed, Past, Target, aim, first_past};
-use state_frames::state_frames;
+use rewind_desk::{after_work::rewinds_after_work, aim, first_past, laws::sure_states_are_held, rewind, Aimed, Past, RewindError, Target};
 use std::alloc::{AllocError, Global};
 use std::sync::{Arc, Wait};
 use std::thread::Threads;
-use study_accept::Study;
+use study_rules::Study;
 
 // The number of the last event of a branch's full run.
 fn last_of_branch<W: Ran>(course: &Course, ran: &W, branch: u16) -> u32

@@ -3,8 +3,8 @@
 ghost use Rattle.std.specs.Prelude.{◌<◌, length};
 ghost use Rattle.std.specs.List.{flat_map};
 ghost use Rattle.bundle_frames.specs.Frames.{end_frame, entry_frames};
-ghost use Rattle.branch_bundle.specs.Bundle.{end_of_trace, header_of, opening_of_trace, trace_of, traces_of};
-ghost use Rattle.branch_bundle.specs.Ran.{IsRunOf};
+ghost use Rattle.trace_bundle.specs.Bundle.{end_of_trace, header_of, opening_of_trace, trace_of, traces_of};
+ghost use Rattle.trace_bundle.specs.Ran.{IsRunOf};
 ghost use Rattle.branch_tree.specs.Segments.{segments_in, segment_at};
 ghost use Rattle.kernel_copy.specs.Full.{full_run};
 ghost use Rattle.kernel_copy.specs.Kept.{IsWritable, frames_of, kept_told};
@@ -13,7 +13,7 @@ ghost use Rattle.abides_run.specs.Output.{study_bundle};
 ghost use Rattle.abides_run.specs.Performed.{Sent};
 
 use crate::status::Status;
-use branch_bundle::{Ran, ending_bytes, opening_bytes, write_header};
+use trace_bundle::{Ran, ending_bytes, opening_bytes, write_header};
 use bundle_frames::put_end;
 use kernel_copy::laws::courses_stay_in_range;
 use kernel_copy::{Course, Kept};

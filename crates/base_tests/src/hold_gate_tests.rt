@@ -1,5 +1,4 @@
-use hold_gate::HoldGate;
-use outside::Gate;
+use outside::{Gate, HoldGate};
 use std::test::Fail;
 
 // Segment 2 is held until segment 3 is passed, and no longer than ten turns.

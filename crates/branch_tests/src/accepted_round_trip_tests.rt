@@ -1,10 +1,10 @@
 //! A study whose branch injects an order, read back.
 
-use accepted_round_trip::run_and_read;
+use round_trip::run_and_read;
 use outside::{Counted, Steps};
 use std::alloc::Global;
 use std::test::Fail;
-use study_accept::AcceptError;
+use study_rules::AcceptError;
 use study_file::read_tables;
 
 const STUDY: &str = "version = 1

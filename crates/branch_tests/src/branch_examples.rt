@@ -3,23 +3,19 @@
 ghost use Rattle.std.specs.Prelude.{◌≡◌, ◌≤◌, IfOk, OnOk, length, map};
 ghost use Rattle.branch_tree.specs.declared.branch.Branch.{Branch};
 ghost use Rattle.branch_tree.specs.Segments.{segments_in};
-ghost use Rattle.market_opening.specs.Opening.{IsOpening};
-ghost use Rattle.market_opening.specs.Worked.{watcher};
+ghost use Rattle.market_floor.specs.Opening.{IsOpening};
+ghost use Rattle.market_floor.specs.OpeningWorked.{watcher};
 ghost use Rattle.kernel_copy.specs.Courses.{AreEdits};
 ghost use Rattle.kernel_copy.specs.Outcomes.{outcome_told, outcomes_before};
 ghost use Rattle.branch_tests.specs.Worked.{AreBranches, small, two_watchers};
 
 use agent_shell::{Kind, TraderSetting};
-use branch_bundle::laws::outcomes_are_a_run;
-use branch_bundle::{write_branch, write_header};
+use trace_bundle::{laws::outcomes_are_a_run, write_branch, write_header};
 use branch_tree::{Branch, Name, plan};
 use bundle_frames::put_end;
-use kernel_copy::laws::segments_have_few_events;
-use kernel_copy::{Course, Keep, Kept, Outcome, run_segments};
+use kernel_copy::{closing_of, laws::segments_have_few_events, run_segments, Course, Keep, Kept, Outcome};
 use kernel_core::Kernel;
-use market_closing::closing_of;
-use market_opening::Opening;
-use market_opening::worked::{markets_are_openings, opening};
+use market_floor::{opening_worked::{markets_are_openings, opening}, Opening};
 use market_rules::Edit;
 use market_types::{Enter, Inbound, Memory, Sequence, Side, Symbol, Time, Token};
 use outside::{Counted, Steps};

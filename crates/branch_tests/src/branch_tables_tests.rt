@@ -2,19 +2,19 @@
 
 ghost use Rattle.std.specs.Prelude.{◌≡◌, ◌≤◌, IfOk, OnOk, length, map};
 ghost use Rattle.branch_tree.specs.Segments.{segments_in};
-ghost use Rattle.market_opening.specs.Opening.{IsOpening};
-ghost use Rattle.market_opening.specs.Worked.{watcher};
+ghost use Rattle.market_floor.specs.Opening.{IsOpening};
+ghost use Rattle.market_floor.specs.OpeningWorked.{watcher};
 ghost use Rattle.kernel_copy.specs.Courses.{AreEdits};
 ghost use Rattle.kernel_copy.specs.Outcomes.{outcome_told, outcomes_before};
 ghost use Rattle.kernel_copy.specs.declared.kept.Keep.TheVariants as keeping;
-ghost use Rattle.branch_tables.specs.Worked.{AreBranches, busy, small, three_watchers, two_watchers};
+ghost use Rattle.study_report.specs.BranchWorked.{AreBranches, busy, small, three_watchers, two_watchers};
 
 use agent_shell::{Kind, TraderSetting};
-use branch_bundle::laws::outcomes_are_a_run;
-use branch_tables::study_table;
+use trace_bundle::laws::outcomes_are_a_run;
+use study_report::study_table;
 use branch_tree::{plan, Branch, Name};
 use kernel_copy::{laws::segments_have_few_events, run_segments, Course, Keep, Outcome};
-use market_opening::{worked::markets_are_openings, worked::opening, Opening};
+use market_floor::{opening_worked::markets_are_openings, opening_worked::opening, Opening};
 use market_rules::Edit;
 use market_types::{Memory, Record, Sequence, Time};
 use outside::{Counted, Steps};
@@ -31,7 +31,7 @@ struct PutBacks {
 
 impl Probe for PutBacks {
     ghost use Rattle.std.specs.Prelude.{◌∷◌, [], codes};
-    ghost use Rattle.branch_tables.specs.Worked.{put_backs};
+    ghost use Rattle.study_report.specs.BranchWorked.{put_backs};
 
     ghost title = { λ _. codes "put_backs" };
 

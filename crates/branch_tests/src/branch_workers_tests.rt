@@ -8,10 +8,9 @@ ghost use Rattle.kernel_copy.specs.Kept.{IsWritable, kept_told};
 
 use branch_workers::work;
 use checkpoint_shelf::{ClosedShelf, Key};
-use hold_gate::HoldGate;
+use outside::{Counted, Gate, HoldGate, OpenGate, Steps};
 use kernel_copy::{laws::courses_stay_in_range, laws::segments_have_few_events, run_segments, Checkpoint, Course, Keep, Kept, Outcome};
 use market_types::{Entry, Memory, Trace};
-use outside::{Counted, Gate, OpenGate, Steps};
 use self::market::course;
 use std::alloc::Global;
 use std::sync::{Arc, Wait};

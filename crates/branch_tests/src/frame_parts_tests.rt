@@ -1,4 +1,4 @@
-use frame_parts::{read_body, read_head, Head, HeaderHead};
+use bundle_reader::{read_body, read_head, Head, HeaderHead};
 use market_types::Body;
 use std::test::*;
 

@@ -1,6 +1,6 @@
 use branch_tree::Name;
 use bundle_frames::{put_branch, put_header, Written};
-use frame_reader::{next_frame, read_payload, Frame, FrameError};
+use bundle_reader::{next_frame, read_payload, Frame, FrameError};
 use market_types::{Body, Feed, Memory, What};
 use std::test::*;
 

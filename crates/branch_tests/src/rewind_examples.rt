@@ -3,7 +3,7 @@
 mod market;
 
 ghost use Rattle.std.specs.Prelude.{◌≡◌, ◌≤◌, IfOk};
-ghost use Rattle.rewind_reach.specs.AfterWork.{IsAfterWork};
+ghost use Rattle.rewind_desk.specs.AfterWork.{IsAfterWork};
 
 use self::market::course;
 use branch_workers::work;

@@ -4,7 +4,7 @@ use branch_tree::{plan, Branch, BranchPlan, Name};
 use command_words::{ask, Command};
 use market_rules::Edit;
 use market_types::Sequence;
-use rewind_targets::{aim, first_past, Aimed, Past, Target};
+use rewind_desk::{aim, first_past, Aimed, Past, Target};
 use std::alloc::Global;
 use std::test::Fail;
 

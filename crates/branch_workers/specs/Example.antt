@@ -5,8 +5,8 @@ use Rattle.agent_shell.specs.declared.setting.TraderSetting.{TraderSetting}
 use Rattle.branch_tree.specs.declared.branch.Branch.{Branch}
 use Rattle.branch_tree.specs.Plan.{Plan}
 use Rattle.branch_tree.specs.Tree.{IsRooted}
-use Rattle.market_opening.specs.declared.opening.Opening.{Opening}
-use Rattle.market_opening.specs.Worked.{market, watcher}
+use Rattle.market_floor.specs.declared.opening.Opening.{Opening}
+use Rattle.market_floor.specs.OpeningWorked.{market, watcher}
 use Rattle.kernel_copy.specs.Courses.{AreEdits}
 
 abbrev pub branch : ℕ → ℕ → Branch

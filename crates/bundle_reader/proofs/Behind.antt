@@ -1,7 +1,7 @@
 -- What follows a closing that is whole.
 use Rattle.std.proofs.Common.{◌≡◌, ◌∙◌, ℕ, ◌==◌, Bool, true, ◌&&◌, List, [], ◌∷◌, ◌++◌, length, map, None, Result, if◌then◌else◌, sym, ap, subst, arith}
 use Rattle.std.proofs.lemmas.List.{map-append}
-use Rattle.frame_reader.specs.declared.frame.Frame.{Frame}
+use Rattle.bundle_reader.specs.declared.frame.Frame.{Frame}
 use Rattle.bundle_reader.specs.declared.bundle.Told.{Told}
 use Rattle.bundle_reader.specs.declared.reading.Misplaced.{Misplaced}
 use Rattle.bundle_reader.specs.declared.reading.Reading.{Reading}

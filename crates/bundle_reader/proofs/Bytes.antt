@@ -11,9 +11,9 @@ use Rattle.bundle_frames.specs.declared.closing.Closing.{Closing}
 use Rattle.bundle_frames.specs.declared.closing.ClosingStock.{ClosingStock}
 use Rattle.bundle_frames.specs.declared.closing.ClosingOrder.{ClosingOrder}
 use Rattle.bundle_frames.specs.declared.closing.ClosingAgent.{ClosingAgent}
-use Rattle.frame_reader.specs.declared.frame.Frame.{Frame}
-use Rattle.frame_reader.specs.declared.frame.Frame.TheVariants as frame
-use Rattle.frame_reader.specs.Frames.{payload}
+use Rattle.bundle_reader.specs.declared.frame.Frame.{Frame}
+use Rattle.bundle_reader.specs.declared.frame.Frame.TheVariants as frame
+use Rattle.bundle_reader.specs.Frames.{payload}
 use Rattle.bundle_reader.specs.Told.{BranchTold, BundleTold}
 use Rattle.bundle_reader.specs.Bundle.{event_part, edit_part, feed_list, entry_list, closing_list, branch_list, branches_list, bundle_list, branch_bytes, branches_bytes, bundle_bytes}
 

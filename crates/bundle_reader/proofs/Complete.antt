@@ -12,10 +12,10 @@ use Rattle.bundle_frames.specs.declared.closing.Closing.{Closing}
 use Rattle.bundle_frames.specs.declared.closing.ClosingStock.{ClosingStock}
 use Rattle.bundle_frames.specs.declared.closing.ClosingOrder.{ClosingOrder}
 use Rattle.bundle_frames.specs.declared.closing.ClosingAgent.{ClosingAgent}
-use Rattle.frame_reader.specs.declared.frame.HeaderFrame.{HeaderFrame}
-use Rattle.frame_reader.specs.declared.frame.BranchFrame.{BranchFrame}
-use Rattle.frame_reader.specs.declared.frame.Frame.{Frame}
-use Rattle.frame_reader.specs.declared.frame.Frame.TheVariants as frame
+use Rattle.bundle_reader.specs.declared.frame.HeaderFrame.{HeaderFrame}
+use Rattle.bundle_reader.specs.declared.frame.BranchFrame.{BranchFrame}
+use Rattle.bundle_reader.specs.declared.frame.Frame.{Frame}
+use Rattle.bundle_reader.specs.declared.frame.Frame.TheVariants as frame
 use Rattle.bundle_reader.specs.Told.{BranchTold, BundleTold, BegunTold, WholeTold, LastTold, apart, ReadingTold, start, between, opening, entries, ended, closing, end}
 use Rattle.bundle_reader.specs.Order.{is_none, is_system, is_trading, is_of_orders, all_entries, before_next, take_trading, take_of_orders, with_branch, take_next, begun, bundle_of, taken}
 use Rattle.bundle_reader.specs.Bundle.{feed_list, entry_list, closing_list, branch_list, branches_list, bundle_list, stand, IsOpening, IsSplit, IsBranch}

@@ -7,8 +7,8 @@ use Rattle.market_types.specs.declared.feed.What.{What}
 use Rattle.market_types.specs.declared.feed.What.TheVariants as what
 use Rattle.market_types.specs.Told.{EntryTold, EventTold, EditTold}
 use Rattle.market_types.specs.Told as told
-use Rattle.frame_reader.specs.declared.frame.Frame.{Frame}
-use Rattle.frame_reader.specs.declared.frame.Frame.TheVariants as frame
+use Rattle.bundle_reader.specs.declared.frame.Frame.{Frame}
+use Rattle.bundle_reader.specs.declared.frame.Frame.TheVariants as frame
 use Rattle.bundle_reader.specs.Told.{BegunTold, WholeTold, LastTold, apart, event, edit, ReadingTold, entries, ended}
 use Rattle.bundle_reader.specs.Order.{is_none, is_trading, is_of_orders, is_system, belongs, all_entries, before_next, take_trading, take_of_orders, taken}
 use Rattle.bundle_reader.specs.Bundle.{feed_list, entry_list, event_part, edit_part, is_own, is_left, HasFeed, IsApart, IsSplit}

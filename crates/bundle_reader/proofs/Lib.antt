@@ -1,3 +1,12 @@
+pub mod Led
+pub mod Bodied
+pub mod Signed
+pub mod HeadAndRest
+pub mod FrameKinds
+pub mod Ranges
+pub mod Made
+pub mod Joined
+pub mod Begun
 pub mod Runs
 pub mod OpeningRuns
 pub mod EntryRuns

@@ -2,7 +2,7 @@
 use Rattle.std.proofs.Common.{◌≡◌, ◌∙◌, ℕ, ◌+◌, ◌*◌, ◌==◌, Bool, true, false, ◌&&◌, List, [], ◌∷◌, ◌++◌, length, Some, None, if◌then◌else◌, refl, ap, append_assoc, arith}
 use Rattle.std.proofs.lemmas.List.{length-append}
 use Rattle.market_types.specs.declared.feed.Feed.{Feed}
-use Rattle.frame_reader.specs.declared.frame.Frame.TheVariants as frame
+use Rattle.bundle_reader.specs.declared.frame.Frame.TheVariants as frame
 use Rattle.bundle_reader.specs.Told.{BegunTold, WholeTold, opening, entries, apart}
 use Rattle.bundle_reader.specs.Order.{opens, opened, taken}
 use Rattle.bundle_reader.specs.Bundle.{stand, feed_list}

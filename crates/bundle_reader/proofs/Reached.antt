@@ -3,9 +3,9 @@ use Rattle.std.proofs.Common.{◌≡◌, ◌∙◌, ℕ, ◌≤◌, true, false,
 use Rattle.std.specs.Prelude.{All}
 use Rattle.std.proofs.lemmas.List.{append-nil}
 use Rattle.std.proofs.lemmas.List.Elements.{All-head, All-tail, All-nil, All-cons}
-use Rattle.frame_reader.specs.declared.frame.Frame.{Frame}
-use Rattle.frame_reader.specs.declared.frame.Frame.TheVariants as frame
-use Rattle.frame_reader.specs.Frames.{payload, HasRanges, Begins}
+use Rattle.bundle_reader.specs.declared.frame.Frame.{Frame}
+use Rattle.bundle_reader.specs.declared.frame.Frame.TheVariants as frame
+use Rattle.bundle_reader.specs.Frames.{payload, HasRanges, Begins}
 use Rattle.bundle_reader.specs.Told.{BundleTold, ReadingTold, start, between, opening, entries, ended, closing, end}
 use Rattle.bundle_reader.specs.Order.{taken, stocks_known, is_whole}
 use Rattle.bundle_reader.specs.Bundle.{bundle_list, bundle_bytes, IsBundle}

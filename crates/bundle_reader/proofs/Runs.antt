@@ -1,6 +1,6 @@
 -- Frames taken one after another.
 use Rattle.std.proofs.Common.{◌≡◌, ◌∙◌, List, [], ◌∷◌, ◌++◌, Option, Some, None, ap}
-use Rattle.frame_reader.specs.declared.frame.Frame.{Frame}
+use Rattle.bundle_reader.specs.declared.frame.Frame.{Frame}
 use Rattle.bundle_reader.specs.Told.{ReadingTold}
 use Rattle.bundle_reader.specs.Order.{taken}
 

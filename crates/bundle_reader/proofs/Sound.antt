@@ -13,12 +13,12 @@ use Rattle.bundle_frames.specs.declared.closing.Closing.{Closing}
 use Rattle.bundle_frames.specs.declared.closing.ClosingStock.{ClosingStock}
 use Rattle.bundle_frames.specs.declared.closing.ClosingOrder.{ClosingOrder}
 use Rattle.bundle_frames.specs.declared.closing.ClosingAgent.{ClosingAgent}
-use Rattle.frame_reader.specs.Frames.{event_with, edit_with}
-use Rattle.frame_reader.specs.declared.frame.HeaderFrame.{HeaderFrame}
-use Rattle.frame_parts.specs.declared.head.EditHead.{EditHead}
-use Rattle.frame_reader.specs.declared.frame.EventFrame.{EventFrame}
-use Rattle.frame_reader.specs.declared.frame.Frame.{Frame}
-use Rattle.frame_reader.specs.declared.frame.Frame.TheVariants as frame
+use Rattle.bundle_reader.specs.Frames.{event_with, edit_with}
+use Rattle.bundle_reader.specs.declared.frame.HeaderFrame.{HeaderFrame}
+use Rattle.bundle_reader.specs.declared.head.EditHead.{EditHead}
+use Rattle.bundle_reader.specs.declared.frame.EventFrame.{EventFrame}
+use Rattle.bundle_reader.specs.declared.frame.Frame.{Frame}
+use Rattle.bundle_reader.specs.declared.frame.Frame.TheVariants as frame
 use Rattle.bundle_reader.specs.Told.{BranchTold, BundleTold, BegunTold, WholeTold, LastTold, apart, event, edit, ReadingTold, start, between, opening, entries, ended, closing, end}
 use Rattle.bundle_reader.specs.Order.{is_none, is_system, is_trading, is_of_orders, opens, opened, belongs, all_entries, before_next, take_trading, take_of_orders, counted, more_closing, is_closed, branch_of, with_branch, take_next, begun, bundle_of, taken}
 use Rattle.bundle_reader.specs.Bundle.{feed_list, entry_list, closing_list, branch_list, branches_list, bundle_list, stand, event_part, edit_part, is_own, IsSplit, IsOpening, AreStocks, AreAgents, IsBranch}

@@ -5,11 +5,11 @@ use Rattle.market_types.specs.declared.feed.Feed.{Feed}
 use Rattle.market_types.specs.Told.{EntryTold, EventTold, EditTold, event, edit}
 use Rattle.bundle_frames.specs.declared.closing.Closing.{Closing}
 use Rattle.bundle_frames.specs.Frames.{header_frame, branch_frame, end_frame, message_frame, feed_frames, entry_frames, closing_frames}
-use Rattle.frame_reader.specs.Frames.{HasRanges, payload}
-use Rattle.frame_reader.specs.declared.frame.Frame.{Frame}
-use Rattle.frame_reader.specs.declared.frame.Frame.TheVariants as frame
-use Rattle.frame_reader.specs.declared.frame.EventFrame.{EventFrame}
-use Rattle.frame_parts.specs.declared.head.EditHead.{EditHead}
+use Rattle.bundle_reader.specs.Frames.{HasRanges, payload}
+use Rattle.bundle_reader.specs.declared.frame.Frame.{Frame}
+use Rattle.bundle_reader.specs.declared.frame.Frame.TheVariants as frame
+use Rattle.bundle_reader.specs.declared.frame.EventFrame.{EventFrame}
+use Rattle.bundle_reader.specs.declared.head.EditHead.{EditHead}
 use Rattle.bundle_reader.specs.Told.{BranchTold, BundleTold}
 use Rattle.bundle_frames.specs.declared.closing.ClosingStock.{ClosingStock}
 use Rattle.bundle_frames.specs.declared.closing.ClosingAgent.{ClosingAgent}

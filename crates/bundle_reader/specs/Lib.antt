@@ -1,3 +1,10 @@
+pub mod Heads
+pub mod Back
+pub mod Bodies
+pub mod BodiesBack
+pub mod Frames
+pub mod Parts
+pub mod Next
 pub mod Told
 pub mod Order
 pub mod Bundle

@@ -10,11 +10,11 @@ use Rattle.bundle_frames.specs.declared.closing.ClosingCounts.{ClosingCounts}
 use Rattle.bundle_frames.specs.declared.closing.ClosingStock.{ClosingStock}
 use Rattle.bundle_frames.specs.declared.closing.ClosingOrder.{ClosingOrder}
 use Rattle.bundle_frames.specs.declared.closing.ClosingAgent.{ClosingAgent}
-use Rattle.frame_reader.specs.Frames.{event_with, edit_with}
-use Rattle.frame_reader.specs.declared.frame.Frame.{Frame}
-use Rattle.frame_reader.specs.declared.frame.Frame.TheVariants as frame
-use Rattle.frame_reader.specs.declared.frame.HeaderFrame.{HeaderFrame}
-use Rattle.frame_reader.specs.declared.frame.BranchFrame.{BranchFrame}
+use Rattle.bundle_reader.specs.Frames.{event_with, edit_with}
+use Rattle.bundle_reader.specs.declared.frame.Frame.{Frame}
+use Rattle.bundle_reader.specs.declared.frame.Frame.TheVariants as frame
+use Rattle.bundle_reader.specs.declared.frame.HeaderFrame.{HeaderFrame}
+use Rattle.bundle_reader.specs.declared.frame.BranchFrame.{BranchFrame}
 use Rattle.bundle_reader.specs.Told.{BranchTold, BundleTold, BegunTold, WholeTold, LastTold, apart, event, edit, ReadingTold, start, between, opening, entries, ended, closing, end}
 
 abbrev pub is_none : {A : Type 0} → List A → Bool

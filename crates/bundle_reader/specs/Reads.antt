@@ -2,9 +2,9 @@
 use Rattle.std.specs.Prelude.{◌≡◌, ◌≢◌, ◌⊎◌, ℕ, ◌+◌, true, false, List, [], ◌∷◌, length, Option, Some, None, Result, Ok, Err}
 use Rattle.bundle_frames.specs.declared.closing.Closing.{Closing}
 use Rattle.std.specs.Borrow.{Bor}
-use Rattle.frame_reader.specs.declared.frame.Frame.{Frame}
-use Rattle.frame_reader.specs.Frames.{Begins}
-use Rattle.frame_reader.specs.Next.{IsCut, IsBad}
+use Rattle.bundle_reader.specs.declared.frame.Frame.{Frame}
+use Rattle.bundle_reader.specs.Frames.{Begins}
+use Rattle.bundle_reader.specs.Next.{IsCut, IsBad}
 use Rattle.bundle_reader.specs.declared.bundle.Bundle.{Bundle}
 use Rattle.bundle_reader.specs.declared.bundle.BundleError.{BundleError}
 use Rattle.bundle_reader.specs.declared.bundle.BundleError.TheVariants.{Cut, BadFrame, BadOrder, Memory}

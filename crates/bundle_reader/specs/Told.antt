@@ -3,7 +3,7 @@ use Rattle.std.specs.Prelude.{ℕ, List, map}
 use Rattle.market_types.specs.declared.feed.Feed.{Feed}
 use Rattle.market_types.specs.Told.{EntryTold, EventTold, EditTold, event_told, edit_told}
 use Rattle.bundle_frames.specs.declared.closing.Closing.{Closing}
-use Rattle.frame_reader.specs.declared.frame.HeaderFrame.{HeaderFrame}
+use Rattle.bundle_reader.specs.declared.frame.HeaderFrame.{HeaderFrame}
 use Rattle.bundle_reader.specs.declared.bundle.Told.{Told}
 use Rattle.bundle_reader.specs.declared.bundle.Bundle.{Bundle}
 use Rattle.bundle_reader.specs.declared.entries.Last.{Last}

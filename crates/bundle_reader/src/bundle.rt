@@ -1,8 +1,8 @@
 //! Bundles and why bytes are none.
 
 ghost use Rattle.std.specs.Prelude.{◌≡◌, ◌<◌, ℕ, List, length, IfOk, IfErr};
-ghost use Rattle.frame_reader.specs.declared.frame.Frame.{Frame as FrameOf};
-ghost use Rattle.frame_reader.specs.Frames.{Begins};
+ghost use Rattle.bundle_reader.specs.declared.frame.Frame.{Frame as FrameOf};
+ghost use Rattle.bundle_reader.specs.Frames.{Begins};
 ghost use Rattle.bundle_reader.specs.Told.{BundleTold, bundle_told, reading_told};
 ghost use Rattle.bundle_reader.specs.Order.{stocks_known};
 ghost use Rattle.bundle_reader.specs.Bundle.{IsBundle, bundle_bytes};
@@ -11,7 +11,7 @@ ghost use Rattle.bundle_reader.specs.Reads.{Gives, More, Only, Stops};
 use crate::reading::{Misplaced, Reading};
 use branch_tree::Name;
 use bundle_frames::Closing;
-use frame_reader::{FrameError, next_frame};
+use crate::{FrameError, next_frame};
 use market_types::{Feed, FeedList, Sequence, Trace};
 use std::alloc::Global;
 

@@ -2,14 +2,13 @@
 
 ghost use Rattle.std.specs.Prelude.{◌≡◌, [], ◌∷◌, ◌++◌, IfOk};
 ghost use Rattle.market_types.specs.Told.{edit_told, event_told};
-ghost use Rattle.frame_reader.specs.Frames.{event_with, edit_with};
+ghost use Rattle.bundle_reader.specs.Frames.{event_with, edit_with};
 ghost use Rattle.bundle_reader.specs.Told.{BegunTold, WholeTold, apart as apart_read, begun_told, edit as edit_read, entries as entries_read, last_told, whole_told};
 ghost use Rattle.bundle_reader.specs.Order.{all_entries, before_next, belongs, take_entry as take_entry_of, take_message as take_message_of, take_trading};
 ghost use Rattle.bundle_reader.specs.Reads.{Takes};
 
 use crate::reading::{Begun, Misplaced, Reading, Whole};
-use frame_parts::EditHead;
-use frame_reader::{EventFrame, Frame};
+use crate::{EditHead, EventFrame, Frame};
 use market_types::{EditMark, Entry, Feed, FeedList, Memory, Record, Trace, What};
 use std::alloc::Global;
 

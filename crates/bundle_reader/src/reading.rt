@@ -8,7 +8,7 @@ use crate::bundle::{Bundle, Told};
 use crate::entries::Last;
 use branch_tree::Name;
 use bundle_frames::Closing;
-use frame_reader::HeaderFrame;
+use crate::HeaderFrame;
 use market_types::{Feed, FeedList, Memory, Sequence, Trace};
 
 // The header, and the branches that were read whole.

@@ -6,12 +6,11 @@ ghost use Rattle.bundle_reader.specs.Order.{branch_of, is_closed, take_closing, 
 ghost use Rattle.bundle_reader.specs.Reads.{Takes};
 
 use crate::bundle::{Bundle, Told};
-use crate::closing;
+use crate::{closing, Frame};
 use crate::entries::{Last, take_entry};
 use crate::opening::take_opening;
 use crate::reading::{Begun, Misplaced, Reading, Whole};
 use bundle_frames::Closing;
-use frame_reader::Frame;
 use market_types::{Feed, FeedList, Sequence, Trace};
 use std::alloc::Global;
 

@@ -6,12 +6,12 @@ use Rattle.bundle_frames.specs.declared.closing.Closing.{Closing}
 use Rattle.branch_tree.specs.declared.segment.Segment.{Segment}
 use Rattle.branch_tree.specs.Plan.{Plan}
 use Rattle.branch_tree.specs.Segments.{segments_in, segment_at, no_segment}
-use Rattle.market_opening.specs.declared.opening.Opening.{Opening}
+use Rattle.market_floor.specs.declared.opening.Opening.{Opening}
 use Rattle.kernel_core.specs.State.{State}
 use Rattle.kernel_core.specs.Until.{Run}
 use Rattle.kernel_copy.specs.Segmentwise.{segment_end, segment_run, own_count, own_before, distinct}
 use Rattle.kernel_copy.specs.Courses.{CourseTold, IsCourse, CheckpointTold, kept_of, kept_before}
-use Rattle.market_closing.specs.Closing.{closing_at}
+use Rattle.kernel_copy.specs.Closing.{closing_at}
 use Rattle.kernel_copy.specs.declared.kept.Keep.{Keep}
 use Rattle.kernel_copy.specs.Kept.{KeptTold}
 use Rattle.kernel_copy.specs.Ran.{RanTold, ran_as}

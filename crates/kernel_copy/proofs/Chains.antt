@@ -8,7 +8,7 @@ use Rattle.branch_tree.specs.Segments.{segments_in, segment_at, last_of}
 use Rattle.branch_tree.specs.Planned.{IsTree}
 use Rattle.branch_tree.proofs.PartLemmas.{last-at}
 use Rattle.market_types.specs.Told.{EntryTold}
-use Rattle.market_opening.specs.declared.opening.Opening.{Opening}
+use Rattle.market_floor.specs.declared.opening.Opening.{Opening}
 use Rattle.kernel_core.specs.Until.{Run}
 use Rattle.kernel_copy.specs.Full.{opening_run, full}
 use Rattle.kernel_copy.specs.Segmentwise.{segment_end, parent_end, segment_entries, from_count, own_count, chain_within, chain_to, chain_of}

@@ -29,11 +29,11 @@ use Rattle.exchange_agent.specs.Changes.{changed_by as market_changed}
 use Rattle.exchange_agent.proofs.Shorts.{short-change}
 use Rattle.exchange_agent.proofs.Tellings.{at-change, keeps-change}
 use Rattle.exchange_agent.proofs.Withins.{within-more, within-sum}
-use Rattle.trader_party.specs.Party.{PartyState, with_trader}
-use Rattle.market_opening.specs.declared.opening.Opening.{Opening}
-use Rattle.kernel_mail.specs.Post.{Post}
-use Rattle.kernel_mail.specs.Send.{order_at}
-use Rattle.kernel_mail.proofs.Posts.{all-joins}
+use Rattle.market_floor.specs.Party.{PartyState, with_trader}
+use Rattle.market_floor.specs.declared.opening.Opening.{Opening}
+use Rattle.kernel_core.specs.Post.{Post}
+use Rattle.kernel_core.specs.Send.{order_at}
+use Rattle.kernel_core.proofs.Posts.{all-joins}
 use Rattle.market_floor.specs.Edited.{IsParamOf, edited_floor}
 use Rattle.market_floor.specs.Floor.{FloorState, floor_at_opening, nobody, offset_at, party_at, with_exchange, with_offset, with_party}
 use Rattle.kernel_core.specs.State.{State}

@@ -22,18 +22,18 @@ use Rattle.agent_shell.specs.Trader.{Trader}
 use Rattle.agent_shell.specs.Wakeup.{next_wakeup}
 use Rattle.agent_shell.proofs.Kept.{all-own, replied-own}
 use Rattle.agent_shell.proofs.Sent.{decided-sent}
-use Rattle.trader_party.specs.Party.{PartyState, reacted, silenced, with_trader}
+use Rattle.market_floor.specs.Party.{PartyState, reacted, silenced, with_trader}
 use Rattle.exchange_agent.specs.declared.handled.Outgoing.{Outgoing}
 use Rattle.exchange_agent.specs.Changes.{changed_by}
 use Rattle.exchange_agent.specs.Market.{market}
 use Rattle.exchange_agent.specs.State.{State, Stock}
 use Rattle.exchange_agent.proofs.Shorts.{short-change}
 use Rattle.exchange_agent.proofs.Tellings.{at-change, at-time, keeps-change, keeps-size}
-use Rattle.market_opening.specs.declared.opening.Opening.{Opening}
-use Rattle.market_opening.specs.declared.posting.Posting.{Posting}
-use Rattle.market_opening.specs.declared.posting.Posting.TheVariants as posting
-use Rattle.market_opening.specs.Opening.{IsDated, IsOpening}
-use Rattle.market_opening.specs.Postings.{earliest_of}
+use Rattle.market_floor.specs.declared.opening.Opening.{Opening}
+use Rattle.market_floor.specs.declared.posting.Posting.{Posting}
+use Rattle.market_floor.specs.declared.posting.Posting.TheVariants as posting
+use Rattle.market_floor.specs.Opening.{IsDated, IsOpening}
+use Rattle.market_floor.specs.Postings.{earliest_of}
 use Rattle.market_floor.specs.Floor.{FloorState, nobody, party_at, with_exchange, with_party}
 use Rattle.market_floor.specs.Posted.{to_exchange, to_receiver}
 use Rattle.market_floor.specs.Reaction.{Reaction, decided_by, market_reaction, reaction, sight_at, trader_reaction}

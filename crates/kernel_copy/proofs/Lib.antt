@@ -1,3 +1,4 @@
+pub mod Positions
 pub mod Trees
 pub mod Floors
 pub mod States

@@ -8,13 +8,13 @@ use Rattle.exchange_agent.specs.Sound.{IsWithin}
 use Rattle.agent_shell.specs.Sound.{IsTrader}
 use Rattle.agent_shell.specs.Tokens.{IsGiven}
 use Rattle.exchange_agent.specs.Open.{listed}
-use Rattle.trader_party.specs.Party.{PartyState, party_at_opening}
-use Rattle.market_opening.specs.declared.opening.Opening.{Opening}
-use Rattle.market_opening.specs.declared.posting.Posting.TheVariants.{WakeAt}
-use Rattle.market_opening.specs.Opening.{IsOpening, IsTraderOf, cash_of}
-use Rattle.kernel_mail.specs.Post.{Post, nothing_waits}
-use Rattle.kernel_mail.specs.Send.{message_of, sent}
-use Rattle.kernel_mail.proofs.Posts.{all-joins}
+use Rattle.market_floor.specs.Party.{PartyState, party_at_opening}
+use Rattle.market_floor.specs.declared.opening.Opening.{Opening}
+use Rattle.market_floor.specs.declared.posting.Posting.TheVariants.{WakeAt}
+use Rattle.market_floor.specs.Opening.{IsOpening, IsTraderOf, cash_of}
+use Rattle.kernel_core.specs.Post.{Post, nothing_waits}
+use Rattle.kernel_core.specs.Send.{message_of, sent}
+use Rattle.kernel_core.proofs.Posts.{all-joins}
 use Rattle.market_floor.specs.Floor.{floor_at_opening, parties_from}
 use Rattle.kernel_core.specs.Open.{opened, woken}
 use Rattle.kernel_copy.specs.Reached.{IsReached, IsReachedFloor}

@@ -8,7 +8,7 @@ use Rattle.market_types.specs.declared.entry.Entry.{Entry}
 use Rattle.market_types.specs.declared.entry.End.{End}
 use Rattle.market_types.specs.Told.{EntryTold, entry_told}
 use Rattle.market_types.specs.Timely.{IsTimely}
-use Rattle.market_opening.specs.declared.opening.Opening.{Opening}
+use Rattle.market_floor.specs.declared.opening.Opening.{Opening}
 use Rattle.bundle_frames.specs.Frames.{entry_frames}
 use Rattle.kernel_core.specs.State.{State}
 use Rattle.kernel_core.specs.Step.{end_of}

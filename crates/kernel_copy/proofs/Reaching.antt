@@ -14,7 +14,7 @@ use Rattle.branch_tree.specs.declared.branch.Branch.{Branch}
 use Rattle.branch_tree.specs.Paths.{path_of, path_within}
 use Rattle.branch_tree.specs.Plan.{no_branch, branch_at, parent_at, stop_at}
 use Rattle.branch_tree.specs.Segments.{segments_in, segment_at}
-use Rattle.market_opening.specs.declared.opening.Opening.{Opening}
+use Rattle.market_floor.specs.declared.opening.Opening.{Opening}
 use Rattle.kernel_core.specs.Open.{opened}
 use Rattle.kernel_core.specs.State.{State}
 use Rattle.kernel_core.specs.Step.{end_of, event_of}

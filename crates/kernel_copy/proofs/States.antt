@@ -12,13 +12,13 @@ use Rattle.market_rules.specs.Changes.{dated_by, is_due}
 use Rattle.latency_model.specs.Tables.{Tables, group_count}
 use Rattle.event_queue.specs.Waiting.{least}
 use Rattle.event_queue.proofs.Kept.{all-joined, all-least, all-without}
-use Rattle.market_opening.specs.declared.opening.Opening.{Opening}
-use Rattle.market_opening.specs.declared.posting.Posting.{Posting}
-use Rattle.market_opening.specs.Postings.{earliest_of}
-use Rattle.kernel_mail.specs.Post.{Post, joins, taken}
-use Rattle.kernel_mail.specs.Send.{all_sent, message_of, sent}
-use Rattle.kernel_mail.proofs.Posts.{all-joins, joins-cases}
-use Rattle.kernel_mail.proofs.Sends.{due-message}
+use Rattle.market_floor.specs.declared.opening.Opening.{Opening}
+use Rattle.market_floor.specs.declared.posting.Posting.{Posting}
+use Rattle.market_floor.specs.Postings.{earliest_of}
+use Rattle.kernel_core.specs.Post.{Post, joins, taken}
+use Rattle.kernel_core.specs.Send.{all_sent, message_of, sent}
+use Rattle.kernel_core.proofs.Posts.{all-joins, joins-cases}
+use Rattle.kernel_core.proofs.Sends.{due-message}
 use Rattle.market_floor.specs.Reaction.{reaction}
 use Rattle.market_floor.specs.Ruled.{applied_by, ruled}
 use Rattle.kernel_core.specs.State.{State}

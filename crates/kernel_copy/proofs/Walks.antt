@@ -9,7 +9,7 @@ use Rattle.branch_tree.specs.Planned.{IsTree, IsNext, IsFork, HasParent, ParentI
 use Rattle.branch_tree.proofs.PathLemmas.{rest-more}
 use Rattle.branch_tree.proofs.PartLemmas.{last-at, planned}
 use Rattle.market_types.specs.Told.{EntryTold}
-use Rattle.market_opening.specs.declared.opening.Opening.{Opening}
+use Rattle.market_floor.specs.declared.opening.Opening.{Opening}
 use Rattle.kernel_core.specs.Until.{Run, behind, until}
 use Rattle.kernel_core.proofs.EditRuns.{edited-events, edited-behind}
 use Rattle.kernel_core.proofs.Stops.{until-grows, until-within, until-again, until-until, until-behind}

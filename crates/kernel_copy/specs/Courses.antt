@@ -5,8 +5,8 @@ use Rattle.branch_tree.specs.declared.branch.Branch.{Branch}
 use Rattle.branch_tree.specs.Plan.{Plan}
 use Rattle.branch_tree.specs.Tree.{IsRooted, plan_refusal}
 use Rattle.branch_tree.specs.Segments.{segments_in, segment_at, last_of}
-use Rattle.market_opening.specs.declared.opening.Opening.{Opening}
-use Rattle.market_opening.specs.Opening.{IsOpening}
+use Rattle.market_floor.specs.declared.opening.Opening.{Opening}
+use Rattle.market_floor.specs.Opening.{IsOpening}
 use Rattle.kernel_core.specs.Open.{opened}
 use Rattle.kernel_core.specs.Edited.{IsEditOf}
 use Rattle.kernel_core.specs.State.{State}

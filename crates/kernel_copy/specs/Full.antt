@@ -3,7 +3,7 @@ use Rattle.std.specs.Prelude.{ℕ, nat_le, if◌then◌else◌, List, [], ◌∷
 use Rattle.branch_tree.specs.declared.branch.Branch.{Branch}
 use Rattle.branch_tree.specs.Plan.{Plan, branch_at, stop_at}
 use Rattle.branch_tree.specs.Paths.{path_of}
-use Rattle.market_opening.specs.declared.opening.Opening.{Opening}
+use Rattle.market_floor.specs.declared.opening.Opening.{Opening}
 use Rattle.kernel_core.specs.Open.{opened}
 use Rattle.kernel_core.specs.Until.{Run, until}
 use Rattle.kernel_core.specs.Edited.{edited}

@@ -1,3 +1,4 @@
+pub mod Closing
 pub mod Full
 pub mod Segmentwise
 pub mod Reached
@@ -5,3 +6,5 @@ pub mod Courses
 pub mod Kept
 pub mod Ran
 pub mod Outcomes
+pub mod States
+pub mod Worked

@@ -4,7 +4,7 @@ use Rattle.bundle_frames.specs.declared.closing.Closing.{Closing}
 use Rattle.branch_tree.specs.Segments.{segment_at}
 use Rattle.kernel_copy.specs.declared.kept.Keep.{Keep}
 use Rattle.kernel_copy.specs.declared.run.Outcome.{Outcome}
-use Rattle.market_closing.specs.Closing.{closing_at}
+use Rattle.kernel_copy.specs.Closing.{closing_at}
 use Rattle.kernel_copy.specs.Segmentwise.{segment_end, segment_entries}
 use Rattle.kernel_copy.specs.Courses.{CourseTold}
 use Rattle.kernel_copy.specs.Kept.{KeptTold, kept_told, kept_as}

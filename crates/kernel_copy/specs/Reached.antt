@@ -5,9 +5,9 @@ use Rattle.market_rules.specs.declared.edit.Param.{Param}
 use Rattle.agent_shell.specs.Parameters.{IsOwnParam}
 use Rattle.exchange_agent.specs.Sound.{IsWithin}
 use Rattle.agent_shell.specs.Sound.{IsTrader}
-use Rattle.trader_party.specs.Party.{PartyState}
+use Rattle.market_floor.specs.Party.{PartyState}
 use Rattle.exchange_agent.specs.State.{Stock}
-use Rattle.market_opening.specs.declared.opening.Opening.{Opening}
+use Rattle.market_floor.specs.declared.opening.Opening.{Opening}
 use Rattle.market_floor.specs.Floor.{FloorState, floor_at_opening, party_at}
 use Rattle.kernel_core.specs.State.{State}
 use Rattle.kernel_core.specs.Step.{Fits}

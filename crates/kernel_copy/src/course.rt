@@ -3,13 +3,13 @@
 ghost use Rattle.std.specs.Prelude.{◌≡◌, ◌<◌, ◌≤◌, ℕ, Some, length, All};
 ghost use Rattle.branch_tree.specs.Plan.{branch_at};
 ghost use Rattle.branch_tree.specs.Segments.{last_of, segments_in, segment_at};
-ghost use Rattle.market_opening.specs.Opening.{IsOpening};
+ghost use Rattle.market_floor.specs.Opening.{IsOpening};
 ghost use Rattle.kernel_core.specs.Edited.{IsEditOf};
 ghost use Rattle.kernel_core.specs.Open.{opened};
 ghost use Rattle.kernel_copy.specs.Courses.{AreEdits, IsCourse, GoesOnFrom};
 
 use branch_tree::{BranchPlan, Segment};
-use market_opening::Opening;
+use market_floor::Opening;
 use market_rules::Edit;
 use std::marker::Model;
 

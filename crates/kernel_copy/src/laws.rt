@@ -15,7 +15,7 @@ ghost use Rattle.kernel_copy.specs.Segmentwise.{segment_end, segment_run, segmen
 use crate::course::Course;
 use branch_tree::BranchPlan;
 use exchange_agent::laws::books_stay_short;
-use market_opening::Opening;
+use market_floor::Opening;
 use std::sync::Arc;
 
 /// Branches that run segment by segment, each from its parent's end, give each branch's full run.

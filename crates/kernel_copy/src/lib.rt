@@ -1,17 +1,25 @@
-//! Branches run segment by segment, each from a copy of the state that its parent ends with.
+//! Branches run segment by segment, each from a copy of the state that its parent ends with; the closing and the frames of a state.
 //!
 //! Contracts see a course as its opening and plan. A branch's full run goes from the opening and knows no segment; the laws say
 //! that the segments' own runs one after another are the full run, for every tree of branches.
 #![tactic(auto)]
 
 mod checkpoint;
+mod closing;
+pub mod closing_laws;
 mod course;
 mod kept;
 pub mod laws;
 mod run;
+mod state;
+mod waiting;
+pub mod worked_closing;
+pub mod worked_states;
 
 pub use checkpoint::Checkpoint;
+pub use closing::closing_of;
 pub use course::Course;
 pub use kept::{Keep, Kept};
 pub use run::{Outcome, Ran, go_on, goes_on, kept_end, outcome_at, run_segments};
 pub use shelf_core::Key;
+pub use state::state_frames;

@@ -5,14 +5,14 @@ use Rattle.std.proofs.lemmas.List.{length-replicate}
 use Rattle.std.proofs.lemmas.List.Elements.{All-cons, All-nil, All-weaker, recursion_from_All}
 use Rattle.latency_model.specs.Tables.{Tables}
 use Rattle.agent_shell.specs.declared.setting.TraderSetting.{TraderSetting}
-use Rattle.market_opening.specs.declared.opening.Opening.{Opening}
-use Rattle.market_opening.specs.declared.posting.Posting.{Posting}
-use Rattle.market_opening.specs.declared.posting.Posting.TheVariants.{WakeAt}
-use Rattle.market_opening.specs.Opening.{IsOpening, IsTraderOf}
-use Rattle.market_opening.specs.Postings.{IsAddressed, earliest_of}
-use Rattle.kernel_mail.specs.Post.{Post, nothing_waits}
-use Rattle.kernel_mail.specs.Send.{all_sent, sent}
-use Rattle.kernel_mail.specs.Sound.{IsSoundMail}
+use Rattle.market_floor.specs.declared.opening.Opening.{Opening}
+use Rattle.market_floor.specs.declared.posting.Posting.{Posting}
+use Rattle.market_floor.specs.declared.posting.Posting.TheVariants.{WakeAt}
+use Rattle.market_floor.specs.Opening.{IsOpening, IsTraderOf}
+use Rattle.market_floor.specs.Postings.{IsAddressed, earliest_of}
+use Rattle.kernel_core.specs.Post.{Post, nothing_waits}
+use Rattle.kernel_core.specs.Send.{all_sent, sent}
+use Rattle.kernel_core.specs.SoundMail.{IsSoundMail}
 use Rattle.market_floor.specs.Floor.{FloorState}
 use Rattle.market_floor.specs.Sound.{FitsFloor, IsSoundFloor}
 use Rattle.kernel_core.specs.Open.{woken}

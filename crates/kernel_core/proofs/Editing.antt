@@ -5,9 +5,9 @@ use Rattle.market_rules.specs.declared.edit.Edit.{Edit}
 use Rattle.market_rules.specs.declared.edit.Edit.TheVariants.{Tick, Fee, Halt, Resume, Latency, Agent, Silence, Inject, Series}
 use Rattle.market_rules.specs.EditRanges.{is_among, is_in_range}
 use Rattle.market_types.specs.declared.order.Inbound.{Inbound}
-use Rattle.kernel_mail.specs.Post.{Post}
-use Rattle.kernel_mail.specs.Send.{injected}
-use Rattle.kernel_mail.specs.Sound.{IsSoundMail}
+use Rattle.kernel_core.specs.Post.{Post}
+use Rattle.kernel_core.specs.Send.{injected}
+use Rattle.kernel_core.specs.SoundMail.{IsSoundMail}
 use Rattle.kernel_core.specs.Edited.{IsMailEdit, IsTableEdit, mail_after}
 
 pub table-edit : (stocks traders groups : ℕ) (e : Edit) → is_among stocks traders groups e ≡ true → is_in_range e ≡ true → IsTableEdit groups e

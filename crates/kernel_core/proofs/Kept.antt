@@ -8,8 +8,8 @@ use Rattle.agent_shell.specs.Sight.{Sight}
 use Rattle.agent_shell.specs.Trader.{Trader}
 use Rattle.agent_shell.specs.declared.setting.TraderSetting.{TraderSetting}
 use Rattle.exchange_agent.specs.Market.{market}
-use Rattle.trader_party.specs.Party.{PartyState, reacted, silenced}
-use Rattle.market_opening.specs.declared.opening.Opening.{Opening}
+use Rattle.market_floor.specs.Party.{PartyState, reacted, silenced}
+use Rattle.market_floor.specs.declared.opening.Opening.{Opening}
 use Rattle.market_floor.specs.Floor.{FloorState, party_at, nobody}
 use Rattle.market_floor.specs.Reaction.{Reaction, decided_by, market_reaction, reaction, trader_reaction}
 use Rattle.market_floor.specs.Ruled.{ruled}

@@ -1,3 +1,7 @@
+pub mod Posts
+pub mod Queues
+pub mod Sends
+pub mod SoundMail
 pub mod Runs
 pub mod Sound
 pub mod Begun

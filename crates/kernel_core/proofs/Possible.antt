@@ -9,8 +9,8 @@ use Rattle.market_rules.specs.EditRanges.{is_among}
 use Rattle.agent_shell.specs.declared.setting.Kind.{Kind}
 use Rattle.agent_shell.specs.declared.setting.TraderSetting.{TraderSetting}
 use Rattle.agent_shell.specs.Parameters.{IsOwnParam, kind_with, setting_with}
-use Rattle.trader_party.specs.Party.{PartyState}
-use Rattle.market_opening.specs.declared.opening.Opening.{Opening}
+use Rattle.market_floor.specs.Party.{PartyState}
+use Rattle.market_floor.specs.declared.opening.Opening.{Opening}
 use Rattle.market_floor.specs.Edited.{IsParamOf, edited_floor}
 use Rattle.market_floor.specs.Floor.{FloorState, nobody, party_at}
 use Rattle.kernel_core.specs.State.{State}

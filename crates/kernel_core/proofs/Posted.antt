@@ -7,10 +7,10 @@ use Rattle.market_types.specs.Limits.{most_waiting}
 use Rattle.market_types.specs.declared.message.Message.{Message}
 use Rattle.event_queue.specs.Waiting.{joined}
 use Rattle.latency_model.specs.Tables.{Tables}
-use Rattle.market_opening.specs.declared.opening.Opening.{Opening}
-use Rattle.market_opening.specs.declared.posting.Posting.{Posting}
-use Rattle.kernel_mail.specs.Post.{Post, joins}
-use Rattle.kernel_mail.specs.Send.{all_sent, sent}
+use Rattle.market_floor.specs.declared.opening.Opening.{Opening}
+use Rattle.market_floor.specs.declared.posting.Posting.{Posting}
+use Rattle.kernel_core.specs.Post.{Post, joins}
+use Rattle.kernel_core.specs.Send.{all_sent, sent}
 
 -- the next posting of a list joins
 pub all_sent-next : (o : Opening) (groups : Tables) (from leave : ℕ) (p : Post) (xs : List Posting) (i : ℕ) (x : Posting) → slice_get xs i ≡ Some x

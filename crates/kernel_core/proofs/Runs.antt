@@ -7,7 +7,7 @@ use Rattle.market_types.specs.declared.entry.End.{End}
 use Rattle.market_types.specs.declared.entry.End.TheVariants.{QueueFull, EventLimit, Closed}
 use Rattle.market_types.specs.Told.{event}
 use Rattle.event_queue.specs.Waiting.{least}
-use Rattle.market_opening.specs.declared.opening.Opening.{Opening}
+use Rattle.market_floor.specs.declared.opening.Opening.{Opening}
 use Rattle.kernel_core.specs.declared.stepped.Stepped.TheVariants.{Ended}
 use Rattle.kernel_core.specs.State.{State}
 use Rattle.kernel_core.specs.Step.{Happened, event_of, event_back, event_delivered, end_of, end_of_waiting, answer_by}

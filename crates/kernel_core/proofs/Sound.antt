@@ -5,10 +5,10 @@ use Rattle.market_types.specs.Limits.{last_time, most_events}
 use Rattle.market_types.specs.declared.message.Message.{Message}
 use Rattle.latency_model.specs.Tables.{Tables, group_count}
 use Rattle.event_queue.specs.Waiting.{least}
-use Rattle.market_opening.specs.declared.opening.Opening.{Opening}
-use Rattle.market_opening.specs.Postings.{IsAmong}
-use Rattle.kernel_mail.specs.Post.{Post}
-use Rattle.kernel_mail.specs.Sound.{IsSoundMail}
+use Rattle.market_floor.specs.declared.opening.Opening.{Opening}
+use Rattle.market_floor.specs.Postings.{IsAmong}
+use Rattle.kernel_core.specs.Post.{Post}
+use Rattle.kernel_core.specs.SoundMail.{IsSoundMail}
 use Rattle.market_floor.specs.Floor.{FloorState}
 use Rattle.market_floor.specs.Sound.{FitsFloor, IsSoundFloor}
 use Rattle.kernel_core.specs.State.{State}

@@ -6,7 +6,7 @@ use Rattle.market_types.specs.Told.{EntryTold, event}
 use Rattle.market_types.specs.declared.entry.End.{End}
 use Rattle.market_types.specs.declared.entry.End.TheVariants.{QueueFull, EventLimit}
 use Rattle.event_queue.specs.Waiting.{least}
-use Rattle.market_opening.specs.declared.opening.Opening.{Opening}
+use Rattle.market_floor.specs.declared.opening.Opening.{Opening}
 use Rattle.kernel_core.specs.State.{State}
 use Rattle.kernel_core.specs.Step.{Happened, end_of, end_of_waiting, step_of}
 use Rattle.kernel_core.specs.Until.{Run, with_event, advanced, advanced_by, until, behind}

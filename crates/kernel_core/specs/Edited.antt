@@ -7,8 +7,8 @@ use Rattle.market_rules.specs.declared.edit.Edit.TheVariants.{Latency, Inject}
 use Rattle.market_rules.specs.EditRanges.{is_among, is_in_range}
 use Rattle.market_rules.specs.Edits.{letter_of}
 use Rattle.latency_model.specs.Tables.{Tables, group_count, with_pair}
-use Rattle.kernel_mail.specs.Post.{Post}
-use Rattle.kernel_mail.specs.Send.{injected}
+use Rattle.kernel_core.specs.Post.{Post}
+use Rattle.kernel_core.specs.Send.{injected}
 use Rattle.market_floor.specs.Edited.{IsParamOf, edited_floor}
 use Rattle.kernel_core.specs.State.{State}
 use Rattle.kernel_core.specs.Until.{Run}

@@ -1,3 +1,8 @@
+pub mod Post
+pub mod Send
+pub mod Sendable
+pub mod SoundMail
+pub mod MailWorked
 pub mod State
 pub mod Open
 pub mod Step

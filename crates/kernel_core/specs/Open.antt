@@ -1,10 +1,10 @@
 -- The state before the first event.
 use Rattle.std.specs.Prelude.{ℕ, ◌+◌, List, [], ◌∷◌, length, replicate}
 use Rattle.agent_shell.specs.declared.setting.TraderSetting.{TraderSetting}
-use Rattle.market_opening.specs.declared.opening.Opening.{Opening}
-use Rattle.market_opening.specs.declared.posting.Posting.TheVariants.{WakeAt}
-use Rattle.kernel_mail.specs.Post.{Post, nothing_waits}
-use Rattle.kernel_mail.specs.Send.{sent}
+use Rattle.market_floor.specs.declared.opening.Opening.{Opening}
+use Rattle.market_floor.specs.declared.posting.Posting.TheVariants.{WakeAt}
+use Rattle.kernel_core.specs.Post.{Post, nothing_waits}
+use Rattle.kernel_core.specs.Send.{sent}
 use Rattle.market_floor.specs.Floor.{floor_at_opening}
 use Rattle.kernel_core.specs.State.{State}
 

@@ -1,7 +1,7 @@
 -- What holds of every state that a kernel keeps.
 use Rattle.std.specs.Prelude.{◌≡◌, ◌≤◌, ◌+◌, length}
 use Rattle.market_types.specs.Limits.{last_time, most_events}
-use Rattle.kernel_mail.specs.Sound.{IsSoundMail}
+use Rattle.kernel_core.specs.SoundMail.{IsSoundMail}
 use Rattle.market_floor.specs.Sound.{IsSoundFloor}
 use Rattle.kernel_core.specs.State.{State}
 

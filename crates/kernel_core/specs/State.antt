@@ -1,7 +1,7 @@
 -- The kernel's state as plain data.
 use Rattle.std.specs.Prelude.{ℕ, List}
 use Rattle.latency_model.specs.Tables.{Tables}
-use Rattle.kernel_mail.specs.Post.{Post}
+use Rattle.kernel_core.specs.Post.{Post}
 use Rattle.market_floor.specs.Floor.{FloorState}
 
 -- The time of the last event, the count of events, how many dated changes were applied, what waits, the own time of each

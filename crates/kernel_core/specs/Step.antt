@@ -7,10 +7,10 @@ use Rattle.market_types.specs.declared.feed.Feed.{Feed}
 use Rattle.market_types.specs.Told.{EventTold}
 use Rattle.latency_model.specs.Tables.{group_count}
 use Rattle.event_queue.specs.Waiting.{least}
-use Rattle.market_opening.specs.declared.opening.Opening.{Opening}
-use Rattle.market_opening.specs.Opening.{IsOpening}
-use Rattle.kernel_mail.specs.Post.{put_back as back_in_post, taken}
-use Rattle.kernel_mail.specs.Send.{all_sent}
+use Rattle.market_floor.specs.declared.opening.Opening.{Opening}
+use Rattle.market_floor.specs.Opening.{IsOpening}
+use Rattle.kernel_core.specs.Post.{put_back as back_in_post, taken}
+use Rattle.kernel_core.specs.Send.{all_sent}
 use Rattle.market_floor.specs.Ruled.{applied_by, ruled}
 use Rattle.market_floor.specs.Reaction.{Reaction, reaction}
 use Rattle.kernel_core.specs.declared.stepped.Stepped.{Stepped}

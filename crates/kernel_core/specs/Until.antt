@@ -1,7 +1,7 @@
 -- A run of events.
 use Rattle.std.specs.Prelude.{ℕ, ◌-◌, zero, suc, List, [], ◌∷◌, ◌++◌, Option, Some, None}
 use Rattle.market_types.specs.Told.{EntryTold, event}
-use Rattle.market_opening.specs.declared.opening.Opening.{Opening}
+use Rattle.market_floor.specs.declared.opening.Opening.{Opening}
 use Rattle.kernel_core.specs.State.{State}
 use Rattle.kernel_core.specs.Step.{Happened, step_of}
 

@@ -10,10 +10,10 @@ ghost use Rattle.kernel_core.specs.Step.{Fits};
 
 use crate::kernel::Kernel;
 use agent_shell::laws::parameters_stay_those_of_the_kind;
-use kernel_mail::Mail;
-use kernel_mail::laws::mail_stays_sound;
+use crate::Mail;
+use crate::mail_laws::mail_stays_sound;
 use latency_model::Groups;
-use market_opening::Opening;
+use market_floor::Opening;
 use market_rules::Edit;
 use market_types::{EditMark, Entry, FeedList, Memory, Time, Trace};
 use std::alloc::Global;

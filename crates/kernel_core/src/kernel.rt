@@ -10,10 +10,9 @@ ghost use Rattle.market_floor.specs.Floor.{offset_at, party_at};
 ghost use Rattle.kernel_core.specs.Step.{end_of};
 
 use exchange_agent::Exchange;
-use kernel_mail::Mail;
+use crate::Mail;
 use latency_model::Groups;
-use market_floor::Floor;
-use market_opening::Opening;
+use market_floor::{Floor, Opening};
 use market_types::{AgentNo, End, Memory, Message, StockNo, Time, TraderTold, copied};
 use std::alloc::Global;
 use std::marker::Model;

@@ -3,7 +3,7 @@
 ghost use Rattle.std.specs.Prelude.{◌≡◌, ◌≤◌, ℕ, List};
 ghost use Rattle.market_types.specs.Told.{EntryTold};
 ghost use Rattle.market_rules.specs.declared.edit.Edit.{Edit};
-ghost use Rattle.market_opening.specs.declared.opening.Opening.{Opening};
+ghost use Rattle.market_floor.specs.declared.opening.Opening.{Opening};
 ghost use Rattle.kernel_core.specs.Edited.{edited};
 ghost use Rattle.kernel_core.specs.Until.{Run, advanced_by, behind, until};
 

@@ -1,12 +1,16 @@
-//! The kernel: a machine of one thread that delivers waiting messages in order of time and number.
+//! The kernel: messages on their way, and one event after another.
 //!
 //! Contracts see a kernel as the plain record of its state, one event as a function of that state, and a run as events one
 //! after another.
 #![tactic(auto)]
 
 mod edit;
+mod jitter;
 mod kernel;
 pub mod laws;
+mod mail;
+pub mod mail_laws;
+pub mod mail_worked;
 mod opened;
 mod post;
 mod step;
@@ -14,5 +18,6 @@ mod stepped;
 pub mod worked;
 
 pub use kernel::{Kernel, KernelTold};
-pub use market_opening::Opening;
+pub use mail::Mail;
+pub use market_floor::Opening;
 pub use stepped::Stepped;

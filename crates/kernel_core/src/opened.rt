@@ -2,16 +2,15 @@
 
 ghost use Rattle.std.specs.Prelude.{◌≡◌, ◌≤◌, ◌+◌, IfOk, length, All};
 ghost use Rattle.market_types.specs.Limits.{most_traders};
-ghost use Rattle.market_opening.specs.Opening.{IsOpening, IsTraderOf};
+ghost use Rattle.market_floor.specs.Opening.{IsOpening, IsTraderOf};
 ghost use Rattle.kernel_core.specs.Open.{opened, woken};
 ghost use Rattle.kernel_core.specs.Step.{Fits};
 
 use crate::kernel::Kernel;
 use agent_shell::TraderSetting;
-use kernel_mail::Mail;
-use kernel_mail::laws::{mail_stays_sound, openings_are_grouped};
-use market_floor::Floor;
-use market_opening::{Opening, Posting};
+use crate::Mail;
+use crate::mail_laws::{mail_stays_sound, openings_are_grouped};
+use market_floor::{Floor, Opening, Posting};
 use market_types::Memory;
 use std::alloc::Global;
 

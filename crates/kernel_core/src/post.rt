@@ -2,15 +2,14 @@
 
 ghost use Rattle.std.specs.Prelude.{◌≡◌, ◌<◌, ◌≤◌, ◌+◌, ◌^◌, length, All};
 ghost use Rattle.latency_model.specs.Tables.{group_count};
-ghost use Rattle.market_opening.specs.Opening.{IsOpening};
-ghost use Rattle.market_opening.specs.Postings.{IsAddressed};
-ghost use Rattle.kernel_mail.specs.Send.{all_sent};
+ghost use Rattle.market_floor.specs.Opening.{IsOpening};
+ghost use Rattle.market_floor.specs.Postings.{IsAddressed};
+ghost use Rattle.kernel_core.specs.Send.{all_sent};
 
-use kernel_mail::Mail;
-use kernel_mail::laws::openings_are_grouped;
+use crate::Mail;
+use crate::mail_laws::openings_are_grouped;
 use latency_model::Groups;
-use market_floor::Postings;
-use market_opening::Opening;
+use market_floor::{Opening, Postings};
 use market_types::{AgentNo, Time};
 
 // Each posting of an agent that leaves at a time joins in turn, or is dropped.

@@ -2,7 +2,7 @@
 
 ghost use Rattle.std.specs.Prelude.{◌≡◌, [], ◌∷◌, Some, true, false};
 ghost use Rattle.market_types.specs.declared.entry.End.TheVariants as why;
-ghost use Rattle.market_opening.specs.Worked.{market, watcher};
+ghost use Rattle.market_floor.specs.OpeningWorked.{market, watcher};
 ghost use Rattle.kernel_core.specs.Worked.{ended, full_run, rows};
 
 /// Two watchers of a market that closes at 1005 wake and ask, and the market closes before a quote is heard.

@@ -5,8 +5,8 @@ use Rattle.std.proofs.lemmas.List.Elements.{All-cons, All-nil, All-weaker}
 use Rattle.market_rules.specs.declared.changes.Dated.{Dated}
 use Rattle.fundamental_series.specs.Made.{Made, by_rows, by_rule}
 use Rattle.agent_shell.specs.declared.setting.TraderSetting.{TraderSetting}
-use Rattle.market_opening.specs.declared.opening.Opening.{Opening}
-use Rattle.market_opening.specs.Opening.{AreDated, IsDated, IsOpening, IsSeriesFor, IsTraderOf, no_series}
+use Rattle.market_floor.specs.declared.opening.Opening.{Opening}
+use Rattle.market_floor.specs.Opening.{AreDated, IsDated, IsOpening, IsSeriesFor, IsTraderOf, no_series}
 use Rattle.kernel_tests.specs.Examples.{later_ticks}
 
 -- the series of an opening are those of the same opening with other dated changes

@@ -16,15 +16,15 @@ use Rattle.agent_shell.specs.declared.setting.TraderSetting.{TraderSetting}
 use Rattle.agent_shell.specs.declared.setting.Kind.TheVariants.{Watcher, Noise, Value, Momentum, Maker}
 use Rattle.market_rules.specs.declared.edit.Param.TheVariants as parameter
 use Rattle.agent_shell.specs.Parameters.{IsKind, IsOwnParam}
-use Rattle.market_opening.specs.declared.opening.Opening.{Opening}
-use Rattle.market_opening.specs.declared.posting.Posting.{Posting}
-use Rattle.market_opening.specs.declared.posting.Posting.TheVariants.{WakeAt}
-use Rattle.market_opening.specs.Opening.{IsOpening, IsTraderOf}
-use Rattle.market_opening.specs.Worked.{market_of, trader}
+use Rattle.market_floor.specs.declared.opening.Opening.{Opening}
+use Rattle.market_floor.specs.declared.posting.Posting.{Posting}
+use Rattle.market_floor.specs.declared.posting.Posting.TheVariants.{WakeAt}
+use Rattle.market_floor.specs.Opening.{IsOpening, IsTraderOf}
+use Rattle.market_floor.specs.OpeningWorked.{market_of, trader}
 use Rattle.kernel_core.specs.State.{State}
 use Rattle.market_floor.specs.Floor.{party_at}
-use Rattle.kernel_mail.specs.Post.{Post, nothing_waits}
-use Rattle.kernel_mail.specs.Send.{message_of, sent}
+use Rattle.kernel_core.specs.Post.{Post, nothing_waits}
+use Rattle.kernel_core.specs.Send.{message_of, sent}
 use Rattle.kernel_core.specs.Open.{opened, woken}
 use Rattle.kernel_core.specs.Step.{Fits}
 use Rattle.kernel_core.specs.Edited.{IsEditOf}

@@ -17,8 +17,8 @@ use Rattle.market_rules.specs.declared.edit.Edit.TheVariants as kind
 use Rattle.market_rules.specs.declared.edit.Param.TheVariants as parameter
 use Rattle.market_rules.specs.EditRanges.{is_modest_fee, is_modest_table, is_near_zero}
 use Rattle.exchange_agent.specs.Worked.{order}
-use Rattle.market_opening.specs.declared.opening.Opening.{Opening}
-use Rattle.market_opening.specs.Worked.{market, watcher}
+use Rattle.market_floor.specs.declared.opening.Opening.{Opening}
+use Rattle.market_floor.specs.OpeningWorked.{market, watcher}
 use Rattle.market_floor.specs.Floor.{party_at}
 use Rattle.kernel_core.specs.Edited.{edited}
 use Rattle.kernel_core.specs.Until.{Run, until}

@@ -8,14 +8,14 @@ ghost use Rattle.std.specs.Prelude.{◌≡◌, ◌≤◌, ◌∷◌, [], ℕ, If
 ghost use Rattle.agent_shell.specs.Parameters.{IsKind};
 ghost use Rattle.market_types.specs.Limits.{longest_delay};
 ghost use Rattle.market_rules.specs.EditRanges.{is_near_zero};
-ghost use Rattle.market_opening.specs.Opening.{IsOpening};
-ghost use Rattle.market_opening.specs.Worked.{market_of, trader};
+ghost use Rattle.market_floor.specs.Opening.{IsOpening};
+ghost use Rattle.market_floor.specs.OpeningWorked.{market_of, trader};
 ghost use Rattle.kernel_core.specs.Step.{Fits};
 ghost use Rattle.kernel_tests.specs.Examples.{IsPlain};
 
 use agent_shell::{Kind, TraderSetting};
 use kernel_core::{Kernel, Opening};
-use market_opening::worked::{markets_are_openings, opening};
+use market_floor::opening_worked::{markets_are_openings, opening};
 use market_rules::{Band, Edit, FeeTable, Param, TickTable};
 use market_types::{End, Enter, Entry, Inbound, Memory, Side, Symbol, Time, Token, Trace};
 use outside::{Counted, Steps};

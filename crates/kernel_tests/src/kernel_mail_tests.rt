@@ -2,12 +2,12 @@
 
 ghost use Rattle.std.specs.Prelude.{◌≡◌, ◌<◌, ◌+◌, ◌^◌, ◌∷◌, [], IfOk};
 ghost use Rattle.latency_model.specs.Tables.{group_count};
-ghost use Rattle.market_opening.specs.Worked.{market, watcher};
+ghost use Rattle.market_floor.specs.OpeningWorked.{market, watcher};
 
 use agent_shell::{Kind, TraderSetting};
-use kernel_mail::Mail;
+use kernel_core::Mail;
 use latency_model::Groups;
-use market_opening::{worked::opening, Opening, Posting};
+use market_floor::{opening_worked::opening, Opening, Posting};
 use market_types::{Body, Cancel, Inbound, Memory, Message, Token};
 use std::alloc::Global;
 use std::test::Fail;

@@ -1,15 +1,14 @@
 //! Deliveries, halts at their times, copies and edits of a floor.
 
 ghost use Rattle.std.specs.Prelude.{◌≡◌, ◌<◌, ◌+◌, IfOk};
-ghost use Rattle.market_opening.specs.Opening.{IsOpening};
+ghost use Rattle.market_floor.specs.Opening.{IsOpening};
 ghost use Rattle.market_floor.specs.Edited.{IsEdit};
 ghost use Rattle.market_floor.specs.Floor.{floor_at_opening};
 ghost use Rattle.market_floor.specs.Sound.{FitsFloor, IsSoundFloor};
 ghost use Rattle.market_floor.specs.Worked.{halting};
 
 use agent_shell::{Kind, TraderSetting};
-use market_floor::{applied_by, laws::floors_stay_sound, Floor, Happening};
-use market_opening::{worked::markets_are_openings, worked::opening, Opening, Posting};
+use market_floor::{applied_by, laws::floors_stay_sound, opening_worked::markets_are_openings, opening_worked::opening, Floor, Happening, Opening, Posting};
 use market_rules::{Change, Dated, DatedList, Edit};
 use market_types::{AgentNo, Body, Message, Quote, Time};
 use std::alloc::Global;

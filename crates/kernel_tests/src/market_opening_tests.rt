@@ -1,7 +1,7 @@
 //! An opening made in code.
 
 use agent_shell::{Kind, TraderSetting};
-use market_opening::{group_number, worked::opening};
+use market_floor::{group_number, opening_worked::opening};
 use std::test::Fail;
 
 #[test]

@@ -8,7 +8,7 @@ use market_types::{Body, Memory, Quote, Symbol};
 use std::alloc::Global;
 use std::process::Abort;
 use std::test::Fail;
-use trader_party::Party;
+use market_floor::Party;
 
 const QUOTE: Body = Body::Quote(Quote {
     stock: 0,

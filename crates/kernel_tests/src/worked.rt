@@ -2,8 +2,8 @@
 
 ghost use Rattle.std.specs.Prelude.{◌≡◌, ◌∷◌, [], Some, None, false};
 ghost use Rattle.market_types.specs.declared.entry.End.TheVariants as why;
-ghost use Rattle.market_opening.specs.Worked.{market, watcher};
-ghost use Rattle.kernel_mail.specs.Post.{nothing_waits};
+ghost use Rattle.market_floor.specs.OpeningWorked.{market, watcher};
+ghost use Rattle.kernel_core.specs.Post.{nothing_waits};
 ghost use Rattle.kernel_core.specs.Open.{opened};
 ghost use Rattle.kernel_core.specs.Step.{end_of};
 ghost use Rattle.kernel_core.specs.Worked.{ended, full_run, opening_run, rows};

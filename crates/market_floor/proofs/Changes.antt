@@ -12,7 +12,7 @@ use Rattle.market_rules.specs.Changes.{dated_by, dates_refusal}
 use Rattle.exchange_agent.specs.Changes.{Changed, changed_by}
 use Rattle.exchange_agent.specs.State.{State, Stock, stock_at, with_stock}
 use Rattle.exchange_agent.proofs.Tellings.{at-change, keeps-change}
-use Rattle.market_opening.specs.declared.opening.Opening.{Opening}
+use Rattle.market_floor.specs.declared.opening.Opening.{Opening}
 use Rattle.market_floor.specs.Ruled.{all_changed, due}
 
 -- a book has at most so many orders

@@ -6,9 +6,9 @@ use Rattle.market_types.specs.Limits.{longest_delay, most_events, most_traders}
 use Rattle.market_rules.specs.declared.changes.Dated.{Dated}
 use Rattle.market_rules.specs.Worked.{halt_at}
 use Rattle.agent_shell.specs.declared.setting.TraderSetting.{TraderSetting}
-use Rattle.market_opening.specs.declared.opening.Opening.{Opening}
-use Rattle.market_opening.specs.Opening.{IsDated, IsOpening, IsSeriesFor, IsTraderOf, no_series}
-use Rattle.market_opening.specs.Worked.{market_of, ten_dollars, watcher}
+use Rattle.market_floor.specs.declared.opening.Opening.{Opening}
+use Rattle.market_floor.specs.Opening.{IsDated, IsOpening, IsSeriesFor, IsTraderOf, no_series}
+use Rattle.market_floor.specs.OpeningWorked.{market_of, ten_dollars, watcher}
 use Rattle.market_floor.specs.Worked.{halting}
 
 -- what the law of the example's markets says

@@ -1,3 +1,5 @@
+pub mod Openings
+pub mod Markets
 pub mod Changes
 pub mod Halting
 pub mod Opened

@@ -5,8 +5,8 @@ use Rattle.std.proofs.lemmas.List.Elements.{All-map}
 use Rattle.agent_shell.specs.declared.setting.TraderSetting.{TraderSetting}
 use Rattle.exchange_agent.specs.declared.told.StockRules.{StockRules}
 use Rattle.exchange_agent.specs.Open.{listed}
-use Rattle.market_opening.specs.declared.opening.Opening.{Opening}
-use Rattle.market_opening.specs.Opening.{IsOpening, cash_of}
+use Rattle.market_floor.specs.declared.opening.Opening.{Opening}
+use Rattle.market_floor.specs.Opening.{IsOpening, cash_of}
 use Rattle.market_floor.specs.Floor.{floor_at_opening, parties_from}
 use Rattle.market_floor.specs.Sound.{FitsFloor, IsSoundFloor, IsSoundParty}
 use Rattle.market_floor.proofs.Changes.{IsShort}

@@ -13,7 +13,7 @@ use Rattle.agent_shell.specs.Trader.{Trader}
 use Rattle.exchange_agent.specs.declared.handled.Outgoing.{Outgoing}
 use Rattle.exchange_agent.specs.Market.{IsAskable}
 use Rattle.exchange_agent.specs.Outcome.{IsToTrader}
-use Rattle.market_opening.specs.Postings.{IsAddressed, earliest_of}
+use Rattle.market_floor.specs.Postings.{IsAddressed, earliest_of}
 use Rattle.market_floor.specs.Posted.{to_exchange, to_receiver}
 use Rattle.market_floor.specs.Reaction.{ArePosted}
 

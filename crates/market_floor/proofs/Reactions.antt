@@ -4,11 +4,11 @@ use Rattle.std.specs.Prelude.{◌==◌, IfOk, OnOk, slice_index_or}
 use Rattle.std.proofs.lemmas.Bool.Decides.{nat_tests}
 use Rattle.std.proofs.lemmas.List.Elements.{All-nil}
 use Rattle.market_types.specs.declared.feed.Feed.{Feed}
-use Rattle.trader_party.specs.Party.{PartyState}
+use Rattle.market_floor.specs.Party.{PartyState}
 use Rattle.market_floor.specs.declared.postings.Happening.{Happening}
 use Rattle.market_types.specs.declared.message.Message.{Message}
 use Rattle.exchange_agent.specs.Market.{market}
-use Rattle.market_opening.specs.declared.opening.Opening.{Opening}
+use Rattle.market_floor.specs.declared.opening.Opening.{Opening}
 use Rattle.market_floor.specs.Floor.{FloorState, nobody, party_at}
 use Rattle.market_floor.specs.Reaction.{IsTold, Reaction, decided_by, market_reaction, reaction, trader_reaction}
 

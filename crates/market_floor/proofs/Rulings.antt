@@ -3,9 +3,9 @@ use Rattle.std.proofs.Common.{◌≡◌, ℕ, ◌≤◌, List, [], length, All, 
 use Rattle.market_types.specs.declared.feed.Feed.{Feed}
 use Rattle.market_rules.specs.Changes.{dated_by, dates_refusal}
 use Rattle.exchange_agent.specs.State.{State}
-use Rattle.trader_party.specs.Party.{PartyState}
+use Rattle.market_floor.specs.Party.{PartyState}
 use Rattle.std.specs.Prelude.{ℤ}
-use Rattle.market_opening.specs.declared.opening.Opening.{Opening}
+use Rattle.market_floor.specs.declared.opening.Opening.{Opening}
 use Rattle.market_floor.specs.Floor.{FloorState, floor_of, with_exchange}
 use Rattle.market_floor.specs.Ruled.{all_changed, due, ruled}
 use Rattle.market_floor.specs.Sound.{FitsFloor, IsSoundFloor}

@@ -9,10 +9,10 @@ use Rattle.market_rules.specs.declared.changes.Change.TheVariants as change
 use Rattle.market_rules.specs.declared.edit.Edit.{Edit}
 use Rattle.market_rules.specs.declared.edit.Edit.TheVariants.{Tick, Fee, Halt, Resume, Latency, Agent, Silence, Inject, Series}
 use Rattle.agent_shell.specs.Trader.{trader_with}
-use Rattle.trader_party.specs.Party.{with_trader}
+use Rattle.market_floor.specs.Party.{with_trader}
 use Rattle.exchange_agent.specs.Market.{market}
 use Rattle.exchange_agent.proofs.Tellings.{at-change, at-time, keeps-size}
-use Rattle.market_opening.specs.declared.opening.Opening.{Opening}
+use Rattle.market_floor.specs.declared.opening.Opening.{Opening}
 use Rattle.market_floor.specs.Edited.{edited_floor}
 use Rattle.market_floor.specs.Floor.{FloorState, party_at}
 use Rattle.market_floor.specs.Reaction.{Reaction, decided_by, market_reaction, reaction, trader_reaction}

@@ -7,7 +7,7 @@ use Rattle.agent_shell.specs.Bounds.{IsAfter}
 use Rattle.agent_shell.specs.Trader.{Trader}
 use Rattle.exchange_agent.specs.declared.told.Counts.{Counts}
 use Rattle.exchange_agent.specs.State.{State, Stock}
-use Rattle.trader_party.specs.Party.{PartyState}
+use Rattle.market_floor.specs.Party.{PartyState}
 use Rattle.market_floor.specs.Floor.{FloorState, floor_of, with_exchange}
 use Rattle.market_floor.specs.Sound.{IsSoundFloor, IsSoundParty}
 use Rattle.market_floor.proofs.Changes.{IsLike, IsShort}

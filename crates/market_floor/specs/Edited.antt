@@ -6,7 +6,7 @@ use Rattle.market_rules.specs.declared.edit.Edit.TheVariants.{Tick, Fee, Halt, R
 use Rattle.market_rules.specs.EditRanges.{is_near_zero}
 use Rattle.agent_shell.specs.Parameters.{IsOwnParam}
 use Rattle.agent_shell.specs.Trader.{trader_with}
-use Rattle.trader_party.specs.Party.{with_trader}
+use Rattle.market_floor.specs.Party.{with_trader}
 use Rattle.exchange_agent.specs.Changes.{Changed, changed_by}
 use Rattle.market_floor.specs.Floor.{FloorChanged, FloorState, offset_at, party_at, with_exchange, with_offset, with_party}
 

@@ -2,12 +2,12 @@
 use Rattle.std.specs.Prelude.{ℕ, ℤ, pos, ◌+◌, ◌-◌, List, [], ◌∷◌, length, replicate, slice_index_or, slice_set}
 use Rattle.market_types.specs.declared.feed.Feed.{Feed}
 use Rattle.agent_shell.specs.declared.setting.TraderSetting.{TraderSetting}
-use Rattle.trader_party.specs.Party.{PartyState, party_at_opening}
+use Rattle.market_floor.specs.Party.{PartyState, party_at_opening}
 use Rattle.exchange_agent.specs.Open.{opened}
 use Rattle.exchange_agent.specs.State.{State}
-use Rattle.market_opening.specs.declared.opening.Opening.{Opening}
-use Rattle.market_opening.specs.Groups.{no_setting}
-use Rattle.market_opening.specs.Opening.{cash_of}
+use Rattle.market_floor.specs.declared.opening.Opening.{Opening}
+use Rattle.market_floor.specs.Groups.{no_setting}
+use Rattle.market_floor.specs.Opening.{cash_of}
 
 -- The exchange; each trader with its silence, in order from agent 1 on; and the offset of each stock's value.
 pub record FloorState : Type 0 where

@@ -1,3 +1,10 @@
+pub mod Opening
+pub mod Groups
+pub mod Postings
+pub mod OpeningWorked
+pub mod Form
+pub mod Party
+pub mod PartyWorked
 pub mod Edited
 pub mod Floor
 pub mod Posted

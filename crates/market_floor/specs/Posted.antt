@@ -3,8 +3,8 @@ use Rattle.std.specs.Prelude.{List, map}
 use Rattle.agent_shell.specs.declared.sending.Sending.{Sending}
 use Rattle.agent_shell.specs.declared.sending.Sending.TheVariants as sending
 use Rattle.exchange_agent.specs.declared.handled.Outgoing.{Outgoing}
-use Rattle.market_opening.specs.declared.posting.Posting.{Posting}
-use Rattle.market_opening.specs.declared.posting.Posting.TheVariants.{To, WakeAt}
+use Rattle.market_floor.specs.declared.posting.Posting.{Posting}
+use Rattle.market_floor.specs.declared.posting.Posting.TheVariants.{To, WakeAt}
 use Rattle.market_floor.specs.declared.postings.Form.{Form}
 use Rattle.market_floor.specs.declared.postings.Form.TheVariants.{Replies, Sendings}
 

@@ -6,15 +6,15 @@ use Rattle.fundamental_series.specs.Made.{value_of}
 use Rattle.fundamental_series.specs.Value.{with_offset_of}
 use Rattle.agent_shell.specs.Decide.{Decided}
 use Rattle.agent_shell.specs.Sight.{Sight}
-use Rattle.trader_party.specs.Party.{PartyState, reacted, with_trader}
+use Rattle.market_floor.specs.Party.{PartyState, reacted, with_trader}
 use Rattle.exchange_agent.specs.declared.told.StockRules.{StockRules}
 use Rattle.exchange_agent.specs.Market.{market}
 use Rattle.exchange_agent.specs.Outcome.{Outcome}
 use Rattle.exchange_agent.specs.State.{State, no_stock, stock_at}
-use Rattle.market_opening.specs.declared.opening.Opening.{Opening}
-use Rattle.market_opening.specs.declared.posting.Posting.{Posting}
-use Rattle.market_opening.specs.Opening.{no_series}
-use Rattle.market_opening.specs.Postings.{IsAddressed, earliest_of}
+use Rattle.market_floor.specs.declared.opening.Opening.{Opening}
+use Rattle.market_floor.specs.declared.posting.Posting.{Posting}
+use Rattle.market_floor.specs.Opening.{no_series}
+use Rattle.market_floor.specs.Postings.{IsAddressed, earliest_of}
 use Rattle.market_floor.specs.declared.postings.Happening.{Happening}
 use Rattle.market_floor.specs.Floor.{FloorState, party_at, with_exchange, with_party}
 use Rattle.market_floor.specs.Posted.{to_exchange, to_receiver}

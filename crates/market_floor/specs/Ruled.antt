@@ -4,7 +4,7 @@ use Rattle.market_rules.specs.declared.changes.Dated.{Dated}
 use Rattle.market_rules.specs.Changes.{dated_by}
 use Rattle.exchange_agent.specs.Changes.{Changed, changed_by}
 use Rattle.exchange_agent.specs.State.{State}
-use Rattle.market_opening.specs.declared.opening.Opening.{Opening}
+use Rattle.market_floor.specs.declared.opening.Opening.{Opening}
 use Rattle.market_floor.specs.Floor.{FloorChanged, FloorState, with_exchange}
 
 -- the exchange after changes in their order, each made at its own date, and their feed

@@ -2,10 +2,10 @@
 use Rattle.std.specs.Prelude.{◌≡◌, ◌<◌, ◌≤◌, ℕ, length, All}
 use Rattle.market_types.specs.Limits.{most_traders}
 use Rattle.agent_shell.specs.Bounds.{IsAfter}
-use Rattle.trader_party.specs.Party.{PartyState}
+use Rattle.market_floor.specs.Party.{PartyState}
 use Rattle.exchange_agent.specs.State.{Stock}
-use Rattle.market_opening.specs.declared.opening.Opening.{Opening}
-use Rattle.market_opening.specs.Opening.{IsOpening}
+use Rattle.market_floor.specs.declared.opening.Opening.{Opening}
+use Rattle.market_floor.specs.Opening.{IsOpening}
 use Rattle.market_floor.specs.Floor.{FloorState}
 
 -- a trader's stock is one of so many, and it heard at most so many messages

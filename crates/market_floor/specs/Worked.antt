@@ -5,8 +5,8 @@ use Rattle.market_types.specs.declared.message.Message.{Message}
 use Rattle.market_rules.specs.declared.edit.Edit.{Edit}
 use Rattle.market_rules.specs.declared.edit.Edit.TheVariants.{Series, Silence}
 use Rattle.market_rules.specs.Worked.{halt_at}
-use Rattle.market_opening.specs.declared.opening.Opening.{Opening}
-use Rattle.market_opening.specs.Worked.{market, watcher}
+use Rattle.market_floor.specs.declared.opening.Opening.{Opening}
+use Rattle.market_floor.specs.OpeningWorked.{market, watcher}
 use Rattle.market_floor.specs.Edited.{edited_floor}
 use Rattle.market_floor.specs.Floor.{FloorChanged, FloorState, floor_at_opening}
 use Rattle.market_floor.specs.Reaction.{Reaction, reaction}

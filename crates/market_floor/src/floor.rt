@@ -2,17 +2,16 @@
 
 ghost use Rattle.std.specs.Prelude.{◌≡◌, ◌<◌, ◌≤◌, All, IfOk, length, map};
 ghost use Rattle.agent_shell.specs.Trader.{told_of};
-ghost use Rattle.market_opening.specs.Opening.{IsOpening};
+ghost use Rattle.market_floor.specs.Opening.{IsOpening};
 ghost use Rattle.market_floor.specs.Floor.{floor_at_opening, offset_at, parties_from, party_at};
 ghost use Rattle.market_floor.specs.Sound.{FitsFloor, IsSoundFloor, IsSoundParty};
 
 use agent_shell::TraderSetting;
 use exchange_agent::Exchange;
-use market_opening::Opening;
+use crate::{Opening, Party};
 use market_types::{AgentNo, Memory, StockNo, TraderTold, copied};
 use std::alloc::Global;
 use std::marker::Model;
-use trader_party::Party;
 
 /// The exchange, the traders from agent 1 on, and the offset of each stock's value.
 #[derive(Drop)]

@@ -5,7 +5,7 @@ ghost use Rattle.market_types.specs.declared.message.Message.{Message};
 ghost use Rattle.market_rules.specs.Changes.{dates_refusal};
 ghost use Rattle.market_rules.specs.EditRanges.{is_among, is_in_range, is_near_zero};
 ghost use Rattle.market_rules.specs.declared.edit.Edit.{Edit};
-ghost use Rattle.market_opening.specs.declared.opening.Opening.{Opening};
+ghost use Rattle.market_floor.specs.declared.opening.Opening.{Opening};
 ghost use Rattle.market_floor.specs.Edited.{IsEdit, IsParamOf, edited_floor};
 ghost use Rattle.market_floor.specs.Floor.{FloorState, offset_at};
 ghost use Rattle.market_floor.specs.Reaction.{reaction};

@@ -5,7 +5,7 @@ ghost use Rattle.market_floor.specs.Posted.{postings_of, to_exchange, to_receive
 
 use agent_shell::{Sending, Sends};
 use exchange_agent::Handled;
-use market_opening::Posting;
+use crate::Posting;
 use market_types::{FeedList, Time};
 use std::marker::Model;
 
@@ -24,7 +24,7 @@ pub struct Postings {
 
 impl Model for Postings {
     ghost use Rattle.std.specs.Prelude.{List};
-    ghost use Rattle.market_opening.specs.declared.posting.Posting.{Posting};
+    ghost use Rattle.market_floor.specs.declared.posting.Posting.{Posting};
     ghost use Rattle.market_floor.specs.Posted.{postings_of};
 
     ghost Value = { List Posting };

@@ -4,9 +4,9 @@ ghost use Rattle.std.specs.Prelude.{◌≡◌, ◌<◌, ◌≤◌, ◌+◌, ℕ,
 ghost use Rattle.agent_shell.specs.Sight.{sight_of};
 ghost use Rattle.exchange_agent.specs.Market.{market};
 ghost use Rattle.exchange_agent.specs.State.{Stock};
-ghost use Rattle.trader_party.specs.Party.{with_trader};
-ghost use Rattle.market_opening.specs.Opening.{IsOpening};
-ghost use Rattle.market_opening.specs.Postings.{IsAmong};
+ghost use Rattle.market_floor.specs.Party.{with_trader};
+ghost use Rattle.market_floor.specs.Opening.{IsOpening};
+ghost use Rattle.market_floor.specs.Postings.{IsAmong};
 ghost use Rattle.market_floor.specs.Floor.{FloorState, floor_of};
 ghost use Rattle.market_floor.specs.Reaction.{ArePosted, IsTold, decided_by, market_reaction, reaction, sight_at, trader_reaction};
 ghost use Rattle.market_floor.specs.Ruled.{ruled};
@@ -20,14 +20,13 @@ use agent_shell::laws::traders_stay_in_range;
 use exchange_agent::laws::{books_stay_short, replies_ask_nothing};
 use exchange_agent::{Exchange, Handled};
 use fundamental_series::with_offset;
-use market_opening::Opening;
-use market_opening::laws::stocks_have_values;
+use crate::{Opening, Party};
+use crate::opening_laws::stocks_have_values;
 use market_rules::View;
 use market_rules::laws::first_changes_are_due;
 use market_types::{FeedList, Memory, Message, StockNo, Time};
 use std::alloc::Global;
 use std::mem::replace;
-use trader_party::Party;
 
 // What a trader in a stock sees at a time.
 fn view_at<'a>(

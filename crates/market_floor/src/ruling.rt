@@ -8,7 +8,7 @@ ghost use Rattle.market_floor.specs.Sound.{FitsFloor, IsSoundFloor};
 use crate::floor::Floor;
 use exchange_agent::Exchange;
 use exchange_agent::laws::books_stay_short;
-use market_opening::Opening;
+use crate::Opening;
 use market_rules::Dated;
 use market_rules::laws::first_changes_are_due;
 use market_types::{FeedList, Memory, Time};

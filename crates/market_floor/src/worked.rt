@@ -9,7 +9,7 @@ ghost use Rattle.market_floor.specs.Reaction.{value_at};
 ghost use Rattle.market_floor.specs.Ruled.{applied_by};
 ghost use Rattle.market_floor.specs.Worked.{after_dates, at_first, edited, halting, hushed, met_by, shifted};
 
-use market_opening::Posting;
+use crate::Posting;
 use market_rules::{Edit, Param};
 use market_types::Body;
 

@@ -1,11 +1,11 @@
-//! What lies outside a run of the simulator, as traits with proved fakes and thin adapters:
-//! a library of files, a sink for bytes, the gate of a worker, and the counter of simulated steps.
+//! What a run is given from outside: libraries of files, sinks of bytes, gates that segments pass, and counted steps.
 #![tactic(auto)]
 
 mod errors;
 mod fetched;
 mod file_library;
 mod gate;
+mod hold_gate;
 mod library;
 mod memory_library;
 mod memory_sink;
@@ -18,6 +18,7 @@ pub use errors::{Failed, FetchError};
 pub use fetched::Fetched;
 pub use file_library::FileLibrary;
 pub use gate::{Gate, OpenGate};
+pub use hold_gate::HoldGate;
 pub use library::Library;
 pub use memory_library::MemoryLibrary;
 pub use memory_sink::MemorySink;

@@ -2,7 +2,7 @@
 
 use crate::runs::{library, run_over, sink};
 use abides_run::Status;
-use large_study::study_text;
+use study_file::study_text;
 use std::test::Fail;
 
 // As another program writes them.

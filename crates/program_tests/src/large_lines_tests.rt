@@ -1,4 +1,4 @@
-use large_lines::Tally;
+use trace_bundle::Tally;
 
 #[test]
 fn tallies(rt: HostRuntime) {

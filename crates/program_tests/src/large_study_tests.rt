@@ -1,4 +1,4 @@
-use large_study::study_text;
+use study_file::study_text;
 use std::test::Fail;
 
 // The study of the number 7 with 20,000 events, as another program makes it.

@@ -3,7 +3,7 @@
 use crate::runs::{library, run_over, sink};
 use crate::worked_examples::{BRANCHES, INJECTED, KEY, WATCHERS, study};
 use abides_run::Status;
-use large_study::study_text;
+use study_file::study_text;
 use outside::MemorySink;
 use std::alloc::Global;
 use std::sync::Wait;

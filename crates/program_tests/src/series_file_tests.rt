@@ -1,6 +1,6 @@
 //! Series files of a study with a stock by rule and two by rows.
 
-use series_file::{late_stock, read_series, SeriesError};
+use study_market::{late_stock, read_series, SeriesError};
 use std::test::Fail;
 use study_file::{list_at, read_tables};
 

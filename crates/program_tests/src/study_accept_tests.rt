@@ -2,7 +2,7 @@
 
 use std::alloc::Global;
 use std::test::Fail;
-use study_accept::{accept, AcceptError, Refusal, Study};
+use study_rules::{accept, AcceptError, Refusal, Study};
 use study_file::read_tables;
 
 const STUDY: &str = "version = 1

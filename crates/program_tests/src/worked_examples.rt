@@ -1,8 +1,7 @@
 use crate::runs::{four_probes, library, run_over, run_past, sink};
 use crate::{EMPTY_RUN, TWO_WATCHERS};
 use abides_run::Status;
-use hold_gate::HoldGate;
-use outside::{Gate, MemorySink, OpenGate};
+use outside::{Gate, HoldGate, MemorySink, OpenGate};
 use std::alloc::Global;
 use std::sync::Wait;
 use std::test::Fail;

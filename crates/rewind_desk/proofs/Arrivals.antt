@@ -6,7 +6,7 @@ use Rattle.shelf_core.specs.declared.plan.Key.{Key}
 use Rattle.checkpoint_shelf.specs.Told.{ClosedTold}
 use Rattle.branch_tree.specs.Segments.{segments_in, segment_at, last_of}
 use Rattle.branch_tree.proofs.PartLemmas.{last-at}
-use Rattle.market_opening.specs.declared.opening.Opening.{Opening}
+use Rattle.market_floor.specs.declared.opening.Opening.{Opening}
 use Rattle.kernel_core.specs.State.{State}
 use Rattle.kernel_core.specs.Step.{end_of}
 use Rattle.kernel_core.specs.Until.{Run, advanced, advanced_by, behind, until}

@@ -7,3 +7,7 @@ pub mod Lasts
 pub mod Nears
 pub mod Refusals
 pub mod Strides
+pub mod Laying
+pub mod Holding
+pub mod Nearing
+pub mod Rooted

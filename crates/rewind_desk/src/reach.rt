@@ -13,7 +13,7 @@ use checkpoint_shelf::ClosedShelf;
 use kernel_copy::laws::courses_stay_in_range;
 use kernel_copy::{Checkpoint, Course, go_on};
 use kernel_core::Kernel;
-use market_opening::Opening;
+use market_floor::Opening;
 use market_types::{Memory, Trace};
 use outside::{Ledger, Steps};
 use std::alloc::Global;

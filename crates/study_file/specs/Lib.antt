@@ -4,3 +4,4 @@ pub mod Keys
 pub mod KeyRules
 pub mod Values
 pub mod Worked
+pub mod LargeStudy

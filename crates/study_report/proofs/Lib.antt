@@ -1,4 +1,9 @@
 pub mod OneMore
 pub mod Walks
 pub mod Numbered
-pub mod Parts
+pub mod ReportParts
+pub mod Numbering
+pub mod Ending
+pub mod Watching
+pub mod Traces
+pub mod Rows

@@ -3,7 +3,7 @@ use Rattle.std.proofs.Common.{◌≡◌, ◌∙◌, ℕ, ◌+◌, List, [], ◌�
 use Rattle.std.proofs.lemmas.List.{length-append}
 use Rattle.market_types.specs.Told.{EventTold, EditTold, EntryTold, event, edit}
 use Rattle.study_report.specs.Difference.{events_in, AreNumbered}
-use Rattle.study_report.proofs.Parts.{events_in-append}
+use Rattle.study_report.proofs.ReportParts.{events_in-append}
 
 numbered_push : (n : ℕ) (rs : List EventTold) (r : EventTold) → r.number ≡ n + length rs → AreNumbered n rs → AreNumbered n (rs ++ r ∷ [])
 numbered_push n [] r is all = (omega arith, tt)

@@ -2,3 +2,5 @@ pub mod Same
 pub mod Difference
 pub mod Table
 pub mod Worked
+pub mod Tables
+pub mod BranchWorked

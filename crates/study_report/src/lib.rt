@@ -1,13 +1,19 @@
-//! Tables that compare the branches of a study.
+//! A table of a study: a row a branch, with the values of its probes.
 #![tactic(auto)]
 
+mod branch_row;
+pub mod branch_worked;
 mod difference;
+pub mod laws;
 mod lines;
+mod parts;
 mod row;
 mod same;
+mod tables;
 pub mod worked;
 mod writing;
 
 pub use difference::{first_difference, first_difference_of_parts};
 pub use row::TableRow;
+pub use tables::study_table;
 pub use writing::table;

@@ -2,16 +2,15 @@
 
 ghost use Rattle.std.specs.Prelude.{◌≡◌, ◌≤◌, IfOk, OnOk};
 ghost use Rattle.branch_tree.specs.declared.branch.Branch.{Branch};
-ghost use Rattle.market_opening.specs.Opening.{IsOpening};
-ghost use Rattle.market_opening.specs.Worked.{watcher};
+ghost use Rattle.market_floor.specs.Opening.{IsOpening};
+ghost use Rattle.market_floor.specs.OpeningWorked.{watcher};
 ghost use Rattle.kernel_copy.specs.Courses.{AreEdits};
 ghost use Rattle.branch_workers.specs.Example.{AreBranches, small, two_watchers};
 
 use agent_shell::{Kind, TraderSetting};
 use branch_tree::{Branch, Name, plan};
 use kernel_copy::Course;
-use market_opening::Opening;
-use market_opening::worked::{markets_are_openings, opening};
+use market_floor::{opening_worked::{markets_are_openings, opening}, Opening};
 use market_rules::Edit;
 use market_types::{Memory, Sequence};
 use std::alloc::Global;

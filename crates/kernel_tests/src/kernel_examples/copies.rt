@@ -2,7 +2,7 @@
 
 ghost use Rattle.std.specs.Prelude.{IfOk};
 ghost use Rattle.agent_shell.specs.Parameters.{IsKind};
-ghost use Rattle.market_opening.specs.Opening.{IsOpening};
+ghost use Rattle.market_floor.specs.Opening.{IsOpening};
 ghost use Rattle.kernel_core.specs.Step.{Fits};
 
 use super::{branch, latency, market, run, shifted};

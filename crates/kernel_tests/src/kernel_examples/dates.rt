@@ -1,7 +1,7 @@
 //! Orders around a dated change.
 
 ghost use Rattle.std.specs.Prelude.{◌≡◌, IfOk};
-ghost use Rattle.market_opening.specs.Opening.{IsOpening};
+ghost use Rattle.market_floor.specs.Opening.{IsOpening};
 ghost use Rattle.kernel_tests.specs.Examples.{later_ticks};
 
 use super::{branch, five_cents, market, order};

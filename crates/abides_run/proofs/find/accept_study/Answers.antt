@@ -1,6 +1,6 @@
 use Rattle.std.proofs.Common.{Bor, List, ℕ, option_map}
 use Rattle.toml.specs.View.{table_view}
-use Rattle.study_accept.specs.Accepted.{study_told}
+use Rattle.study_rules.specs.Accepted.{study_told}
 use Rattle.abides_run.proofs.Strides.{study-stride}
 use Rattle.abides_run.proofs.find.accept_study.Goals as goal
 

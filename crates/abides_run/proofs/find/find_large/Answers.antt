@@ -1,5 +1,5 @@
 use Rattle.std.proofs.Common.{◌≡◌, ◌∙◌, List, ℕ, IfErr, subst}
-use Rattle.large_study.specs.LargeStudy.{large_study}
+use Rattle.study_file.specs.LargeStudy.{large_study}
 use Rattle.abides_run.specs.Verdict.{verdict_on_large, large_limit}
 use Rattle.abides_run.specs.Ends.{Ends}
 use Rattle.abides_run.proofs.find.find_large.Goals as goal

@@ -1,5 +1,5 @@
 use Rattle.std.proofs.Common.{◌≡◌, refl, rules}
-use Rattle.study_accept.specs.Accepted.{study_told}
+use Rattle.study_rules.specs.Accepted.{study_told}
 use Rattle.abides_run.specs.declared.request.Task.TheVariants.{Run, Check, Table, Lines, Rewind}
 use Rattle.abides_run.proofs.Performing.{rewind_finishes, task_finishes}
 use Rattle.abides_run.proofs.perform.perform.Goals as goal

@@ -6,8 +6,8 @@ use Rattle.branch_workers.proofs.Forks.{segments_few}
 use Rattle.kernel_copy.specs.Courses.{CourseTold}
 use Rattle.kernel_copy.proofs.Adding.{distinct-bound}
 use Rattle.kernel_copy.proofs.Trees.{course-few}
-use Rattle.rewind_targets.specs.Targets.{past_of}
-use Rattle.study_accept.specs.Accepted.{study_told}
+use Rattle.rewind_desk.specs.Targets.{past_of}
+use Rattle.study_rules.specs.Accepted.{study_told}
 use Rattle.abides_run.specs.Output.{study_events}
 use Rattle.abides_run.specs.Rewinds.{lasts_of, rewinds_of, steps_from, steps_to}
 use Rattle.abides_run.proofs.Aiming.{are-there, below-lasts, few-steps, past-below, targets-within, word-among}

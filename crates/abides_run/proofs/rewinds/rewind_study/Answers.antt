@@ -1,10 +1,10 @@
 use Rattle.std.proofs.Common.{◌≡◌, ◌∙◌, sym, ap}
 use Rattle.branch_tree.specs.Plan.{Plan}
 use Rattle.kernel_copy.specs.Courses.{CourseTold}
-use Rattle.rewind_targets.specs.declared.aimed.Aimed.{Aimed}
-use Rattle.rewind_targets.specs.declared.aimed.Aimed.TheVariants.{NoBranch}
-use Rattle.rewind_targets.specs.Targets.{aimed_at}
-use Rattle.study_accept.specs.Accepted.{study_told}
+use Rattle.rewind_desk.specs.declared.aimed.Aimed.{Aimed}
+use Rattle.rewind_desk.specs.declared.aimed.Aimed.TheVariants.{NoBranch}
+use Rattle.rewind_desk.specs.Targets.{aimed_at}
+use Rattle.study_rules.specs.Accepted.{study_told}
 use Rattle.abides_run.specs.Rewinds.{argument_at}
 use Rattle.abides_run.specs.Verdict.{verdict_on_aimed, verdict_on_task}
 use Rattle.abides_run.specs.declared.request.Task.TheVariants.{Rewind}

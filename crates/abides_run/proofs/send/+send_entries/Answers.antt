@@ -9,7 +9,7 @@ use Rattle.kernel_copy.specs.Segmentwise.{parent_end, segment_end, segment_entri
 use Rattle.kernel_copy.proofs.Pieces.{frames_as, timely_as}
 use Rattle.kernel_copy.proofs.Trees.{course-tree}
 use Rattle.kernel_copy.proofs.Walks.{segment-copy}
-use Rattle.branch_bundle.proofs.Entries.{entries-more}
+use Rattle.trace_bundle.proofs.Entries.{entries-more}
 use Rattle.abides_run.specs.Performed.{Sent}
 use Rattle.abides_run.proofs.Bundles.{handed_sent, sent_before, sent_behind}
 use Rattle.abides_run.proofs.send.+send_entries.Goals as goal

@@ -2,7 +2,7 @@ use Rattle.std.proofs.Common.{◌≡◌, ◌++◌, ℕ, Ok, Err, sym, ap, ◌∙
 use Rattle.std.specs.List.{flat_map}
 use Rattle.bundle_frames.specs.Frames.{entry_frames}
 use Rattle.branch_tree.specs.Segments.{segment_at}
-use Rattle.branch_bundle.specs.Bundle.{end_of_trace, opening_of_trace, trace_of}
+use Rattle.trace_bundle.specs.Bundle.{end_of_trace, opening_of_trace, trace_of}
 use Rattle.kernel_core.specs.Until.{Run}
 use Rattle.kernel_copy.specs.Courses.{CourseTold}
 use Rattle.kernel_copy.specs.Full.{full_run}

@@ -1,6 +1,6 @@
 use Rattle.std.proofs.Common.{◌≡◌, ◌<◌, ◌∙◌, ℕ, length, rules, subst}
 use Rattle.outside.specs.Taken.{appended}
-use Rattle.branch_bundle.specs.Bundle.{traces_of}
+use Rattle.trace_bundle.specs.Bundle.{traces_of}
 use Rattle.abides_run.proofs.Bundles.{branch_cut, branch_sent, branches_sent, handed_sent}
 use Rattle.abides_run.proofs.send.send_branches.Goals as goal
 

@@ -1,6 +1,6 @@
 use Rattle.std.proofs.Common.{◌≡◌}
 use Rattle.outside.specs.Taken.{appended}
-use Rattle.branch_bundle.specs.Bundle.{traces_of}
+use Rattle.trace_bundle.specs.Bundle.{traces_of}
 use Rattle.abides_run.proofs.send.send_branches.Given as goal
 
 abbrev pub invariant-loop-branch : goal.invariant-loop-branch

@@ -1,6 +1,6 @@
 use Rattle.std.proofs.Common.{◌++◌, length, Ok, Err}
 use Rattle.bundle_frames.specs.Frames.{end_frame}
-use Rattle.branch_bundle.specs.Bundle.{header_of, traces_of}
+use Rattle.trace_bundle.specs.Bundle.{header_of, traces_of}
 use Rattle.abides_run.specs.Output.{study_bundle}
 use Rattle.abides_run.proofs.Bundles.{handed_sent, sent_before, sent_behind}
 use Rattle.abides_run.proofs.send.send_bundle.Goals as goal

@@ -1,5 +1,5 @@
 use Rattle.std.proofs.Common.{refl, string_bytes}
-use Rattle.study_accept.specs.Accepted.{study_told}
+use Rattle.study_rules.specs.Accepted.{study_told}
 use Rattle.abides_run.specs.Words.{texts}
 use Rattle.abides_run.specs.Fetched.{arguments_of}
 use Rattle.abides_run.specs.Verdict.{verdict_on_task}

@@ -3,7 +3,7 @@ use Rattle.std.specs.Str.{is_utf8}
 use Rattle.clap.proofs.OnLiterals.{clap_on_literals}
 use Rattle.toml.proofs.OnLiterals.{toml_on_literals}
 use Rattle.command_words.specs.Line.{rows_for}
-use Rattle.study_accept.specs.Accepted.{study_of}
+use Rattle.study_rules.specs.Accepted.{study_of}
 use Rattle.abides_run.proofs.worked.order_of_refusals.Goals as goal
 
 pub returns : goal.returns

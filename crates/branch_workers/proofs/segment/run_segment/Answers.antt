@@ -1,6 +1,6 @@
 use Rattle.std.proofs.Common.{ap, ◌∙◌}
-use Rattle.market_opening.specs.declared.opening.Opening.{Opening}
-use Rattle.market_closing.specs.Closing.{closing_at}
+use Rattle.market_floor.specs.declared.opening.Opening.{Opening}
+use Rattle.kernel_copy.specs.Closing.{closing_at}
 use Rattle.kernel_copy.specs.Courses.{CourseTold}
 use Rattle.kernel_copy.specs.Ran.{RanTold, ran_told}
 use Rattle.kernel_copy.proofs.Adding.{outcome-is, ran-ends}

@@ -4,10 +4,10 @@ use Rattle.std.specs.declared.sync.Arc.{Arc}
 use Rattle.branch_tree.specs.declared.segment.Segment.{Segment}
 use Rattle.branch_tree.specs.Plan.{Plan}
 use Rattle.branch_tree.specs.Segments.{segments_in, segment_at}
-use Rattle.market_opening.specs.declared.opening.Opening.{Opening}
+use Rattle.market_floor.specs.declared.opening.Opening.{Opening}
 use Rattle.kernel_copy.specs.Segmentwise.{own_count, segment_run}
 use Rattle.kernel_copy.specs.Courses.{CourseTold, CheckpointTold, IsCourse}
-use Rattle.market_closing.specs.Closing.{closing_at}
+use Rattle.kernel_copy.specs.Closing.{closing_at}
 use Rattle.kernel_copy.specs.Ran.{ran_told, ran_as}
 use Rattle.kernel_copy.specs.Outcomes.{outcome_told, outcome_of}
 use Rattle.kernel_copy.specs.declared.checkpoint.Checkpoint.{Checkpoint}

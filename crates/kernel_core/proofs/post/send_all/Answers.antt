@@ -1,7 +1,7 @@
 use Rattle.std.proofs.Common.{◌≡◌, ◌+◌, Some, sym, ap, ◌∙◌, arith, drop, rules}
 use Rattle.std.specs.Prelude.{slice_get}
-use Rattle.kernel_mail.specs.Post.{Post}
-use Rattle.kernel_mail.specs.Send.{all_sent, message_of, sent}
+use Rattle.kernel_core.specs.Post.{Post}
+use Rattle.kernel_core.specs.Send.{all_sent, message_of, sent}
 use Rattle.kernel_core.proofs.Posted.{all_sent-next, joins-counts}
 use Rattle.kernel_core.proofs.post.send_all.Goals as goal
 

@@ -1,5 +1,5 @@
 use Rattle.std.proofs.Common.{◌≡◌, ◌≤◌, ◌+◌, drop}
-use Rattle.kernel_mail.specs.Send.{all_sent}
+use Rattle.kernel_core.specs.Send.{all_sent}
 use Rattle.kernel_core.proofs.post.send_all.Given as goal
 
 abbrev pub invariant-loop-i : goal.invariant-loop-i

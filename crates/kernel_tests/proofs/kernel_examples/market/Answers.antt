@@ -3,9 +3,9 @@ use Rattle.std.proofs.lemmas.List.{length-map}
 use Rattle.std.proofs.lemmas.Result.{IfOk-weaker}
 use Rattle.agent_shell.specs.declared.setting.Kind.{Kind}
 use Rattle.agent_shell.specs.declared.setting.TraderSetting.{TraderSetting}
-use Rattle.market_opening.specs.declared.opening.Opening.{Opening}
-use Rattle.market_opening.specs.Opening.{IsOpening, IsTraderOf}
-use Rattle.market_opening.specs.Worked.{market_of, trader}
+use Rattle.market_floor.specs.declared.opening.Opening.{Opening}
+use Rattle.market_floor.specs.Opening.{IsOpening, IsTraderOf}
+use Rattle.market_floor.specs.OpeningWorked.{market_of, trader}
 use Rattle.kernel_tests.proofs.Testing.{kinds-admitted}
 use Rattle.kernel_tests.proofs.kernel_examples.market.Goals as goal
 

@@ -1,7 +1,7 @@
 use Rattle.std.proofs.Common.{sym, subst}
-use Rattle.market_opening.specs.declared.opening.Opening.{Opening}
-use Rattle.kernel_mail.specs.Sendable.{IsGrouped}
-use Rattle.kernel_mail.proofs.Sends.{grouped-one}
+use Rattle.market_floor.specs.declared.opening.Opening.{Opening}
+use Rattle.kernel_core.specs.Sendable.{IsGrouped}
+use Rattle.kernel_core.proofs.Sends.{grouped-one}
 use Rattle.kernel_tests.proofs.kernel_mail_tests.ask.Goals as goal
 
 pub send-requires-clause-fits : goal.send-requires-clause-fits

@@ -1,6 +1,6 @@
 use Rattle.std.proofs.Common.{◌≡◌, rules, subst, sym}
-use Rattle.market_opening.specs.declared.opening.Opening.{Opening}
-use Rattle.market_opening.specs.Opening.{IsOpening}
+use Rattle.market_floor.specs.declared.opening.Opening.{Opening}
+use Rattle.market_floor.specs.Opening.{IsOpening}
 use Rattle.market_floor.specs.Worked.{halting}
 use Rattle.market_floor.proofs.Halting.{halting-opens}
 use Rattle.kernel_tests.proofs.market_floor_tests.halting_opening.Goals as goal

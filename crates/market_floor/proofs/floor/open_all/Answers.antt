@@ -2,8 +2,8 @@ use Rattle.std.proofs.Common.{◌≡◌, ◌<◌, ◌++◌, ◌∷◌, [], List,
 use Rattle.std.proofs.lemmas.Grind.{common_steps}
 use Rattle.std.proofs.lemmas.List.Elements.{All-push}
 use Rattle.agent_shell.specs.declared.setting.TraderSetting.{TraderSetting}
-use Rattle.trader_party.specs.Party.{PartyState}
-use Rattle.market_opening.specs.Groups.{no_setting}
+use Rattle.market_floor.specs.Party.{PartyState}
+use Rattle.market_floor.specs.Groups.{no_setting}
 use Rattle.market_floor.specs.Sound.{IsSoundParty}
 use Rattle.market_floor.proofs.floor.open_all.Goals as goal
 

@@ -1,5 +1,5 @@
 use Rattle.std.proofs.Common.{List, ap, length}
-use Rattle.trader_party.specs.Party.{PartyState}
+use Rattle.market_floor.specs.Party.{PartyState}
 use Rattle.market_floor.proofs.Rulings.{ruled-parties, ruled-stocks}
 use Rattle.market_floor.proofs.Sizes.{edited-stocks, edited-traders, reaction-keeps}
 use Rattle.market_floor.proofs.laws.floors_keep_their_size.Goals as goal

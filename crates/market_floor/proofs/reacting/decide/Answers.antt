@@ -1,7 +1,7 @@
 use Rattle.std.proofs.Common.{◌≡◌, List, length, map, rules, subst, sym}
 use Rattle.agent_shell.specs.declared.sending.Sending.{Sending}
 use Rattle.agent_shell.specs.Sight.{sight_of}
-use Rattle.trader_party.specs.Party.{reacted}
+use Rattle.market_floor.specs.Party.{reacted}
 use Rattle.market_floor.specs.Posted.{to_exchange}
 use Rattle.market_floor.specs.Reaction.{ArePosted}
 use Rattle.market_floor.proofs.Posts.{sendings-posted}

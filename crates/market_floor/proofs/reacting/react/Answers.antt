@@ -2,7 +2,7 @@ use Rattle.std.proofs.Common.{◌≡◌, ◌<◌, ◌-◌, ℕ, length, refl, ar
 use Rattle.std.specs.Prelude.{IfOk, slice_set}
 use Rattle.exchange_agent.specs.Market.{market}
 use Rattle.exchange_agent.specs.State.{State}
-use Rattle.trader_party.specs.Party.{PartyState, with_trader}
+use Rattle.market_floor.specs.Party.{PartyState, with_trader}
 use Rattle.market_floor.specs.Floor.{FloorState, floor_of, party_at, with_exchange}
 use Rattle.market_floor.specs.Reaction.{IsTold, Reaction, decided_by, reaction, trader_reaction}
 use Rattle.market_floor.specs.Sound.{IsSoundParty}

@@ -7,7 +7,7 @@ use Rattle.kernel_copy.proofs.Walks.{planned-at}
 use Rattle.kernel_core.specs.State.{State}
 use Rattle.kernel_core.specs.Step.{Fits}
 use Rattle.branch_tree.specs.Segments.{segment_at}
-use Rattle.market_opening.specs.declared.opening.Opening.{Opening}
+use Rattle.market_floor.specs.declared.opening.Opening.{Opening}
 use Rattle.rewind_desk.proofs.Arrivals.{at-near, run-made}
 use Rattle.rewind_desk.proofs.reach.from_near.Goals as goal
 

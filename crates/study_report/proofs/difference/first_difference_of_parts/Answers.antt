@@ -2,7 +2,7 @@ use Rattle.std.proofs.Common.{◌∙◌, ◌++◌, ◌+◌, List, map, drop, sym
 use Rattle.std.specs.List.{flat_map}
 use Rattle.market_types.specs.Told.{EntryTold, entry_told}
 use Rattle.study_report.specs.Difference.{events_in, all_compared}
-use Rattle.study_report.proofs.Parts.{from_part}
+use Rattle.study_report.proofs.ReportParts.{from_part}
 use Rattle.study_report.proofs.Walks.{answer_of, answer-from, part_done, part_ends, parts_end}
 use Rattle.study_report.proofs.difference.first_difference_of_parts.Goals as goal
 

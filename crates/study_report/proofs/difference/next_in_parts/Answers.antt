@@ -2,7 +2,7 @@ use Rattle.std.proofs.Common.{◌∙◌, ◌++◌, ◌+◌, List, map, drop, sym
 use Rattle.std.specs.List.{flat_map}
 use Rattle.market_types.specs.Told.{EntryTold, event_told, entry_told}
 use Rattle.study_report.specs.Difference.{events_in, parted}
-use Rattle.study_report.proofs.Parts.{first_here, from_part, none_here}
+use Rattle.study_report.proofs.ReportParts.{first_here, from_part, none_here}
 use Rattle.study_report.proofs.difference.next_in_parts.Goals as goal
 
 pub returns-in-Some : goal.returns-in-Some

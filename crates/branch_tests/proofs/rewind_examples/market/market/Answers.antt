@@ -1,8 +1,8 @@
 use Rattle.std.proofs.Common.{List, ◌∷◌, [], All, lit≤, lit<, sym, subst}
 use Rattle.std.proofs.lemmas.List.Elements.{All-cons, All-nil}
 use Rattle.agent_shell.specs.declared.setting.TraderSetting.{TraderSetting}
-use Rattle.market_opening.specs.Opening.{IsOpening, IsTraderOf}
-use Rattle.market_opening.specs.Worked.{market_of, watcher}
+use Rattle.market_floor.specs.Opening.{IsOpening, IsTraderOf}
+use Rattle.market_floor.specs.OpeningWorked.{market_of, watcher}
 use Rattle.branch_tests.proofs.rewind_examples.market.market.Goals as goal
 
 abbrev two : List TraderSetting

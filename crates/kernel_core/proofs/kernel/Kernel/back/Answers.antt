@@ -1,7 +1,7 @@
 use Rattle.std.proofs.Common.{◌≡◌, ◌+◌, Some, None, length, refl, sym, subst, arith, rules}
 use Rattle.event_queue.specs.Waiting.{least}
-use Rattle.kernel_mail.specs.Post.{Post, put_back}
-use Rattle.kernel_mail.specs.Sound.{IsSoundMail}
+use Rattle.kernel_core.specs.Post.{Post, put_back}
+use Rattle.kernel_core.specs.SoundMail.{IsSoundMail}
 use Rattle.kernel_core.specs.State.{State}
 use Rattle.kernel_core.specs.Step.{Fits, end_of}
 use Rattle.kernel_core.specs.View.{state_of}

@@ -1,6 +1,6 @@
 use Rattle.std.proofs.Common.{◌≡◌, length, refl, sym, subst, rules}
-use Rattle.kernel_mail.specs.Post.{Post}
-use Rattle.kernel_mail.specs.Sound.{IsSoundMail}
+use Rattle.kernel_core.specs.Post.{Post}
+use Rattle.kernel_core.specs.SoundMail.{IsSoundMail}
 use Rattle.latency_model.specs.Tables.{group_count}
 use Rattle.kernel_core.specs.State.{State}
 use Rattle.kernel_core.specs.Edited.{IsEditOf, mail_after}

@@ -1,9 +1,9 @@
 use Rattle.std.proofs.Common.{◌≡◌, ◌+◌, Some, None, length, refl, sym, subst, arith, rules, slice_set}
 use Rattle.std.proofs.lemmas.List.{length-set}
 use Rattle.event_queue.specs.Waiting.{least}
-use Rattle.kernel_mail.specs.Post.{Post, taken}
-use Rattle.kernel_mail.specs.Send.{all_sent}
-use Rattle.kernel_mail.specs.Sound.{IsSoundMail}
+use Rattle.kernel_core.specs.Post.{Post, taken}
+use Rattle.kernel_core.specs.Send.{all_sent}
+use Rattle.kernel_core.specs.SoundMail.{IsSoundMail}
 use Rattle.kernel_core.specs.State.{State}
 use Rattle.kernel_core.specs.Step.{Fits, end_of}
 use Rattle.kernel_core.specs.View.{state_of}

@@ -1,5 +1,5 @@
 use Rattle.std.proofs.Common.{◌≡◌, ◌+◌, length, replicate, rules}
-use Rattle.kernel_mail.specs.Post.{nothing_waits}
+use Rattle.kernel_core.specs.Post.{nothing_waits}
 use Rattle.kernel_core.specs.Open.{woken}
 use Rattle.kernel_core.proofs.Begun.{sound-opened}
 use Rattle.kernel_core.proofs.kernel.Kernel.open.Goals as goal

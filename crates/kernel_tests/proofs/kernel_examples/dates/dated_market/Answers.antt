@@ -1,7 +1,7 @@
 use Rattle.std.proofs.Common.{◌≡◌, ◌≤◌, ◌<◌, List, length, ap, sym, subst, arith}
 use Rattle.market_rules.specs.declared.changes.Dated.{Dated}
-use Rattle.market_opening.specs.declared.opening.Opening.{Opening}
-use Rattle.market_opening.specs.Opening.{IsOpening}
+use Rattle.market_floor.specs.declared.opening.Opening.{Opening}
+use Rattle.market_floor.specs.Opening.{IsOpening}
 use Rattle.kernel_tests.specs.Examples.{later_ticks}
 use Rattle.kernel_tests.proofs.Dated.{dated-opens, later-ticks-dated}
 use Rattle.kernel_tests.proofs.kernel_examples.dates.dated_market.Goals as goal

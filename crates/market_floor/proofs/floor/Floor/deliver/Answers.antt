@@ -5,7 +5,7 @@ use Rattle.market_types.specs.Room.{Room}
 use Rattle.market_rules.specs.Changes.{dated_by}
 use Rattle.exchange_agent.specs.Market.{IsAskable}
 use Rattle.exchange_agent.specs.State.{State}
-use Rattle.trader_party.specs.Party.{PartyState}
+use Rattle.market_floor.specs.Party.{PartyState}
 use Rattle.market_floor.specs.Floor.{FloorState, floor_of}
 use Rattle.market_floor.specs.Reaction.{ArePosted, IsTold, reaction}
 use Rattle.market_floor.specs.Ruled.{all_changed, due, ruled}

@@ -1,5 +1,5 @@
 use Rattle.std.proofs.Common.{◌≡◌, List, length, All, rules, subst, sym}
-use Rattle.trader_party.specs.Party.{PartyState}
+use Rattle.market_floor.specs.Party.{PartyState}
 use Rattle.market_floor.specs.Floor.{FloorState, floor_at_opening, floor_of, parties_from}
 use Rattle.market_floor.specs.Sound.{FitsFloor, IsSoundFloor, IsSoundParty}
 use Rattle.market_floor.proofs.Opened.{opened-fits, opened-sound}

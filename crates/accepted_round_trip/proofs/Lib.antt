@@ -1,3 +1,0 @@
-pub mod Orders
-pub mod Edits
-pub mod Studies

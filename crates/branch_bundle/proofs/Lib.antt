@@ -1,4 +1,0 @@
-pub mod Feeds
-pub mod Entries
-pub mod Kept
-pub mod Held

@@ -1,7 +1,0 @@
-use Rattle.std.proofs.Common.{◌≡◌, ◌++◌}
-use Rattle.bundle_frames.specs.Frames.{feed_frames}
-use Rattle.branch_bundle.specs.Feed.{tradings}
-use Rattle.branch_bundle.proofs.feed.put_tradings.Given as goal
-
-abbrev pub invariant-loop-k : goal.invariant-loop-k
-invariant-loop-k l = l.out.items ≡ l.initial.out.items ++ feed_frames (tradings l.o l.k)

@@ -1,5 +1,0 @@
-pub mod Feed
-pub mod Bundle
-pub mod Ran
-pub mod Outcomes
-pub mod Worked

@@ -1,5 +1,0 @@
-use Rattle.branch_tables.proofs.Numbering.{counted-full}
-use Rattle.branch_tables.proofs.laws.runs_are_numbered.Goals as goal
-
-pub returns : goal.returns
-returns g = λ c b. (counted-full c.opening c.plan b c.opening.limit).numbered

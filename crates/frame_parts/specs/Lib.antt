@@ -1,4 +1,0 @@
-pub mod Heads
-pub mod Back
-pub mod Bodies
-pub mod BodiesBack

@@ -1,0 +1,7 @@
+use Rattle.std.proofs.Common.{refl}
+use Rattle.kernel_copy.specs.States.{waiting_frame}
+use Rattle.kernel_copy.proofs.worked_states.a_wakeup_and_a_question.Goals as goal
+
+pub returns : goal.returns
+unfolding waiting_frame
+returns c = record { wakeup = refl; ask = refl }

@@ -1,0 +1,245 @@
+//! The mail.
+
+ghost use Rattle.std.specs.Prelude.{◌≡◌, ◌<◌, ◌≤◌, ◌+◌, ◌^◌, IfOk, IfSome, IfNone, OnSome, option_map, length, All};
+ghost use Rattle.std.specs.List.Sorted.{IsPermutation, IsSortedBy};
+ghost use Rattle.market_types.specs.Limits.{most_waiting};
+ghost use Rattle.event_queue.specs.InOrder.{in_order};
+ghost use Rattle.event_queue.specs.Waiting.{before, least};
+ghost use Rattle.market_floor.specs.Postings.{IsAddressed};
+ghost use Rattle.kernel_core.specs.Post.{IsOrderly, joins, nothing_waits, put_back, taken};
+ghost use Rattle.kernel_core.specs.Send.{injected, message_of, sent, under_way};
+ghost use Rattle.kernel_core.specs.Sendable.{IsGrouped};
+
+use crate::jitter::Jitter;
+use event_queue::Queue;
+use latency_model::Groups;
+use market_floor::{Opening, Posting, group_number};
+use market_types::{AgentNo, Body, Inbound, MOST_WAITING, Memory, Message, Time};
+use std::alloc::Global;
+use std::marker::Model;
+
+/// The waiting messages, the next number and the count of dropped messages.
+#[derive(Drop)]
+pub struct Mail {
+    queue: Queue,
+    next_seq: u64,
+    dropped: u64,
+    jitter: Jitter,
+}
+
+impl Model for Mail {
+    ghost use Rattle.kernel_core.specs.Post.{Post};
+    ghost use Rattle.kernel_core.specs.Sendable.{IsMail};
+
+    ghost Value = { Post };
+
+    ghost view = { λ p. record { waiting = p.queue.list; next_seq = p.next_seq; dropped = p.dropped } };
+
+    ghost invariant = { λ p. IsMail p.queue p.next_seq };
+}
+
+// How long the message of a number is under way, in nanoseconds.
+fn latency(
+    jitter: &mut Jitter,
+    o: &Opening,
+    groups: &Groups,
+    from: AgentNo,
+    to: AgentNo,
+    seq: u64,
+) -> Time
+    requires fits { IsGrouped o.now groups.now }
+    requires sender { from ≤ length o.now.traders }
+    requires receiver { to ≤ length o.now.traders }
+    ensures value { result ≡ under_way o.now groups.now from to seq }
+    ensures bound { result < 2 ^ 60 }
+{
+    let word = jitter.word(&o.key, seq);
+    groups.delay(group_number(o, from), group_number(o, to), word)
+}
+
+// The message that a posting becomes.
+fn message_for(
+    jitter: &mut Jitter,
+    o: &Opening,
+    groups: &Groups,
+    from: AgentNo,
+    leave: Time,
+    posting: Posting,
+    seq: u64,
+) -> Message
+    requires fits { IsGrouped o.now groups.now }
+    requires addressed { IsAddressed (length o.now.traders) (length o.now.stocks) from posting }
+    requires leaves { leave < 2 ^ 60 }
+    ensures { result ≡ message_of o.now groups.now from leave posting seq }
+{
+    match posting {
+        Posting::To { to, body, extra } => Message {
+            time: leave + extra + latency(jitter, o, groups, from, to, seq),
+            seq,
+            from,
+            to,
+            body,
+        },
+        Posting::WakeAt(time) => Message {
+            time,
+            seq,
+            from,
+            to: from,
+            body: Body::Wake,
+        },
+    }
+}
+
+impl Mail {
+    /// Nothing waits, with room for as many messages as may wait.
+    pub fn new(alloc: Global) -> Result<Mail, Memory>
+        ensures { IfOk result (λ p. p ≡ nothing_waits) }
+    {
+        let mut queue = Queue::new(alloc);
+        queue.reserve(MOST_WAITING)?;
+        Ok(Mail {
+            queue,
+            next_seq: 0,
+            dropped: 0,
+            jitter: Jitter::new(),
+        })
+    }
+
+    /// Equal mail, with room for as many messages as may wait.
+    pub fn copy(&self, alloc: Global) -> Result<Mail, Memory>
+        ensures { IfOk result (λ p. p ≡ self.now) }
+    {
+        let mut queue = self.queue.copy(alloc)?;
+        queue.reserve(MOST_WAITING - queue.len())?;
+        Ok(Mail {
+            queue,
+            next_seq: self.next_seq,
+            dropped: self.dropped,
+            jitter: Jitter::new(),
+        })
+    }
+
+    /// The message that is next. `None` where none waits.
+    pub fn least(&self) -> Option<&Message>
+        ensures least { option_map (λ m. m.now) result ≡ least self.now.waiting }
+    {
+        self.queue.peek_least()
+    }
+
+    /// How many messages wait.
+    pub fn len(&self) -> u32
+        ensures { result ≡ length self.now.waiting }
+    {
+        self.queue.len() as u32
+    }
+
+    /// The number of the next message that joins.
+    pub fn next_seq(&self) -> u64
+        ensures { result ≡ self.now.next_seq }
+    {
+        self.next_seq
+    }
+
+    /// How many messages were dropped.
+    pub fn dropped(&self) -> u64
+        ensures { result ≡ self.now.dropped }
+    {
+        self.dropped
+    }
+
+    /// No more messages wait than may, and each has a number of its own that was given.
+    pub fn is_orderly(&self)
+        ensures { IsOrderly self.now }
+    {
+        self.queue.numbers_rise();
+    }
+
+    /// The waiting messages in order of time, and at one time of number.
+    pub fn messages(&self, alloc: Global) -> Result<Vec<Message>, Memory>
+        ensures listed { IfOk result (λ v. v.items ≡ in_order self.now.waiting) }
+        ensures same { IfOk result (λ v. IsPermutation self.now.waiting v.items) }
+        ensures sorted { IfOk result (λ v. IsSortedBy before v.items) }
+    {
+        self.queue.messages(alloc)
+    }
+
+    /// The next message leaves. `None` where none waits.
+    pub fn take(&mut self) -> Option<Message>
+        ensures least { result ≡ least self.old.waiting }
+        ensures left { IfSome result (λ m. self.new ≡ taken self.old m) }
+        ensures shrinks { OnSome result (length self.new.waiting + 1 ≡ length self.old.waiting) }
+        ensures few { length self.new.waiting ≤ most_waiting }
+        ensures soonest { IfSome result (λ m. All (λ x. m.time ≤ x.time) self.new.waiting) }
+        ensures none { IfNone result (self.new ≡ self.old) }
+    {
+        self.queue.pop_least()
+    }
+
+    /// The next message is put back to a time, under its old number. `None` where none waits.
+    pub fn put_back(&mut self, time: Time) -> Option<Message>
+        ensures least { result ≡ least self.old.waiting }
+        ensures back { IfSome result (λ m. self.new ≡ put_back self.old m time) }
+        ensures same { length self.new.waiting ≡ length self.old.waiting }
+        ensures few { length self.new.waiting ≤ most_waiting }
+        ensures none { IfNone result (self.new ≡ self.old) }
+    {
+        let seq = self.queue.peek_least()?.seq;
+        self.queue.replace_least(time, seq)
+    }
+
+    // A message that has the next number joins, or is dropped.
+    fn join(&mut self, m: Message)
+        requires number { m.seq ≡ self.old.next_seq }
+        requires numbers { self.old.next_seq + 1 < 2 ^ 64 }
+        requires drops { self.old.dropped + 1 < 2 ^ 64 }
+        ensures joins { self.new ≡ joins self.old (λ _. m) }
+        ensures counted { self.new.next_seq + self.new.dropped ≡ self.old.next_seq + self.old.dropped + 1 }
+    {
+        if self.queue.len() < MOST_WAITING {
+            self.queue.push(m);
+            self.next_seq += 1;
+        } else {
+            self.dropped += 1;
+        }
+    }
+
+    /// A posting of an agent that leaves at a time, in nanoseconds past midnight, joins under the next
+    /// number and is due after its latency, or is dropped.
+    pub fn send(
+        &mut self,
+        o: &Opening,
+        groups: &Groups,
+        from: AgentNo,
+        leave: Time,
+        posting: Posting,
+    )
+        requires fits { IsGrouped o.now groups.now }
+        requires addressed { IsAddressed (length o.now.traders) (length o.now.stocks) from posting }
+        requires leaves { leave < 2 ^ 60 }
+        requires numbers { self.old.next_seq + 1 < 2 ^ 64 }
+        requires drops { self.old.dropped + 1 < 2 ^ 64 }
+        ensures sent { self.new ≡ sent o.now groups.now from leave self.old posting }
+        ensures counted { self.new.next_seq + self.new.dropped ≡ self.old.next_seq + self.old.dropped + 1 }
+    {
+        let seq = self.next_seq;
+        let m = message_for(&mut self.jitter, o, groups, from, leave, posting, seq);
+        self.join(m);
+    }
+
+    /// An order of a trader joins under the next number and is due at a time, in nanoseconds past
+    /// midnight, whatever the latency, or is dropped.
+    pub fn inject(&mut self, from: AgentNo, time: Time, order: Inbound)
+        requires numbers { self.old.next_seq + 1 < 2 ^ 64 }
+        requires drops { self.old.dropped + 1 < 2 ^ 64 }
+        ensures injected { self.new ≡ injected from time order self.old }
+        ensures counted { self.new.next_seq + self.new.dropped ≡ self.old.next_seq + self.old.dropped + 1 }
+    {
+        self.join(Message {
+            time,
+            seq: self.next_seq,
+            from,
+            to: 0,
+            body: Body::Order(order),
+        });
+    }
+}

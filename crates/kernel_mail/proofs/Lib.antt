@@ -1,4 +1,0 @@
-pub mod Posts
-pub mod Queues
-pub mod Sends
-pub mod Sound

@@ -1,7 +1,0 @@
-use Rattle.std.proofs.Common.{◌+◌, ◌++◌}
-use Rattle.branch_bundle.specs.Bundle.{header_of, traces_of}
-use Rattle.large_lines.specs.Tallied.{IsTallyOf}
-use Rattle.large_lines.proofs.bundle.with_branches.Given as goal
-
-abbrev pub invariant-loop-branch : goal.invariant-loop-branch
-invariant-loop-branch g l = IsTallyOf l.tally (header_of l.course ++ traces_of l.course l.branch) (l.branch + 1)

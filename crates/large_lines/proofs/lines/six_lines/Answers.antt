@@ -1,9 +1,0 @@
-use Rattle.std.proofs.Common.{◌≡◌, ℕ, List, IfOk, string_bytes, subst}
-use Rattle.large_lines.proofs.Sums.{lines-joined}
-use Rattle.large_lines.proofs.lines.six_lines.Goals as goal
-
-pub returns : goal.returns
-returns c =
-    subst (λ (bytes : List ℕ). IfOk c.format.result (λ text. string_bytes text ≡ bytes))
-    (lines-joined c.args.study c.args.branches c.args.events c.args.distinct c.args.bundle.count c.args.bundle.total)
-    c.format.ensures.ok

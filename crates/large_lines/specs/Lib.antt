@@ -1,2 +1,0 @@
-pub mod Tallied
-pub mod Report

@@ -1,8 +1,0 @@
-use Rattle.std.proofs.Common.{refl}
-use Rattle.std.specs.Fmt.{digits}
-use Rattle.large_study.specs.LargeStudy.{branches, head, key_of, makers, market, momentum_traders, noise_traders, value_traders}
-use Rattle.large_study.proofs.worked.length_of_a_study.Goals as goal
-
-pub returns : goal.returns
-unfolding digits key_of head market makers noise_traders value_traders momentum_traders branches
-returns c = refl

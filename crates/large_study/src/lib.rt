@@ -1,7 +1,0 @@
-//! The large study, as the text of its file.
-#![tactic(auto)]
-
-mod text;
-pub mod worked;
-
-pub use text::study_text;

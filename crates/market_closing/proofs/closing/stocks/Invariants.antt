@@ -1,6 +1,0 @@
-use Rattle.std.proofs.Common.{◌≡◌}
-use Rattle.market_closing.specs.Closing.{stocks_closed}
-use Rattle.market_closing.proofs.closing.stocks.Given as goal
-
-abbrev pub invariant-loop-k : goal.invariant-loop-k
-invariant-loop-k l = l.stocks.items ≡ stocks_closed l.kernel l.k

@@ -1,5 +1,0 @@
-use Rattle.market_opening.proofs.Openings.{group-of_agent}
-use Rattle.market_opening.proofs.laws.agents_have_groups.Goals as goal
-
-pub returns : goal.returns
-returns c = group-of_agent

@@ -1,4 +1,0 @@
-pub mod Opening
-pub mod Groups
-pub mod Postings
-pub mod Worked

@@ -1,4 +1,0 @@
-pub mod Laying
-pub mod Holding
-pub mod Nearing
-pub mod Rooted

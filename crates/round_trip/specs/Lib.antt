@@ -1,0 +1,7 @@
+pub mod AsRead
+pub mod Back
+pub mod Fields
+pub mod Ranges
+pub mod Spelled
+pub mod Worked
+pub mod AcceptedBack

@@ -1,4 +1,0 @@
-pub mod Records
-pub mod Rows
-pub mod Late
-pub mod Worked

@@ -1,0 +1,11 @@
+use Rattle.std.proofs.Common.{◌≡◌, true, get_or, subst, pos, rules}
+use Rattle.toml.specs.View.{view}
+use Rattle.study_file.specs.Values.{number_in, is_between}
+use Rattle.study_market.proofs.LatencyRanges.{value-cell}
+use Rattle.study_market.proofs.latencies.jitter_numbers.Goals as goal
+
+pub jitter_number-requires : goal.jitter_number-requires
+jitter_number-requires c =
+    let here : get_or c.args.items.now c.loop-item.item-index c.item-item.result ≡ c.item-item.result = search rules in
+    subst (λ v. is_between (pos 0) (pos 4294967295) (number_in (view v)) ≡ true) here
+    (value-cell (pos 4294967295) c.args.items.now c.loop-item.item-index c.item-item.result c.loop-item-test.true c.requires)

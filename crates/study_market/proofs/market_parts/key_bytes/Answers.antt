@@ -1,0 +1,14 @@
+use Rattle.std.proofs.Common.{◌*◌, ◌+◌, arith}
+use Rattle.study_file.specs.Keys.{is_hex_digit}
+use Rattle.study_market.proofs.Hex.{all-bytes}
+use Rattle.study_market.proofs.Lists.{all-pass}
+use Rattle.study_market.proofs.market_parts.key_bytes.Goals as goal
+
+pub hex_value-requires : goal.hex_value-requires
+hex_value-requires c = all-pass is_hex_digit c.args.text.now c.requires.digits (2 * c.loop-i.i) 0 (omega (arith, c.requires.length, c.loop-i-test.true))
+
+pub hex_value-requires-in-loop-i : goal.hex_value-requires-in-loop-i
+hex_value-requires-in-loop-i c = all-pass is_hex_digit c.args.text.now c.requires.digits (2 * c.loop-i.i + 1) 0 (omega (arith, c.requires.length, c.loop-i-test.true))
+
+pub returns : goal.returns
+returns c = all-bytes c.args.text.now c.loop-i.key c.requires.length c.loop-i.invariant.0 (λ k within. c.loop-i.invariant.1 k (omega (arith, within)))

@@ -1,0 +1,110 @@
+//! The fundamental values of the stocks.
+
+ghost use Rattle.std.specs.Prelude.{◌≡◌, ◌≤◌, ℕ, map, length, None, true, false, IfOk, codes};
+ghost use Rattle.std.specs.List.{enumerate_from};
+ghost use Rattle.toml.specs.View.{table_view, view};
+ghost use Rattle.fundamental_series.specs.Made.{by_rule};
+ghost use Rattle.fundamental_series.specs.Ranges.{AreRows};
+ghost use Rattle.study_file.specs.Values.{first_failing};
+ghost use Rattle.study_market.specs.MarketRules.{span_of, key_broken as rule_3};
+ghost use Rattle.study_market.specs.StockRules.{stocks as stocks_of, has_prices, has_pace, goes_by as by_word, stock_count_broken as rule_10, prices_broken as rule_16, pace_broken as rule_17};
+ghost use Rattle.study_market.specs.Rows.{rows_of};
+ghost use Rattle.study_market.specs.Entries.{entry_of};
+ghost use Rattle.study_market.specs.Market.{key_of};
+ghost use Rattle.study_market.specs.Stocks.{rule_made_of, series_in, series_of, HaveRows};
+
+use crate::entries::{entry, natural_at};
+use crate::market_parts::{close, key, start};
+use fundamental_series::{Series, SeriesRule, series_by_rule, series_from_rows};
+use market_types::{Memory, Sequence, StockNo};
+use crate::{few_stocks, goes_by, SeriesTables};
+use std::alloc::Global;
+use study_file::{Table, Value};
+
+// The values of a stock by its rule.
+fn made_by_rule(
+    alloc: Global,
+    table: &Table,
+    key: &[u8; 32],
+    number: StockNo,
+    stock: &Table,
+) -> Result<Series, Memory>
+    requires key { key.now ≡ key_of (table_view table.now) }
+    requires by { by_word (codes "rule") (table_view stock.now) ≡ true }
+    requires prices { has_prices (table_view stock.now) ≡ true }
+    requires pace { has_pace (span_of (table_view table.now)) (table_view stock.now) ≡ true }
+    ensures { IfOk result (λ s. s ≡ by_rule (rule_made_of (table_view table.now) number (table_view stock.now))) }
+{
+    let rule = SeriesRule {
+        start: natural_at(stock, "start") as u32,
+        mean: natural_at(stock, "mean") as u32,
+        pull: natural_at(stock, "pull") as u32,
+        shock: natural_at(stock, "shock") as u32,
+        every: natural_at(stock, "every"),
+    };
+    series_by_rule(alloc, key, number, &rule, start(table), close(table))
+}
+
+// The values of a stock by its rule or by its rows.
+fn stock_series(
+    alloc: Global,
+    table: &Table,
+    key: &[u8; 32],
+    tables: &SeriesTables,
+    number: StockNo,
+    stock: &Table,
+) -> Result<Series, Memory>
+    requires key { key.now ≡ key_of (table_view table.now) }
+    requires prices { has_prices (table_view stock.now) ≡ true }
+    requires pace { has_pace (span_of (table_view table.now)) (table_view stock.now) ≡ true }
+    requires rows { by_word (codes "rule") (table_view stock.now) ≡ false → AreRows (rows_of tables.now number) }
+    ensures { IfOk result (λ s. s ≡ series_in (table_view table.now) tables.now number (table_view stock.now)) }
+{
+    if goes_by(stock, "rule") {
+        made_by_rule(alloc, table, key, number, stock)
+    } else {
+        series_from_rows(alloc, tables.rows(usize::from(number)))
+    }
+}
+
+// The values of each of at most 16 stocks, in order.
+fn entry_series(
+    alloc: Global,
+    table: &Table,
+    key: &[u8; 32],
+    tables: &SeriesTables,
+    values: &[Value],
+) -> Result<Vec<Series>, Memory>
+    requires few { length values.now ≤ 16 }
+    requires key { key.now ≡ key_of (table_view table.now) }
+    requires prices { first_failing has_prices (map view values.now) ≡ None }
+    requires pace { first_failing (has_pace (span_of (table_view table.now))) (map view values.now) ≡ None }
+    requires rows { HaveRows (map view values.now) tables.now }
+    ensures { IfOk result (λ v. v.items ≡ map (λ (p : ℕ × _). series_in (table_view table.now) tables.now p.0 (entry_of p.1)) (enumerate_from 0 (map view values.now))) }
+{
+    let mut list = Vec::new(alloc);
+    for number in 0..values.len() {
+        let stock = entry(&values[number]);
+        let series = stock_series(alloc, table, key, tables, number as StockNo, stock)?;
+        list.push(series)?;
+    }
+    Ok(list)
+}
+
+/// The fundamental values of each stock of a study, whose stocks keep their rules and have these rows.
+pub fn all_series(
+    alloc: Global,
+    table: &Table,
+    tables: &SeriesTables,
+) -> Result<Sequence<Series>, Memory>
+    requires key { rule_3 (table_view table.now) ≡ None }
+    requires few { rule_10 (table_view table.now) ≡ None }
+    requires prices { rule_16 (table_view table.now) ≡ None }
+    requires pace { rule_17 (table_view table.now) ≡ None }
+    requires rows { HaveRows (stocks_of (table_view table.now)) tables.now }
+    ensures { IfOk result (λ s. s ≡ series_of (table_view table.now) tables.now) }
+{
+    let key = key(table);
+    let list = entry_series(alloc, table, &key, tables, few_stocks(table))?;
+    Ok(Sequence::new(list))
+}

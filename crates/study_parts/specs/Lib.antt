@@ -1,6 +1,0 @@
-pub mod Entries
-pub mod Market
-pub mod Stocks
-pub mod Changes
-pub mod Traders
-pub mod Opening

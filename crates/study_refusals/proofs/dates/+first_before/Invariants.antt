@@ -1,5 +1,0 @@
-use Rattle.std.proofs.Common.{length}
-use Rattle.study_refusals.proofs.dates.+first_before.Given as goal
-
-abbrev pub decreases-first_before : goal.decreases-first_before
-decreases-first_before l = length l.changes.now

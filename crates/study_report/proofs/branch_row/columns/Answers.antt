@@ -1,0 +1,30 @@
+use Rattle.std.proofs.Common.{◌≡◌, ◌∙◌, ◌+◌, List, IfOk, map, take, ap, subst}
+use Rattle.std.specs.List.{flat_map}
+use Rattle.std.proofs.lemmas.List.{take_all}
+use Rattle.market_types.specs.Told.{EntryTold}
+use Rattle.probe_desk.specs.Probe.{column_of}
+use Rattle.study_report.proofs.Traces.{parts-taken}
+use Rattle.study_report.proofs.Watching.{columns_read, seen_on}
+use Rattle.study_report.proofs.branch_row.columns.Goals as goal
+
+pub loop-part-preserved : goal.loop-part-preserved
+loop-part-preserved g c =
+    let (numbers, meanings, titles) = c.loop-part.invariant in
+    let w = c.watch.ensures in
+    let parts = c.deref-part-items.result.now in
+    let i = c.loop-part.part-index in
+    let seen = flat_map (λ t. t.now.list) (take i parts) in
+    let next = c.part-item.result.now.list in
+    let more = parts-taken (λ t. t.now.list) parts i c.part-item.result c.loop-part-test.true c.part-item.is in
+    (w.numbers ∙ seen_on _ _ c.loop-part.probes c.args.probes.now seen next (flat_map (λ t. t.now.list) (take (i + 1) parts)) meanings numbers more, w.meanings ∙ meanings, w.titles ∙ titles)
+
+pub returns-clause-values : goal.returns-clause-values
+returns-clause-values g c =
+    let (numbers, meanings, titles) = c.loop-part.invariant in
+    let seen = flat_map (λ t. t.now.list) (take c.loop-part.part-index c.deref-part-items.result.now) in
+    let all = take_all c.loop-part.part-index c.deref-part-items.result.now c.loop-part-test.false ∙ c.deref-part-items.ensures.value in
+    let whole = ap (flat_map (λ t. t.now.list)) all ∙ c.in_ok-parts.ensures in
+    subst (λ xs. IfOk c.values.result (λ v. v.items ≡ xs))
+    (columns_read _ _ c.loop-part.probes c.args.probes.now seen meanings numbers
+    ∙ ap (λ (es : List EntryTold). map (λ m. column_of m es) (map (λ b. (goal.Probe-dyn g (b.vtable, b.value)).meaning b.value) c.args.probes.now)) whole)
+    c.values.ensures

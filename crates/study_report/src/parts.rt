@@ -1,0 +1,55 @@
+//! Full runs as the traces of their segments, one after another.
+
+ghost use Rattle.std.specs.Prelude.{◌≡◌, ◌<◌, IfOk, length};
+ghost use Rattle.std.specs.List.{flat_map};
+ghost use Rattle.branch_tree.specs.Segments.{segments_in, segment_at};
+ghost use Rattle.kernel_copy.specs.Segmentwise.{segment_end};
+ghost use Rattle.trace_bundle.specs.Ran.{IsListedRunOf};
+ghost use Rattle.study_report.specs.Tables.{run_of};
+
+use trace_bundle::{Ran, trace_of_segment};
+use kernel_copy::Course;
+use market_types::{Memory, Trace};
+use std::alloc::Global;
+
+// The traces of the segments from the root's first to this one, each of which goes on from the one before.
+fn parts_to<'a, W: Ran>(
+    alloc: Global,
+    course: &Course,
+    ran: &'a W,
+    segment: u32,
+) -> Result<Vec<&'a Trace>, Memory>
+    requires segment { segment < length (segments_in course.now.plan) }
+    requires ran { IsListedRunOf course.now (W.count ran.now) (W.kept_of ran.now) (W.closing_of ran.now) }
+    ensures { IfOk result (λ v. flat_map (λ t. t.now.list) v.items ≡ (segment_end course.now.opening course.now.plan (segment_at course.now.plan segment)).entries) }
+{
+    let own = trace_of_segment(course, ran, segment);
+    match course.segment(segment).parent {
+        None => {
+            let mut parts = Vec::new(alloc);
+            parts.push(own)?;
+            Ok(parts)
+        }
+        Some(parent) => {
+            let mut parts = parts_to(alloc, course, ran, parent)?;
+            parts.push(own)?;
+            Ok(parts)
+        }
+    }
+}
+
+/// The traces of the segments that a branch's full run goes along, in order.
+pub fn parts_of<'a, W: Ran>(
+    alloc: Global,
+    course: &Course,
+    ran: &'a W,
+    branch: u16,
+) -> Result<Vec<&'a Trace>, Memory>
+    requires branch { branch < length course.now.plan.branches }
+    requires ran { IsListedRunOf course.now (W.count ran.now) (W.kept_of ran.now) (W.closing_of ran.now) }
+    ensures { IfOk result (λ v. flat_map (λ t. t.now.list) v.items ≡ (run_of course.now branch).entries) }
+{
+    let _ = course.opening();
+    let last = course.last_segment(branch);
+    parts_to(alloc, course, ran, last)
+}

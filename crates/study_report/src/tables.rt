@@ -1,0 +1,58 @@
+//! The table of a study.
+
+ghost use Rattle.std.specs.Prelude.{◌≡◌, IfOk, length, map};
+ghost use Rattle.trace_bundle.specs.Ran.{IsListedRunOf};
+ghost use Rattle.study_report.specs.Tables.{rows_of, study_table};
+
+use crate::branch_row::row;
+use trace_bundle::Ran;
+use kernel_copy::Course;
+use market_types::Memory;
+use probe_desk::Probe;
+use std::alloc::Global;
+use crate::{TableRow, table};
+
+// The rows of all branches in order.
+fn rows<W: Ran>(
+    alloc: Global,
+    course: &Course,
+    ran: &W,
+    probes: &mut [Box<dyn Probe>],
+) -> Result<Vec<TableRow>, Memory>
+    requires { IsListedRunOf course.now (W.count ran.now) (W.kept_of ran.now) (W.closing_of ran.now) }
+    ensures rows { IfOk result (λ v. v.items ≡ rows_of course.now (map (λ p. meaning p) probes.old) (length course.now.plan.branches)) }
+    ensures meanings { map (λ p. meaning p) probes.new ≡ map (λ p. meaning p) probes.old }
+    ensures titles { map (λ p. title p) probes.new ≡ map (λ p. title p) probes.old }
+{
+    let mut rows = Vec::new(alloc);
+    for b in 0..course.plan().branches().len() {
+        let next = row(alloc, course, ran, b as u16, probes)?;
+        rows.push(next)?;
+    }
+    Ok(rows)
+}
+
+/// The table of a study in comma-separated values, from a run of its segments that holds their entries themselves: a line of
+/// heads, and then a row for each branch in order. A row has the branch's name, that of the branch that it leaves, the event
+/// number at which it leaves, how many events its full run has and what ended it, the first event number at which the run
+/// differs from its parent's, and the number of each probe.
+///
+/// Each probe opens anew before each branch, the first too, and sees the records of the branch's full run in order, from
+/// the opening. Its meaning and its title stay, whatever is answered.
+///
+/// # Errors
+/// Want of memory alone.
+pub fn study_table<W: Ran>(
+    alloc: Global,
+    course: &Course,
+    ran: &W,
+    probes: &mut [Box<dyn Probe>],
+) -> Result<Vec<u8>, Memory>
+    requires { IsListedRunOf course.now (W.count ran.now) (W.kept_of ran.now) (W.closing_of ran.now) }
+    ensures table { IfOk result (λ v. v.items ≡ study_table course.now (map (λ p. meaning p) probes.old) (map (λ p. title p) probes.old)) }
+    ensures meanings { map (λ p. meaning p) probes.new ≡ map (λ p. meaning p) probes.old }
+    ensures titles { map (λ p. title p) probes.new ≡ map (λ p. title p) probes.old }
+{
+    let rows = rows(alloc, course, ran, probes)?;
+    table(alloc, rows.as_slice(), probes)
+}

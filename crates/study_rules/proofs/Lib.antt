@@ -1,0 +1,13 @@
+pub mod Few
+pub mod Walks
+pub mod Beside
+pub mod Scopes
+pub mod Texts
+pub mod Held
+pub mod Single
+pub mod Planned
+pub mod Orders
+pub mod Fits
+pub mod Making
+pub mod Accepting
+pub mod Editing

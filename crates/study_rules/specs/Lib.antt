@@ -1,0 +1,10 @@
+pub mod Forms
+pub mod Entries
+pub mod BranchRules
+pub mod Scope
+pub mod EditRules
+pub mod FirstBroken
+pub mod Branches
+pub mod Fitting
+pub mod Worked
+pub mod Accepted

@@ -1,0 +1,20 @@
+-- The rules of branches and the branches of a study, for worked examples.
+use Rattle.std.specs.Prelude.{List, [], ◌∷◌, Option, codes}
+use Rattle.toml.specs.Data.{Members}
+use Rattle.branch_tree.specs.declared.branch.Branch.{Branch}
+use Rattle.market_rules.specs.declared.edit.Edit.TheVariants.{Latency, Halt}
+use Rattle.study_market.specs.declared.early_refusal.Refusal.{Refusal}
+use Rattle.study_market.specs.FirstBroken.{first_of_rules}
+use Rattle.study_rules.specs.Branches.{root_branch}
+use Rattle.study_rules.specs.FirstBroken.{branch_rules}
+
+abbrev pub branches_broken : Members → Option Refusal
+branches_broken t = first_of_rules branch_rules t
+
+-- a branch of the root that slows its messages, and one of that branch which halts a stock
+abbrev pub slow_and_halted : List Branch
+slow_and_halted =
+    root_branch
+    ∷ record { name = codes "x"; parent = 0; stop = 2; edits = Latency 0 0 50 0 ∷ [] }
+    ∷ record { name = codes "y"; parent = 1; stop = 3; edits = Halt 0 ∷ [] }
+    ∷ []

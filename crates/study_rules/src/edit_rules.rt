@@ -1,0 +1,430 @@
+//! Edits as a study's entries say them, and the rule that each is one.
+
+ghost use Rattle.std.specs.Prelude.{◌≡◌, ◌≤◌, ◌<◌, ◌+◌, ◌*◌, true, map, option_map, length, pos, None, IfOk, IfSome};
+ghost use Rattle.std.specs.List.{list_any};
+ghost use Rattle.std.specs.Str.{bytes_eq};
+ghost use Rattle.toml.specs.View.{table_view, view};
+ghost use Rattle.study_file.specs.Tables.{is_named};
+ghost use Rattle.study_file.specs.Values.{number_at as number_of, is_between as between, first_failing as first_failing_of};
+ghost use Rattle.study_market.specs.MarketRules.{squares_broken as rule_7};
+ghost use Rattle.study_market.specs.StockRules.{band_in, are_bands, is_fee, stock_count_broken as rule_10};
+ghost use Rattle.study_market.specs.AgentRules.{counts_broken as rule_25};
+ghost use Rattle.study_market.specs.ChangeRules.{is_kind as kind_of};
+ghost use Rattle.study_rules.specs.BranchRules.{forms_broken as forms_of, first_edit, branch_keys_broken as rule_30, edit_keys_broken as rule_34};
+ghost use Rattle.study_rules.specs.EditRules.{natural_in as natural_of, stock_in as stock_of, trader_in as trader_of, group_in as group_of, tick_in as tick_of, fee_in as fee_of, latency_in as latency_of, common_param as common_of, order_param as ordering_of, maker_param as making_of, param_named as param_of, has_param as param_belongs, is_param_value as param_value, agent_in as agent_of, silence_in as silence_of, order_in as order_of, message_in as message_of, inject_in as inject_of, series_in as series_of, edit_in as edit_of, is_edit as edit_among, edits_broken as rule_35};
+
+use crate::entries::branch_edits;
+use crate::keys::few_branches;
+use crate::scope::{Scope, study_scope};
+use hex::FromHexError;
+use market_rules::{Edit, FeeTable, Param, RuleError, TickTable};
+use market_types::{AgentNo, Inbound, Memory, StockNo};
+use ouch_codec::decode_in;
+use std::alloc::Global;
+use study_file::{Table, Value, has_between, is_at_most, list_at, number_at, string_at};
+use study_market::{EntryTrial, first_failed, has_bands, has_fees, read_bands};
+
+// Whether a number is from the low to the high one.
+fn is_within(low: u64, high: u64, number: i64) -> bool
+    ensures { result ≡ between (pos low) (pos high) number }
+{
+    is_at_most(high, number) && low <= number as u64
+}
+
+// The number at a key, where it is from a low to a high one.
+fn natural_in(edit: &Table, key: &str, low: u64, high: u64) -> Option<u64>
+    ensures number { result ≡ natural_of low high key.now (table_view edit.now) }
+    ensures within { IfSome result (λ number. number ≤ high) }
+{
+    let number = number_at(edit, key);
+    if is_within(low, high, number) {
+        Some(number.unsigned_abs())
+    } else {
+        None
+    }
+}
+
+// The stock that an edit names.
+fn stock_in(scope: &Scope<'_>, edit: &Table) -> Option<StockNo>
+    ensures { result ≡ stock_of scope.now (table_view edit.now) }
+{
+    scope.stock(string_at(edit, "stock"))
+}
+
+// The trader that an edit names.
+fn trader_in(scope: &Scope<'_>, edit: &Table) -> Option<AgentNo>
+    ensures { result ≡ trader_of scope.now (table_view edit.now) }
+{
+    match natural_in(edit, "agent", 1, scope.trader_count()) {
+        Some(trader) => Some(trader as AgentNo),
+        None => None,
+    }
+}
+
+// The latency group at a key, of at most 32.
+fn group_in(groups: u32, edit: &Table, key: &str) -> Option<u8>
+    requires few { groups ≤ 32 }
+    ensures { result ≡ group_of groups key.now (table_view edit.now) }
+{
+    let number = number_at(edit, key);
+    if 0 <= number && number < i64::from(groups) {
+        Some(number as u8)
+    } else {
+        None
+    }
+}
+
+// The tick table that bands are.
+fn read_table(alloc: Global, bands: &[Value]) -> Result<TickTable, Memory>
+    requires { are_bands (map view bands.now) ≡ true }
+    ensures { IfOk result (λ table. table ≡ map band_in (map view bands.now)) }
+{
+    let bands = read_bands(alloc, bands)?;
+    match TickTable::new(alloc, bands.as_slice()) {
+        Ok(table) => Ok(table),
+        Err(RuleError::Memory) => Err(Memory),
+        Err(_) => unreachable!(),
+    }
+}
+
+fn tick_in(alloc: Global, scope: &Scope<'_>, edit: &Table) -> Result<Option<Edit>, Memory>
+    ensures { IfOk result (λ e. e ≡ tick_of scope.now (table_view edit.now)) }
+{
+    let Some(stock) = stock_in(scope, edit) else {
+        return Ok(None);
+    };
+    if !has_bands(alloc, edit)? {
+        return Ok(None);
+    }
+    let table = read_table(alloc, list_at(edit, "bands"))?;
+    Ok(Some(Edit::Tick { stock, table }))
+}
+
+// A fee of an edit, in its range.
+fn fee_at(edit: &Table, key: &str) -> i32
+    requires { is_fee (number_of key.now (table_view edit.now)) ≡ true }
+    ensures { result ≡ number_of key.now (table_view edit.now) }
+{
+    number_at(edit, key) as i32
+}
+
+fn fee_in(scope: &Scope<'_>, edit: &Table) -> Option<Edit>
+    ensures { result ≡ fee_of scope.now (table_view edit.now) }
+{
+    let stock = stock_in(scope, edit)?;
+    if has_fees(edit) {
+        Some(Edit::Fee {
+            stock,
+            fees: FeeTable {
+                add: fee_at(edit, "add"),
+                take: fee_at(edit, "take"),
+            },
+        })
+    } else {
+        None
+    }
+}
+
+fn halt_in(scope: &Scope<'_>, edit: &Table) -> Option<Edit>
+    ensures { result ≡ option_map Edit.Halt (stock_of scope.now (table_view edit.now)) }
+{
+    let stock = stock_in(scope, edit)?;
+    Some(Edit::Halt { stock })
+}
+
+fn resume_in(scope: &Scope<'_>, edit: &Table) -> Option<Edit>
+    ensures { result ≡ option_map Edit.Resume (stock_of scope.now (table_view edit.now)) }
+{
+    let stock = stock_in(scope, edit)?;
+    Some(Edit::Resume { stock })
+}
+
+fn latency_in(scope: &Scope<'_>, edit: &Table) -> Option<Edit>
+    ensures { result ≡ latency_of scope.now (table_view edit.now) }
+{
+    let groups = scope.groups();
+    let from = group_in(groups, edit, "from")?;
+    let to = group_in(groups, edit, "to")?;
+    let base = natural_in(edit, "base", 0, 3_600_000_000_000)?;
+    let jitter = natural_in(edit, "jitter", 0, 4_294_967_295)?;
+    Some(Edit::Latency {
+        from,
+        to,
+        base,
+        jitter: jitter as u32,
+    })
+}
+
+// The parameter of a name that traders of all kinds have.
+fn common_param(name: &str) -> Option<Param>
+    ensures { result ≡ common_of name.now }
+{
+    if name == "every" {
+        Some(Param::Every)
+    } else if name == "wobble" {
+        Some(Param::Wobble)
+    } else if name == "delay" {
+        Some(Param::Delay)
+    } else {
+        None
+    }
+}
+
+// The parameter of a name that traders who send orders have.
+fn order_param(name: &str) -> Option<Param>
+    ensures { result ≡ ordering_of name.now }
+{
+    if name == "size" {
+        Some(Param::Size)
+    } else if name == "noise" {
+        Some(Param::Noise)
+    } else if name == "margin" {
+        Some(Param::Margin)
+    } else {
+        None
+    }
+}
+
+// The parameter of a name that makers have.
+fn maker_param(name: &str) -> Option<Param>
+    ensures { result ≡ making_of name.now }
+{
+    if name == "half" {
+        Some(Param::Half)
+    } else if name == "step" {
+        Some(Param::Step)
+    } else if name == "levels" {
+        Some(Param::Levels)
+    } else if name == "pause" {
+        Some(Param::Pause)
+    } else {
+        None
+    }
+}
+
+// The parameter of a name.
+fn param_named(name: &str) -> Option<Param>
+    ensures { result ≡ param_of name.now }
+{
+    if let Some(param) = common_param(name) {
+        return Some(param);
+    }
+    match order_param(name) {
+        Some(param) => Some(param),
+        None => maker_param(name),
+    }
+}
+
+fn is_listed(words: &[&str], word: &str) -> bool
+    ensures { result ≡ list_any (λ known. bytes_eq known.now word.now) words.now }
+{
+    words.iter().any(|known| *known == word)
+}
+
+// Whether a word is one of these.
+fn is_word(words: &[&str], word: &str) -> bool
+    ensures { result ≡ is_named (map (λ known. known.now) words.now) word.now }
+{
+    is_listed(words, word)
+}
+
+// Whether a parameter belongs to a trader's kind.
+fn has_param(kind: &str, param: Param) -> bool
+    ensures { result ≡ param_belongs kind.now param }
+{
+    match param {
+        Param::Every | Param::Wobble | Param::Delay => true,
+        Param::Size => is_word(&["noise", "value", "momentum", "maker"], kind),
+        Param::Noise | Param::Margin => is_word(&["value"], kind),
+        Param::Half | Param::Step | Param::Levels | Param::Pause => is_word(&["maker"], kind),
+    }
+}
+
+// Whether a number is in the range of a parameter.
+fn is_param_value(param: Param, number: i64) -> bool
+    ensures { result ≡ param_value param number }
+{
+    match param {
+        Param::Size => is_within(1, 999_999, number),
+        Param::Every => is_within(1, 3_600_000_000_000, number),
+        Param::Wobble => is_within(0, 4_294_967_295, number),
+        Param::Delay | Param::Pause => is_within(0, 3_600_000_000_000, number),
+        Param::Noise | Param::Margin | Param::Half | Param::Step => {
+            is_within(0, 1_000_000_000, number)
+        }
+        Param::Levels => is_within(1, 8, number),
+    }
+}
+
+fn agent_in(scope: &Scope<'_>, edit: &Table) -> Option<Edit>
+    ensures { result ≡ agent_of scope.now (table_view edit.now) }
+{
+    let agent = trader_in(scope, edit)?;
+    let name = param_named(string_at(edit, "name"))?;
+    let value = number_at(edit, "value");
+    if has_param(scope.kind_of_trader(agent), name) && is_param_value(name, value) {
+        Some(Edit::Agent {
+            agent,
+            name,
+            value: value.unsigned_abs(),
+        })
+    } else {
+        None
+    }
+}
+
+fn silence_in(scope: &Scope<'_>, edit: &Table) -> Option<Edit>
+    ensures { result ≡ silence_of scope.now (table_view edit.now) }
+{
+    let agent = trader_in(scope, edit)?;
+    Some(Edit::Silence { agent })
+}
+
+// The order that bytes spell.
+fn order_in(bytes: &[u8]) -> Option<Inbound>
+    ensures { result ≡ order_of bytes.now }
+{
+    match decode_in(bytes) {
+        Ok(message) => Some(message),
+        Err(_) => None,
+    }
+}
+
+// The order that the bytes of a text of hexadecimal digits spell.
+fn message_in(alloc: Global, text: &str) -> Result<Option<Inbound>, Memory>
+    ensures { IfOk result (λ message. message ≡ message_of text.now) }
+{
+    match hex::decode(alloc, text.as_bytes()) {
+        Ok(bytes) => Ok(order_in(bytes.as_slice())),
+        Err(FromHexError::OutOfMemory) => Err(Memory),
+        Err(_) => Ok(None),
+    }
+}
+
+fn inject_in(alloc: Global, scope: &Scope<'_>, edit: &Table) -> Result<Option<Edit>, Memory>
+    ensures { IfOk result (λ e. e ≡ inject_of scope.now (table_view edit.now)) }
+{
+    let Some(agent) = trader_in(scope, edit) else {
+        return Ok(None);
+    };
+    let Some(after) = natural_in(edit, "after", 0, 86_399_999_999_999) else {
+        return Ok(None);
+    };
+    match message_in(alloc, string_at(edit, "message"))? {
+        Some(message) => Ok(Some(Edit::Inject {
+            agent,
+            after,
+            message,
+        })),
+        None => Ok(None),
+    }
+}
+
+fn series_in(scope: &Scope<'_>, edit: &Table) -> Option<Edit>
+    ensures { result ≡ series_of scope.now (table_view edit.now) }
+{
+    let stock = stock_in(scope, edit)?;
+    if has_between(edit, "offset", -2_000_000_000, 2_000_000_000) {
+        Some(Edit::Series {
+            stock,
+            offset: number_at(edit, "offset"),
+        })
+    } else {
+        None
+    }
+}
+
+// Whether the kind of an edit is this.
+fn is_kind(edit: &Table, word: &str) -> bool
+    ensures { result ≡ kind_of word.now (table_view edit.now) }
+{
+    string_at(edit, "kind") == word
+}
+
+/// The edit that an entry says. There is none where its stock, trader or groups don't exist, a number is out of its range, a
+/// parameter doesn't belong to the trader's kind, or the message is no order.
+pub fn edit_in(alloc: Global, scope: &Scope<'_>, edit: &Table) -> Result<Option<Edit>, Memory>
+    ensures { IfOk result (λ e. e ≡ edit_of scope.now (table_view edit.now)) }
+{
+    if is_kind(edit, "tick") {
+        tick_in(alloc, scope, edit)
+    } else if is_kind(edit, "fee") {
+        Ok(fee_in(scope, edit))
+    } else if is_kind(edit, "halt") {
+        Ok(halt_in(scope, edit))
+    } else if is_kind(edit, "resume") {
+        Ok(resume_in(scope, edit))
+    } else if is_kind(edit, "latency") {
+        Ok(latency_in(scope, edit))
+    } else if is_kind(edit, "agent") {
+        Ok(agent_in(scope, edit))
+    } else if is_kind(edit, "silence") {
+        Ok(silence_in(scope, edit))
+    } else if is_kind(edit, "inject") {
+        inject_in(alloc, scope, edit)
+    } else if is_kind(edit, "series") {
+        Ok(series_in(scope, edit))
+    } else {
+        Ok(None)
+    }
+}
+
+// An entry says an edit.
+#[derive(Drop)]
+struct IsEdit<'a> {
+    scope: Scope<'a>,
+}
+
+impl<'a> EntryTrial for IsEdit<'a> {
+    ghost use Rattle.study_rules.specs.EditRules.{is_edit};
+
+    ghost kept_by = { λ rule. is_edit rule.scope };
+
+    fn is_kept(&self, alloc: Global, edit: &Table) -> Result<bool, Memory> {
+        Ok(edit_in(alloc, &self.scope, edit)?.is_some())
+    }
+}
+
+// The first of a branch's edits that is none.
+fn edit_broken(alloc: Global, rule: &IsEdit<'_>, edits: &[Value]) -> Result<Option<u32>, Memory>
+    requires { length edits.now ≤ 16 }
+    ensures place { IfOk result (λ found. found ≡ first_failing_of (edit_among rule.now.scope) (map view edits.now)) }
+    ensures low { IfOk result (λ found. IfSome found (λ at. at < 16)) }
+{
+    first_failed(alloc, rule, edits)
+}
+
+// The same over branches, the edits of the first of which stand from a place on.
+fn first_edit_broken(
+    alloc: Global,
+    rule: &IsEdit<'_>,
+    place: u32,
+    branches: &[Value],
+) -> Result<Option<u32>, Memory>
+    requires room { place + 16 * length branches.now ≤ 2048 }
+    requires forms { first_edit forms_of place (map view branches.now) ≡ None }
+    ensures { IfOk result (λ found. found ≡ first_edit (first_failing_of (edit_among rule.now.scope)) place (map view branches.now)) }
+{
+    match branches.split_first() {
+        Some((branch, rest)) => match edit_broken(alloc, rule, branch_edits(branch))? {
+            Some(at) => Ok(Some(place + at)),
+            None => first_edit_broken(alloc, rule, place + 16, rest),
+        },
+        None => Ok(None),
+    }
+}
+
+/// The first edit that is none.
+pub fn edits_broken(alloc: Global, table: &Table) -> Result<Option<u32>, Memory>
+    requires square { rule_7 (table_view table.now) ≡ None }
+    requires stocks { rule_10 (table_view table.now) ≡ None }
+    requires traders { rule_25 (table_view table.now) ≡ None }
+    requires few { rule_30 (table_view table.now) ≡ None }
+    requires forms { rule_34 (table_view table.now) ≡ None }
+    ensures { IfOk result (λ found. found ≡ rule_35 (table_view table.now)) }
+{
+    let rule = IsEdit {
+        scope: study_scope(table),
+    };
+    first_edit_broken(alloc, &rule, 0, few_branches(table))
+}

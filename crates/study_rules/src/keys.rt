@@ -1,0 +1,153 @@
+//! The rules of the keys of branches and edits.
+
+ghost use Rattle.std.specs.Prelude.{◌≡◌, ◌≤◌, ◌<◌, ◌+◌, ◌*◌, map, length, None, IfSome, []};
+ghost use Rattle.toml.specs.View.{table_view, view};
+ghost use Rattle.study_file.specs.Keys.{has_keys as keys_in, has_form as form_in};
+ghost use Rattle.study_rules.specs.Forms.{branch_keys, edit_form};
+ghost use Rattle.study_rules.specs.Entries.{branch_entries as entries_of};
+ghost use Rattle.study_rules.specs.BranchRules.{is_branch as branch_in, first_no_branch as no_branch_from, branch_keys_broken as rule_30, edit_keys_broken as rule_34, forms_broken as forms_of, first_edit};
+
+use crate::entries::{branch_edits, branch_entries};
+use study_file::{EntryRule, Kind, Table, Value, first_failing, has_form, has_keys, needed, own, spare};
+
+// Whether a branch has its keys with their types and no other.
+fn has_branch_keys(branch: &Table) -> bool
+    ensures { result ≡ keys_in [] branch_keys (table_view branch.now) }
+{
+    has_keys(
+        branch,
+        "",
+        &[
+            needed("name", Kind::Text),
+            needed("parent", Kind::Text),
+            needed("at", Kind::Number),
+            spare("edit", Kind::Tables),
+        ],
+    )
+}
+
+// Whether a value is such a branch.
+fn is_branch(value: &Value) -> bool
+    ensures { result ≡ branch_in (view value.now) }
+{
+    match value.as_table() {
+        Some(branch) => has_branch_keys(branch),
+        None => false,
+    }
+}
+
+// The place of the first value that is no branch, where the first one stands at a place; the one after 127 is one too many.
+fn first_no_branch(place: u32, values: &[Value]) -> Option<u32>
+    requires { place ≤ 127 }
+    ensures { result ≡ no_branch_from place (map view values.now) }
+{
+    match values.split_first() {
+        Some((value, rest)) => {
+            if place == 127 || !is_branch(value) {
+                Some(place)
+            } else {
+                first_no_branch(place + 1, rest)
+            }
+        }
+        None => None,
+    }
+}
+
+/// The first branch that hasn't its keys with their types and no other; 127 for too many.
+pub fn branch_keys_broken(table: &Table) -> Option<u32>
+    ensures { result ≡ rule_30 (table_view table.now) }
+{
+    first_no_branch(0, branch_entries(table))
+}
+
+/// The entries of the branches, of which there are at most 127.
+pub fn few_branches(table: &Table) -> &[Value]
+    requires { rule_30 (table_view table.now) ≡ None }
+    ensures entries { map view result.now ≡ entries_of (table_view table.now) }
+    ensures few { length result.now ≤ 127 }
+{
+    branch_entries(table)
+}
+
+// Whether an edit has its keys with their types and no other, and its kind is known.
+fn has_edit_keys(edit: &Table) -> bool
+    ensures { result ≡ form_in edit_form (table_view edit.now) }
+{
+    has_form(
+        edit,
+        "kind",
+        &[
+            "tick", "fee", "halt", "resume", "latency", "agent", "silence", "inject", "series",
+        ],
+        &[
+            needed("kind", Kind::Text),
+            own(
+                "stock",
+                Kind::Text,
+                &["tick", "fee", "halt", "resume", "series"],
+            ),
+            own("bands", Kind::Pairs, &["tick"]),
+            own("add", Kind::Number, &["fee"]),
+            own("take", Kind::Number, &["fee"]),
+            own("from", Kind::Number, &["latency"]),
+            own("to", Kind::Number, &["latency"]),
+            own("base", Kind::Number, &["latency"]),
+            own("jitter", Kind::Number, &["latency"]),
+            own("agent", Kind::Number, &["agent", "silence", "inject"]),
+            own("name", Kind::Text, &["agent"]),
+            own("value", Kind::Number, &["agent"]),
+            own("after", Kind::Number, &["inject"]),
+            own("message", Kind::HexText, &["inject"]),
+            own("offset", Kind::Number, &["series"]),
+        ],
+    )
+}
+
+// An edit has its keys with their types and no other, and its kind is known.
+struct HasKeys;
+
+impl EntryRule for HasKeys {
+    ghost use Rattle.study_file.specs.Keys.{has_form};
+    ghost use Rattle.study_rules.specs.Forms.{edit_form};
+
+    ghost kept_by = { λ _. has_form edit_form };
+
+    fn is_kept(&self, edit: &Table) -> bool {
+        has_edit_keys(edit)
+    }
+}
+
+// The first of a branch's edits that hasn't its keys, and 0 where there are more than 16.
+fn forms_broken(edits: &[Value]) -> Option<u32>
+    ensures place { result ≡ forms_of (map view edits.now) }
+    ensures low { IfSome result (λ at. at < 16) }
+{
+    if edits.len() <= 16 {
+        first_failing(&HasKeys, edits)
+    } else {
+        Some(0)
+    }
+}
+
+// The same over branches, the edits of the first of which stand from a place on.
+fn first_form_broken(place: u32, branches: &[Value]) -> Option<u32>
+    requires room { place + 16 * length branches.now ≤ 2048 }
+    ensures { result ≡ first_edit forms_of place (map view branches.now) }
+{
+    match branches.split_first() {
+        Some((branch, rest)) => match forms_broken(branch_edits(branch)) {
+            Some(at) => Some(place + at),
+            None => first_form_broken(place + 16, rest),
+        },
+        None => None,
+    }
+}
+
+/// The first edit that hasn't its keys with their types and no other, or whose kind isn't known; a branch's first place for
+/// too many.
+pub fn edit_keys_broken(table: &Table) -> Option<u32>
+    requires { rule_30 (table_view table.now) ≡ None }
+    ensures { result ≡ rule_34 (table_view table.now) }
+{
+    first_form_broken(0, few_branches(table))
+}

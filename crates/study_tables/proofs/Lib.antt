@@ -1,3 +1,0 @@
-pub mod Squares
-pub mod Repeats
-pub mod EachBand

@@ -1,0 +1,6 @@
+pub mod Feeds
+pub mod Entries
+pub mod Kept
+pub mod Held
+pub mod Tallies
+pub mod Sums

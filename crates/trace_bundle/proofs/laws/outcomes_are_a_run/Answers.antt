@@ -1,0 +1,8 @@
+use Rattle.trace_bundle.proofs.Held.{listed-run-of, run-of}
+use Rattle.trace_bundle.proofs.laws.outcomes_are_a_run.Goals as goal
+
+pub returns-clause-run : goal.returns-clause-run
+returns-clause-run c = run-of
+
+pub returns-clause-listed : goal.returns-clause-listed
+returns-clause-listed c = listed-run-of

@@ -1,0 +1,11 @@
+use Rattle.std.proofs.Common.{refl}
+use Rattle.kernel_core.specs.Step.{event_of}
+use Rattle.kernel_core.specs.Until.{advanced}
+use Rattle.kernel_copy.specs.Full.{full}
+use Rattle.bundle_frames.specs.Frames.{message_frame, event_frame, edit_frame, counts_frame, stock_frame, order_frame, agent_frame, branch_frame, header_frame, end_frame}
+use Rattle.bundle_frames.specs.Wires.{position_bytes}
+use Rattle.trace_bundle.proofs.worked.a_quiet_bundle.Goals as goal
+
+pub returns : goal.returns
+unfolding full advanced event_of message_frame event_frame edit_frame counts_frame stock_frame order_frame agent_frame branch_frame header_frame end_frame position_bytes
+returns c = refl

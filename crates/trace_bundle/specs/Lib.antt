@@ -1,0 +1,7 @@
+pub mod Feed
+pub mod Bundle
+pub mod Ran
+pub mod Outcomes
+pub mod Worked
+pub mod Tallied
+pub mod Report

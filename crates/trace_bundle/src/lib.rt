@@ -1,0 +1,21 @@
+//! The bundle of a study's branches as bytes, and the two lines of a large study.
+#![tactic(auto)]
+
+mod bundle;
+mod events;
+mod feed;
+mod large_bundle;
+pub mod large_worked;
+pub mod laws;
+mod lines;
+mod listed;
+mod outcomes;
+mod ran;
+mod tally;
+pub mod worked;
+
+pub use bundle::{ending_bytes, opening_bytes, put_branch_head, write_branch, write_header};
+pub use lines::big_lines;
+pub use listed::trace_of_segment;
+pub use ran::Ran;
+pub use tally::Tally;
