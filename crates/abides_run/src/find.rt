@@ -20,10 +20,10 @@ use crate::found::Found;
 use crate::request::{Job, Request, Task};
 use crate::status::Status;
 use crate::words::asked;
-use study_file::{read_tables, series_name, study_text, RawStudy, StudyError};
 use outside::{FetchError, Fetched, Library};
 use plain_lists::Memory;
 use std::alloc::Global;
+use study_file::{RawStudy, StudyError, read_tables, series_name, study_text};
 use study_rules::{AcceptError, Study, accept};
 
 // A study file or a series file may have so many bytes.

@@ -15,8 +15,6 @@ use crate::request::Task;
 use crate::rewinds::rewind_study;
 use crate::send::{send, send_bundle};
 use crate::status::Status;
-use trace_bundle::{big_lines, laws::outcomes_are_a_run};
-use study_report::study_table;
 use branch_workers::work;
 use kernel_copy::laws::segments_have_few_events;
 use kernel_copy::{Course, Keep};
@@ -26,7 +24,10 @@ use probe_desk::Probe;
 use std::alloc::{AllocError, Global};
 use std::sync::Wait;
 use std::thread::Threads;
+use study_report::study_table;
 use study_rules::Study;
+use trace_bundle::big_lines;
+use trace_bundle::laws::outcomes_are_a_run;
 
 // Nothing that is asked for here but a rewind goes on from a state on the way.
 const NO_PLACES: u32 = 0;

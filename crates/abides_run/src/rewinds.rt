@@ -20,19 +20,23 @@ ghost use Rattle.abides_run.specs.declared.request.Task.TheVariants as task;
 use crate::ending::{Ending, named, nameless};
 use crate::send::{send, send_end};
 use crate::status::Status;
-use trace_bundle::{laws::outcomes_are_a_run, put_branch_head, Ran};
 use branch_workers::work;
 use checkpoint_shelf::ClosedShelf;
 use command_words::Mark;
-use kernel_copy::{laws::{courses_stay_in_range, segments_have_few_events}, state_frames, Checkpoint, Course, Keep};
+use kernel_copy::laws::{courses_stay_in_range, segments_have_few_events};
+use kernel_copy::{Checkpoint, Course, Keep, state_frames};
 use kernel_core::Kernel;
 use outside::{Gate, Ledger, Sink, Steps};
 use plain_lists::Memory;
-use rewind_desk::{after_work::rewinds_after_work, aim, first_past, laws::sure_states_are_held, rewind, Aimed, Past, RewindError, Target};
+use rewind_desk::after_work::rewinds_after_work;
+use rewind_desk::laws::sure_states_are_held;
+use rewind_desk::{Aimed, Past, RewindError, Target, aim, first_past, rewind};
 use std::alloc::{AllocError, Global};
 use std::sync::{Arc, Wait};
 use std::thread::Threads;
 use study_rules::Study;
+use trace_bundle::laws::outcomes_are_a_run;
+use trace_bundle::{Ran, put_branch_head};
 
 // The number of the last event of a branch's full run.
 fn last_of_branch<W: Ran>(course: &Course, ran: &W, branch: u16) -> u32

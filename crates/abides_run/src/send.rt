@@ -13,13 +13,13 @@ ghost use Rattle.abides_run.specs.Output.{study_bundle};
 ghost use Rattle.abides_run.specs.Performed.{Sent};
 
 use crate::status::Status;
-use trace_bundle::{Ran, ending_bytes, opening_bytes, write_header};
 use bundle_frames::put_end;
 use kernel_copy::laws::courses_stay_in_range;
 use kernel_copy::{Course, Kept};
 use outside::{Sink, write_all};
 use plain_lists::Memory;
 use std::alloc::Global;
+use trace_bundle::{Ran, ending_bytes, opening_bytes, write_header};
 
 /// Sends bytes to a sink.
 pub fn send<O: Sink>(out: &mut O, bytes: &[u8]) -> Result<(), Status>

@@ -4,7 +4,7 @@ mod thief;
 
 ghost use Rattle.std.specs.Prelude.{◌≡◌, []};
 
-use branch_deques::{open_lanes, Lane, Memory, Room};
+use branch_deques::{Lane, Memory, Room, open_lanes};
 use std::alloc::Global;
 use std::marker::Brand;
 use std::sync::Wait;

@@ -1,6 +1,6 @@
 ghost use Rattle.std.specs.Prelude.{◌≡◌, [], IfOk};
 
-use branch_tree::{plan, Branch, BranchPlan, Name, PlanError};
+use branch_tree::{Branch, BranchPlan, Name, PlanError, plan};
 use market_rules::Edit;
 use market_types::{Memory, Sequence};
 use std::alloc::Global;

@@ -1,6 +1,9 @@
 ghost use Rattle.std.specs.Prelude.{◌≡◌, [], IfOk, length};
 
-use bundle_frames::{put_all, put_branch, put_end, put_header, ClosingAgent, ClosingCounts, ClosingOrder, ClosingStock, Written};
+use bundle_frames::{
+    ClosingAgent, ClosingCounts, ClosingOrder, ClosingStock, Written, put_all, put_branch, put_end,
+    put_header,
+};
 use market_types::{Body, EditMark, Entry, Feed, FeedList, Record, Sequence, Side, Token, What};
 use std::alloc::Global;
 use std::test::*;

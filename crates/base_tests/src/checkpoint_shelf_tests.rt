@@ -8,9 +8,9 @@ mod seats;
 ghost use Rattle.std.specs.Prelude.{◌≡◌, ◌<◌, IsSome, Some};
 ghost use Rattle.shelf_core.specs.Plan.{place_of};
 
+use self::seats::refusal;
 use checkpoint_shelf::{Begun, Found, Kept, Key, PlaceWord, Shelf, ShelfPlan, ShelfSeat};
 use plain_lists::{Memory, Sequence};
-use self::seats::refusal;
 use std::alloc::Global;
 use std::sync::Arc;
 use std::test::Fail;

@@ -1,4 +1,4 @@
-use command_words::{ask, Asked, Command};
+use command_words::{Asked, Command, ask};
 use std::alloc::Global;
 use std::test::Fail;
 

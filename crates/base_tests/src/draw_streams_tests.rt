@@ -1,4 +1,5 @@
-use draw_streams::{below, centred, draw, worked::COUNTING_KEY, worked::ZERO_KEY, Stream};
+use draw_streams::worked::{COUNTING_KEY, ZERO_KEY};
+use draw_streams::{Stream, below, centred, draw};
 
 // Words of RFC 8439 that follow one another in a key stream.
 #[derive(Clone, Copy)]

@@ -2,8 +2,10 @@ ghost use Rattle.std.specs.Prelude.{◌≡◌, ◌<◌, ◌≤◌, ◌-◌, ◌/
 ghost use Rattle.fundamental_series.specs.Made.{by_rows, first_time_of};
 ghost use Rattle.fundamental_series.specs.Worked.{two_rows};
 
-use draw_streams::{worked::COUNTING_KEY, worked::ZERO_KEY};
-use fundamental_series::{series_by_rule, series_from_rows, with_offset, Series, SeriesRow, SeriesRule};
+use draw_streams::worked::{COUNTING_KEY, ZERO_KEY};
+use fundamental_series::{
+    Series, SeriesRow, SeriesRule, series_by_rule, series_from_rows, with_offset,
+};
 use market_types::{Memory, Time};
 use std::alloc::Global;
 

@@ -1,7 +1,8 @@
 ghost use Rattle.std.specs.Prelude.{◌≡◌, ◌∷◌, [], ◌≤◌, IfOk, map};
 ghost use Rattle.market_types.specs.Limits.{longest_delay};
 
-use draw_streams::{draw, worked::ZERO_KEY};
+use draw_streams::draw;
+use draw_streams::worked::ZERO_KEY;
 use latency_model::{Groups, JITTER_STREAM};
 use market_types::{Memory, Time};
 use std::alloc::{AllocError, Global};

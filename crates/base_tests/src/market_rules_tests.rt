@@ -1,4 +1,6 @@
-use market_rules::{Band, Change, Dated, DatedList, Edit, FeeTable, Param, RuleError, TickTable, View};
+use market_rules::{
+    Band, Change, Dated, DatedList, Edit, FeeTable, Param, RuleError, TickTable, View,
+};
 use market_types::Symbol;
 use std::alloc::Global;
 use std::process::Abort;

@@ -1,4 +1,4 @@
-use market_types::{read_price, read_shares, read_symbol, read_token, Symbol, Token, TypeError};
+use market_types::{Symbol, Token, TypeError, read_price, read_shares, read_symbol, read_token};
 use std::test::*;
 
 #[test]

@@ -1,4 +1,7 @@
-use outside::{write_all, Counted, ErrSink, Failed, FetchError, Fetched, FileLibrary, Library, MemoryLibrary, MemorySink, OutSink, Sink, Steps, StreamSink};
+use outside::{
+    Counted, ErrSink, Failed, FetchError, Fetched, FileLibrary, Library, MemoryLibrary, MemorySink,
+    OutSink, Sink, Steps, StreamSink, write_all,
+};
 use std::fs;
 use std::io::{Error, ErrorKind, Write};
 use std::test::Fail;

@@ -1,4 +1,4 @@
-use plain_lists::{copied, Sequence};
+use plain_lists::{Sequence, copied};
 use std::test::Fail;
 
 #[test]

@@ -1,7 +1,8 @@
 ghost use Rattle.std.specs.Prelude.{◌≡◌, ◌<◌, ◌≤◌, ◌+◌, ◌^◌, All, length};
 
 use market_types::{AgentNo, Side, Token};
-use price_time_book::{keeping::changes_keep, Best, Book, Fill, Resting};
+use price_time_book::keeping::changes_keep;
+use price_time_book::{Best, Book, Fill, Resting};
 use std::process::Abort;
 
 const ROUNDS: u64 = 3000;

@@ -1,5 +1,5 @@
 use market_types::{Body, EditMark, Entry, FeedList, Memory, Quote, Record, Reply, Token, Trace};
-use probe_desk::{restart_all, values, watch, Fees, Probe, Range, SpreadSum, Volume};
+use probe_desk::{Fees, Probe, Range, SpreadSum, Volume, restart_all, values, watch};
 use std::alloc::Global;
 use std::test::Fail;
 

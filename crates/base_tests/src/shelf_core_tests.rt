@@ -8,7 +8,7 @@ mod plain;
 
 use plain::Plain;
 use plain_lists::{Memory, Sequence};
-use shelf_core::{law, step, Event, Key, ShelfPlan, System, Word};
+use shelf_core::{Event, Key, ShelfPlan, System, Word, law, step};
 use std::alloc::Global;
 use std::process::Abort;
 use std::test::Fail;

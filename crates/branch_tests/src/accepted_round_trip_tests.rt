@@ -1,11 +1,11 @@
 //! A study whose branch injects an order, read back.
 
-use round_trip::run_and_read;
 use outside::{Counted, Steps};
+use round_trip::run_and_read;
 use std::alloc::Global;
 use std::test::Fail;
-use study_rules::AcceptError;
 use study_file::read_tables;
+use study_rules::AcceptError;
 
 const STUDY: &str = "version = 1
 key = \"0000000000000000000000000000000000000000000000000000000000000000\"

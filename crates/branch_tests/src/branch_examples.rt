@@ -10,18 +10,21 @@ ghost use Rattle.kernel_copy.specs.Outcomes.{outcome_told, outcomes_before};
 ghost use Rattle.branch_tests.specs.Worked.{AreBranches, small, two_watchers};
 
 use agent_shell::{Kind, TraderSetting};
-use trace_bundle::{laws::outcomes_are_a_run, write_branch, write_header};
 use branch_tree::{Branch, Name, plan};
 use bundle_frames::put_end;
-use kernel_copy::{closing_of, laws::segments_have_few_events, run_segments, Course, Keep, Kept, Outcome};
+use kernel_copy::laws::segments_have_few_events;
+use kernel_copy::{Course, Keep, Kept, Outcome, closing_of, run_segments};
 use kernel_core::Kernel;
-use market_floor::{opening_worked::{markets_are_openings, opening}, Opening};
+use market_floor::Opening;
+use market_floor::opening_worked::{markets_are_openings, opening};
 use market_rules::Edit;
 use market_types::{Enter, Inbound, Memory, Sequence, Side, Symbol, Time, Token};
 use outside::{Counted, Steps};
 use std::alloc::Global;
 use std::sync::Arc;
 use std::test::Fail;
+use trace_bundle::laws::outcomes_are_a_run;
+use trace_bundle::{write_branch, write_header};
 
 // A watcher that first wakes at 1000.
 fn watching() -> TraderSetting

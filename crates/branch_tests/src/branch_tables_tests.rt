@@ -10,11 +10,11 @@ ghost use Rattle.kernel_copy.specs.declared.kept.Keep.TheVariants as keeping;
 ghost use Rattle.study_report.specs.BranchWorked.{AreBranches, busy, small, three_watchers, two_watchers};
 
 use agent_shell::{Kind, TraderSetting};
-use trace_bundle::laws::outcomes_are_a_run;
-use study_report::study_table;
-use branch_tree::{plan, Branch, Name};
-use kernel_copy::{laws::segments_have_few_events, run_segments, Course, Keep, Outcome};
-use market_floor::{opening_worked::markets_are_openings, opening_worked::opening, Opening};
+use branch_tree::{Branch, Name, plan};
+use kernel_copy::laws::segments_have_few_events;
+use kernel_copy::{Course, Keep, Outcome, run_segments};
+use market_floor::Opening;
+use market_floor::opening_worked::{markets_are_openings, opening};
 use market_rules::Edit;
 use market_types::{Memory, Record, Sequence, Time};
 use outside::{Counted, Steps};
@@ -22,6 +22,8 @@ use probe_desk::{Fees, Probe, Range, SpreadSum, Volume};
 use std::alloc::Global;
 use std::sync::Arc;
 use std::test::Fail;
+use study_report::study_table;
+use trace_bundle::laws::outcomes_are_a_run;
 
 // Counts the records that were put back.
 #[derive(Drop)]

@@ -6,12 +6,13 @@ mod seats;
 ghost use Rattle.std.specs.Prelude.{All};
 ghost use Rattle.kernel_copy.specs.Kept.{IsWritable, kept_told};
 
+use self::market::course;
 use branch_workers::work;
 use checkpoint_shelf::{ClosedShelf, Key};
-use outside::{Counted, Gate, HoldGate, OpenGate, Steps};
-use kernel_copy::{laws::courses_stay_in_range, laws::segments_have_few_events, run_segments, Checkpoint, Course, Keep, Kept, Outcome};
+use kernel_copy::laws::{courses_stay_in_range, segments_have_few_events};
+use kernel_copy::{Checkpoint, Course, Keep, Kept, Outcome, run_segments};
 use market_types::{Entry, Memory, Trace};
-use self::market::course;
+use outside::{Counted, Gate, HoldGate, OpenGate, Steps};
 use std::alloc::Global;
 use std::sync::{Arc, Wait};
 use std::test::Fail;

@@ -1,4 +1,4 @@
-use bundle_reader::{read_bundle, Bundle, BundleError};
+use bundle_reader::{Bundle, BundleError, read_bundle};
 use market_types::{Entry, Trace};
 use std::alloc::Global;
 use std::test::*;

@@ -1,4 +1,4 @@
-use bundle_reader::{read_body, read_head, Head, HeaderHead};
+use bundle_reader::{Head, HeaderHead, read_body, read_head};
 use market_types::Body;
 use std::test::*;
 

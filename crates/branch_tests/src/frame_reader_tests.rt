@@ -1,6 +1,6 @@
 use branch_tree::Name;
-use bundle_frames::{put_branch, put_header, Written};
-use bundle_reader::{next_frame, read_payload, Frame, FrameError};
+use bundle_frames::{Written, put_branch, put_header};
+use bundle_reader::{Frame, FrameError, next_frame, read_payload};
 use market_types::{Body, Feed, Memory, What};
 use std::test::*;
 

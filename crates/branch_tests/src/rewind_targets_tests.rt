@@ -1,10 +1,10 @@
 ghost use Rattle.std.specs.Prelude.{◌≡◌, [], IfOk};
 
-use branch_tree::{plan, Branch, BranchPlan, Name};
-use command_words::{ask, Command};
+use branch_tree::{Branch, BranchPlan, Name, plan};
+use command_words::{Command, ask};
 use market_rules::Edit;
 use market_types::Sequence;
-use rewind_desk::{aim, first_past, Aimed, Past, Target};
+use rewind_desk::{Aimed, Past, Target, aim, first_past};
 use std::alloc::Global;
 use std::test::Fail;
 

@@ -7,7 +7,7 @@ use market_types::{Body, EditMark, End, Entry, FeedList, Memory, Record, Sequenc
 use probe_desk::{Fees, Probe, Range, SpreadSum, Volume};
 use std::alloc::Global;
 use std::test::Fail;
-use study_report::{first_difference, first_difference_of_parts, table, TableRow};
+use study_report::{TableRow, first_difference, first_difference_of_parts, table};
 
 // A row of so many zeros; without a parent for the root.
 fn row(

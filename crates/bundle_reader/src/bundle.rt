@@ -9,9 +9,9 @@ ghost use Rattle.bundle_reader.specs.Bundle.{IsBundle, bundle_bytes};
 ghost use Rattle.bundle_reader.specs.Reads.{Gives, More, Only, Stops};
 
 use crate::reading::{Misplaced, Reading};
+use crate::{FrameError, next_frame};
 use branch_tree::Name;
 use bundle_frames::Closing;
-use crate::{FrameError, next_frame};
 use market_types::{Feed, FeedList, Sequence, Trace};
 use std::alloc::Global;
 

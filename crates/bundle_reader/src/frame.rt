@@ -1,8 +1,8 @@
 //! The frames of a bundle as values.
 
+use crate::EditHead;
 use branch_tree::Name;
 use bundle_frames::{ClosingAgent, ClosingCounts, ClosingOrder, ClosingStock};
-use crate::EditHead;
 use market_types::{AgentNo, Body, Feed, Time};
 
 /// `h`, the header of a bundle of version 1.

@@ -22,7 +22,9 @@ mod worked;
 pub use bodies::read_body;
 pub use bundle::{Bundle, BundleError, Told, read_bundle};
 pub use frame::{BranchFrame, EventFrame, Frame, HeaderFrame, WaitingFrame};
-pub use head::{AgentHead, BranchHead, EditHead, EventHead, Head, HeaderHead, StockHead, WaitingHead};
+pub use head::{
+    AgentHead, BranchHead, EditHead, EventHead, Head, HeaderHead, StockHead, WaitingHead,
+};
 pub use heads::read_head;
 pub use next::{FrameError, next_frame};
 pub use payload::read_payload;

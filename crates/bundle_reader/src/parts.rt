@@ -9,9 +9,9 @@ ghost use Rattle.bundle_reader.specs.Parts.{count_of, IsOf};
 
 use crate::frame::{BranchFrame, EventFrame, Frame, HeaderFrame, WaitingFrame};
 use crate::numbers::{joined, positions};
+use crate::{AgentHead, BranchHead, EventHead, HeaderHead, StockHead, WaitingHead, read_body};
 use branch_tree::Name;
 use bundle_frames::{ClosingAgent, ClosingStock};
-use crate::{AgentHead, BranchHead, EventHead, HeaderHead, StockHead, WaitingHead, read_body};
 use market_types::{Memory, Sequence};
 use std::alloc::Global;
 

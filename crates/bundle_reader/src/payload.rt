@@ -7,7 +7,7 @@ ghost use Rattle.bundle_reader.specs.Frames.{IsFrame};
 ghost use Rattle.bundle_reader.specs.Parts.{IsOf, is_none};
 
 use crate::frame::Frame;
-use crate::{parts, read_head, Head};
+use crate::{Head, parts, read_head};
 use itch_codec::decode_feed;
 use market_types::Memory;
 use std::alloc::Global;

@@ -4,11 +4,11 @@ ghost use Rattle.std.specs.Prelude.{◌≡◌, option_map};
 ghost use Rattle.bundle_reader.specs.Told.{bundle_told, reading_told};
 ghost use Rattle.bundle_reader.specs.Order.{stocks_known, is_whole, whole_bundle};
 
+use crate::HeaderFrame;
 use crate::bundle::{Bundle, Told};
 use crate::entries::Last;
 use branch_tree::Name;
 use bundle_frames::Closing;
-use crate::HeaderFrame;
 use market_types::{Feed, FeedList, Memory, Sequence, Trace};
 
 // The header, and the branches that were read whole.

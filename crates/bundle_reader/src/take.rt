@@ -6,10 +6,10 @@ ghost use Rattle.bundle_reader.specs.Order.{branch_of, is_closed, take_closing, 
 ghost use Rattle.bundle_reader.specs.Reads.{Takes};
 
 use crate::bundle::{Bundle, Told};
-use crate::{closing, Frame};
 use crate::entries::{Last, take_entry};
 use crate::opening::take_opening;
 use crate::reading::{Begun, Misplaced, Reading, Whole};
+use crate::{Frame, closing};
 use bundle_frames::Closing;
 use market_types::{Feed, FeedList, Sequence, Trace};
 use std::alloc::Global;

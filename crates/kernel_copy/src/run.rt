@@ -17,13 +17,13 @@ ghost use Rattle.kernel_copy.specs.Reached.{IsReached};
 ghost use Rattle.kernel_copy.specs.Segmentwise.{afresh, segment_end, segment_run, started_from, started_at, own_count, distinct};
 
 use crate::checkpoint::Checkpoint;
+use crate::closing_of;
 use crate::course::Course;
 use crate::kept::{Keep, Kept};
 use crate::laws::courses_stay_in_range;
 use branch_tree::BranchPlan;
 use bundle_frames::{Closing, put_all};
 use kernel_core::Kernel;
-use crate::closing_of;
 use market_floor::Opening;
 use market_rules::Edit;
 use market_types::{Memory, Trace};

@@ -4,10 +4,10 @@ ghost use Rattle.std.specs.Prelude.{◌≡◌, IfOk};
 ghost use Rattle.kernel_core.specs.Step.{Fits};
 ghost use Rattle.kernel_copy.specs.States.{state_frames_of};
 
+use crate::closing_of;
 use crate::waiting::put_all_waiting;
 use bundle_frames::Written;
 use kernel_core::Kernel;
-use crate::closing_of;
 use market_floor::Opening;
 use market_types::Memory;
 use std::alloc::Global;

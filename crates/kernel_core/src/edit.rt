@@ -8,10 +8,10 @@ ghost use Rattle.market_floor.specs.Edited.{edited_floor};
 ghost use Rattle.kernel_core.specs.Edited.{IsEditOf, IsMailEdit, IsTableEdit, changed_by, edited_one, mail_after, tables_after};
 ghost use Rattle.kernel_core.specs.Step.{Fits};
 
-use crate::kernel::Kernel;
-use agent_shell::laws::parameters_stay_those_of_the_kind;
 use crate::Mail;
+use crate::kernel::Kernel;
 use crate::mail_laws::mail_stays_sound;
+use agent_shell::laws::parameters_stay_those_of_the_kind;
 use latency_model::Groups;
 use market_floor::Opening;
 use market_rules::Edit;

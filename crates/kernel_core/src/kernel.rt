@@ -9,8 +9,8 @@ ghost use Rattle.event_queue.specs.Waiting.{before, least};
 ghost use Rattle.market_floor.specs.Floor.{offset_at, party_at};
 ghost use Rattle.kernel_core.specs.Step.{end_of};
 
-use exchange_agent::Exchange;
 use crate::Mail;
+use exchange_agent::Exchange;
 use latency_model::Groups;
 use market_floor::{Floor, Opening};
 use market_types::{AgentNo, End, Memory, Message, StockNo, Time, TraderTold, copied};

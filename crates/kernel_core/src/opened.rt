@@ -6,10 +6,10 @@ ghost use Rattle.market_floor.specs.Opening.{IsOpening, IsTraderOf};
 ghost use Rattle.kernel_core.specs.Open.{opened, woken};
 ghost use Rattle.kernel_core.specs.Step.{Fits};
 
-use crate::kernel::Kernel;
-use agent_shell::TraderSetting;
 use crate::Mail;
+use crate::kernel::Kernel;
 use crate::mail_laws::{mail_stays_sound, openings_are_grouped};
+use agent_shell::TraderSetting;
 use market_floor::{Floor, Opening, Posting};
 use market_types::Memory;
 use std::alloc::Global;

@@ -9,10 +9,11 @@ ghost use Rattle.kernel_core.specs.Step.{Fits, answer_by, end_of, event_back, ev
 ghost use Rattle.kernel_core.specs.Until.{advanced, advanced_by, until};
 
 use crate::kernel::Kernel;
+use crate::mail_laws::mail_stays_sound;
 use crate::post::send_all;
 use crate::stepped::Stepped;
-use crate::mail_laws::mail_stays_sound;
-use market_floor::{applied_by, laws::floors_stay_sound, Happening, Opening};
+use market_floor::laws::floors_stay_sound;
+use market_floor::{Happening, Opening, applied_by};
 use market_rules::Edit;
 use market_types::{End, Entry, FeedList, Memory, Message, Record, Time, Trace};
 use outside::{Ledger, Steps};

@@ -5,7 +5,9 @@ ghost use Rattle.exchange_agent.specs.Market.{IsAskable};
 
 use exchange_agent::{Exchange, Handled, StockRules};
 use market_rules::{Band, Change, FeeTable, TickTable};
-use market_types::{AgentNo, Body, Cancel, Enter, FeedList, Inbound, Reply, Side, Symbol, Time, Token, What};
+use market_types::{
+    AgentNo, Body, Cancel, Enter, FeedList, Inbound, Reply, Side, Symbol, Time, Token, What,
+};
 use std::alloc::Global;
 use std::process::Abort;
 

@@ -1,8 +1,6 @@
 //! Tests of the exchange, of each trader and of the kernel, by worked runs.
 #![tactic(auto)]
 
-pub mod worked;
-
 #[cfg(test)]
 mod agent_shell_tests;
 #[cfg(test)]
@@ -23,3 +21,4 @@ mod quoter_agents_tests;
 mod taker_agents_tests;
 #[cfg(test)]
 mod trader_party_tests;
+pub mod worked;

@@ -8,7 +8,9 @@ ghost use Rattle.market_floor.specs.Sound.{FitsFloor, IsSoundFloor};
 ghost use Rattle.market_floor.specs.Worked.{halting};
 
 use agent_shell::{Kind, TraderSetting};
-use market_floor::{applied_by, laws::floors_stay_sound, opening_worked::markets_are_openings, opening_worked::opening, Floor, Happening, Opening, Posting};
+use market_floor::laws::floors_stay_sound;
+use market_floor::opening_worked::{markets_are_openings, opening};
+use market_floor::{Floor, Happening, Opening, Posting, applied_by};
 use market_rules::{Change, Dated, DatedList, Edit};
 use market_types::{AgentNo, Body, Message, Quote, Time};
 use std::alloc::Global;

@@ -1,7 +1,8 @@
 //! An opening made in code.
 
 use agent_shell::{Kind, TraderSetting};
-use market_floor::{group_number, opening_worked::opening};
+use market_floor::group_number;
+use market_floor::opening_worked::opening;
 use std::test::Fail;
 
 #[test]

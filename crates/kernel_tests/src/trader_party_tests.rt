@@ -3,12 +3,12 @@
 ghost use Rattle.agent_shell.specs.Parameters.{IsKind};
 
 use agent_shell::{Kind, Sends, TraderSetting};
+use market_floor::Party;
 use market_rules::{Band, TickTable, View};
 use market_types::{Body, Memory, Quote, Symbol};
 use std::alloc::Global;
 use std::process::Abort;
 use std::test::Fail;
-use market_floor::Party;
 
 const QUOTE: Body = Body::Quote(Quote {
     stock: 0,

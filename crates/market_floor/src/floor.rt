@@ -6,9 +6,9 @@ ghost use Rattle.market_floor.specs.Opening.{IsOpening};
 ghost use Rattle.market_floor.specs.Floor.{floor_at_opening, offset_at, parties_from, party_at};
 ghost use Rattle.market_floor.specs.Sound.{FitsFloor, IsSoundFloor, IsSoundParty};
 
+use crate::{Opening, Party};
 use agent_shell::TraderSetting;
 use exchange_agent::Exchange;
-use crate::{Opening, Party};
 use market_types::{AgentNo, Memory, StockNo, TraderTold, copied};
 use std::alloc::Global;
 use std::marker::Model;

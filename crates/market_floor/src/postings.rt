@@ -3,9 +3,9 @@
 ghost use Rattle.std.specs.Prelude.{◌≡◌, length, slice_get};
 ghost use Rattle.market_floor.specs.Posted.{postings_of, to_exchange, to_receiver};
 
+use crate::Posting;
 use agent_shell::{Sending, Sends};
 use exchange_agent::Handled;
-use crate::Posting;
 use market_types::{FeedList, Time};
 use std::marker::Model;
 

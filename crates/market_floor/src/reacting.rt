@@ -13,15 +13,15 @@ ghost use Rattle.market_floor.specs.Ruled.{ruled};
 ghost use Rattle.market_floor.specs.Sound.{FitsFloor, IsSoundFloor, IsSoundParty};
 
 use crate::floor::Floor;
+use crate::opening_laws::stocks_have_values;
 use crate::postings::{Form, Happening, Postings};
 use crate::ruling::changed;
+use crate::{Opening, Party};
 use agent_shell::Sends;
 use agent_shell::laws::traders_stay_in_range;
 use exchange_agent::laws::{books_stay_short, replies_ask_nothing};
 use exchange_agent::{Exchange, Handled};
 use fundamental_series::with_offset;
-use crate::{Opening, Party};
-use crate::opening_laws::stocks_have_values;
 use market_rules::View;
 use market_rules::laws::first_changes_are_due;
 use market_types::{FeedList, Memory, Message, StockNo, Time};

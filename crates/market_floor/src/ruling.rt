@@ -5,10 +5,10 @@ ghost use Rattle.market_floor.specs.Floor.{with_exchange};
 ghost use Rattle.market_floor.specs.Ruled.{all_changed, applied_by, due, ruled};
 ghost use Rattle.market_floor.specs.Sound.{FitsFloor, IsSoundFloor};
 
+use crate::Opening;
 use crate::floor::Floor;
 use exchange_agent::Exchange;
 use exchange_agent::laws::books_stay_short;
-use crate::Opening;
 use market_rules::Dated;
 use market_rules::laws::first_changes_are_due;
 use market_types::{FeedList, Memory, Time};

@@ -1,6 +1,8 @@
 //! Reads, writes and notes that fail, and studies that are cut or changed.
 
-use crate::fault_runs::{Around, QUIET, WATCHERS, branched_study, empty_study, ran, study_with_series};
+use crate::fault_runs::{
+    Around, QUIET, WATCHERS, branched_study, empty_study, ran, study_with_series,
+};
 use abides_run::Status;
 use std::alloc::Global;
 use std::process::Abort;

@@ -2,8 +2,8 @@
 
 use crate::runs::{library, run_over, sink};
 use abides_run::Status;
-use study_file::study_text;
 use std::test::Fail;
+use study_file::study_text;
 
 // As another program writes them.
 const LINES: &str =

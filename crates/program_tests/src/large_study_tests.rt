@@ -1,5 +1,5 @@
-use study_file::study_text;
 use std::test::Fail;
+use study_file::study_text;
 
 // The study of the number 7 with 20,000 events, as another program makes it.
 const SEVEN: &str = r#"version = 1

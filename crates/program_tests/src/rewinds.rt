@@ -3,12 +3,12 @@
 use crate::runs::{library, run_over, sink};
 use crate::worked_examples::{BRANCHES, INJECTED, KEY, WATCHERS, study};
 use abides_run::Status;
-use study_file::study_text;
 use outside::MemorySink;
 use std::alloc::Global;
 use std::sync::Wait;
 use std::test::Fail;
 use std::thread::Threads;
+use study_file::study_text;
 
 // The sum of the bytes.
 fn sum(bytes: &[u8]) -> u64 {

@@ -1,8 +1,8 @@
 //! Series files of a study with a stock by rule and two by rows.
 
-use study_market::{late_stock, read_series, SeriesError};
 use std::test::Fail;
 use study_file::{list_at, read_tables};
+use study_market::{SeriesError, late_stock, read_series};
 
 const STOCKS: &[u8] = b"stock = [
   { symbol = \"ABM\", series = \"rule\" },

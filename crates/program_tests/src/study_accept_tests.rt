@@ -2,8 +2,8 @@
 
 use std::alloc::Global;
 use std::test::Fail;
-use study_rules::{accept, AcceptError, Refusal, Study};
 use study_file::read_tables;
+use study_rules::{AcceptError, Refusal, Study, accept};
 
 const STUDY: &str = "version = 1
 key = \"00112233445566778899aabbccddeeff0123456789abcdef0123456789abcdef\"

@@ -1,5 +1,8 @@
 use std::test::Fail;
-use study_file::{broken_key, has_form, integer_at, needed, own, read_tables, series_name, spare, Kind, StudyError};
+use study_file::{
+    Kind, StudyError, broken_key, has_form, integer_at, needed, own, read_tables, series_name,
+    spare,
+};
 
 #[test]
 fn bytes_say_a_table_or_none(rt: HostRuntime) -> Result<(), Fail> {

@@ -3,7 +3,7 @@
 use std::alloc::Global;
 use std::test::Fail;
 use study_file::read_tables;
-use study_market::{judge, Judged, Refusal};
+use study_market::{Judged, Refusal, judge};
 
 const STUDY: &str = "version = 1
 key = \"00112233445566778899aabbccddeeff00112233445566778899aabbccddeeff\"

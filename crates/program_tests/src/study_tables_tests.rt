@@ -3,7 +3,7 @@
 use std::alloc::Global;
 use std::test::Fail;
 use study_file::read_tables;
-use study_market::{market_refusal, stock_refusal, Refusal};
+use study_market::{Refusal, market_refusal, stock_refusal};
 
 const STUDY: &str = "version = 1
 key = \"00112233445566778899aabbccddeeff00112233445566778899aabbccddeeff\"

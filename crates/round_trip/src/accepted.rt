@@ -12,14 +12,15 @@ ghost use Rattle.round_trip.specs.Back.{bundle_back};
 ghost use Rattle.round_trip.specs.AcceptedBack.{IsBackOf};
 
 use crate::accepted_laws::accepted_messages_are_spelled;
-use trace_bundle::{laws::outcomes_are_a_run, Ran};
 use bundle_reader::{Bundle, BundleError};
 use kernel_copy::laws::segments_have_few_events;
 use kernel_copy::{Keep, run_segments};
 use outside::{Ledger, Steps};
 use std::alloc::Global;
-use study_rules::{AcceptError, Study, accept};
 use study_file::RawStudy;
+use study_rules::{AcceptError, Study, accept};
+use trace_bundle::Ran;
+use trace_bundle::laws::outcomes_are_a_run;
 
 /// Writes the bundle of an accepted study, from a run that holds the entries themselves, and reads it: the branches' full
 /// runs, their feed split as reading splits it.

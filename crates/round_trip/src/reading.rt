@@ -11,11 +11,12 @@ ghost use Rattle.round_trip.specs.Spelled.{AreMessagesSpelled};
 use crate::laws::bundles_come_back;
 use crate::typed_runs::runs_fit;
 use crate::writing::written;
-use trace_bundle::{laws::listed_runs_are_runs, Ran};
 use bundle_reader::{Bundle, BundleError, read_bundle};
 use kernel_copy::Course;
 use market_types::Memory;
 use std::alloc::Global;
+use trace_bundle::Ran;
+use trace_bundle::laws::listed_runs_are_runs;
 
 /// What is read of the bytes that are written of a study: each branch's full run, its feed split as reading splits it.
 ///

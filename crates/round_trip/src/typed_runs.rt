@@ -15,9 +15,12 @@ ghost use Rattle.round_trip.specs.Spelled.{AreMessagesSpelled};
 use crate::laws::texts_stay_in_range;
 use crate::typed_closing::closing_fits;
 use crate::typed_entries::entries_fit;
-use trace_bundle::{laws::listed_runs_are_runs, trace_of_segment, Ran};
 use branch_tree::Branch;
-use kernel_copy::{closing_laws::agents_have_all_positions, laws::courses_stay_in_range, Course};
+use kernel_copy::Course;
+use kernel_copy::closing_laws::agents_have_all_positions;
+use kernel_copy::laws::courses_stay_in_range;
+use trace_bundle::laws::listed_runs_are_runs;
+use trace_bundle::{Ran, trace_of_segment};
 
 // The entries of the segments from the root's first to this one.
 fn segments_fit<W: Ran>(course: &Course, ran: &W, segment: u32)

@@ -4,11 +4,11 @@ ghost use Rattle.std.specs.Prelude.{◌≡◌, ◌++◌, OnOk, IfOk, length};
 ghost use Rattle.trace_bundle.specs.Bundle.{bundle_of, traces_of};
 ghost use Rattle.trace_bundle.specs.Ran.{IsRunOf};
 
-use trace_bundle::{Ran, write_branch, write_header};
 use bundle_frames::put_end;
 use kernel_copy::Course;
 use market_types::Memory;
 use std::alloc::Global;
+use trace_bundle::{Ran, write_branch, write_header};
 
 // Appends the traces of all branches, one after another.
 fn put_branches<W: Ran>(course: &Course, ran: &W, out: &mut Vec<u8>) -> Result<(), Memory>

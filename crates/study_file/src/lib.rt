@@ -16,4 +16,7 @@ pub use look::{array_at, has_only, integer_at, member, only_item, pair_of, table
 pub use raw::{RawStudy, StudyError, read_tables, series_name};
 pub use text::study_text;
 pub use toml::{Table, Value};
-pub use values::{broken_unless, has_between, is_at_most, is_between, list_at, list_in, number_at, number_in, number_or, string_at};
+pub use values::{
+    broken_unless, has_between, is_at_most, is_between, list_at, list_in, number_at, number_in,
+    number_or, string_at,
+};

@@ -10,9 +10,12 @@ ghost use Rattle.study_market.specs.AgentRules.{counts_broken as rule_25, agent_
 use crate::changes::{NamesStock, is_kind};
 use crate::counts::few_agents;
 use crate::dates::start;
-use market_types::Time;
-use study_file::{EntryRule, Kind, Table, first_failing, has_between, has_form, needed, number_at, number_or, own, spare};
 use crate::{group_number, is_group, stocks};
+use market_types::Time;
+use study_file::{
+    EntryRule, Kind, Table, first_failing, has_between, has_form, needed, number_at, number_or,
+    own, spare,
+};
 
 // An entry has its keys with their types and no other, and its kind is known.
 struct HasKeys;

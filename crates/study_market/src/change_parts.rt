@@ -11,12 +11,12 @@ ghost use Rattle.study_market.specs.Entries.{entry_of};
 ghost use Rattle.study_market.specs.Changes.{change_of, dated_of, changes_of};
 
 use crate::entries::{natural_at, stock_number};
+use crate::few_stocks;
 use crate::stock_parts::{fees, tick_table};
 use market_rules::{Change, Dated, DatedList};
 use market_types::Memory;
 use std::alloc::Global;
 use study_file::{Table, Value, list_at, string_at};
-use crate::few_stocks;
 
 /// Whether an entry is of this kind.
 pub fn is_kind(table: &Table, word: &str) -> bool

@@ -9,10 +9,12 @@ ghost use Rattle.study_market.specs.StockRules.{symbol_in};
 ghost use Rattle.study_market.specs.AgentForms.{change_form};
 ghost use Rattle.study_market.specs.ChangeRules.{changes as changes_of, is_change as change_in, first_no_change as no_change_from, is_kind as kind_of, names_stock as stock_named, change_keys_broken as rule_21, change_stock_broken as rule_23, change_rules_broken as rule_24, has_new_rules as rules_in};
 
+use crate::{EntryTrial, first_failed, has_bands, has_fees, stock_symbol, stocks};
 use market_types::Memory;
 use std::alloc::Global;
-use study_file::{EntryRule, Kind, Table, Value, first_failing, has_form, list_at, needed, own, string_at};
-use crate::{EntryTrial, first_failed, has_bands, has_fees, stock_symbol, stocks};
+use study_file::{
+    EntryRule, Kind, Table, Value, first_failing, has_form, list_at, needed, own, string_at,
+};
 
 /// The entries of the changes.
 pub fn changes(table: &Table) -> &[Value]

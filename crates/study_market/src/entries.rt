@@ -7,9 +7,9 @@ ghost use Rattle.toml.specs.View.{table_view, view};
 ghost use Rattle.study_market.specs.StockRules.{symbol_in};
 ghost use Rattle.study_market.specs.Entries.{entry_of, natural_at as natural_of, place_of};
 
+use crate::stock_symbol;
 use market_types::StockNo;
 use study_file::{Table, Value, number_at};
-use crate::stock_symbol;
 
 /// The table of an entry, which is one.
 pub fn entry(value: &Value) -> &Table

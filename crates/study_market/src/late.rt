@@ -7,11 +7,11 @@ ghost use Rattle.study_market.specs.StockRules.{is_by_rows as by_rows};
 ghost use Rattle.study_market.specs.Rows.{rows_of};
 ghost use Rattle.study_market.specs.Late.{is_late as late_at, first_late};
 
+use crate::is_by_rows;
 use crate::tables::SeriesTables;
 use fundamental_series::SeriesRow;
 use market_types::Time;
 use study_file::Value;
-use crate::is_by_rows;
 
 // Whether some row is at the start or earlier.
 fn has_early(start: Time, rows: &[SeriesRow]) -> bool

@@ -6,11 +6,11 @@ ghost use Rattle.study_file.specs.Values.{number_in as number_of, list_in as ite
 ghost use Rattle.study_market.specs.MarketRules.{squares_broken as rule_7, cells_broken as rule_8, cell_outside};
 ghost use Rattle.study_market.specs.Market.{numbers_in, latencies_of};
 
+use crate::{bases, jitters};
 use latency_model::Groups;
 use market_types::{Memory, Time};
 use std::alloc::{AllocError, Global};
 use study_file::{Table, Value, list_in, number_in};
-use crate::{bases, jitters};
 
 // The numbers of these items, which aren't negative.
 fn base_numbers(alloc: Global, items: &[Value]) -> Result<Vec<Time>, AllocError>

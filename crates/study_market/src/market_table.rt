@@ -9,7 +9,10 @@ ghost use Rattle.study_file.specs.Values.{list_in as items_in};
 ghost use Rattle.study_market.specs.MarketRules.{top_keys_broken as rule_1, version_broken as rule_2, is_key as key_text, key_broken as rule_3, day_broken as rule_4, limits_broken as rule_5, exchange_of, latency_of, parts_broken as rule_6, bases as bases_of, jitters as jitters_of, is_square as square, squares_broken as rule_7, cell_outside as cell_in, cells_broken as rule_8, is_group as group_of, size_of, is_exchange as exchange_in, exchange_broken as rule_9, span_of};
 
 use crate::cells::cell_outside;
-use study_file::{Kind, Table, Value, broken_key, broken_unless, has_between, has_keys, is_between, is_hex, list_at, list_in, needed, number_at, number_or, spare, string_at, table_at};
+use study_file::{
+    Kind, Table, Value, broken_key, broken_unless, has_between, has_keys, is_between, is_hex,
+    list_at, list_in, needed, number_at, number_or, spare, string_at, table_at,
+};
 
 /// The least place at which a study hasn't its top keys with their types and no other: the key's number, or 99.
 pub fn top_keys_broken(table: &Table) -> Option<u32>

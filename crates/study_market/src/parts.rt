@@ -5,6 +5,7 @@ ghost use Rattle.toml.specs.View.{table_view};
 ghost use Rattle.market_floor.specs.Opening.{IsOpening};
 ghost use Rattle.study_market.specs.Opening.{opening_of, IsAccepted};
 
+use crate::SeriesTables;
 use crate::change_parts::dated_list;
 use crate::latencies::latencies;
 use crate::market_parts::{close, exchange_group, exchange_natural, key, limit, start};
@@ -13,7 +14,6 @@ use crate::stock_parts::stock_rules;
 use crate::traders::all_traders;
 use market_floor::Opening;
 use market_types::Memory;
-use crate::SeriesTables;
 use std::alloc::Global;
 use study_file::Table;
 

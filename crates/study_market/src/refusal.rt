@@ -12,8 +12,11 @@ use crate::agents::{agent_keys_broken, agent_stock_broken, own_broken, timing_br
 use crate::changes::{change_keys_broken, change_rules_broken, change_stock_broken};
 use crate::counts::counts_broken;
 use crate::dates::{dates_broken, start};
+use crate::{
+    Refusal, SeriesError, SeriesTables, few_stocks, late_stock, market_refusal, read_series,
+    stock_refusal, stocks,
+};
 use market_types::Memory;
-use crate::{few_stocks, late_stock, market_refusal, read_series, stock_refusal, stocks, Refusal, SeriesError, SeriesTables};
 use std::alloc::Global;
 use study_file::Table;
 

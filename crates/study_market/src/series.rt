@@ -15,9 +15,9 @@ ghost use Rattle.study_market.specs.Stocks.{rule_made_of, series_in, series_of, 
 
 use crate::entries::{entry, natural_at};
 use crate::market_parts::{close, key, start};
+use crate::{SeriesTables, few_stocks, goes_by};
 use fundamental_series::{Series, SeriesRule, series_by_rule, series_from_rows};
 use market_types::{Memory, Sequence, StockNo};
-use crate::{few_stocks, goes_by, SeriesTables};
 use std::alloc::Global;
 use study_file::{Table, Value};
 

@@ -11,7 +11,10 @@ ghost use Rattle.study_market.specs.StockRules.{stocks as stocks_of, symbol_in, 
 
 use crate::market_table::span;
 use market_types::read_symbol;
-use study_file::{EntryRule, Kind, Table, Value, broken_unless, first_failing, has_between, has_form, is_between, list_at, needed, number_at, own, string_at, text_at};
+use study_file::{
+    EntryRule, Kind, Table, Value, broken_unless, first_failing, has_between, has_form, is_between,
+    list_at, needed, number_at, own, string_at, text_at,
+};
 
 /// The entries of the stocks.
 pub fn stocks(table: &Table) -> &[Value]

@@ -9,12 +9,12 @@ ghost use Rattle.study_market.specs.StockRules.{has_symbol, has_bands, has_fees,
 ghost use Rattle.study_market.specs.Entries.{entry_of};
 ghost use Rattle.study_market.specs.Stocks.{fees_of, stock_of, stock_rules_of};
 
+use crate::{read_bands, stocks};
 use exchange_agent::StockRules;
 use market_rules::{FeeTable, RuleError, TickTable};
 use market_types::{Memory, Sequence, read_symbol};
 use std::alloc::Global;
 use study_file::{Table, Value, list_at, number_at, string_at};
-use crate::{read_bands, stocks};
 
 /// The fees of a table, which are in their range.
 pub fn fees(table: &Table) -> FeeTable

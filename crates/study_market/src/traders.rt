@@ -13,12 +13,12 @@ ghost use Rattle.study_market.specs.Entries.{entry_of};
 ghost use Rattle.study_market.specs.Traders.{trader_of, traders_in, traders_of};
 
 use crate::entries::{natural_at, stock_number};
+use crate::few_stocks;
 use crate::kind::kind;
 use agent_shell::TraderSetting;
 use market_types::{Memory, Sequence, Time};
 use std::alloc::{AllocError, Global};
 use study_file::{Table, Value, list_at, number_at, number_or, string_at};
-use crate::few_stocks;
 
 // When the trader of a number, from 0 to 511, wakes first.
 fn first_wakeup(agent: &Table, number: u64) -> Time

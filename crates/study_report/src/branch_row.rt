@@ -8,13 +8,13 @@ ghost use Rattle.study_report.specs.Tables.{column, difference, ending_of, lette
 
 use crate::laws::runs_are_numbered;
 use crate::parts::parts_of;
-use trace_bundle::Ran;
+use crate::{TableRow, first_difference_of_parts};
 use branch_tree::Name;
 use kernel_copy::Course;
 use market_types::{End, Memory, Sequence};
 use probe_desk::{Probe, restart_all, values, watch};
 use std::alloc::Global;
-use crate::{TableRow, first_difference_of_parts};
+use trace_bundle::Ran;
 
 // What each probe says of the full run of a branch, which it sees in order from its opening on.
 fn columns<W: Ran>(

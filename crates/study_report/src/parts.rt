@@ -7,10 +7,10 @@ ghost use Rattle.kernel_copy.specs.Segmentwise.{segment_end};
 ghost use Rattle.trace_bundle.specs.Ran.{IsListedRunOf};
 ghost use Rattle.study_report.specs.Tables.{run_of};
 
-use trace_bundle::{Ran, trace_of_segment};
 use kernel_copy::Course;
 use market_types::{Memory, Trace};
 use std::alloc::Global;
+use trace_bundle::{Ran, trace_of_segment};
 
 // The traces of the segments from the root's first to this one, each of which goes on from the one before.
 fn parts_to<'a, W: Ran>(

@@ -5,12 +5,12 @@ ghost use Rattle.trace_bundle.specs.Ran.{IsListedRunOf};
 ghost use Rattle.study_report.specs.Tables.{rows_of, study_table};
 
 use crate::branch_row::row;
-use trace_bundle::Ran;
+use crate::{TableRow, table};
 use kernel_copy::Course;
 use market_types::Memory;
 use probe_desk::Probe;
 use std::alloc::Global;
-use crate::{TableRow, table};
+use trace_bundle::Ran;
 
 // The rows of all branches in order.
 fn rows<W: Ran>(

@@ -8,7 +8,9 @@ ghost use Rattle.study_rules.specs.Entries.{branch_entries as entries_of};
 ghost use Rattle.study_rules.specs.BranchRules.{is_branch as branch_in, first_no_branch as no_branch_from, branch_keys_broken as rule_30, edit_keys_broken as rule_34, forms_broken as forms_of, first_edit};
 
 use crate::entries::{branch_edits, branch_entries};
-use study_file::{EntryRule, Kind, Table, Value, first_failing, has_form, has_keys, needed, own, spare};
+use study_file::{
+    EntryRule, Kind, Table, Value, first_failing, has_form, has_keys, needed, own, spare,
+};
 
 // Whether a branch has its keys with their types and no other.
 fn has_branch_keys(branch: &Table) -> bool

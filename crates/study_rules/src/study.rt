@@ -9,14 +9,14 @@ ghost use Rattle.study_market.specs.Opening.{IsAccepted, limit_of, opening_of};
 ghost use Rattle.kernel_copy.specs.Courses.{AreEdits};
 ghost use Rattle.study_rules.specs.Accepted.{plan_of, course_of, told_of, study_of, study_told};
 
+use crate::{branch_refusal, branches};
 use branch_tree::{BranchPlan, PlanError, plan};
 use kernel_copy::Course;
 use market_types::Memory;
-use study_market::{judge, opening, stride, Judged, Refusal, SeriesTables};
 use std::alloc::Global;
 use std::sync::Arc;
-use crate::{branch_refusal, branches};
 use study_file::{RawStudy, Table};
+use study_market::{Judged, Refusal, SeriesTables, judge, opening, stride};
 use thiserror::Error;
 
 /// An accepted study.

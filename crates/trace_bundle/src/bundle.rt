@@ -13,7 +13,9 @@ ghost use Rattle.trace_bundle.specs.Ran.{IsRunOf};
 use crate::feed::{put_opening, system_event};
 use crate::ran::Ran;
 use bundle_frames::{Written, put_branch, put_header};
-use kernel_copy::{closing_laws::agents_have_all_positions, laws::courses_stay_in_range, Course};
+use kernel_copy::Course;
+use kernel_copy::closing_laws::agents_have_all_positions;
+use kernel_copy::laws::courses_stay_in_range;
 use market_types::Memory;
 use std::alloc::Global;
 

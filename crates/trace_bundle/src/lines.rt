@@ -5,10 +5,10 @@ ghost use Rattle.kernel_copy.specs.Segmentwise as segmentwise;
 ghost use Rattle.trace_bundle.specs.Ran.{IsRunOf};
 ghost use Rattle.trace_bundle.specs.Report.{big_lines_of, six_lines};
 
-use crate::large_bundle::tally_of_bundle;
-use crate::events::events_of_all;
-use crate::tally::Tally;
 use crate::Ran;
+use crate::events::events_of_all;
+use crate::large_bundle::tally_of_bundle;
+use crate::tally::Tally;
 use kernel_copy::Course;
 use plain_lists::Memory;
 use std::alloc::{AllocError, Global};

@@ -2,15 +2,15 @@
 
 ghost use Rattle.std.specs.Prelude.{◌≡◌, []};
 
-use branch_deques::{open_lanes, Lane, Memory, Room};
-use std::thread;
+use super::pop_some;
+use branch_deques::{Lane, Memory, Room, open_lanes};
 use std::alloc::Global;
 use std::marker::Brand;
 use std::sync::Wait;
 use std::sync::atomic::{AtomicBool, Ordering};
 use std::test::Fail;
+use std::thread;
 use std::thread::Threads;
-use super::pop_some;
 
 // Pops the first segment, if there is one.
 fn pop_one<B: Room>(lane: &mut Lane<B>, got: &mut Vec<u32>) -> Result<(), Memory>

@@ -4,12 +4,12 @@ ghost use Rattle.std.specs.Prelude.{◌≡◌, ◌<◌, IsSome, Some, length};
 ghost use Rattle.shelf_core.specs.Plan.{place_of};
 ghost use Rattle.shelf_core.specs.Views.{times};
 
+use super::Item;
+use super::seats::{claimed, fill, fork_plan, two_new};
 use checkpoint_shelf::{Found, Key, PlaceWord, Progress, Shelf, ShelfSeat};
 use plain_lists::Memory;
 use std::alloc::Global;
 use std::test::Fail;
-use super::Item;
-use super::seats::{claimed, fill, fork_plan, two_new};
 
 // A seat abandons its turn, another finds the place free, and the first gets the turn again and counts the segment; the
 // other sets the stop bit.

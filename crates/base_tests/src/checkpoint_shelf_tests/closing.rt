@@ -4,13 +4,13 @@ ghost use Rattle.std.specs.Prelude.{◌≡◌, ◌<◌, IfSome, IsSome, Some, []
 ghost use Rattle.std.specs.Arc.{arc_value};
 ghost use Rattle.shelf_core.specs.Views.{new_view};
 
+use super::Item;
+use super::seats::{claimed, fill, fork_plan, two_new, value_of};
 use checkpoint_shelf::{Key, Shelf, ShelfSeat};
 use plain_lists::Memory;
 use std::alloc::Global;
 use std::sync::Arc;
 use std::test::Fail;
-use super::Item;
-use super::seats::{claimed, fill, fork_plan, two_new, value_of};
 
 // A seat claims a segment and spends the turn of a key of it, with a value or with none.
 fn spend(shelf: &Shelf<Item>, seat: &mut ShelfSeat<Item>, k: Key, value: Option<Arc<Item>>) -> bool

@@ -5,16 +5,16 @@ ghost use Rattle.shelf_core.specs.Plan.{place_of};
 ghost use Rattle.shelf_core.specs.Views.{new_view, times};
 ghost use Rattle.checkpoint_shelf.specs.Plans.{PlanFits};
 
+use super::Item;
+use super::seats::{claimed, fill, two_new, value_of};
 use checkpoint_shelf::{Found, Kept, Key, Progress, Shelf, ShelfPlan, ShelfSeat};
 use plain_lists::{Memory, Sequence};
-use std::thread;
 use std::alloc::Global;
 use std::sync::Wait;
 use std::sync::atomic::{AtomicU64, Ordering};
 use std::test::Fail;
+use std::thread;
 use std::thread::Threads;
-use super::Item;
-use super::seats::{claimed, fill, two_new, value_of};
 
 // The key of a segment, if it has one: two segments are forked at event 2, and each eighth has a grid key at event 50.
 fn key_in(segment: u32) -> Option<Key>

@@ -8,11 +8,11 @@ ghost use Rattle.shelf_core.specs.Made.{Stays};
 ghost use Rattle.checkpoint_shelf.specs.Plans.{PlanFits};
 ghost use Rattle.checkpoint_shelf.specs.Seats.{NewFrom};
 
+use super::Item;
 use checkpoint_shelf::{Begun, Key, PlaceWord, Shelf, ShelfPlan, ShelfSeat};
 use plain_lists::{Memory, Sequence};
 use std::alloc::Global;
 use std::sync::Arc;
-use super::Item;
 
 // Five segments, of which the first is forked at event 2.
 pub(super) fn fork_plan(alloc: Global) -> Result<ShelfPlan, Memory>

@@ -8,16 +8,17 @@ ghost use Rattle.shelf_core.specs.Views.{has_turn, times};
 ghost use Rattle.checkpoint_shelf.specs.Seats.{NewFrom};
 ghost use Rattle.branch_workers.specs.Runs.{IsShelfOf};
 
+use super::entries_of;
+use super::market::course;
 use branch_workers::{open_shelf, run_segment};
 use checkpoint_shelf::{Begun, Found, Key, PlaceWord, Shelf, ShelfSeat, Turn};
-use kernel_copy::{laws::segments_have_few_events, Checkpoint, Course, Keep, Outcome};
+use kernel_copy::laws::segments_have_few_events;
+use kernel_copy::{Checkpoint, Course, Keep, Outcome};
 use market_types::{Entry, Memory};
 use outside::{Counted, OpenGate, Steps};
 use std::alloc::Global;
 use std::sync::{Arc, Wait};
 use std::test::Fail;
-use super::entries_of;
-use super::market::course;
 
 // The two seats of a new shelf, in order of number.
 fn two_new(

@@ -10,7 +10,8 @@ ghost use Rattle.branch_workers.specs.Example.{AreBranches, small, two_watchers}
 use agent_shell::{Kind, TraderSetting};
 use branch_tree::{Branch, Name, plan};
 use kernel_copy::Course;
-use market_floor::{opening_worked::{markets_are_openings, opening}, Opening};
+use market_floor::Opening;
+use market_floor::opening_worked::{markets_are_openings, opening};
 use market_rules::Edit;
 use market_types::{Memory, Sequence};
 use std::alloc::Global;
