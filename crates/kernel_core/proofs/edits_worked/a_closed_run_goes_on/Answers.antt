@@ -6,8 +6,8 @@ use Rattle.market_floor.specs.Ruled.{ruled}
 use Rattle.kernel_core.specs.Edited.{edited_one}
 use Rattle.kernel_core.specs.Step.{event_of}
 use Rattle.kernel_core.specs.Until.{advanced}
-use Rattle.kernel_tests.proofs.worked.a_silenced_watcher_counts_no_quote.Goals as goal
+use Rattle.kernel_core.proofs.edits_worked.a_closed_run_goes_on.Goals as goal
 
 pub returns : goal.returns
 unfolding event_of advanced edited_one reaction ruled u32_at block_word double_rounds column_round diagonal_round quarter_round
-returns c = record { silent = refl; speaking = refl }
+returns c = record { closed = refl; events = refl; end = refl }

@@ -6,8 +6,8 @@ use Rattle.market_floor.specs.Ruled.{ruled}
 use Rattle.kernel_core.specs.Edited.{edited_one}
 use Rattle.kernel_core.specs.Step.{event_of}
 use Rattle.kernel_core.specs.Until.{advanced}
-use Rattle.kernel_tests.proofs.worked.latencies_are_drawn_by_number.Goals as goal
+use Rattle.kernel_core.proofs.edits_worked.a_quiet_run_goes_on.Goals as goal
 
 pub returns : goal.returns
 unfolding event_of advanced edited_one reaction ruled u32_at block_word double_rounds column_round diagonal_round quarter_round
-returns c = record { none = refl; little = refl; most = refl; base = refl }
+returns c = record { quiet = refl; events = refl; end = refl }

@@ -7,7 +7,7 @@ ghost use Rattle.kernel_core.specs.Post.{nothing_waits};
 ghost use Rattle.kernel_core.specs.Open.{opened};
 ghost use Rattle.kernel_core.specs.Step.{end_of};
 ghost use Rattle.kernel_core.specs.Worked.{ended, full_run, opening_run, rows};
-ghost use Rattle.kernel_tests.specs.Examples.{answers, dated_market, dues, gone_on, heard, marks, quieted, reopened, revived, silenced, sold};
+ghost use Rattle.kernel_core.specs.EditsWorked.{answers, dated_market, dues, gone_on, heard, marks, quieted, reopened, revived, silenced, sold};
 
 /// The run of two watchers that is closed goes on once an order is injected that is due 100 nanoseconds later: the order is
 /// the next event, and its answer the one after it.
