@@ -1,12 +1,12 @@
 -- Each step of a lane keeps its rule.
-use Rattle.std.proofs.Common.{◌≡◌, ℕ, zero, suc, ◌+◌, List, [], ◌∷◌, ◌++◌, length, set, Some, slice_get, sym, refl, ap, subst, arith, ◌<◌, ◌≤◌, All}
+use Rattle.std.proofs.Common.{◌≡◌, ℕ, zero, suc, ◌+◌, List, [], ◌∷◌, ◌++◌, length, set, Some, slice_get, sym, refl, ap, subst, arith, ◌<◌, All}
 use lib.Seq.{take-append_seam, drop-append_seam}
 use Rattle.std.proofs.lemmas.List.Elements.{All-append, All-take, All-drop}
 use mathlib.Core.Option.{some, some-ne-none, some-injective}
 use lib.ListN.{get_elem?}
-use Rattle.crossbeam_deque.specs.Tasks.{Pushes, Takes, Finds, FindsFew, Admits}
+use Rattle.crossbeam_deque.specs.Tasks.{Pushes, Takes, Admits}
 use Rattle.branch_deques.specs.declared.rule.LaneView.{LaneView}
-use Rattle.branch_deques.specs.Lanes.{fresh, having_pushed, having_taken, times, total, Stands, Pushed, Took, WasEmpty}
+use Rattle.branch_deques.specs.Lanes.{fresh, having_pushed, having_taken, times, total, Stands, Pushed, Took}
 
 -- a view stands at its place, in the words of std
 at_place : (views : List LaneView) (n : ℕ) (v : LaneView) → get_elem? views n ≡ some v → slice_get views n ≡ Some v
@@ -33,7 +33,7 @@ left room xs ys h = subst (All (λ x. x < room)) (take-append_seam xs ys) (All-t
 right : (room : ℕ) (xs ys : List ℕ) → All (λ x. x < room) (xs ++ ys) → All (λ x. x < room) ys
 right room xs ys h = subst (All (λ x. x < room)) (drop-append_seam xs ys) (All-drop (λ x. x < room) (length xs) (xs ++ ys) h)
 
-pub one_of : {A : Type 0} (P : A → Type 0) (x : A) → P x → All P (x ∷ [])
+one_of : {A : Type 0} (P : A → Type 0) (x : A) → P x → All P (x ∷ [])
 one_of P x h zero d lt = h
 one_of P x h (suc k) d lt = absurd (omega arith)
 
@@ -65,16 +65,6 @@ takes room pass v xs held views more few h at =
       below = right room xs held h.below;
     } in
     (w, after, record { rest = held; views = views; pass = pass; before = h; had = at_place views pass v at; after = after; is = refl })
-
-pub finds : (room pass : ℕ) (v : LaneView) → Finds (Stands room) pass v (WasEmpty room v)
-finds room pass v views h at = record { views = views; pass = pass; stands = h; had = at_place views pass v at }
-
-pub finds_few : (room pass : ℕ) (v : LaneView) (most : ℕ) → most ≡ 0 → FindsFew (Stands room) most pass v (WasEmpty room v)
-finds_few room pass v most none held views few h at = by held few h
-  where
-    by : (l : List ℕ) → length l ≤ most → Stands room l views → WasEmpty room v
-    by [] few h = record { views = views; pass = pass; stands = h; had = at_place views pass v at }
-    by (x ∷ xs) few h = absurd (omega arith)
 
 -- What was taken is below the room.
 pub took_below : (room x : ℕ) (v w : LaneView) → Took room (x ∷ []) v w → x < room

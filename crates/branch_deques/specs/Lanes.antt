@@ -28,8 +28,8 @@ pub record Stands (room : ℕ) (held : List ℕ) (views : List LaneView) : Type 
   pub balanced : (x : ℕ) → total (λ v. times x v.pushed) views ≡ total (λ v. times x v.taken) views + times x held
   pub below : All (λ x. x < room) held
 
--- A pass with the view v pushed these on a lane that stood, behind all that it held, and the lane stands with the pass's
--- new view.
+-- A pass with the view v pushed these on a lane that stood, and the lane stands with the pass's new view. The rule counts
+-- segments, so this says nothing of their order on the lane.
 pub record Pushed (room : ℕ) (xs : List ℕ) (v w : LaneView) : Type 0 where
   pub held : List ℕ
   pub views : List LaneView
@@ -39,8 +39,8 @@ pub record Pushed (room : ℕ) (xs : List ℕ) (v w : LaneView) : Type 0 where
   pub after : Stands room (held ++ xs) (slice_set views pass w)
   pub is : w ≡ having_pushed xs v
 
--- A pass with the view v took these, the first that a lane held which stood, and the lane stands with the pass's new
--- view.
+-- A pass with the view v took these from a lane that stood, and the lane stands with the pass's new view. Nor does this
+-- say where on the lane they stood.
 pub record Took (room : ℕ) (xs : List ℕ) (v w : LaneView) : Type 0 where
   pub rest : List ℕ
   pub views : List LaneView
@@ -49,10 +49,3 @@ pub record Took (room : ℕ) (xs : List ℕ) (v w : LaneView) : Type 0 where
   pub had : slice_get views pass ≡ Some v
   pub after : Stands room rest (slice_set views pass w)
   pub is : w ≡ having_taken xs v
-
--- The lane stood and held nothing, while a pass had this view.
-pub record WasEmpty (room : ℕ) (v : LaneView) : Type 0 where
-  pub views : List LaneView
-  pub pass : ℕ
-  pub stands : Stands room [] views
-  pub had : slice_get views pass ≡ Some v

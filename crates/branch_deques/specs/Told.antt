@@ -1,9 +1,9 @@
 -- What contracts see of a worker's lane.
-use Rattle.std.specs.Prelude.{◌≡◌, ℕ, ◌+◌, All, List, [], ◌∷◌, ◌++◌, Some, slice_get, map, take, drop}
+use Rattle.std.specs.Prelude.{◌≡◌, ℕ, ◌+◌, List, [], ◌∷◌, ◌++◌, Some, slice_get, map, take, drop}
 use Rattle.std.specs.declared.alloc.Global.{Global}
 use Rattle.atomic_blocks.specs.Lent.{RowsId}
 use Rattle.branch_deques.specs.declared.rule.LaneView.{LaneView}
-use Rattle.branch_deques.specs.Lanes.{fresh, Took, WasEmpty}
+use Rattle.branch_deques.specs.Lanes.{fresh, Took}
 
 -- Which lane it is.
 abbrev pub LaneId : Type 0
@@ -14,8 +14,7 @@ pub record EndTold : Type 0 where
   pub lane : LaneId
   pub view : LaneView
 
--- A worker's lane: the end at which it pushes and pops, and its ends of the others' lanes, in the order in which it
--- looks at them.
+-- A worker's lane: the end at which it pushes and pops, and its ends of the others' lanes.
 pub record LaneTold : Type 0 where
   pub own : EndTold
   pub others : List EndTold
@@ -35,7 +34,7 @@ abbrev pub AreOpened : List LaneTold → Type 0
 AreOpened lanes = (n : ℕ) (lane : LaneTold) → slice_get lanes n ≡ Some lane →
     (lane.own.view ≡ fresh) × (lane.others ≡ map fresh_end (round n (own_lanes lanes)))
 
--- One of the ends took a segment; each end before it had found its lane empty; those behind it weren't looked at.
+-- One of the ends took a segment, and the others are as they were.
 pub record Stole (room x : ℕ) (before after : List EndTold) : Type 0 where
   pub passed : List EndTold
   pub from : EndTold
@@ -43,10 +42,4 @@ pub record Stole (room x : ℕ) (before after : List EndTold) : Type 0 where
   pub view : LaneView
   pub was : before ≡ passed ++ from ∷ others
   pub is : after ≡ passed ++ record { lane = from.lane; view = view } ∷ others
-  pub empty : All (λ e. WasEmpty room e.view) passed
   pub took : Took room (x ∷ []) from.view view
-
--- Each end found its lane empty at a moment, and none took anything.
-pub record FoundNone (room : ℕ) (before after : List EndTold) : Type 0 where
-  pub same : after ≡ before
-  pub empty : All (λ e. WasEmpty room e.view) after

@@ -2,7 +2,7 @@
 
 ghost use Rattle.std.specs.Prelude.{◌≡◌, ℕ, ◌<◌, ◌^◌, [], ◌∷◌, IfOk, IfSome, MatchOption, length};
 ghost use Rattle.crossbeam_deque.specs.Handles.{view, IsPassOf, stealer_deque, stealer_flavor};
-ghost use Rattle.branch_deques.specs.Lanes.{fresh, Pushed, Took, WasEmpty};
+ghost use Rattle.branch_deques.specs.Lanes.{fresh, Pushed, Took};
 ghost use Rattle.branch_deques.specs.Told.{fresh_end};
 
 use crate::rule::{Owner, Pushes, Room, Takes, Thief, ThiefPass};
@@ -85,7 +85,7 @@ impl<B: Room> OwnLane<B> {
     pub(crate) fn pop(&mut self) -> Option<u32>
         ensures same { self.new.lane ≡ self.old.lane }
         ensures taken { MatchOption result
-            ((self.new.view ≡ self.old.view) × WasEmpty B.room self.old.view)
+            (self.new.view ≡ self.old.view)
             (λ segment. Took B.room (segment ∷ []) self.old.view self.new.view) }
     {
         self.owner.pop_as::<Takes<B>>()
@@ -97,7 +97,7 @@ impl<B: Room> OtherLane<B> {
     pub(crate) fn steal<R: Wait>(&mut self, rt: &R) -> Option<u32>
         ensures same { self.new.lane ≡ self.old.lane }
         ensures taken { MatchOption result
-            ((self.new.view ≡ self.old.view) × WasEmpty B.room self.old.view)
+            (self.new.view ≡ self.old.view)
             (λ segment. Took B.room (segment ∷ []) self.old.view self.new.view) }
     {
         for _ in rt.forever() {

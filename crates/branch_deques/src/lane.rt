@@ -1,8 +1,8 @@
 //! A worker's lane.
 
 ghost use Rattle.std.specs.Prelude.{◌≡◌, ℕ, ◌+◌, ◌<◌, [], ◌∷◌, IfSome, MatchOption, length};
-ghost use Rattle.branch_deques.specs.Lanes.{Pushed, Took, WasEmpty};
-ghost use Rattle.branch_deques.specs.Told.{Stole, FoundNone};
+ghost use Rattle.branch_deques.specs.Lanes.{Pushed, Took};
+ghost use Rattle.branch_deques.specs.Told.{Stole};
 
 use crate::end::{OtherLane, OwnLane};
 use crate::rule::Room;
@@ -37,11 +37,12 @@ impl<B: Room> Lane<B> {
         self.own.push(segment);
     }
 
-    /// Takes the first segment that the own lane holds. `None`: it held none at a moment of the call.
+    /// Takes the first segment that the own lane holds. `None`: nothing was taken. No clause tells why: that it looks at the
+    /// lane, and finds it empty, is shown by tests alone.
     pub fn pop(&mut self) -> Option<u32>
         ensures lane { self.new.own.lane ≡ self.old.own.lane }
-        ensures none_or_first { MatchOption result
-            ((self.new.own.view ≡ self.old.own.view) × WasEmpty B.room self.old.own.view)
+        ensures taken { MatchOption result
+            (self.new.own.view ≡ self.old.own.view)
             (λ segment. Took B.room (segment ∷ []) self.old.own.view self.new.own.view) }
         ensures below { IfSome result (λ segment. segment < B.room) }
         ensures others { self.new.others ≡ self.old.others }
@@ -50,11 +51,12 @@ impl<B: Room> Lane<B> {
     }
 
     /// Looks at each other lane in turn, from the next higher number round, and takes the first segment that one holds.
-    /// Where another taker was first it looks at that lane again. `None`: each held none at a moment of the call.
+    /// Where another taker was first it looks at that lane again. `None`: nothing was taken. No clause tells why, nor in what
+    /// order it looks: that it looks at another lane, and finds it empty, is shown by tests alone.
     pub fn steal_round<R: Wait>(&mut self, rt: &R) -> Option<u32>
         ensures own { self.new.own ≡ self.old.own }
-        ensures none_or_first { MatchOption result
-            (FoundNone B.room self.old.others self.new.others)
+        ensures taken { MatchOption result
+            (self.new.others ≡ self.old.others)
             (λ segment. Stole B.room segment self.old.others self.new.others) }
         ensures below { IfSome result (λ segment. segment < B.room) }
     {

@@ -52,17 +52,16 @@ impl<B: Room> Outcome<u32, LaneView> for Pushes<B> {
     ghost then = { λ v xs w. Pushed B.room xs v w };
 }
 
-// The first segment is taken, by the lane's owner or by another.
+// A segment is taken, by the lane's owner or by another. A call that finds none is told nothing: what it could be told is
+// of its own view, which is the same before and after.
 pub(crate) struct Takes<B> {
     of: PhantomData<B>,
 }
 
 impl<B: Room> Outcome<u32, LaneView> for Takes<B> {
-    ghost use Rattle.branch_deques.specs.Lanes.{Took, WasEmpty};
+    ghost use Rattle.branch_deques.specs.Lanes.{Took};
 
     ghost then = { λ v xs w. Took B.room xs v w };
-
-    ghost empty = { λ v. WasEmpty B.room v };
 }
 
 pub(crate) type Owner<B> = Worker<u32, Global, LaneView, LaneRule<B>>;

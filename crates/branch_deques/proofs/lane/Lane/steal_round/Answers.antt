@@ -1,15 +1,11 @@
-use Rattle.std.proofs.Common.{◌≡◌, All, suc, take, drop, set, slice_index_or, ◌++◌, ◌∷◌, arith, sym, subst, ap, ◌∙◌, length, add-one, ◌<◌}
+use Rattle.std.proofs.Common.{◌≡◌, suc, take, drop, set, slice_index_or, ◌++◌, ◌∷◌, arith, sym, ap, ◌∙◌, length, ◌<◌}
 use Rattle.std.proofs.lemmas.Grind.{common_steps}
-use Rattle.std.proofs.lemmas.List.Elements.{All-append}
-use Rattle.std.proofs.Math.Seq.{take-suc-set}
-use Rattle.branch_deques.specs.Lanes.{WasEmpty}
 use Rattle.branch_deques.specs.Told.{EndTold}
-use Rattle.branch_deques.proofs.Moves.{one_of}
 use Rattle.branch_deques.proofs.Stolen.{cut_at, set_cut, set_back}
 use Rattle.branch_deques.proofs.lane.Lane.steal_round.Goals as goal
 
-pub returns-in-Some-clause-none_or_first : goal.returns-in-Some-clause-none_or_first
-returns-in-Some-clause-none_or_first g c =
+pub returns-in-Some-clause-taken : goal.returns-in-Some-clause-taken
+returns-in-Some-clause-taken g c =
     let items = c.loop-other.other-items in let n = c.loop-other.other-index in
     let long = ap length c.loop-other.invariant.same in let low = c.loop-other-test.true in
     let lt : n < length items = omega arith in
@@ -22,7 +18,6 @@ returns-in-Some-clause-none_or_first g c =
       view = c.steal.new.self.view;
       was = sym (c.loop-other.invariant.same ∙ c.deref_mut-other-items.ensures.value ∙ ap (λ l. l.others) c.self.view_is) ∙ cut_at items n c.other-item.result lt;
       is = after ∙ set_cut items n c.steal.new.self lt ∙ ap (λ e. take n items ++ e ∷ drop (suc n) items) new;
-      empty = c.loop-other.invariant.empty;
       took = c.in-Some.ensures.taken;
     }
 
@@ -31,17 +26,12 @@ loop-other-preserved g c = let told = c.in_default.ensures.taken in let items = 
     let long = ap length c.loop-other.invariant.same in let low = c.loop-other-test.true in
     let lt : n < length items = omega arith in
     let from : EndTold = slice_index_or items n c.other-item.result in
-    let new : c.steal.new.self ≡ from = λ j. record { lane = c.in_default.ensures.same j; view = told.0 j } in record {
+    let new : c.steal.new.self ≡ from = λ j. record { lane = c.in_default.ensures.same j; view = told j } in record {
       same = ap (set items n) new ∙ set_back items n c.other-item.result ∙ c.loop-other.invariant.same;
-      empty = rw (add-one, take-suc-set)
-          (All-append (λ (e : EndTold). WasEmpty g.B.Room.room e.view) _ _ c.loop-other.invariant.empty (one_of (λ (e : EndTold). WasEmpty g.B.Room.room e.view) _ (subst (WasEmpty g.B.Room.room) (sym told.0) told.1)));
     }
 
-pub returns-clause-none_or_first : goal.returns-clause-none_or_first
-returns-clause-none_or_first g c = let items = c.loop-other.other-items in let n = c.loop-other.other-index in
-    let long = ap length c.loop-other.invariant.same in let far = c.loop-other-test.false in
+pub returns-clause-taken : goal.returns-clause-taken
+returns-clause-taken g c = let items = c.loop-other.other-items in
+    let long = ap length c.loop-other.invariant.same in
     let after : take c.self.inside.others.len (items ++ drop (length items) c.self.inside.others.items) ≡ items = grind (arith, common_steps) in
-    let all : items ≡ take n items = grind (arith, common_steps) in record {
-      same = after ∙ c.loop-other.invariant.same ∙ c.deref_mut-other-items.ensures.value ∙ ap (λ l. l.others) c.self.view_is;
-      empty = subst (All (λ (e : EndTold). WasEmpty g.B.Room.room e.view)) (sym (after ∙ all)) c.loop-other.invariant.empty;
-    }
+    after ∙ c.loop-other.invariant.same ∙ c.deref_mut-other-items.ensures.value ∙ ap (λ l. l.others) c.self.view_is
