@@ -1,4 +1,4 @@
-//! Two lanes, of which the second takes from the first.
+//! Lanes: what an owner pops, and what others take.
 
 mod thief;
 
@@ -72,6 +72,51 @@ fn share_picked<R: Wait>(rt: &R, alloc: Global) -> Result<(Vec<u32>, bool), Memo
     share_three::<Brand, R>(rt, alloc, 3)
 }
 
+// The segments 0, 1 and 2 are pushed on a lane, whose owner then pops four times: what came out.
+fn pop_three<B: Room>(alloc: Global, room: u32) -> Result<Vec<u32>, Memory>
+    requires room { room ≡ B.room }
+    requires three { room ≡ 3 }
+{
+    let mut lanes = open_lanes::<B>(alloc, 1, room)?;
+    let mut got = Vec::new(alloc);
+    let Some(mut only) = lanes.pop() else {
+        return Ok(got);
+    };
+    push_three(&mut only);
+    pop_some(&mut only, 4, &mut got)?;
+    Ok(got)
+}
+
+fn pop_picked(alloc: Global) -> Result<Vec<u32>, Memory> {
+    pop_three::<Brand>(alloc, 3)
+}
+
+// Of three lanes the first and the third get a segment each: what the second takes from them in four rounds.
+fn take_from_two<B: Room, R: Wait>(rt: &R, alloc: Global, room: u32) -> Result<Vec<u32>, Memory>
+    requires room { room ≡ B.room }
+    requires three { room ≡ 3 }
+{
+    let mut lanes = open_lanes::<B>(alloc, 3, room)?;
+    let mut got = Vec::new(alloc);
+    let Some(mut third) = lanes.pop() else {
+        return Ok(got);
+    };
+    let Some(mut second) = lanes.pop() else {
+        return Ok(got);
+    };
+    let Some(mut first) = lanes.pop() else {
+        return Ok(got);
+    };
+    first.push(0);
+    third.push(2);
+    take_some(rt, &mut second, &mut got)?;
+    Ok(got)
+}
+
+fn take_picked<R: Wait>(rt: &R, alloc: Global) -> Result<Vec<u32>, Memory> {
+    take_from_two::<Brand, R>(rt, alloc, 3)
+}
+
 // A lane crosses threads.
 fn crosses<T: Send>(_: &T) {}
 
@@ -84,5 +129,19 @@ fn a_thief_takes_each_once(rt: HostRuntime) -> Result<(), Fail> {
     let (got, all_stolen) = share_picked(&rt, rt.alloc())?;
     assert_eq!(rt; got.as_slice(), [0, 1, 2].as_slice());
     assert!(rt; all_stolen);
+    Ok(())
+}
+
+#[test]
+fn an_owner_pops_each_in_order(rt: HostRuntime) -> Result<(), Fail> {
+    let got = pop_picked(rt.alloc())?;
+    assert_eq!(rt; got.as_slice(), [0, 1, 2].as_slice());
+    Ok(())
+}
+
+#[test]
+fn the_next_higher_lane_is_first(rt: HostRuntime) -> Result<(), Fail> {
+    let got = take_picked(&rt, rt.alloc())?;
+    assert_eq!(rt; got.as_slice(), [2, 0].as_slice());
     Ok(())
 }

@@ -38,7 +38,7 @@ impl<B: Room> Lane<B> {
     }
 
     /// Takes the first segment that the own lane holds. `None`: nothing was taken. No clause tells why: that it looks at the
-    /// lane, and finds it empty, is shown by tests alone.
+    /// lane, and that the lane is empty then, is shown by tests alone.
     pub fn pop(&mut self) -> Option<u32>
         ensures lane { self.new.own.lane ≡ self.old.own.lane }
         ensures taken { MatchOption result
@@ -52,7 +52,7 @@ impl<B: Room> Lane<B> {
 
     /// Looks at each other lane in turn, from the next higher number round, and takes the first segment that one holds.
     /// Where another taker was first it looks at that lane again. `None`: nothing was taken. No clause tells why, nor in what
-    /// order it looks: that it looks at another lane, and finds it empty, is shown by tests alone.
+    /// order it looks: that it looks at each, in this order, is shown by tests alone. That it looks again is left to review.
     pub fn steal_round<R: Wait>(&mut self, rt: &R) -> Option<u32>
         ensures own { self.new.own ≡ self.old.own }
         ensures taken { MatchOption result
