@@ -1,21 +1,11 @@
 -- How the program ends, as far as its streams and its exit status show it.
-use Rattle.std.specs.Prelude.{◌≡◌, ℕ, List, [], ◌∷◌, Option, codes}
+use Rattle.std.specs.Prelude.{◌≡◌, ℕ, List, Option}
 use Rattle.outside.specs.Rose.{Rose}
-use Rattle.probe_desk.specs.Probe.{Meaning}
-use Rattle.probe_desk.specs.Columns.{volume, spread_sum, price_range, fees}
 use Rattle.abides_run.specs.Code.{code_of}
 use Rattle.abides_run.specs.Headline.{Noted}
 use Rattle.abides_run.specs.Statuses.{IsRefusal}
 use Rattle.abides_run.specs.declared.status.Status.{Status}
 use Rattle.abides_run.specs.declared.status.Status.TheVariants.{Ok, WriteFault}
-
--- what the columns of the program's tables say
-abbrev pub column_meanings : List Meaning
-column_meanings = volume ∷ spread_sum ∷ price_range ∷ fees ∷ []
-
--- the heads of these columns
-abbrev pub column_titles : List (List ℕ)
-column_titles = codes "volume" ∷ codes "spread_sum" ∷ codes "range" ∷ codes "fees" ∷ []
 
 -- What a sink shows at one moment: how many writes failed, and what it has taken where it tells its bytes.
 pub record Sunk : Type 0 where
