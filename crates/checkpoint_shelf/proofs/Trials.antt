@@ -1,5 +1,5 @@
 -- What small runs of a seat's calls leave.
-use Rattle.std.proofs.Common.{◌≡◌, ℕ, zero, ◌<◌, List, [], ◌∷◌, ◌++◌, length, Some, slice_get, sym, ap, ◌∙◌, subst, arith, length-append}
+use Rattle.std.proofs.Common.{◌≡◌, ℕ, ◌<◌, List, [], ◌∷◌, ◌++◌, length, Some, slice_get, sym, ap, ◌∙◌, subst, arith, length-append}
 use Rattle.shelf_core.specs.Views.{new_view}
 use Rattle.shelf_core.specs.After.{with_claim}
 use Rattle.shelf_core.specs.Made.{Makes}

@@ -1,13 +1,13 @@
 -- The events that change which seats there are.
-use Rattle.std.proofs.Common.{◌≡◌, ◌≢◌, ℕ, suc, ◌+◌, ◌<◌, ◌≤◌, true, false, List, [], ◌∷◌, ◌++◌, Option, Some, None, slice_get, length, set, sym, refl, ap, ◌∙◌, subst, ⊎_elim, arith, true≢false, length-append}
+use Rattle.std.proofs.Common.{◌≡◌, ◌≢◌, ℕ, suc, ◌+◌, ◌<◌, ◌≤◌, Bool, ◌||◌, true, false, List, [], ◌∷◌, ◌++◌, Option, Some, None, slice_get, length, set, sym, refl, ap, ◌∙◌, subst, ⊎_elim, arith, true≢false, length-append}
 use Rattle.std.proofs.lemmas.List.Folds.{list_any-append}
 use mathlib.Core.Logic.{dite}
-use native.Mathlib.Decide.{dec_le}
+use native.Mathlib.Decide.{dec_le, ℕ_discrete}
 use Rattle.shelf_core.specs.Plan.{is_in, same_key}
 use Rattle.shelf_core.specs.Views.{times, turns_at, new_view, spent_view}
 use Rattle.shelf_core.specs.After.{joined_with}
 use Rattle.shelf_core.specs.Sound.{IsKept, TakerStands, WordBelongs, claimed_by, turned_by, lent_by, loans_at}
-use Rattle.shelf_core.specs.Orderly.{Orderly}
+use Rattle.shelf_core.specs.Orderly.{Orderly, SomeStopped}
 use Rattle.shelf_core.specs.declared.plan.Key.{Key}
 use Rattle.shelf_core.specs.declared.plan.ShelfPlan.{ShelfPlan}
 use Rattle.shelf_core.specs.declared.words.ClaimWord.{ClaimWord}
@@ -16,7 +16,7 @@ use Rattle.shelf_core.specs.declared.words.PlaceWord.{PlaceWord}
 use Rattle.shelf_core.specs.declared.words.PlaceWord.TheVariants.{Free, Writing, Ready, Lent}
 use Rattle.shelf_core.specs.declared.seat.SeatView.{SeatView}
 use Rattle.shelf_core.specs.declared.system.System.{System}
-use Rattle.shelf_core.proofs.Lists.{bool_cases, not_some, times_else, times_append, total_end, for_end}
+use Rattle.shelf_core.proofs.Lists.{bool_cases, some_same, not_some, set_here, set_else, still_at, times_else, times_append, total_end, for_end}
 use Rattle.shelf_core.proofs.Plans.{or_either}
 use Rattle.shelf_core.proofs.Numbers.{seats_end, seats_join, for_both, both_total, same_length}
 use Rattle.shelf_core.proofs.Parts.{orderly_of, seats_of, TurnKeys, LoanKeys}
@@ -81,6 +81,7 @@ split_orderly s h =
       bit = for_end (λ i u. u.stopped ≡ true → s.stopped ≡ true) s.views new (λ f. absurd (true≢false (sym f))) h.sound.seen.bit;
       number = for_end (λ i u. u.done_seen ≤ s.done) s.views new (omega arith) h.sound.seen.number;
     })
+    (λ f. let some = h.stopped f in (some.0, some.1, still_at s.views new some.1 some.0 some.2, some.3, some.4))
     (for_end (λ i u. (key : Key) → is_in key u.known ≡ true → IsKept s.plan s.places key) s.views new (λ key f. absurd (true≢false (sym f))) h.sound.known)
     (for_end (λ i u. (g : ℕ) → 0 < times g u.claims → g < length s.claims) s.views new (λ g pos. absurd (omega arith)) h.segments)
     (let t = total_end (λ u. length u.claims) s.views new in let d = h.taken in omega arith)
@@ -117,6 +118,24 @@ lent_none Free x = refl
 lent_none (Writing k) x = refl
 lent_none (Ready key) x = refl
 lent_none (Lent key k) x = ⊎_elim (λ (y : same_key key x ≡ true). rw y refl) (λ (y : same_key key x ≡ false). rw y refl) (bool_cases (same_key key x))
+
+or_right : (a b : Bool) → b ≡ true → (a || b) ≡ true
+or_right true b e = refl
+or_right false b e = e
+
+-- A view that takes in one that has stopped, or that has stopped itself, has stopped.
+stopped_join : (views : List SeatView) (n m : ℕ) (v w : SeatView) → v.spent ≡ false → m ≢ n → slice_get views n ≡ Some v → slice_get views m ≡ Some w
+    → SomeStopped views → SomeStopped (set (set views n (joined_with w v)) m spent_view)
+stopped_join views n m v w live two e e' some =
+    let J : SeatView = joined_with w v in
+    let here : J.stopped ≡ true → SomeStopped (set (set views n J) m spent_view) = λ f. (n, J, set_else (set views n J) m n spent_view (λ x. two (sym x)) ∙ set_here views n J v e, live, f) in
+    let same : (i : ℕ) (u : SeatView) → some.0 ≡ i → slice_get views i ≡ Some u → u.stopped ≡ true = λ i u is x.
+    ap (λ (y : SeatView). y.stopped) (some_same u some.1 (sym x ∙ ap (slice_get views) (sym is) ∙ some.2)) ∙ some.4 in
+    dite (ℕ_discrete some.0 n)
+    (λ is. here (ap (λ b. b || w.stopped) (same n v is e)))
+    (λ ne. dite (ℕ_discrete some.0 m)
+    (λ is. here (or_right v.stopped w.stopped (same m w is e')))
+    (λ ne'. (some.0, some.1, set_else (set views n J) m some.0 spent_view ne' ∙ set_else views n some.0 J ne ∙ some.2, some.3, some.4)))
 
 -- A seat m without turn or loan is taken in by a seat n.
 pub join_orderly : (s : System) (n m : ℕ) (v w : SeatView) → Orderly s → v.spent ≡ false → w.spent ≡ false → m ≢ n → slice_get s.views n ≡ Some v → slice_get s.views m ≡ Some w
@@ -168,6 +187,7 @@ join_orderly s n m v w h live live' two e e' no_turn no_loan =
           (let a = h.sound.seen.number n v e in let b = h.sound.seen.number m w e' in omega arith)
           (omega arith) (λ i u ne ne' y. h.sound.seen.number i u y);
     })
+    (λ f. stopped_join s.views n m v w live two e e' (h.stopped f))
     (both (λ i u. (key : Key) → is_in key u.known ≡ true → IsKept s.plan s.places key)
     (λ key f. ⊎_elim (h.sound.known n v e key) (h.sound.known m w e' key) (or_either (is_in key v.known) (is_in key w.known) (sym (list_any-append (λ x. same_key x key) v.known w.known) ∙ f)))
     (λ key f. absurd (true≢false (sym f))) (λ i u ne ne' y. h.sound.known i u y))

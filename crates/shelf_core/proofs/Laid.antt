@@ -73,6 +73,7 @@ lay_orderly s plan h none distinct =
       bit = λ n v e f. sym bare.stopped ∙ h.sound.seen.bit n v e f;
       number = λ n v e. let a = h.sound.seen.number n v e in let b = bare.done in omega arith;
     })
+    (λ f. absurd (true≢false (sym f)))
     (λ n v e key f. let k = h.sound.known n v e key f in absurd (true≢false (sym k.sole ∙ ap (λ p. sole_in p key) none)))
     (λ n v e g pos. let a = no_claim n v e g in absurd (omega arith))
     (h.taken ∙ ap taken_count bare.claims ∙ sym (taken_none plan.segments))
@@ -103,6 +104,7 @@ opening_orderly = orderly_of opening
     })
     (record { sum = refl; within = opening_for _ (omega arith) })
     (record { bit = opening_for _ (λ f. absurd (true≢false (sym f))); number = opening_for _ (omega arith) })
+    (λ f. absurd (true≢false (sym f)))
     (opening_for _ (λ key f. absurd (true≢false (sym f))))
     (opening_for _ (λ g pos. absurd (omega arith)))
     refl

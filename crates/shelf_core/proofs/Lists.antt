@@ -68,6 +68,11 @@ module _ {A : Type 0} where
   at_end (x ∷ xs) a b zero e = inl e
   at_end (x ∷ xs) a b (suc j) e = ⊎_elim inl (λ (z : (j ≡ length xs) × (a ≡ b)). inr (ap suc z.0, z.1)) (at_end xs a b j e)
 
+  pub still_at : (l : List A) (a b : A) (j : ℕ) → slice_get l j ≡ Some b → slice_get (l ++ a ∷ []) j ≡ Some b
+  still_at [] a b j e = absurd (not_some b e)
+  still_at (x ∷ xs) a b zero e = e
+  still_at (x ∷ xs) a b (suc j) e = still_at xs a b j e
+
 -- the view of a seat, changed
 pub changed_is_set : (change : SeatView → SeatView) (views : List SeatView) (n : ℕ) (v : SeatView) → slice_get views n ≡ Some v → changed_at change views n ≡ set views n (change v)
 changed_is_set change [] n v e = absurd (not_some v e)

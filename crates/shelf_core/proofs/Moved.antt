@@ -13,10 +13,10 @@ use Rattle.shelf_core.specs.declared.words.PlaceWord.{PlaceWord}
 use Rattle.shelf_core.specs.declared.words.PlaceWord.TheVariants.{Free, Writing, Ready, Lent}
 use Rattle.shelf_core.specs.declared.seat.SeatView.{SeatView}
 use Rattle.shelf_core.specs.declared.system.System.{System}
-use Rattle.shelf_core.proofs.Lists.{bool_cases, some_same, not_some, within, there, at_end, set_here, turns_here, turns_else, turns_append, total_set}
+use Rattle.shelf_core.proofs.Lists.{bool_cases, some_same, not_some, within, at_end, set_here, turns_here, turns_else, turns_append, total_set}
 use Rattle.shelf_core.proofs.Numbers.{seats_set, mine, once}
 use Rattle.shelf_core.proofs.Plans.{key_is, key_self, or_either, alone_in}
-use Rattle.shelf_core.proofs.Parts.{orderly_of, seats_of, claims_same, places_move, counts_set, seen_set, known_set, segments_set, knowing_kept, kept_move, Moves, TurnKeys, LoanKeys}
+use Rattle.shelf_core.proofs.Parts.{orderly_of, seats_of, claims_same, places_move, counts_set, seen_set, stopped_set, known_set, segments_set, knowing_kept, kept_move, Moves, TurnKeys, LoanKeys}
 use Rattle.shelf_core.proofs.Quiet.{shape_keeps}
 
 -- The word of a place changes through a seat that keeps what it claimed and counted.
@@ -35,6 +35,7 @@ move_orderly s n p old new v w h e live is sp num claims counts stopped seen bel
     (places_move s.views seats n v w e s.plan s.places s.home p old new is num belongs moves turn_keys loan_keys h.sound.places)
     (counts_set s.views seats n v w e s.done s.done (ap (λ k. s.done + k) (sym counts)) (let a = h.sound.counts.within n v e in let b : length w.claims ≡ length v.claims = ap length claims in omega arith) h.sound.counts)
     (seen_set s.views seats n v w e s.done s.done s.stopped s.stopped (omega arith) (λ f. f) (λ f. h.sound.seen.bit n v e (sym stopped ∙ f)) (let a = h.sound.seen.number n v e in omega arith) h.sound.seen)
+    (λ f. stopped_set s.views seats n v w e sp (λ g. stopped ∙ g) (h.stopped f))
     (known_set s.views seats n v w e s.plan s.places s'.places (kept_move s.plan s.places p old new is keeps) known h.sound.known)
     (segments_set s.views seats n v w e s.claims s.claims refl (λ g pos. h.segments n v e g (subst (λ (l : List ℕ). 0 < times g l) claims pos)) h.segments)
     (let t = total_set (λ u. length u.claims) s.views n v w e in let l : length w.claims ≡ length v.claims = ap length claims in let k = h.taken in omega arith)

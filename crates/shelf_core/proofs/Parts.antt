@@ -10,7 +10,7 @@ use Rattle.shelf_core.specs.Views.{times, total, turns_at, has_turn}
 use Rattle.shelf_core.specs.Possible.{word_in}
 use Rattle.shelf_core.specs.After.{knowing}
 use Rattle.shelf_core.specs.Sound.{ForViews, ClaimsStand, PlacesStand, CountsStand, SeenStands, IsKept, KnownStands, WritersStand, TakerStands, WordBelongs, claimed_by, turned_by, lent_by, loans_at}
-use Rattle.shelf_core.specs.Orderly.{Orderly, HasShape}
+use Rattle.shelf_core.specs.Orderly.{Orderly, HasShape, SomeStopped}
 use Rattle.shelf_core.specs.declared.plan.Key.{Key}
 use Rattle.shelf_core.specs.declared.plan.ShelfPlan.{ShelfPlan}
 use Rattle.shelf_core.specs.declared.words.ClaimWord.{ClaimWord}
@@ -73,9 +73,9 @@ writers_stand plan claims places home views seats stand segments h n v e key m s
 
 -- A system of which the other parts hold is orderly.
 pub orderly_of : (s : System) → Seats s.views → ClaimsStand s.claims s.views → PlacesStand s.plan s.places s.home s.views → CountsStand s.done s.views → SeenStands s.done s.stopped s.views
-    → KnownStands s.plan s.places s.views → ForViews s.views (λ n view. (segment : ℕ) → 0 < times segment view.claims → segment < length s.claims)
+    → (s.stopped ≡ true → SomeStopped s.views) → KnownStands s.plan s.places s.views → ForViews s.views (λ n view. (segment : ℕ) → 0 < times segment view.claims → segment < length s.claims)
     → total (λ view. length view.claims) s.views ≡ taken_count s.claims → HasShape s.plan s → Orderly s
-orderly_of s seats claims places counts seen known segments taken shape = record {
+orderly_of s seats claims places counts seen stopped known segments taken shape = record {
   sound = record {
     numbers = seats.numbers;
     claims = claims;
@@ -88,6 +88,7 @@ orderly_of s seats claims places counts seen known segments taken shape = record
   shape = shape;
   segments = segments;
   spent = seats.spent;
+  stopped = stopped;
   own = seats.own;
   taken = taken;
 }
@@ -202,6 +203,12 @@ module _ (views : List SeatView) (seats : Seats views) (n : ℕ) (v w : SeatView
     bit = for_set (λ i u. u.stopped ≡ true → bit' ≡ true) views n w stopped (λ i u ne x f. keeps (h.bit i u x f));
     number = for_set (λ i u. u.done_seen ≤ done') views n w low (λ i u ne x. let a = h.number i u x in omega arith);
   }
+
+  pub stopped_set : w.spent ≡ v.spent → (v.stopped ≡ true → w.stopped ≡ true) → SomeStopped views → SomeStopped (set views n w)
+  stopped_set sp keeps some = dite (ℕ_discrete some.0 n)
+      (λ (same : some.0 ≡ n). let is : v ≡ some.1 = some_same v some.1 (sym e ∙ ap (slice_get views) (sym same) ∙ some.2) in
+      (n, w, set_here views n w v e, sp ∙ ap (λ (u : SeatView). u.spent) is ∙ some.3, keeps (ap (λ (u : SeatView). u.stopped) is ∙ some.4)))
+      (λ ne. (some.0, some.1, set_else views n some.0 w ne ∙ some.2, some.3, some.4))
 
   pub known_set : (plan : Option ShelfPlan) (places places' : List PlaceWord) → ((key : Key) → IsKept plan places key → IsKept plan places' key)
       → ((key : Key) → is_in key w.known ≡ true → IsKept plan places' key) → KnownStands plan places views → KnownStands plan places' (set views n w)
