@@ -2,7 +2,7 @@
 //! apart from `main` so that a stored run shows the same functions.
 #![tactic(auto)]
 
-ghost use Rattle.std.specs.Prelude.{◌≡◌, ◌⊎◌, None, IfErr};
+ghost use Rattle.std.specs.Prelude.{◌≡◌, ◌⊎◌, None, IfOk, IfErr, OnErr};
 ghost use Rattle.std.specs.Process.{exit_status};
 ghost use Rattle.abides_run.specs.Words.{asked_of, texts};
 ghost use Rattle.abides_program.specs.Ended.{Ended, EndedAs};
@@ -10,7 +10,7 @@ ghost use Rattle.abides_program.specs.Ended.{Ended, EndedAs};
 use abides_run::{Status, run, write_note};
 use outside::{Counted, FileLibrary, OpenGate, Sink, Steps};
 use probe_desk::{Fees, Probe, Range, SpreadSum, Volume};
-use std::alloc::{AllocError, Global};
+use std::alloc::AllocError;
 use std::env;
 use std::io::ErrorKind;
 use std::process::ExitCode;
@@ -54,10 +54,36 @@ pub fn run_words<R: Files + AllocGlobal + Threads + Wait + Sync, O: Sink, N: Sin
     ensures usage { result ≡ Status.Usage → asked_of (texts words.now) ≡ None }
     ensures not_asked { asked_of (texts words.now) ≡ None → (result ≡ Status.Usage) ⊎ (result ≡ Status.Memory) }
 {
+    match run_with_probes(rt, words, out, notes) {
+        Ok(status) => status,
+        Err(_) => write_note(rt.alloc(), "", Status::Memory, notes),
+    }
+}
+
+// Makes the probes, in the order of their columns, and runs words with them. Nothing is done where there is no memory for
+// the probes.
+fn run_with_probes<R: Files + AllocGlobal + Threads + Wait + Sync, O: Sink, N: Sink>(
+    rt: &R,
+    words: &[String],
+    out: &mut O,
+    notes: &mut N,
+) -> Result<Status, AllocError>
+    ensures ended { IfOk result (λ status. Ended status
+        (record { faults = O.faults out.old; taken = O.taken out.old })
+        (record { faults = O.faults out.new; taken = O.taken out.new })
+        (record { faults = N.faults notes.old; taken = N.taken notes.old })
+        (record { faults = N.faults notes.new; taken = N.taken notes.new })) }
+    ensures usage { IfOk result (λ status. status ≡ Status.Usage → asked_of (texts words.now) ≡ None) }
+    ensures not_asked { IfOk result (λ status. asked_of (texts words.now) ≡ None → (status ≡ Status.Usage) ⊎ (status ≡ Status.Memory)) }
+    ensures out_stands { OnErr result (out.new ≡ out.old) }
+    ensures notes_stand { OnErr result (notes.new ≡ notes.old) }
+{
     let alloc = rt.alloc();
-    let Ok(probes) = column_probes(alloc) else {
-        return write_note(alloc, "", Status::Memory, notes);
-    };
+    let mut probes: Vec<Box<dyn Probe>> = Vec::new(alloc);
+    probes.push(Box::new(alloc, Volume::new())?)?;
+    probes.push(Box::new(alloc, SpreadSum::new())?)?;
+    probes.push(Box::new(alloc, Range::new())?)?;
+    probes.push(Box::new(alloc, Fees::new())?)?;
     let mut library = FileLibrary::new(rt);
     let mut steps: Steps<Counted> = Steps::new();
     let status = run(
@@ -72,17 +98,7 @@ pub fn run_words<R: Files + AllocGlobal + Threads + Wait + Sync, O: Sink, N: Sin
         &mut steps,
     );
     steps.close();
-    status
-}
-
-// The probes of the program's tables, in the order of their columns.
-fn column_probes(alloc: Global) -> Result<Vec<Box<dyn Probe>>, AllocError> {
-    let mut probes: Vec<Box<dyn Probe>> = Vec::new(alloc);
-    probes.push(Box::new(alloc, Volume::new())?)?;
-    probes.push(Box::new(alloc, SpreadSum::new())?)?;
-    probes.push(Box::new(alloc, Range::new())?)?;
-    probes.push(Box::new(alloc, Fees::new())?)?;
-    Ok(probes)
+    Ok(status)
 }
 
 // The command line without the program's name. Words that are no text are faulty words.
