@@ -1,37 +1,12 @@
-//! Reads, writes and notes that fail, and studies that are cut or changed.
+//! Writes and notes that fail.
 
-use crate::fault_runs::{
-    Around, QUIET, WATCHERS, branched_study, empty_study, ran, study_with_series,
-};
+use crate::fault_runs::{Around, QUIET, WATCHERS, branched_study, empty_study, ran};
 use abides_run::Status;
 use std::alloc::Global;
 use std::process::Abort;
 use std::sync::Wait;
 use std::test::Fail;
 use std::thread::Threads;
-
-#[test]
-fn a_failed_read_names_its_file(rt: HostRuntime) -> Result<(), Fail> {
-    let alloc = rt.alloc();
-    let study = study_with_series(alloc)?;
-    for line in ["run s", "check s"] {
-        for (failing_read, status, note) in [
-            (1, Status::ReadFault, "read failed: s\n"),
-            (2, Status::ReadFault, "read failed: t\n"),
-            (3, Status::Ok, ""),
-        ] {
-            let around = Around {
-                failing_read,
-                ..QUIET
-            };
-            let ran = ran(&rt, alloc, line, study.as_bytes(), around)?;
-            assert_eq!(rt; ran.status, status, "{line}, call {failing_read}");
-            assert_eq!(rt; ran.notes.taken(), note.as_bytes());
-            assert_eq!(rt; ran.out.taken().is_empty(), status != Status::Ok);
-        }
-    }
-    Ok(())
-}
 
 // How many bytes a sink has taken before each of its calls, where pieces of these sizes are written to it.
 fn taken_before_calls(alloc: Global, pieces: &[usize]) -> Result<Vec<usize>, Fail> {
@@ -147,50 +122,5 @@ fn notes_that_fail_change_no_status(rt: HostRuntime) -> Result<(), Fail> {
             assert_eq!(rt; ran.notes.taken().is_empty(), silent);
         }
     }
-    Ok(())
-}
-
-// Whether a run of these bytes is accepted; one that is not is refused by a rule, and writes nothing.
-fn is_accepted<R: Abort + Threads + Wait + Sync>(
-    rt: &R,
-    alloc: Global,
-    study: &[u8],
-) -> Result<bool, Fail> {
-    let ran = ran(rt, alloc, "run s", study, QUIET)?;
-    let refused = matches!(ran.status, Status::Refused { .. });
-    assert!(rt;
-        ran.status == Status::Ok || refused,
-        "status {}",
-        ran.status.code()
-    );
-    assert_eq!(rt; ran.out.taken().is_empty(), refused);
-    Ok(!refused)
-}
-
-#[test]
-fn cut_studies_are_accepted_or_refused(rt: HostRuntime) -> Result<(), Fail> {
-    let alloc = rt.alloc();
-    let mut accepted: u32 = 0;
-    for (size, _) in WATCHERS.as_bytes().iter().enumerate() {
-        if is_accepted(&rt, alloc, &WATCHERS.as_bytes()[..size])? {
-            accepted = accepted.saturating_add(1);
-        }
-    }
-    assert_eq!(rt; accepted, 9);
-    Ok(())
-}
-
-#[test]
-fn changed_studies_are_accepted_or_refused(rt: HostRuntime) -> Result<(), Fail> {
-    let alloc = rt.alloc();
-    let mut accepted: u32 = 0;
-    for (place, byte) in WATCHERS.as_bytes().iter().enumerate() {
-        let mut study = WATCHERS.as_bytes().to_vec(alloc)?;
-        study[place] = *byte ^ 1;
-        if is_accepted(&rt, alloc, &study)? {
-            accepted = accepted.saturating_add(1);
-        }
-    }
-    assert_eq!(rt; accepted, 107);
     Ok(())
 }

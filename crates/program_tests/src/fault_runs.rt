@@ -64,12 +64,6 @@ parent = \"root\"
 at = 2
 ";
 
-// The values of a stock that a series file gives.
-const ROWS: &str = "symbol,time,value
-ABM,900,99000
-ABM,1500,98000
-";
-
 /// One watcher that would first wake after the close.
 pub fn empty_study(alloc: Global) -> Result<String, Fail> {
     let text = WATCHERS.replacen(alloc, "close = 2000", "close = 1000", 1)?;
@@ -82,22 +76,10 @@ pub fn branched_study(alloc: Global) -> Result<String, Fail> {
     Ok(format!(in alloc; "{WATCHERS}{BRANCHES}")?)
 }
 
-/// The two watchers, whose stock has its values from the file `t`.
-pub fn study_with_series(alloc: Global) -> Result<String, Fail> {
-    let rule =
-        "series = \"rule\"\nstart = 100000\nmean = 100000\npull = 0\nshock = 0\nevery = 1000000\n";
-    let text = WATCHERS.replacen(alloc, rule, "series = \"rows\"\n", 1)?;
-    Ok(format!(in alloc; "series = \"t\"\n{text}")?)
-}
-
-// A library with the files `s` and `t`, one call of which fails; none at 0.
+// A library with the file `s`, one call of which fails; none at 0.
 fn library(alloc: Global, study: &[u8], failing: u32) -> Result<MemoryLibrary, Fail> {
-    let mut files = Vec::with_capacity(alloc, 2)?;
+    let mut files = Vec::with_capacity(alloc, 1)?;
     files.push((String::from_str(alloc, "s")?, study.to_vec(alloc)?))?;
-    files.push((
-        String::from_str(alloc, "t")?,
-        ROWS.as_bytes().to_vec(alloc)?,
-    ))?;
     Ok(MemoryLibrary::new(files, vec![in alloc; failing]?)?)
 }
 

@@ -1,12 +1,10 @@
-//! Tests of studies and of the whole program: worked, refused, broken and faulted ones.
+//! Tests of studies and of the whole program by calls: worked runs, failing reads and writes, gates, probes, large studies.
 #![tactic(auto)]
 
 mod bundles;
 
 pub use bundles::{EMPTY_RUN, TWO_WATCHERS};
 
-#[cfg(test)]
-mod broken;
 #[cfg(test)]
 mod fault_bundles;
 #[cfg(test)]
@@ -20,9 +18,9 @@ mod large_lines_tests;
 #[cfg(test)]
 mod large_study_tests;
 #[cfg(test)]
-mod probes;
+mod many_rows;
 #[cfg(test)]
-mod refused;
+mod probes;
 #[cfg(test)]
 mod rewinds;
 #[cfg(test)]
@@ -33,10 +31,6 @@ mod series_file_tests;
 mod study_accept_tests;
 #[cfg(test)]
 mod study_file_tests;
-#[cfg(test)]
-mod study_refusals_tests;
-#[cfg(test)]
-mod study_tables_tests;
 #[cfg(test)]
 mod tables;
 #[cfg(test)]

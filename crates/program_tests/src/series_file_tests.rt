@@ -2,7 +2,7 @@
 
 use std::test::Fail;
 use study_file::{list_at, read_tables};
-use study_market::{SeriesError, late_stock, read_series};
+use study_market::{late_stock, read_series};
 
 const STOCKS: &[u8] = b"stock = [
   { symbol = \"ABM\", series = \"rule\" },
@@ -25,34 +25,5 @@ fn rows_are_read(rt: HostRuntime) -> Result<(), Fail> {
     assert_eq!(rt; late_stock(5, stocks, &tables), Some(1));
     assert_eq!(rt; late_stock(4, stocks, &tables), Some(1));
     assert_eq!(rt; late_stock(900, stocks, &tables), None);
-    Ok(())
-}
-
-#[test]
-fn the_first_refused_record_is_told(rt: HostRuntime) -> Result<(), Fail> {
-    let alloc = rt.alloc();
-    let raw = read_tables(alloc, STOCKS)?;
-    let stocks = list_at(&raw.table, "stock");
-    let cases: [(&[u8], u32); 13] = [
-        (b"", 0),
-        (b"\n\r\n", 0),
-        (b"symbol,time\nXYZ,1,1\n", 0),
-        (b"symbol,time,value,\n", 0),
-        (b"symbol,time,value\nXYZ,1\n", 1),
-        (b"symbol,time,value\nXYZ,1,1\nABM,1,1\n", 2),
-        (b"symbol,time,value\nXYZ ,1,1\n", 1),
-        (b"symbol,time,value\nXYZ,,1\n", 1),
-        (b"symbol,time,value\nXYZ,86400000000000,1\n", 1),
-        (b"symbol,time,value\nXYZ,000000000000001,1\n", 1),
-        (b"symbol,time,value\nXYZ,1,+1\n", 1),
-        (b"symbol,time,value\nXYZ,2,1\nQ,1,1\nXYZ,2,1\n", 3),
-        (b"symbol,time,value\n\xff,\"1\n2\",1\n", 1),
-    ];
-    for (text, place) in cases {
-        match read_series(alloc, stocks, text) {
-            Err(SeriesError::Refused(number)) => assert_eq!(rt; number, place),
-            _ => assert!(rt; false),
-        }
-    }
     Ok(())
 }

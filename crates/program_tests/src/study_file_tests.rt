@@ -1,18 +1,14 @@
 use std::test::Fail;
 use study_file::{
-    Kind, StudyError, broken_key, has_form, integer_at, needed, own, read_tables, series_name,
-    spare,
+    Kind, broken_key, has_form, integer_at, needed, own, read_tables, series_name, spare,
 };
 
 #[test]
-fn bytes_say_a_table_or_none(rt: HostRuntime) -> Result<(), Fail> {
+fn bytes_say_a_table(rt: HostRuntime) -> Result<(), Fail> {
     let raw = read_tables(rt.alloc(), b"version = 1\nseries = \"s.csv\"\n")?;
     assert!(rt; integer_at(&raw.table, "version") == Some(1));
     assert!(rt; series_name(&raw) == Some("s.csv"));
     assert!(rt; series_name(&read_tables(rt.alloc(), b"series = 1\n")?).is_none());
-    assert!(rt; matches!(&read_tables(rt.alloc(), b"\xff"), Err(StudyError::NotToml)));
-    assert!(rt; matches!(&read_tables(rt.alloc(), b"a = "), Err(StudyError::NotToml)));
-    assert!(rt; matches!(&read_tables(rt.alloc(), b""), Ok(_)));
     Ok(())
 }
 

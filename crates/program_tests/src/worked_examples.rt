@@ -8,20 +8,11 @@ use std::test::Fail;
 use std::thread::Threads;
 
 // A study of one stock whose value stays at ten dollars, and what stands between its values that the tests change.
-const BEFORE_KEY: &str = "version = 1\nkey = \"";
-
-pub const KEY: &str = "0000000000000000000000000000000000000000000000000000000000000000";
-
-const BEFORE_CLOSE: &str = "\"\nopen = 1000\nclose = ";
-
-const BEFORE_STOCK: &str =
-    "\nevents = 100\n\n[exchange]\ngroup = 0\ndelay = 0\n\n[latency]\nbase = [[5]]\njitter = [[0]]\n\n[[stock]]\nsymbol = \"ABM\"\nbands = [[0, 100]]\nadd = -20\ntake = ";
+const BEFORE_CLOSE: &str =
+    "version = 1\nkey = \"0000000000000000000000000000000000000000000000000000000000000000\"\nopen = 1000\nclose = ";
 
 const BEFORE_AGENT: &str =
-    "\nseries = \"rule\"\nstart = 100000\nmean = 100000\npull = 0\nshock = 0\nevery = 1000000\n\n[[agent]]\ngroup = 0\nstock = \"ABM\"\nevery = 1000000\n";
-
-const MAKER: &str =
-    "kind = \"maker\"\nfirst = 1000\nsize = 10\nhalf = 150\nstep = 100\nlevels = 1\npause = 0\n";
+    "\nevents = 100\n\n[exchange]\ngroup = 0\ndelay = 0\n\n[latency]\nbase = [[5]]\njitter = [[0]]\n\n[[stock]]\nsymbol = \"ABM\"\nbands = [[0, 100]]\nadd = -20\ntake = 30\nseries = \"rule\"\nstart = 100000\nmean = 100000\npull = 0\nshock = 0\nevery = 1000000\n\n[[agent]]\ngroup = 0\nstock = \"ABM\"\nevery = 1000000\n";
 
 pub const WATCHERS: &str = "kind = \"watcher\"\nfirst = 1000\ncount = 2\n";
 
@@ -32,21 +23,12 @@ pub const BRANCHES: &str =
     "\n[[branch]]\nname = \"x\"\nparent = \"root\"\nat = 2\nedit = [{ kind = \"latency\", from = 0, to = 0, base = 50, jitter = 0 }]\n\n[[branch]]\nname = \"y\"\nparent = \"root\"\nat = 2\nedit = [{ kind = \"latency\", from = 0, to = 0, base = 7, jitter = 0 }]\n\n[[branch]]\nname = \"z\"\nparent = \"root\"\nat = 2\n";
 
 // A branch that injects a sell order behind the root's end.
-pub const INJECTED: &str =
+const INJECTED: &str =
     "\n[[branch]]\nname = \"i\"\nparent = \"root\"\nat = 50\nedit = [{ kind = \"inject\", agent = 1, after = 100, message = \"4f5430303031303030303030303031530000006441424d2020202020000186a00001869f4142494459504e000000004e4e\" }]\n";
 
-/// The text of a study with these values.
-pub fn study(
-    alloc: Global,
-    key: &str,
-    close: u32,
-    take: u32,
-    agent: &str,
-    branches: &str,
-) -> Result<String, Fail> {
-    Ok(format!(in alloc;
-        "{BEFORE_KEY}{key}{BEFORE_CLOSE}{close}{BEFORE_STOCK}{take}{BEFORE_AGENT}{agent}{branches}"
-    )?)
+/// The text of a study that closes then, with these agents and branches.
+pub fn study(alloc: Global, close: u32, agent: &str, branches: &str) -> Result<String, Fail> {
+    Ok(format!(in alloc; "{BEFORE_CLOSE}{close}{BEFORE_AGENT}{agent}{branches}")?)
 }
 
 // Whether the bytes are these frames one after another.
@@ -81,7 +63,7 @@ fn bundles_byte_for_byte(rt: HostRuntime) -> Result<(), Fail> {
             (1000, LATE_WATCHER, EMPTY_RUN.as_slice(), 402, 0),
             (1005, WATCHERS, TWO_WATCHERS.as_slice(), 666, 4),
         ] {
-            let text = study(alloc, KEY, close, 30, agent, "")?;
+            let text = study(alloc, close, agent, "")?;
             let mut out = sink(alloc, size, most, &[])?;
             let mut notes = sink(alloc, 100, most, &[])?;
             let held = library(alloc, text.as_bytes(), b"", &[])?;
@@ -119,7 +101,7 @@ fn written<R: Threads + Wait + Sync, G: Gate + Sync>(
 #[test]
 fn three_branches_share_two_events_among_any_workers(rt: HostRuntime) -> Result<(), Fail> {
     let alloc = rt.alloc();
-    let text = study(alloc, KEY, 2000, 30, WATCHERS, BRANCHES)?;
+    let text = study(alloc, 2000, WATCHERS, BRANCHES)?;
     let out = written(&rt, alloc, text.as_str(), "1", &OpenGate, (3255, 18))?;
     let bytes = out.taken();
     // the last branch changes nothing: behind its frame it is the root's trace
@@ -145,7 +127,7 @@ fn three_branches_share_two_events_among_any_workers(rt: HostRuntime) -> Result<
 #[test]
 fn tables_and_rewinds_have_their_workers(rt: HostRuntime) -> Result<(), Fail> {
     let alloc = rt.alloc();
-    let text = study(alloc, KEY, 2000, 30, WATCHERS, BRANCHES)?;
+    let text = study(alloc, 2000, WATCHERS, BRANCHES)?;
     let table = ["table", "s", "--workers", "2"];
     let rewind = ["rewind", "s", "root:0", "--workers", "2"];
     for words in [table.as_slice(), rewind.as_slice()] {
@@ -166,7 +148,7 @@ fn tables_and_rewinds_have_their_workers(rt: HostRuntime) -> Result<(), Fail> {
 fn any_workers_write_the_same(rt: HostRuntime) -> Result<(), Fail> {
     let alloc = rt.alloc();
     for (branches, size, counted) in [(BRANCHES, 3255, 18), (INJECTED, 1926, 8)] {
-        let text = study(alloc, KEY, 2000, 30, WATCHERS, branches)?;
+        let text = study(alloc, 2000, WATCHERS, branches)?;
         let alone = written(&rt, alloc, text.as_str(), "1", &OpenGate, (size, counted))?;
         for workers in ["3", "64"] {
             let out = written(
@@ -184,53 +166,9 @@ fn any_workers_write_the_same(rt: HostRuntime) -> Result<(), Fail> {
 }
 
 #[test]
-fn commands_write_what_they_say(rt: HostRuntime) -> Result<(), Fail> {
-    let alloc = rt.alloc();
-    let maker = study(alloc, KEY, 2000, 30, MAKER, "")?;
-    let watchers = study(alloc, KEY, 2000, 30, WATCHERS, "")?;
-    let branches = study(alloc, KEY, 2000, 30, WATCHERS, BRANCHES)?;
-    let rows: [(&[&str], &str, usize, u64, &str); 5] = [
-        (&["run", "s"], maker.as_str(), 1148, 7, ""),
-        (
-            &["run", "--workers", "64", "s", "--places=0"],
-            maker.as_str(),
-            1148,
-            7,
-            "",
-        ),
-        (
-            &["check", "s"],
-            watchers.as_str(),
-            53,
-            0,
-            "accepted: agents 3, stocks 1, branches 1, segments 1\n",
-        ),
-        (
-            &["check", "--", "s"],
-            branches.as_str(),
-            53,
-            0,
-            "accepted: agents 3, stocks 1, branches 4, segments 5\n",
-        ),
-        (&["run", "s"], branches.as_str(), 3255, 18, ""),
-    ];
-    for (words, text, size, counted, line) in rows {
-        let mut out = sink(alloc, 4000, 4096, &[])?;
-        let mut notes = sink(alloc, 100, 64, &[])?;
-        let held = library(alloc, text.as_bytes(), b"", &[])?;
-        let ended = run_over(&rt, alloc, words, held, &mut out, &mut notes)?;
-        assert_eq!(rt; ended, (Status::Ok, counted));
-        assert_eq!(rt; out.taken().len(), size);
-        assert!(rt; line.is_empty() || out.taken() == line.as_bytes());
-        assert!(rt; notes.taken().is_empty());
-    }
-    Ok(())
-}
-
-#[test]
 fn failing_writes_leave_a_first_part(rt: HostRuntime) -> Result<(), Fail> {
     let alloc = rt.alloc();
-    let text = study(alloc, KEY, 2000, 30, WATCHERS, BRANCHES)?;
+    let text = study(alloc, 2000, WATCHERS, BRANCHES)?;
     let mut whole = sink(alloc, 3255, 3255, &[])?;
     let mut notes = sink(alloc, 100, 64, &[])?;
     let held = library(alloc, text.as_bytes(), b"", &[])?;
@@ -260,7 +198,7 @@ fn failing_writes_leave_a_first_part(rt: HostRuntime) -> Result<(), Fail> {
 #[test]
 fn each_write_fails_in_turn(rt: HostRuntime) -> Result<(), Fail> {
     let alloc = rt.alloc();
-    let text = study(alloc, KEY, 1000, 30, LATE_WATCHER, "")?;
+    let text = study(alloc, 1000, LATE_WATCHER, "")?;
     for failing in 1..403 {
         let mut out = sink(alloc, 402, 64, &[failing])?;
         let mut notes = sink(alloc, 100, 64, &[])?;
@@ -275,159 +213,6 @@ fn each_write_fails_in_turn(rt: HostRuntime) -> Result<(), Fail> {
         assert_eq!(rt; notes.taken(), b"write failed\n".as_slice());
     }
     Err(Fail::from("each write failed"))
-}
-
-const USAGE: &str = "usage: abides COMMAND STUDY [MORE...] [--workers N] [--places N]\n";
-
-#[test]
-fn faulty_words_ask_for_nothing(rt: HostRuntime) -> Result<(), Fail> {
-    let alloc = rt.alloc();
-    let lines: [&[&str]; 13] = [
-        &[],
-        &["run"],
-        &["run", ""],
-        &["run", "s", "more"],
-        &["ran", "s"],
-        &["run", "s", "--workers", "65"],
-        &["run", "s", "--workers", "0"],
-        &["run", "s", "--places", "129"],
-        &["run", "s", "--help"],
-        &["table", "s", "more"],
-        &["rewind", "s"],
-        &["big", "seven"],
-        &["check", "s", "more"],
-    ];
-    for words in lines {
-        let mut out = sink(alloc, 100, 64, &[])?;
-        let mut notes = sink(alloc, 100, 7, &[])?;
-        // a fetch would fail
-        let held = library(alloc, b"", b"", &[1])?;
-        let ended = run_over(&rt, alloc, words, held, &mut out, &mut notes)?;
-        assert_eq!(rt; ended, (Status::Usage, 0));
-        assert!(rt; out.taken().is_empty() && notes.taken() == USAGE.as_bytes());
-    }
-    Ok(())
-}
-
-#[test]
-fn refusals_come_in_order(rt: HostRuntime) -> Result<(), Fail> {
-    let alloc = rt.alloc();
-    let broken = study(
-        alloc,
-        "000000000000000000000000000000000000000000000000000000000000000",
-        2000,
-        2_000_000,
-        WATCHERS,
-        "",
-    )?;
-    let with_series = study(alloc, KEY, 2000, 30, WATCHERS, "")?;
-    let with_series = format!(in alloc; "series = \"t\"\n{with_series}")?;
-    let long = vec![in alloc; 10; 16_777_217]?;
-    let rows: [(&str, &[u8], &[u8], u32, Status, &str); 14] = [
-        ("u", b"", b"", 0, Status::NoStudy, "no such file: u\n"),
-        ("s", b"", b"", 1, Status::ReadFault, "read failed: s\n"),
-        ("s", &long, b"", 0, Status::TooLong, "file too long: s\n"),
-        (
-            "s",
-            b"",
-            b"",
-            2,
-            Status::Refused { rule: 1, place: 1 },
-            "study refused: rule 1, place 1\n",
-        ),
-        (
-            "s",
-            b"\xff",
-            b"",
-            0,
-            Status::Refused { rule: 0, place: 0 },
-            "study refused: rule 0, place 0\n",
-        ),
-        (
-            "s",
-            b"series = \"t\" = 1",
-            b"",
-            2,
-            Status::Refused { rule: 0, place: 0 },
-            "study refused: rule 0, place 0\n",
-        ),
-        (
-            "s",
-            b"series = \"u\"",
-            b"",
-            0,
-            Status::NoStudy,
-            "no such file: u\n",
-        ),
-        (
-            "s",
-            b"series = \"\"",
-            b"",
-            0,
-            Status::NoStudy,
-            "no such file: \n",
-        ),
-        (
-            "s",
-            b"series = \"t\"",
-            b"",
-            2,
-            Status::ReadFault,
-            "read failed: t\n",
-        ),
-        (
-            "s",
-            b"series = \"t\"",
-            &long,
-            0,
-            Status::TooLong,
-            "file too long: t\n",
-        ),
-        (
-            "s",
-            b"series = 1",
-            b"",
-            2,
-            Status::Refused { rule: 1, place: 1 },
-            "study refused: rule 1, place 1\n",
-        ),
-        (
-            "s",
-            b"series = \"t\"",
-            b"",
-            0,
-            Status::Refused { rule: 1, place: 1 },
-            "study refused: rule 1, place 1\n",
-        ),
-        (
-            "s",
-            broken.as_bytes(),
-            b"",
-            0,
-            Status::Refused { rule: 3, place: 0 },
-            "study refused: rule 3, place 0\n",
-        ),
-        (
-            "s",
-            with_series.as_bytes(),
-            b"",
-            0,
-            Status::Refused { rule: 18, place: 0 },
-            "study refused: rule 18, place 0\n",
-        ),
-    ];
-    for (name, study, series, failing, status, line) in rows {
-        for command in ["run", "check"] {
-            let mut out = sink(alloc, 100, 64, &[])?;
-            let mut notes = sink(alloc, 100, 7, &[])?;
-            let held = library(alloc, study, series, &[failing])?;
-            let ended = run_over(&rt, alloc, &[command, name], held, &mut out, &mut notes)?;
-            assert_eq!(rt; ended, (status, 0), "{line}");
-            assert!(rt; out.taken().is_empty());
-            assert_eq!(rt; notes.taken(), line.as_bytes());
-        }
-    }
-    Ok(())
 }
 
 #[test]
