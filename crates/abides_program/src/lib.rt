@@ -1,11 +1,16 @@
 //! The program as the system runs it: words of the command line, files and streams in, an exit status out. It stands
-//! apart from `main` so that several stored runs show one and the same function.
+//! apart from `main` so that a stored run shows the same functions.
 #![tactic(auto)]
+
+ghost use Rattle.std.specs.Prelude.{◌≡◌, ◌⊎◌, None, IfOk, IfErr, map};
+ghost use Rattle.std.specs.Process.{exit_status};
+ghost use Rattle.abides_run.specs.Words.{asked_of, texts};
+ghost use Rattle.abides_program.specs.Ended.{Ended, EndedAs, column_meanings, column_titles};
 
 use abides_run::{Status, run, write_note};
 use outside::{Counted, FileLibrary, OpenGate, Sink, Steps};
 use probe_desk::{Fees, Probe, Range, SpreadSum, Volume};
-use std::alloc::AllocError;
+use std::alloc::{AllocError, Global};
 use std::env;
 use std::io::ErrorKind;
 use std::process::ExitCode;
@@ -14,12 +19,18 @@ use std::sync::Wait;
 use std::thread::Threads;
 
 /// Runs the command line over the system's files. The bundle or the table goes to `out`, the line for the status to
-/// `notes`, and the status is the exit status.
+/// `notes`, and the number of the status is the exit status. It may wait.
 pub fn run_command_line<R: Env + Files + AllocGlobal + Threads + Wait + Sync, O: Sink, N: Sink>(
     rt: &R,
     out: &mut O,
     notes: &mut N,
-) -> ExitCode {
+) -> ExitCode
+    ensures ended { EndedAs (exit_status result)
+        (record { faults = O.faults out.old; taken = O.taken out.old })
+        (record { faults = O.faults out.new; taken = O.taken out.new })
+        (record { faults = N.faults notes.old; taken = N.taken notes.old })
+        (record { faults = N.faults notes.new; taken = N.taken notes.new }) }
+{
     let status = match command_words(rt) {
         Ok(words) => run_words(rt, &words, out, notes),
         Err(status) => write_note(rt.alloc(), "", status, notes),
@@ -27,32 +38,26 @@ pub fn run_command_line<R: Env + Files + AllocGlobal + Threads + Wait + Sync, O:
     ExitCode::from(status.code())
 }
 
-// Runs words, with the probes of a table in the order of their columns where there is memory for them.
-fn run_words<R: Files + AllocGlobal + Threads + Wait + Sync, O: Sink, N: Sink>(
+/// Runs the words of a command line, without the program's name, over the system's files. A table has a column for each of the
+/// program's probes. It may wait.
+pub fn run_words<R: Files + AllocGlobal + Threads + Wait + Sync, O: Sink, N: Sink>(
     rt: &R,
     words: &[String],
     out: &mut O,
     notes: &mut N,
-) -> Status {
-    match run_with_probes(rt, words, out, notes) {
-        Ok(status) => status,
-        Err(_) => write_note(rt.alloc(), "", Status::Memory, notes),
-    }
-}
-
-// Makes the probes, and runs words with them.
-fn run_with_probes<R: Files + AllocGlobal + Threads + Wait + Sync, O: Sink, N: Sink>(
-    rt: &R,
-    words: &[String],
-    out: &mut O,
-    notes: &mut N,
-) -> Result<Status, AllocError> {
+) -> Status
+    ensures ended { Ended result
+        (record { faults = O.faults out.old; taken = O.taken out.old })
+        (record { faults = O.faults out.new; taken = O.taken out.new })
+        (record { faults = N.faults notes.old; taken = N.taken notes.old })
+        (record { faults = N.faults notes.new; taken = N.taken notes.new }) }
+    ensures usage { result ≡ Status.Usage → asked_of (texts words.now) ≡ None }
+    ensures not_asked { asked_of (texts words.now) ≡ None → (result ≡ Status.Usage) ⊎ (result ≡ Status.Memory) }
+{
     let alloc = rt.alloc();
-    let mut probes: Vec<Box<dyn Probe>> = Vec::new(alloc);
-    probes.push(Box::new(alloc, Volume::new())?)?;
-    probes.push(Box::new(alloc, SpreadSum::new())?)?;
-    probes.push(Box::new(alloc, Range::new())?)?;
-    probes.push(Box::new(alloc, Fees::new())?)?;
+    let Ok(probes) = column_probes(alloc) else {
+        return write_note(alloc, "", Status::Memory, notes);
+    };
     let mut library = FileLibrary::new(rt);
     let mut steps: Steps<Counted> = Steps::new();
     let status = run(
@@ -67,11 +72,26 @@ fn run_with_probes<R: Files + AllocGlobal + Threads + Wait + Sync, O: Sink, N: S
         &mut steps,
     );
     steps.close();
-    Ok(status)
+    status
+}
+
+/// The probes of the program's tables, in the order of their columns.
+pub fn column_probes(alloc: Global) -> Result<Vec<Box<dyn Probe>>, AllocError>
+    ensures meanings { IfOk result (λ probes. map (λ p. meaning p) probes.items ≡ column_meanings) }
+    ensures titles { IfOk result (λ probes. map (λ p. title p) probes.items ≡ column_titles) }
+{
+    let mut probes: Vec<Box<dyn Probe>> = Vec::new(alloc);
+    probes.push(Box::new(alloc, Volume::new())?)?;
+    probes.push(Box::new(alloc, SpreadSum::new())?)?;
+    probes.push(Box::new(alloc, Range::new())?)?;
+    probes.push(Box::new(alloc, Fees::new())?)?;
+    Ok(probes)
 }
 
 // The command line without the program's name. Words that are no text are faulty words.
-fn command_words<R: Env + AllocGlobal>(rt: &R) -> Result<Vec<String>, Status> {
+fn command_words<R: Env + AllocGlobal>(rt: &R) -> Result<Vec<String>, Status>
+    ensures refused { IfErr result (λ status. (status ≡ Status.Usage) ⊎ (status ≡ Status.Memory)) }
+{
     let args = match env::args(rt) {
         Ok(args) => args,
         Err(e) => {

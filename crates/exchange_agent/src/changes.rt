@@ -20,7 +20,7 @@ impl Exchange {
         ensures state { OnOk result (self.new ≡ (turned self.old time stock letter).state) }
         ensures feed { OnOk result (feed.new.list ≡ feed.old.list ++ (turned self.old time stock letter).feed) }
         ensures exchange_refused { OnErr result (self.new ≡ self.old) }
-        ensures feed_refused { OnErr result (feed.new.list ≡ feed.old.list) }
+        ensures feed_refused { OnErr result (feed.new ≡ feed.old) }
     {
         let listing = &mut self.stocks[usize::from(stock)];
         if listing.trading == letter {
@@ -58,7 +58,7 @@ impl Exchange {
         ensures traders { length self.new.cash ≡ length self.old.cash }
         ensures counts { self.new.counts ≡ self.old.counts }
         ensures exchange_refused { OnErr result (self.new ≡ self.old) }
-        ensures feed_refused { OnErr result (feed.new.list ≡ feed.old.list) }
+        ensures feed_refused { OnErr result (feed.new ≡ feed.old) }
     {
         match change {
             Change::Tick(table) => {

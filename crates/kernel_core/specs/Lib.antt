@@ -11,3 +11,4 @@ pub mod Edited
 pub mod Sound
 pub mod View
 pub mod Worked
+pub mod EditsWorked

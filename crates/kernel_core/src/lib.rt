@@ -5,6 +5,7 @@
 #![tactic(auto)]
 
 mod edit;
+pub mod edits_worked;
 mod jitter;
 mod kernel;
 pub mod laws;

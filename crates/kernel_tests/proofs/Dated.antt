@@ -7,7 +7,7 @@ use Rattle.fundamental_series.specs.Made.{Made, by_rows, by_rule}
 use Rattle.agent_shell.specs.declared.setting.TraderSetting.{TraderSetting}
 use Rattle.market_floor.specs.declared.opening.Opening.{Opening}
 use Rattle.market_floor.specs.Opening.{AreDated, IsDated, IsOpening, IsSeriesFor, IsTraderOf, no_series}
-use Rattle.kernel_tests.specs.Examples.{later_ticks}
+use Rattle.kernel_core.specs.EditsWorked.{later_ticks}
 
 -- the series of an opening are those of the same opening with other dated changes
 series-kept : (o : Opening) (ds : List Dated) (k : ℕ) (m : Made) → IsSeriesFor o k m → IsSeriesFor (record o { dated = ds }) k m

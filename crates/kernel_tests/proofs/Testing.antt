@@ -28,7 +28,7 @@ use Rattle.kernel_core.specs.Send.{message_of, sent}
 use Rattle.kernel_core.specs.Open.{opened, woken}
 use Rattle.kernel_core.specs.Step.{Fits}
 use Rattle.kernel_core.specs.Edited.{IsEditOf}
-use Rattle.kernel_tests.specs.Examples.{IsPlain}
+use Rattle.kernel_core.specs.EditsWorked.{IsPlain}
 
 -- traders of kinds in their ranges are in those of a market
 pub kinds-admitted : (close limit delay : ℕ) (ts : List TraderSetting) (ks : List (Kind × ℕ)) → All (λ (k : Kind × ℕ). IsKind k.0) ks → All (λ (k : Kind × ℕ). 1000 ≤ k.1) ks

@@ -11,7 +11,7 @@ ghost use Rattle.market_rules.specs.EditRanges.{is_near_zero};
 ghost use Rattle.market_floor.specs.Opening.{IsOpening};
 ghost use Rattle.market_floor.specs.OpeningWorked.{market_of, trader};
 ghost use Rattle.kernel_core.specs.Step.{Fits};
-ghost use Rattle.kernel_tests.specs.Examples.{IsPlain};
+ghost use Rattle.kernel_core.specs.EditsWorked.{IsPlain};
 
 use agent_shell::{Kind, TraderSetting};
 use kernel_core::{Kernel, Opening};

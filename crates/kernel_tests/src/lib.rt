@@ -21,4 +21,3 @@ mod quoter_agents_tests;
 mod taker_agents_tests;
 #[cfg(test)]
 mod trader_party_tests;
-pub mod worked;

@@ -42,6 +42,20 @@ impl<T: Drop> Roomy<T> {
         self.items.as_slice()
     }
 
+    /// The number of items.
+    pub fn len(&self) -> usize
+        ensures { result ≡ length self.now.list }
+    {
+        self.items.as_slice().len()
+    }
+
+    /// The item at a place, from 0; none past the last.
+    pub fn get(&self, i: usize) -> Option<&T>
+        ensures { option_map (λ x. x.now) result ≡ slice_get self.now.list i }
+    {
+        self.items.as_slice().get(i)
+    }
+
     /// The allocator that the list was made with.
     pub fn allocator(&self) -> Global {
         *self.items.allocator()

@@ -3,3 +3,4 @@ pub mod Files
 pub mod Fetched
 pub mod Taken
 pub mod Fakes
+pub mod Streams

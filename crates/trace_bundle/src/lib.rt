@@ -1,4 +1,4 @@
-//! The bundle of a study's branches as bytes, and the two lines of a large study.
+//! The bundle of a study's branches as bytes, and the lines that tell of a large study.
 #![tactic(auto)]
 
 mod bundle;

@@ -2,7 +2,7 @@
 
 ghost use Rattle.std.specs.Prelude.{◌≡◌, IfOk};
 ghost use Rattle.market_floor.specs.Opening.{IsOpening};
-ghost use Rattle.kernel_tests.specs.Examples.{later_ticks};
+ghost use Rattle.kernel_core.specs.EditsWorked.{later_ticks};
 
 use super::{branch, five_cents, market, order};
 use agent_shell::Kind;

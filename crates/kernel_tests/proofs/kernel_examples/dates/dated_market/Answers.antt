@@ -2,7 +2,7 @@ use Rattle.std.proofs.Common.{◌≡◌, ◌≤◌, ◌<◌, List, length, ap, s
 use Rattle.market_rules.specs.declared.changes.Dated.{Dated}
 use Rattle.market_floor.specs.declared.opening.Opening.{Opening}
 use Rattle.market_floor.specs.Opening.{IsOpening}
-use Rattle.kernel_tests.specs.Examples.{later_ticks}
+use Rattle.kernel_core.specs.EditsWorked.{later_ticks}
 use Rattle.kernel_tests.proofs.Dated.{dated-opens, later-ticks-dated}
 use Rattle.kernel_tests.proofs.kernel_examples.dates.dated_market.Goals as goal
 
