@@ -1,85 +1,19 @@
 //! The exchange on worked examples, each public call once.
 
-ghost use Rattle.std.specs.Prelude.{◌≡◌, ◌≢◌, ◌<◌, ◌≤◌, ◌+◌, ◌^◌, IfOk, length, codes};
-ghost use Rattle.exchange_agent.specs.Market.{IsAskable};
-
-use exchange_agent::{Exchange, Handled, StockRules};
+use crate::exchange_examples::{numbered, opened, sent};
+use exchange_agent::Handled;
 use market_rules::{Band, Change, FeeTable, TickTable};
 use market_types::{
-    AgentNo, Body, Cancel, Enter, FeedList, Inbound, Reply, Side, Symbol, Time, Token, What,
+    AgentNo, Body, Cancel, Enter, FeedList, Inbound, Reply, Side, Symbol, Token, What,
 };
-use std::alloc::Global;
-use std::process::Abort;
 
-const ABM: Symbol = Symbol(*b"ABM     ");
-
-// The exchange of one stock with a tick of a cent, fees of -20 and 30 millionths a share, and three traders.
-fn opened(rt: &impl Abort, alloc: Global) -> Exchange
-    ensures traders { length result.cash ≡ 3 }
-    ensures stocks { length result.stocks ≡ 1 }
-    ensures enters { result.counts.enters ≡ 0 }
-    ensures cancels { result.counts.cancels ≡ 0 }
-{
-    let Ok(ticks) = TickTable::new(alloc, &[Band { from: 0, tick: 100 }]) else {
-        panic!(rt; "no table");
-    };
-    let rules = [StockRules {
-        symbol: ABM,
-        ticks,
-        fees: FeeTable { add: -20, take: 30 },
-    }];
-    let Ok(exchange) = Exchange::open(alloc, &rules, &[0, 0, 0]) else {
-        panic!(rt; "no exchange");
-    };
-    exchange
-}
-
+// An order for the day whose token begins with a letter.
 fn order(letter: u8, side: Side, shares: u32, price: u32) -> Enter {
-    Enter {
-        token: Token([
-            letter, b'0', b'0', b'0', b'1', b'0', b'0', b'0', b'0', b'0', b'0', b'0', b'0', b'1',
-        ]),
-        side,
-        shares,
-        stock: ABM,
-        price,
-        tif: 99_999,
-        firm: *b"ABID",
-        display: b'Y',
-        capacity: b'P',
-        sweep: b'N',
-        minimum: 0,
-        cross: b'N',
-        customer: b'N',
-    }
-}
-
-// What comes of a message that is handled at a time.
-fn sent(
-    rt: &impl Abort,
-    alloc: Global,
-    exchange: &mut Exchange,
-    time: Time,
-    from: AgentNo,
-    inbound: Inbound,
-) -> Handled
-    requires trader { 1 ≤ from }
-    requires exists { from ≤ length exchange.old.cash }
-    requires enters { exchange.old.counts.enters < 2 ^ 62 }
-    requires cancels { exchange.old.counts.cancels < 2 ^ 62 }
-    ensures traders { length exchange.new.cash ≡ length exchange.old.cash }
-    ensures stocks { length exchange.new.stocks ≡ length exchange.old.stocks }
-    ensures enters { exchange.new.counts.enters ≤ exchange.old.counts.enters + 1 }
-    ensures cancels { exchange.new.counts.cancels ≤ exchange.old.counts.cancels + 1 }
-{
-    let mut out = Handled::new(alloc);
-    if exchange
-        .handle(time, from, &Body::Order(inbound), &mut out)
-        .is_err()
-    {
-        panic!(rt; "out of memory");
-    }
-    out
+    let token = Token([
+        letter, b'0', b'0', b'0', b'1', b'0', b'0', b'0', b'0', b'0', b'0', b'0', b'0', b'1',
+    ]);
+    let like = numbered(1, side, shares, price);
+    Enter { token, ..like }
 }
 
 // A reply in short: its receiver, its letter, its shares, its price, its flag or reason, and its number.

@@ -11,10 +11,10 @@ use market_types::{AgentNo, Body, Enter, Inbound, Side, Symbol, Time, Token};
 use std::alloc::Global;
 use std::process::Abort;
 
-const ABM: Symbol = Symbol(*b"ABM     ");
+pub(crate) const ABM: Symbol = Symbol(*b"ABM     ");
 
 // The exchange of one stock with a tick of a cent, fees of -20 and 30 millionths a share, and three traders.
-fn opened(rt: &impl Abort, alloc: Global) -> Exchange
+pub(crate) fn opened(rt: &impl Abort, alloc: Global) -> Exchange
     ensures traders { length result.cash ≡ 3 }
     ensures stocks { length result.stocks ≡ 1 }
     ensures enters { result.counts.enters ≡ 0 }
@@ -42,7 +42,7 @@ fn digit(n: u32, power: u32) -> u8
 }
 
 // The n-th token of trader 1.
-fn token(n: u32) -> Token {
+pub(crate) fn token(n: u32) -> Token {
     Token([
         b'T',
         b'0',
@@ -62,7 +62,7 @@ fn token(n: u32) -> Token {
 }
 
 // An order for the day with that token.
-fn order(n: u32, side: Side, shares: u32, price: u32) -> Enter {
+pub(crate) fn numbered(n: u32, side: Side, shares: u32, price: u32) -> Enter {
     Enter {
         token: token(n),
         side,
@@ -81,7 +81,7 @@ fn order(n: u32, side: Side, shares: u32, price: u32) -> Enter {
 }
 
 // What comes of a message that is handled at a time.
-fn sent(
+pub(crate) fn sent(
     rt: &impl Abort,
     alloc: Global,
     exchange: &mut Exchange,

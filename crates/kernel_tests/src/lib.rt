@@ -20,4 +20,6 @@ mod quoter_agents_tests;
 #[cfg(test)]
 mod taker_agents_tests;
 #[cfg(test)]
+mod tick_tables;
+#[cfg(test)]
 mod trader_party_tests;

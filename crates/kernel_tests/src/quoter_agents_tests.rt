@@ -2,8 +2,9 @@ ghost use Rattle.std.specs.Prelude.{[]};
 ghost use Rattle.agent_shell.specs.Parameters.{IsKind};
 ghost use Rattle.quoter_agents.specs.Quoter.{IsQuoterKind};
 
+use crate::tick_tables::cents;
 use agent_shell::{Kind, Sending, Sends, TraderSetting};
-use market_rules::{Band, TickTable, View};
+use market_rules::{TickTable, View};
 use market_types::{Body, Inbound, Memory, Quote, Side, Symbol};
 use quoter_agents::Quoter;
 use std::alloc::Global;
@@ -11,13 +12,6 @@ use std::process::Abort;
 use std::test::Fail;
 
 const KEY: [u8; 32] = [0; 32];
-
-fn cents(alloc: Global) -> Result<TickTable, Fail> {
-    match TickTable::new(alloc, &[Band { from: 0, tick: 100 }]) {
-        Ok(ticks) => Ok(ticks),
-        Err(_) => Err(Fail::from("no ticks")),
-    }
-}
 
 // Decides on a message at 1000 with a value of 100,000, where the counts and the account are small.
 fn decide(

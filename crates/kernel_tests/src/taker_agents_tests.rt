@@ -1,8 +1,9 @@
 ghost use Rattle.agent_shell.specs.Parameters.{IsKind};
 ghost use Rattle.taker_agents.specs.Taker.{IsTakerKind};
 
+use crate::tick_tables::cents;
 use agent_shell::{Kind, Sending, Sends, TraderSetting};
-use market_rules::{Band, TickTable, View};
+use market_rules::{TickTable, View};
 use market_types::{Body, Inbound, Memory, Quote, Side, Symbol};
 use std::alloc::Global;
 use std::process::Abort;
@@ -12,13 +13,6 @@ use taker_agents::Taker;
 // Under the zero key the words of stream 0 are 0xade0b876, 0x903df1a0, 0xe56a5d40, 0x28bd8653, 0xb819d2bd,
 // 0x1aed8da0, 0xccef36a8, 0xc70d778b, 0x7c5941da: a word is tails where it is 0x80000000 or more.
 const ZERO_KEY: [u8; 32] = [0; 32];
-
-fn cents(alloc: Global) -> Result<TickTable, Fail> {
-    match TickTable::new(alloc, &[Band { from: 0, tick: 100 }]) {
-        Ok(ticks) => Ok(ticks),
-        Err(_) => Err(Fail::from("no ticks")),
-    }
-}
 
 // Decides on a message at 1000 with a value of 100,050, where the counts and the account are small.
 fn decide(

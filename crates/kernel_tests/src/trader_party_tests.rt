@@ -2,9 +2,10 @@
 
 ghost use Rattle.agent_shell.specs.Parameters.{IsKind};
 
+use crate::tick_tables::cents;
 use agent_shell::{Kind, Sends, TraderSetting};
 use market_floor::Party;
-use market_rules::{Band, TickTable, View};
+use market_rules::{TickTable, View};
 use market_types::{Body, Memory, Quote, Symbol};
 use std::alloc::Global;
 use std::process::Abort;
@@ -19,13 +20,6 @@ const QUOTE: Body = Body::Quote(Quote {
     ask_shares: 10,
     last: 0,
 });
-
-fn cents(alloc: Global) -> Result<TickTable, Fail> {
-    match TickTable::new(alloc, &[Band { from: 0, tick: 100 }]) {
-        Ok(ticks) => Ok(ticks),
-        Err(_) => Err(Fail::from("no ticks")),
-    }
-}
 
 // Trader 1 of stock 0, which wakes each 500 nanoseconds and computes for 12.
 fn opened(alloc: Global, kind: Kind) -> Result<Party, Memory>

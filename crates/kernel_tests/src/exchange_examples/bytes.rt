@@ -1,6 +1,6 @@
 //! Orders, replies and feed byte by byte.
 
-use super::{opened, order, sent};
+use super::{numbered, opened, sent};
 use exchange_agent::Handled;
 use itch_codec::encode_feed;
 use market_types::{AgentNo, Body, Enter, Inbound, Side};
@@ -52,7 +52,7 @@ fn an_order_is_answered_byte_by_byte(rt: HostRuntime) {
     assert!(rt; is_answered(&out, 1, &ACCEPTED));
     assert!(rt; is_fed(&out, 0, &ADDED));
     assert_eq!(rt; (out.len(), out.feed.len(), out.fee), (1, 1, 0));
-    let more = order(2, Side::Buy, 1_000_000, 100_000);
+    let more = numbered(2, Side::Buy, 1_000_000, 100_000);
     let out = sent(&rt, alloc, &mut exchange, 2000, 1, Inbound::Enter(more));
     assert!(rt; is_answered(&out, 1, &REJECTED));
     assert_eq!(rt; (out.len(), out.feed.len(), out.fee), (1, 0, 0));
@@ -60,7 +60,7 @@ fn an_order_is_answered_byte_by_byte(rt: HostRuntime) {
 
 #[test]
 fn an_order_is_spelled_byte_by_byte(rt: HostRuntime) {
-    let first: Enter = order(1, Side::Buy, 999_999, 100_000);
+    let first: Enter = numbered(1, Side::Buy, 999_999, 100_000);
     assert_eq!(rt; encode_enter(&first).as_slice(), ENTER.as_slice());
 }
 
@@ -76,10 +76,10 @@ const SWEPT: [&[u8]; 4] = [
 fn a_sweep_is_fed_byte_by_byte(rt: HostRuntime) {
     let alloc = rt.alloc();
     let mut exchange = opened(&rt, alloc);
-    let first = Inbound::Enter(order(1, Side::Sell, 100, 100_100));
-    let second = Inbound::Enter(order(2, Side::Sell, 200, 100_000));
-    let third = Inbound::Enter(order(1, Side::Sell, 300, 100_000));
-    let sweep = Inbound::Enter(order(1, Side::Buy, 700, 100_100));
+    let first = Inbound::Enter(numbered(1, Side::Sell, 100, 100_100));
+    let second = Inbound::Enter(numbered(2, Side::Sell, 200, 100_000));
+    let third = Inbound::Enter(numbered(1, Side::Sell, 300, 100_000));
+    let sweep = Inbound::Enter(numbered(1, Side::Buy, 700, 100_100));
     sent(&rt, alloc, &mut exchange, 3000, 2, first);
     sent(&rt, alloc, &mut exchange, 3000, 2, second);
     sent(&rt, alloc, &mut exchange, 3000, 3, third);

@@ -2,7 +2,7 @@
 
 ghost use Rattle.std.specs.Prelude.{◌≡◌, ◌≤◌, length};
 
-use super::{ABM, opened, order, sent};
+use super::{ABM, numbered, opened, sent};
 use exchange_agent::{Exchange, Handled};
 use market_types::{Body, Cancel, Enter, Inbound, Reply, Side, Symbol};
 use std::alloc::Global;
@@ -48,11 +48,11 @@ fn fill(
 fn no_more_orders_rest_than_16384(rt: HostRuntime) {
     let alloc = rt.alloc();
     let mut exchange = opened(&rt, alloc);
-    let like = order(0, Side::Buy, 1, 100_000);
+    let like = numbered(0, Side::Buy, 1, 100_000);
     fill(&rt, alloc, &mut exchange, 16_384, like, b'A');
     assert_eq!(rt; exchange.stock(0).live, 16_384);
     // one more is rejected, also where it would trade with another, and its token is remembered
-    let more = order(16_384, Side::Sell, 1, 100_000);
+    let more = numbered(16_384, Side::Sell, 1, 100_000);
     let out = sent(&rt, alloc, &mut exchange, 3000, 2, Inbound::Enter(more));
     assert_eq!(rt;
         (answer(&out), out.feed.len(), exchange.stock(0).live),
@@ -67,7 +67,7 @@ fn no_more_orders_rest_than_16384(rt: HostRuntime) {
     };
     sent(&rt, alloc, &mut exchange, 3000, 1, Inbound::Cancel(cancel));
     assert_eq!(rt; exchange.stock(0).live, 16_383);
-    let next = order(16_385, Side::Buy, 1, 100_000);
+    let next = numbered(16_385, Side::Buy, 1, 100_000);
     let out = sent(&rt, alloc, &mut exchange, 3000, 2, Inbound::Enter(next));
     assert_eq!(rt; (answer(&out), exchange.stock(0).live), (b'A', 16_384));
     assert_eq!(rt; exchange.counts().orders, 16_385);
@@ -79,11 +79,11 @@ fn no_more_tokens_are_remembered_than_131072(rt: HostRuntime) {
     let mut exchange = opened(&rt, alloc);
     let like = Enter {
         stock: Symbol(*b"XYZ     "),
-        ..order(0, Side::Buy, 1, 100_000)
+        ..numbered(0, Side::Buy, 1, 100_000)
     };
     fill(&rt, alloc, &mut exchange, 131_072, like, b'S');
     // a new token is rejected and not remembered, so it is rejected again
-    let next = order(131_072, Side::Buy, 1, 100_000);
+    let next = numbered(131_072, Side::Buy, 1, 100_000);
     let out = sent(&rt, alloc, &mut exchange, 3000, 1, Inbound::Enter(next));
     assert_eq!(rt; (answer(&out), out.feed.len()), (b'O', 0));
     let out = sent(&rt, alloc, &mut exchange, 3000, 1, Inbound::Enter(next));
