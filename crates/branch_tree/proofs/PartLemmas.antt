@@ -1,5 +1,5 @@
 -- The segments of a tree of branches.
-use Rattle.std.proofs.Common.{◌≡◌, ℕ, ◌+◌, ◌<◌, ◌≤◌, ◌⊎◌, inl, inr, List, [], ◌∷◌, ◌++◌, Option, Some, None, length, get_or, refl, sym, ap, ◌∙◌, arith, suc, zero, subst, length-append, append_assoc}
+use Rattle.std.proofs.Common.{◌≡◌, ℕ, ◌+◌, ◌-◌, ◌<◌, ◌≤◌, ◌⊎◌, inl, inr, List, [], ◌∷◌, ◌++◌, Option, Some, None, length, get_or, refl, sym, ap, ◌∙◌, arith, suc, zero, subst, length-append, append_assoc}
 use Rattle.std.proofs.lemmas.Bool.{cases_lt, cases_eq, eq-eqb, ne_eqb}
 use Rattle.std.proofs.lemmas.List.{get_or_append_left, get_or-append-add, get_or_push, length_push, get_or_past}
 use Rattle.branch_tree.specs.declared.branch.Branch.{Branch}
@@ -58,23 +58,22 @@ before-at bs limit p (suc b) i l h =
     ]
 
 -- a segment's parent is the same among more segments
-parent-more : (bs : List Branch) (xs ys : List Segment) (s branch start : ℕ) (parent : Option ℕ) → s ≤ length xs → ParentIs bs xs s branch start parent → ParentIs bs (xs ++ ys) s branch start parent
-parent-more bs xs ys s branch start None l h = h
-parent-more bs xs ys s branch start (Some q) l h =
+parent-more : (bs : List Branch) (xs ys : List Segment) (s branch start stop : ℕ) (parent : Option ℕ) → s ≤ length xs → ParentIs bs xs s branch start stop parent → ParentIs bs (xs ++ ys) s branch start stop parent
+parent-more bs xs ys s branch start stop None l h = h
+parent-more bs xs ys s branch start stop (Some q) l h =
     let same = sym (get_or_append_left xs ys no_segment q (omega (arith, h.earlier))) in
     record {
       earlier = h.earlier;
       unfinished = subst (λ (g : Segment). q < last_of bs g.branch) same h.unfinished;
-      joins = subst (λ (g : Segment). IsNext branch start g ⊎ IsFork bs branch start g) same h.joins;
+      joins = subst (λ (g : Segment). IsNext branch start stop g ⊎ IsFork bs branch start g) same h.joins;
     }
 
 planned-more : (bs : List Branch) (limit : ℕ) (xs ys : List Segment) (s : ℕ) (g : Segment) → s ≤ length xs → IsPlanned bs limit xs s g → IsPlanned bs limit (xs ++ ys) s g
 planned-more bs limit xs ys s g l h = record {
   branch = h.branch;
   from = h.from;
-  rises = h.rises;
   within = h.within;
-  parent = parent-more bs xs ys s g.branch g.start g.parent l h.parent;
+  parent = parent-more bs xs ys s g.branch g.start g.stop g.parent l h.parent;
 }
 
 -- one segment more
@@ -93,37 +92,35 @@ rises-within : (low : ℕ) (cs : List ℕ) (high : ℕ) → Rises low cs high �
 rises-within low [] high h = h
 rises-within low (c ∷ cs) high h = omega (arith, h.0, rises-within c cs high h.1)
 
--- a branch's segments join those of the branches before it
-grown-parts : (bs : List Branch) (limit branch : ℕ) (cuts : List ℕ) (number : ℕ) (parent : Option ℕ) (start : ℕ) (xs : List Segment) → number ≡ length xs → number + length cuts ≡ last_of bs branch → branch < length bs → stop_at bs branch ≤ start → Rises start cuts limit → ParentIs bs xs number branch start parent → ArePlanned bs limit xs → ArePlanned bs limit (xs ++ parts limit branch number parent start cuts)
+-- a branch's segments join those of the branches before it, whose first has its parent whatever its stop
+grown-parts : (bs : List Branch) (limit branch : ℕ) (cuts : List ℕ) (number : ℕ) (parent : Option ℕ) (start : ℕ) (xs : List Segment) → number ≡ length xs → number + length cuts ≡ last_of bs branch → branch < length bs → stop_at bs branch ≤ start → Rises start cuts limit → ((stop : ℕ) → start ≤ stop → ParentIs bs xs number branch start stop parent) → ArePlanned bs limit xs → ArePlanned bs limit (xs ++ parts limit branch number parent start cuts)
 grown-parts bs limit branch [] number parent start xs n z b f r p all =
     grown bs limit xs (record { branch = branch; start = start; stop = limit; parent = parent }) all (record {
       branch = b;
       from = f;
-      rises = r;
       within = omega arith;
-      parent = subst (λ (k : ℕ). ParentIs bs xs k branch start parent) n p;
+      parent = subst (λ (k : ℕ). ParentIs bs xs k branch start limit parent) n (p limit r);
     })
 grown-parts bs limit branch (c ∷ cs) number parent start xs n z b f r p all =
     let g : Segment = record { branch = branch; start = start; stop = c; parent = parent } in
     let more = grown bs limit xs g all (record {
       branch = b;
       from = f;
-      rises = r.0;
       within = rises-within c cs limit r.1;
-      parent = subst (λ (k : ℕ). ParentIs bs xs k branch start parent) n p;
+      parent = subst (λ (k : ℕ). ParentIs bs xs k branch start c parent) n (p c r.0);
     }) in
     let at = get_or_push xs g no_segment number (sym n) in
-    let next : HasParent bs (xs ++ g ∷ []) (number + 1) branch c number = record {
+    let next : (stop : ℕ) → c ≤ stop → HasParent bs (xs ++ g ∷ []) (number + 1) branch c stop number = λ stop up. record {
       earlier = omega arith;
       unfinished = subst (λ (x : Segment). number < last_of bs x.branch) (sym at) (omega arith);
-      joins = inl (record { branch = ap (λ (x : Segment). x.branch) at; meets = ap (λ (x : Segment). x.stop) at });
+      joins = inl (record { branch = ap (λ (x : Segment). x.branch) at; meets = ap (λ (x : Segment). x.stop) at; rises = up });
     } in
     let rest = grown-parts bs limit branch cs (number + 1) (Some number) c (xs ++ g ∷ []) (omega (arith, length_push xs g)) (omega arith) b (omega (arith, r.0)) r.1 next more in
     subst (λ (ys : List Segment). ArePlanned bs limit ys) (append_assoc xs (g ∷ []) (parts limit branch (number + 1) (Some number) c cs)) rest
 
--- what a branch's first segment goes on from
-origin-is : (bs : List Branch) (limit b : ℕ) → IsTree bs limit → b < length bs → ParentIs bs (segments_before bs limit b) (count_before bs b) b (stop_at bs b) (origin_of bs b)
-origin-is bs limit b t l = elim (cases_eq b 0) [
+-- what a branch's first segment goes on from, whatever its stop
+origin-is : (bs : List Branch) (limit b stop : ℕ) → IsTree bs limit → b < length bs → ParentIs bs (segments_before bs limit b) (count_before bs b) b (stop_at bs b) stop (origin_of bs b)
+origin-is bs limit b stop t l = elim (cases_eq b 0) [
   | inl e ↦ rw (eq-eqb b 0 e) e
   | inr n ↦ rw (ne_eqb b 0 n) (
       let p = parent_at bs b in
@@ -140,11 +137,40 @@ origin-is bs limit b t l = elim (cases_eq b 0) [
 planned-before : (bs : List Branch) (limit b : ℕ) → IsTree bs limit → b ≤ length bs → ArePlanned bs limit (segments_before bs limit b)
 planned-before bs limit zero t l = record { each = λ s h. absurd (omega arith) }
 planned-before bs limit (suc b) t l =
-    grown-parts bs limit b (cuts_of bs b) (count_before bs b) (origin_of bs b) (stop_at bs b) (segments_before bs limit b) (sym (length-before bs limit b)) refl (omega arith) (omega arith) (cuts-rise bs limit b t (omega arith)) (origin-is bs limit b t (omega arith)) (planned-before bs limit b t (omega arith))
+    grown-parts bs limit b (cuts_of bs b) (count_before bs b) (origin_of bs b) (stop_at bs b) (segments_before bs limit b) (sym (length-before bs limit b)) refl (omega arith) (omega arith) (cuts-rise bs limit b t (omega arith)) (λ stop up. origin-is bs limit b stop t (omega arith)) (planned-before bs limit b t (omega arith))
 
 -- the segments of a tree are planned
 pub planned : (p : Plan) → IsTree p.branches p.limit → ArePlanned p.branches p.limit (segments_in p)
 planned p t = planned-before p.branches p.limit (length p.branches) t (omega arith)
+
+-- The segments of one branch start no later than they stop.
+parts-rise : (limit branch number : ℕ) (parent : Option ℕ) (start : ℕ) (cuts : List ℕ) (i : ℕ) → Rises start cuts limit → i ≤ length cuts
+    → (get_or (parts limit branch number parent start cuts) i no_segment).start ≤ (get_or (parts limit branch number parent start cuts) i no_segment).stop
+parts-rise limit branch number parent start [] zero r l = r
+parts-rise limit branch number parent start [] (suc i) r l = absurd (omega arith)
+parts-rise limit branch number parent start (c ∷ cs) zero r l = r.0
+parts-rise limit branch number parent start (c ∷ cs) (suc i) r l = parts-rise limit branch (number + 1) (Some number) c cs i r.1 (omega arith)
+
+before-rise : (bs : List Branch) (limit b s : ℕ) → IsTree bs limit → b ≤ length bs → s < length (segments_before bs limit b)
+    → (get_or (segments_before bs limit b) s no_segment).start ≤ (get_or (segments_before bs limit b) s no_segment).stop
+before-rise bs limit zero s t l h = absurd (omega arith)
+before-rise bs limit (suc b) s t l h =
+    let xs = segments_before bs limit b in
+    let ys = segments_of bs limit b in
+    elim (cases_lt s (length xs)) [
+      | inl less ↦ subst (λ (g : Segment). g.start ≤ g.stop) (sym (get_or_append_left xs ys no_segment s less)) (before-rise bs limit b s t (omega arith) less)
+      | inr more ↦
+          let i = s - length xs in
+          let size = length-append xs ys in
+          let few = length-parts limit b (count_before bs b) (origin_of bs b) (stop_at bs b) (cuts_of bs b) in
+          subst (λ (n : ℕ). (get_or (xs ++ ys) n no_segment).start ≤ (get_or (xs ++ ys) n no_segment).stop) (omega arith)
+          (subst (λ (g : Segment). g.start ≤ g.stop) (sym (get_or-append-add xs ys i no_segment))
+          (parts-rise limit b (count_before bs b) (origin_of bs b) (stop_at bs b) (cuts_of bs b) i (cuts-rise bs limit b t (omega arith)) (omega arith)))
+    ]
+
+-- Each segment starts no later than it stops, a branch's first as well: all stops are event numbers.
+pub rises-at : (p : Plan) (s : ℕ) → IsTree p.branches p.limit → s < length (segments_in p) → (segment_at p s).start ≤ (segment_at p s).stop
+rises-at p s t l = before-rise p.branches p.limit (length p.branches) s t (omega arith) l
 
 -- the last segment of a branch
 pub last-at : (p : Plan) (b : ℕ) → b < length p.branches → (last_of p.branches b < length (segments_in p)) × IsPart b p.limit (segment_at p (last_of p.branches b))

@@ -12,10 +12,11 @@ pub record IsTree (branches : List Branch) (limit : ℕ) : Type 0 where
   pub stops : (b : ℕ) → 0 < b → b < length branches → stop_at branches (parent_at branches b) ≤ stop_at branches b
   pub limits : (b : ℕ) → b < length branches → stop_at branches b ≤ limit
 
--- A segment goes on in its branch where the one before it stopped.
-pub record IsNext (b at : ℕ) (before : Segment) : Type 0 where
+-- A segment goes on in its branch where the one before it stopped, and stops no earlier.
+pub record IsNext (b at to : ℕ) (before : Segment) : Type 0 where
   pub branch : before.branch ≡ b
   pub meets : before.stop ≡ at
+  pub rises : at ≤ to
 
 -- A branch's first segment starts at the branch's stop, where a segment of the parent branch stops.
 pub record IsFork (branches : List Branch) (b at : ℕ) (before : Segment) : Type 0 where
@@ -25,24 +26,23 @@ pub record IsFork (branches : List Branch) (b at : ℕ) (before : Segment) : Typ
   pub meets : before.stop ≡ stop_at branches b
 
 -- A segment's parent is an earlier segment that isn't its branch's last, from which it goes on in its branch or forks.
-pub record HasParent (branches : List Branch) (segments : List Segment) (s branch start parent : ℕ) : Type 0 where
+pub record HasParent (branches : List Branch) (segments : List Segment) (s branch start stop parent : ℕ) : Type 0 where
   pub earlier : parent < s
   pub unfinished : parent < last_of branches (slice_index_or segments parent no_segment).branch
-  pub joins : IsNext branch start (slice_index_or segments parent no_segment)
+  pub joins : IsNext branch start stop (slice_index_or segments parent no_segment)
       ⊎ IsFork branches branch start (slice_index_or segments parent no_segment)
 
 -- Only the root's first segment has no parent.
-abbrev pub ParentIs : List Branch → List Segment → ℕ → ℕ → ℕ → Option ℕ → Type 0
-ParentIs branches segments s branch start None = branch ≡ 0
-ParentIs branches segments s branch start (Some q) = HasParent branches segments s branch start q
+abbrev pub ParentIs : List Branch → List Segment → ℕ → ℕ → ℕ → ℕ → Option ℕ → Type 0
+ParentIs branches segments s branch start stop None = branch ≡ 0
+ParentIs branches segments s branch start stop (Some q) = HasParent branches segments s branch start stop q
 
 -- A segment of a plan lies within its branch's own run and has its parent.
 pub record IsPlanned (branches : List Branch) (limit : ℕ) (segments : List Segment) (s : ℕ) (g : Segment) : Type 0 where
   pub branch : g.branch < length branches
   pub from : stop_at branches g.branch ≤ g.start
-  pub rises : g.start ≤ g.stop
   pub within : g.stop ≤ limit
-  pub parent : ParentIs branches segments s g.branch g.start g.parent
+  pub parent : ParentIs branches segments s g.branch g.start g.stop g.parent
 
 -- so is each segment of a list
 pub record ArePlanned (branches : List Branch) (limit : ℕ) (segments : List Segment) : Type 0 where
