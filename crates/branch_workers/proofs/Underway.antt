@@ -3,6 +3,7 @@ use Rattle.std.proofs.Common.{◌≡◌, ◌≢◌, ℕ, ◌+◌, ◌-◌, ◌%�
 use mathlib.Core.Logic.{dite}
 use native.Mathlib.Decide.{ℕ_discrete}
 use Rattle.branch_tree.specs.Segments.{segments_in, segment_at}
+use Rattle.branch_tree.proofs.PartLemmas.{rises-at}
 use Rattle.kernel_core.specs.Step.{Fits}
 use Rattle.kernel_core.specs.State.{State}
 use Rattle.kernel_core.specs.Until.{Run, until}
@@ -124,7 +125,7 @@ module _ (c : CourseTold) (s : ℕ) (h : IsCourse c) (l : s < length (segments_i
   stop_within = let p = (planned-at c.plan s (course-tree c h) l).within in let limit = h.limit in omega arith
 
   pub rises : (segment_at c.plan s).start ≤ (segment_at c.plan s).stop
-  rises = (planned-at c.plan s (course-tree c h) l).rises
+  rises = rises-at c.plan s (course-tree c h) l
 
   -- its event numbers are keys of the course
   pub number_is_key : (e : ℕ) → (segment_at c.plan s).start ≤ e → e ≤ (segment_at c.plan s).stop → IsKeyOf c (key_at s e)

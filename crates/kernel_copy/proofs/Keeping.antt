@@ -5,6 +5,7 @@ use Rattle.std.proofs.lemmas.List.{get_or_append_left, get_or_push, length_push,
 use Rattle.branch_tree.specs.declared.segment.Segment.{Segment}
 use Rattle.branch_tree.specs.Plan.{Plan}
 use Rattle.branch_tree.specs.Segments.{counted, numbers_of, cuts_of, count_before, last_of, segments_in, segment_at}
+use Rattle.branch_tree.proofs.PartLemmas.{rises-at}
 use Rattle.kernel_core.specs.Until.{Run}
 use Rattle.kernel_copy.specs.Segmentwise.{segment_end, after}
 use Rattle.kernel_copy.specs.Courses.{CourseTold, CheckpointTold, IsCourse, IsKeyOf, GoesOnFrom, end_of_segment, kept_of, kept_before}
@@ -48,7 +49,7 @@ kept-end c n q l u = kept-at c n q l ∙ rw (lt-ltb q (last_of c.plan.branches (
 
 -- a segment's end is the course's state at its stop
 pub end-key : (c : CourseTold) (s : ℕ) → IsCourse c → s < length (segments_in c.plan) → IsKeyOf c (record { segment = s; event = (segment_at c.plan s).stop })
-end-key c s h l = record { segment = l; from = (planned-at c.plan s (course-tree c h) l).rises; to = omega arith }
+end-key c s h l = record { segment = l; from = rises-at c.plan s (course-tree c h) l; to = omega arith }
 
 pub end-state : (c : CourseTold) (s : ℕ) → IsCourse c → s < length (segments_in c.plan) → (segment_end c.opening c.plan (segment_at c.plan s)).state ≡ after c.opening c.plan (segment_at c.plan s) (segment_at c.plan s).stop
 end-state c s h l = ap (λ (r : Run). r.state) (segment-ends c.opening c.plan s (course-tree c h) l)

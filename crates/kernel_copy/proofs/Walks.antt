@@ -7,7 +7,7 @@ use Rattle.branch_tree.specs.Plan.{Plan, branch_at, parent_at, stop_at}
 use Rattle.branch_tree.specs.Segments.{segments_in, segment_at, last_of}
 use Rattle.branch_tree.specs.Planned.{IsTree, IsNext, IsFork, HasParent, ParentIs, IsPlanned}
 use Rattle.branch_tree.proofs.PathLemmas.{rest-more}
-use Rattle.branch_tree.proofs.PartLemmas.{last-at, planned}
+use Rattle.branch_tree.proofs.PartLemmas.{last-at, planned, rises-at}
 use Rattle.market_types.specs.Told.{EntryTold}
 use Rattle.market_floor.specs.declared.opening.Opening.{Opening}
 use Rattle.kernel_core.specs.Until.{Run, behind, until}
@@ -94,8 +94,8 @@ end-is o p h b stop eb es = ap (λ (c : ℕ). reach o p c h.stop) eb ∙ ap (λ 
 goes-first : (o : Opening) (p : Plan) (b : ℕ) → b ≡ 0 → (e : ℕ) → until o e (behind (opening_run o).entries (opening_run o)) ≡ until o e (begun o p b)
 goes-first o p b z e = ap (λ (r : Run). until o e r) (sym (begun-root o p) ∙ ap (λ (c : ℕ). begun o p c) (sym z))
 
-goes-next : (o : Opening) (p : Plan) (b start q : ℕ) → IsNext b start (segment_at p q) → behind (segment_end o p (segment_at p q)).entries (started_from o p b (Some q)) ≡ reach o p b start
-goes-next o p b start q n =
+goes-next : (o : Opening) (p : Plan) (b start stop q : ℕ) → IsNext b start stop (segment_at p q) → behind (segment_end o p (segment_at p q)).entries (started_from o p b (Some q)) ≡ reach o p b start
+goes-next o p b start stop q n =
     let h = segment_at p q in
     ap (λ (r : Run). behind (segment_end o p h).entries r) (next-run o p b q n.branch)
     ∙ behind-afresh (segment_end o p h) ∙ end-is o p h b start n.branch n.meets
@@ -122,16 +122,16 @@ pub record GoesOn (o : Opening) (p : Plan) (b start stop : ℕ) (parent : Option
 events_same : (r q : Run) → r ≡ q → r.state.events ≡ q.state.events
 events_same r q e = ap (λ (x : Run). x.state.events) e
 
-goes-by-next : (o : Opening) (p : Plan) (b start stop q : ℕ) → IsTree p.branches p.limit → b < length p.branches → stop_at p.branches b ≤ start → start ≤ stop → IsNext b start (segment_at p q) → GoesOn o p b start stop (Some q)
-goes-by-next o p b start stop q t l f r n =
+goes-by-next : (o : Opening) (p : Plan) (b start stop q : ℕ) → IsTree p.branches p.limit → b < length p.branches → stop_at p.branches b ≤ start → IsNext b start stop (segment_at p q) → GoesOn o p b start stop (Some q)
+goes-by-next o p b start stop q t l f n =
     let h = segment_at p q in
-    let left = goes-next o p b start q n in
+    let left = goes-next o p b start stop q n in
     let same = events_same (segment_end o p h) (reach o p b start) (end-is o p h b start n.branch n.meets) in
     let in_stop = begun-within b o p b t l (omega arith) in
     let to = until-within o start (begun o p b) (omega arith) in
     let grows = until-grows o start (begun o p b) in
     record {
-      reaches = ap (λ (x : Run). until o stop x) left ∙ until-until o start stop (begun o p b) r;
+      reaches = ap (λ (x : Run). until o stop x) left ∙ until-until o start stop (begun o p b) n.rises;
       again = λ e k. ap (λ (x : Run). until o e x) left ∙ until-again o start e (begun o p b) (omega arith);
       begins = omega arith;
       starts = omega arith;
@@ -155,8 +155,8 @@ goes-by-fork o p b start stop q t l f n =
       counts = count;
     }
 
-goes-on : (o : Opening) (p : Plan) (s b start stop : ℕ) (parent : Option ℕ) → IsTree p.branches p.limit → b < length p.branches → stop_at p.branches b ≤ start → start ≤ stop → ParentIs p.branches (segments_in p) s b start parent → GoesOn o p b start stop parent
-goes-on o p s b start stop None t l f r z =
+goes-on : (o : Opening) (p : Plan) (s b start stop : ℕ) (parent : Option ℕ) → IsTree p.branches p.limit → b < length p.branches → stop_at p.branches b ≤ start → ParentIs p.branches (segments_in p) s b start stop parent → GoesOn o p b start stop parent
+goes-on o p s b start stop None t l f z =
     let same = events_same (begun o p b) (opening_run o) (ap (λ (c : ℕ). begun o p c) z ∙ begun-root o p) in
     record {
       reaches = goes-first o p b z stop;
@@ -165,8 +165,8 @@ goes-on o p s b start stop None t l f r z =
       starts = omega arith;
       counts = refl;
     }
-goes-on o p s b start stop (Some q) t l f r h = elim h.joins [
-  | inl n ↦ goes-by-next o p b start stop q t l f r n
+goes-on o p s b start stop (Some q) t l f h = elim h.joins [
+  | inl n ↦ goes-by-next o p b start stop q t l f n
   | inr n ↦ goes-by-fork o p b start stop q t l f n
 ]
 
@@ -179,7 +179,7 @@ pub segment-goes : (o : Opening) (p : Plan) (s : ℕ) → IsTree p.branches p.li
 segment-goes o p s t l =
     let g = segment_at p s in
     let h = planned-at p s t l in
-    goes-on o p s g.branch g.start g.stop g.parent t h.branch h.from h.rises h.parent
+    goes-on o p s g.branch g.start g.stop g.parent t h.branch h.from h.parent
 
 started-is : (o : Opening) (p : Plan) (g : Segment) → started_at o p g ≡ started_from o p g.branch g.parent
 unfolding started_at
@@ -216,9 +216,8 @@ segment-starts o p s t l = (segment-goes o p s t l).starts
 pub segment-ends : (o : Opening) (p : Plan) (s : ℕ) → IsTree p.branches p.limit → s < length (segments_in p) → segment_end o p (segment_at p s) ≡ full o p (segment_at p s).branch (segment_at p s).stop
 segment-ends o p s t l =
     let g = segment_at p s in
-    let h = planned-at p s t l in
     let k = segment-goes o p s t l in
-    end-is o p g g.branch g.stop refl refl ∙ sym (full-begun o p g.branch g.stop (omega (arith, h.rises, k.begins, k.starts)))
+    end-is o p g g.branch g.stop refl refl ∙ sym (full-begun o p g.branch g.stop (omega (arith, rises-at p s t l, k.begins, k.starts)))
 
 -- its events are those before it and its own
 pub segment-grows : (o : Opening) (p : Plan) (s : ℕ) → IsTree p.branches p.limit → s < length (segments_in p) → from_count o p (segment_at p s) ≤ (segment_end o p (segment_at p s)).state.events
@@ -235,13 +234,13 @@ pub segment-first : (o : Opening) (p : Plan) (s : ℕ) → IsTree p.branches p.l
 segment-first o p s t l none =
     let g = segment_at p s in
     let h = planned-at p s t l in
-    let z : g.branch ≡ 0 = subst (λ (x : Option ℕ). ParentIs p.branches (segments_in p) s g.branch g.start x) none h.parent in
+    let z : g.branch ≡ 0 = subst (λ (x : Option ℕ). ParentIs p.branches (segments_in p) s g.branch g.start g.stop x) none h.parent in
     end-is o p g 0 g.stop z refl ∙ ap (λ (r : Run). until o g.stop r) (begun-root o p)
 
-pub has_parent : (p : Plan) (s q : ℕ) → IsTree p.branches p.limit → s < length (segments_in p) → (segment_at p s).parent ≡ Some q → HasParent p.branches (segments_in p) s (segment_at p s).branch (segment_at p s).start q
+pub has_parent : (p : Plan) (s q : ℕ) → IsTree p.branches p.limit → s < length (segments_in p) → (segment_at p s).parent ≡ Some q → HasParent p.branches (segments_in p) s (segment_at p s).branch (segment_at p s).start (segment_at p s).stop q
 has_parent p s q t l is =
     let g = segment_at p s in
-    subst (λ (x : Option ℕ). ParentIs p.branches (segments_in p) s g.branch g.start x) is (planned-at p s t l).parent
+    subst (λ (x : Option ℕ). ParentIs p.branches (segments_in p) s g.branch g.start g.stop x) is (planned-at p s t l).parent
 
 pub segment-next : (o : Opening) (p : Plan) (s q : ℕ) → IsTree p.branches p.limit → s < length (segments_in p) → (segment_at p s).parent ≡ Some q → (segment_at p q).branch ≡ (segment_at p s).branch
     → segment_end o p (segment_at p s) ≡ until o (segment_at p s).stop (segment_end o p (segment_at p q))
@@ -252,7 +251,7 @@ segment-next o p s q t l is same =
     let k = has_parent p s q t l is in
     elim k.joins [
       | inl n ↦ end-is o p g g.branch g.stop refl refl
-          ∙ sym (until-until o g.start g.stop (begun o p g.branch) h.rises)
+          ∙ sym (until-until o g.start g.stop (begun o p g.branch) n.rises)
           ∙ ap (λ (r : Run). until o g.stop r) (sym (end-is o p x g.branch g.start n.branch n.meets))
       | inr n ↦ let less = t.parents g.branch n.later h.branch in absurd (omega (arith, n.parent))
     ]
@@ -306,7 +305,8 @@ segment-within o p s t l =
     let h = planned-at p s t l in
     let low = begun-within g.branch o p g.branch t h.branch (omega arith) in
     let same = events_same (segment_end o p g) (reach o p g.branch g.stop) (end-is o p g g.branch g.stop refl refl) in
-    omega (arith, h.from, h.rises, h.within, until-within o g.stop (begun o p g.branch) (omega (arith, h.from, h.rises)))
+    let up = rises-at p s t l in
+    omega (arith, h.from, up, h.within, until-within o g.stop (begun o p g.branch) (omega (arith, h.from, up)))
 
 -- a run past the branches that it passes by an event number
 full-through : (o : Opening) (bs : List Branch) (e : ℕ) (xs ys : List ℕ) (r : Run) → (forked o bs xs r).state.events ≤ e → full_along o bs e (xs ++ ys) r ≡ full_along o bs e ys (forked o bs xs r)

@@ -14,7 +14,7 @@ use Rattle.branch_tree.specs.declared.branch.Branch.{Branch}
 use Rattle.branch_tree.specs.declared.segment.Segment.{Segment}
 use Rattle.branch_tree.specs.Plan.{stop_at}
 use Rattle.branch_tree.specs.Segments.{cuts_of, count_before, last_of, no_segment, origin_of, fork_of, parts, segments_before, segments_in, segments_of, segment_at}
-use Rattle.branch_tree.proofs.PartLemmas.{last-at}
+use Rattle.branch_tree.proofs.PartLemmas.{last-at, rises-at}
 use Rattle.kernel_core.specs.State.{State}
 use Rattle.kernel_core.specs.Step.{end_of}
 use Rattle.kernel_core.specs.Until.{Run}
@@ -74,7 +74,7 @@ end-at : (c : CourseTold) (s : ℕ) → IsCourse c → s < length (segments_in c
 end-at c s h l =
     let g = segment_at c.plan s in
     let t = course-tree c h in
-    at-full c s g.stop (segment_end c.opening c.plan g).state h l (omega (arith, segment-starts c.opening c.plan s t l, (planned-at c.plan s t l).rises)) (omega arith)
+    at-full c s g.stop (segment_end c.opening c.plan g).state h l (omega (arith, segment-starts c.opening c.plan s t l, rises-at c.plan s t l)) (omega arith)
     (ap (λ (r : Run). r.state) (segment-ends c.opening c.plan s t l))
 
 -- the state of a fork has the events of its segment's end
@@ -152,7 +152,7 @@ fork-least c plan b e stride s q h laid l is on early =
     let count = end-count c q h lq in
     let least = sure-least c plan b e k (in-front k plan.forks plan.grid here)
     (or_left (is_in k plan.forks) (is_sole plan k && nat_le k.event (end_events c k.segment)) here) on
-    (record { segment = lq; from = (planned-at c.plan q t lq).rises; to = omega arith }) (omega arith) in
+    (record { segment = lq; from = rises-at c.plan q t lq; to = omega arith }) (omega arith) in
     omega (arith, count, least)
 
 -- so is that at a grid key that its segment passes

@@ -1,6 +1,7 @@
-use Rattle.std.proofs.Common.{List, length, get_or, ap, arith}
+use Rattle.std.proofs.Common.{◌<◌, List, length, get_or, ap, arith}
 use Rattle.branch_tree.specs.declared.segment.Segment.{Segment}
-use Rattle.branch_tree.specs.Segments.{no_segment}
+use Rattle.branch_tree.specs.Segments.{segments_in, no_segment}
+use Rattle.branch_tree.proofs.PartLemmas.{rises-at}
 use Rattle.kernel_copy.proofs.Walks.{planned-at}
 use Rattle.branch_workers.proofs.layout.grid.Goals as goal
 
@@ -11,5 +12,5 @@ add_grid-requires-clause-stop c =
     let items = c.segments-segment-items.ensures.value in
     let long = ap (λ (xs : List Segment). length xs) items in
     let start = ap (λ (xs : List Segment). (get_or xs i no_segment).start) items in
-    let at = planned-at p i c.requires.tree (omega (arith, c.loop-number-test.true)) in
-    let rises = at.rises in let within = at.within in let limit = c.requires.limit in omega arith
+    let here : i < length (segments_in p) = omega (arith, c.loop-number-test.true) in
+    let rises = rises-at p i c.requires.tree here in let within = (planned-at p i c.requires.tree here).within in let limit = c.requires.limit in omega arith
