@@ -18,6 +18,8 @@ pub struct Resting {
     pub left: u32,
     /// Time in force, as the order gave it.
     pub tif: u32,
+    /// It is displayed.
+    pub shown: bool,
 }
 
 /// A resting order and the shares that an incoming order took of it.
