@@ -24,8 +24,9 @@ const LEFT_BEHIND: usize = 32;
 /// The resting orders of one stock.
 ///
 /// The orders stand in one vector in order of arrival, those that have left at 0 open shares. Over it
-/// stand the levels of price of both sides, of shown and of hidden orders apart, and an index by reference and one by agent and token. Where
-/// room is made for more orders and most in the vector have left, all of it is made anew.
+/// stand the levels of price of both sides, those of shown and of hidden orders apart, and an index by
+/// reference and one by agent and token. Where room is made for more orders and most in the vector have
+/// left, all of it is made anew.
 #[derive(Drop)]
 pub struct Book {
     orders: Vec<Resting>,
@@ -155,9 +156,9 @@ impl Book {
     }
 
     /// Matches an incoming order of `side`, which wants `shares` more and trades at no worse price than
-    /// `limit`, with the next order of the other side: the one with the best price, at one price a shown
-    /// one before those that are not, and of those the earliest. It gives the lesser of its open shares and those wanted, and leaves where none stay open.
-    /// `None` where nothing crosses, and the book is then as it was.
+    /// `limit`, with the next order of the other side: of those with the best price the earliest shown one,
+    /// and where none of them is shown the earliest. It gives the lesser of its open shares and those
+    /// wanted, and leaves where none stay open. `None` where nothing crosses, and the book is then as it was.
     pub fn match_next(&mut self, side: Side, limit: u32, shares: u32) -> Option<Fill>
         requires { 0 < shares }
         ensures next { result ≡ option_map (fill_of shares) (next_of self.old.list side limit) }
@@ -293,7 +294,7 @@ impl Book {
         }
     }
 
-    /// How many orders rest on a side.
+    /// How many orders rest on a side, shown or hidden.
     pub fn depth(&self, side: Side) -> usize
         ensures { result ≡ depth_of side self.now.list }
     {
@@ -303,7 +304,8 @@ impl Book {
         }
     }
 
-    /// How many orders cross an incoming order of `side` with this limit: no match has more fills.
+    /// How many orders, shown or hidden, cross an incoming order of `side` with this limit: no match has more
+    /// fills.
     pub fn crossing(&self, side: Side, limit: u32) -> usize
         ensures { result ≡ crossing_of side limit self.now.list }
     {

@@ -88,32 +88,33 @@ fn earlier(
     ensures shown { IfSome result (λ f. f.shown ≡ true → shown ≡ Some (f.level, f.place)) }
     ensures hidden { IfSome result (λ f. f.shown ≡ false → hidden ≡ Some (f.level, f.place)) }
 {
-    let Some((level, place)) = hidden else {
-        return match shown {
-            None => None,
-            Some((level, place)) => Some(First {
+    match (shown, hidden) {
+        (None, None) => None,
+        (Some((level, place)), None) => Some(First {
+            shown: true,
+            level,
+            place,
+        }),
+        (None, Some((level, place))) => Some(First {
+            shown: false,
+            level,
+            place,
+        }),
+        (Some((level, place)), Some((hidden_level, hidden_place))) => {
+            if is_better(side, orders[hidden_place].price, orders[place].price) {
+                return Some(First {
+                    shown: false,
+                    level: hidden_level,
+                    place: hidden_place,
+                });
+            }
+            Some(First {
                 shown: true,
                 level,
                 place,
-            }),
-        };
-    };
-    let behind = First {
-        shown: false,
-        level,
-        place,
-    };
-    let Some((level, place)) = shown else {
-        return Some(behind);
-    };
-    if is_better(side, orders[behind.place].price, orders[place].price) {
-        return Some(behind);
+            })
+        }
     }
-    Some(First {
-        shown: true,
-        level,
-        place,
-    })
 }
 
 // The first order of a side, shown or hidden.
