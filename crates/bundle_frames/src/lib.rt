@@ -6,6 +6,7 @@ mod ends;
 mod frames;
 mod items;
 mod layouts;
+mod orders;
 mod whole;
 mod worked;
 mod written;

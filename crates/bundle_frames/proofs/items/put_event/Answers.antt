@@ -1,4 +1,4 @@
-use Rattle.std.proofs.Common.{ap, ◌∙◌}
+use Rattle.std.proofs.Common.{refl, ap, ◌∙◌}
 use Rattle.market_types.specs.declared.message.Body.TheVariants as body
 use Rattle.market_types.specs.Told.{event_told}
 use Rattle.bundle_frames.proofs.Told.{instead, carried, in_two}
@@ -10,15 +10,15 @@ returns-in-Wake-clause-appended c =
 
 pub returns-in-Order-Enter-clause-appended : goal.returns-in-Order-Enter-clause-appended
 returns-in-Order-Enter-clause-appended c =
-    instead _ _ _ _ _ (in_two (event_told c.args.event.now) _ _ _ (c.in-Order-Enter.is ∙ ap (λ i. body.Order i) (rw c.in-Order-Enter.is at c.in-Order-Enter.field-0-is)) c.event_head.ensures c.encode_enter.ensures.spelling) c.put_arrays.ensures.appended
+    instead _ _ _ _ _ (in_two (event_told c.args.event.now) _ _ _ (c.in-Order-Enter.is ∙ ap (λ i. body.Order i) (rw c.in-Order-Enter.is at c.in-Order-Enter.field-0-is)) c.event_head.ensures c.enter.ensures) c.put_arrays.ensures.appended
 
 pub returns-in-Order-Cancel-clause-appended : goal.returns-in-Order-Cancel-clause-appended
 returns-in-Order-Cancel-clause-appended c =
-    instead _ _ _ _ _ (in_two (event_told c.args.event.now) _ _ _ (c.in-Order-Cancel.is ∙ ap (λ i. body.Order i) (rw c.in-Order-Cancel.is at c.in-Order-Cancel.field-0-is)) c.event_head-in-Order-Cancel.ensures c.encode_cancel.ensures.spelling) c.put_arrays-in-Order-Cancel.ensures.appended
+    instead _ _ _ _ _ (in_two (event_told c.args.event.now) _ _ _ (c.in-Order-Cancel.is ∙ ap (λ i. body.Order i) (rw c.in-Order-Cancel.is at c.in-Order-Cancel.field-0-is)) c.event_head-in-Order-Cancel.ensures c.cancel.ensures) c.put_arrays-in-Order-Cancel.ensures.appended
 
 pub returns-in-Answer-clause-appended : goal.returns-in-Answer-clause-appended
 returns-in-Answer-clause-appended c =
-    instead _ _ _ _ _ (in_two (event_told c.args.event.now) _ _ _ c.in-Answer.is c.event_head-in-Answer.ensures (c.as_slice.ensures.bytes ∙ c.encode_reply.ensures.spelling)) c.frame_of_two.ensures.appended
+    instead _ _ _ _ _ (in_two (event_told c.args.event.now) _ _ _ c.in-Answer.is c.event_head-in-Answer.ensures refl) c.put_answer.ensures.appended
 
 pub returns-in-Ask-clause-appended : goal.returns-in-Ask-clause-appended
 returns-in-Ask-clause-appended c =
