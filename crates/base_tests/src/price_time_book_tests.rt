@@ -71,6 +71,7 @@ fn sell(reference: u64, agent: AgentNo, token: Token, price: u32, left: u32) -> 
         intended: left,
         left,
         tif: 99_999,
+        shown: true,
     }
 }
 
@@ -111,6 +112,37 @@ fn sweeps_three_sells(rt: HostRuntime) {
     assert_eq!(rt; book.depth(Side::Sell), 0);
 }
 
+#[test]
+fn meets_shown_orders_first(rt: HostRuntime) {
+    let mut book = Book::new(rt.alloc());
+    assert!(rt; book.reserve(2).is_ok());
+    let veiled = Resting {
+        shown: false,
+        ..sell(1, 2, FIRST, 100_000, 100)
+    };
+    assert!(rt; add(&mut book, veiled, 1));
+    assert!(rt; book.best(Side::Sell).is_none());
+    assert!(rt; add(&mut book, sell(2, 3, FIRST, 100_000, 100), 2));
+    assert_eq!(rt;
+        book.best(Side::Sell),
+        Some(Best {
+            price: 100_000,
+            shares: 100
+        })
+    );
+    assert_eq!(rt;
+        said(take(&mut book, Side::Buy, 100_000, 150, 3)),
+        Some((2, 100_000, 100))
+    );
+    assert_eq!(rt; book.crossing(Side::Buy, 100_000), 1);
+    assert_eq!(rt;
+        said(take(&mut book, Side::Buy, 100_000, 50, 3)),
+        Some((1, 100_000, 50))
+    );
+    assert_eq!(rt; book.best(Side::Sell), None);
+    assert_eq!(rt; book.depth(Side::Sell), 1);
+}
+
 // The next state of a small generator (a linear congruence over 64 bits).
 fn stirred(seed: u64) -> u64 {
     seed.wrapping_mul(6_364_136_223_846_793_005)
@@ -149,6 +181,11 @@ fn shares_of(roll: u64) -> u32
     1 + (roll / 4096 % 40) as u32
 }
 
+// Two of three orders are shown.
+fn is_shown(roll: u64) -> bool {
+    roll / 262_144 % 3 != 0
+}
+
 // An order for the comparison with a plain list.
 fn made(next: u64, roll: u64) -> Resting
     ensures reference { result.reference ≡ next }
@@ -164,19 +201,22 @@ fn made(next: u64, roll: u64) -> Resting
         intended: 40,
         left: shares_of(roll),
         tif: 99_999,
+        shown: is_shown(roll),
     }
 }
 
-// Where a price stands among those of its side: less is better.
-fn rank(order: &Resting) -> u32 {
-    match order.side {
+// Where an order stands among those of its side: less is better.
+fn rank(order: &Resting) -> u64 {
+    let price = match order.side {
         Side::Buy => u32::MAX - order.price,
         Side::Sell => order.price,
-    }
+    };
+    let behind = if order.shown { 0 } else { 1 };
+    u64::from(price).saturating_mul(2).saturating_add(behind)
 }
 
 // The least of the pairs (rank, reference) of one side.
-fn first(plain: &[Resting], side: Side) -> Option<(u32, u64)> {
+fn first(plain: &[Resting], side: Side) -> Option<(u64, u64)> {
     plain
         .iter()
         .filter(|o| o.side == side)
@@ -184,8 +224,17 @@ fn first(plain: &[Resting], side: Side) -> Option<(u32, u64)> {
         .min()
 }
 
+// The least rank of the shown orders of one side.
+fn best_rank(plain: &[Resting], side: Side) -> Option<u64> {
+    plain
+        .iter()
+        .filter(|o| o.side == side && o.shown)
+        .map(rank)
+        .min()
+}
+
 // The open shares of one side at a rank.
-fn sum(plain: &[Resting], side: Side, wanted: u32) -> u64 {
+fn sum(plain: &[Resting], side: Side, wanted: u64) -> u64 {
     let mut shares = 0u64;
     for order in plain {
         if order.side == side && rank(order) == wanted {
@@ -234,8 +283,7 @@ fn give(plain: &mut Vec<Resting>, side: Side, limit: u32, wanted: u32) -> Option
 
 // Compares what a side tells.
 fn assert_same_side(rt: &impl Abort, book: &Book, plain: &[Resting], side: Side) {
-    let best = first(plain, side).map(|p| p.0);
-    let shares = best.map(|rank| sum(plain, side, rank));
+    let shares = best_rank(plain, side).map(|rank| sum(plain, side, rank));
     assert_eq!(rt; book.best(side).map(|b| b.shares), shares);
     assert_eq!(rt;
         book.depth(side),

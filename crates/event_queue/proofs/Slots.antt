@@ -1,4 +1,4 @@
--- Lemmas on the heap's keys and the slots of their messages.
+-- Lemmas on the heaps' keys and the slots of their messages.
 use Rattle.std.proofs.Common.{◌≡◌, ◌≢◌, ℕ, ◌+◌, ◌<◌, ◌≤◌, false, cond, ltb, eqb, List, [], ◌∷◌, ◌++◌, Option, Some, IfSome, length, get_or, refl, sym, ap, ◌∙◌, arith, subst, sum_by, All}
 use Rattle.std.specs.List.{AllByRecursion}
 use Rattle.std.specs.List.Sorted.{IsPermutation}
@@ -8,10 +8,10 @@ use Rattle.std.specs.Ordering.{is_lt}
 use Rattle.std.specs.BinaryHeap.{IsUpperBound}
 use Rattle.std.proofs.lemmas.List.Elements.{All-from_recursion, recursion_from_All}
 use Rattle.std.proofs.lemmas.List.Recursion.{is_sum_by}
-use Rattle.std.proofs.lemmas.List.Sorted.{All-permutation, IsPermutation-refl, IsPermutation-map, sum_by-IsPermutation}
+use Rattle.std.proofs.lemmas.List.Sorted.{All-permutation, IsPermutation-map, sum_by-IsPermutation}
 use Rattle.market_types.specs.declared.message.Message.{Message}
 use Rattle.event_queue.specs.declared.due.Due.{Due}
-use Rattle.event_queue.specs.Dues.{by_due, vacant, message_at, held, times_held, times_free, IsTold, IsSharedOut}
+use Rattle.event_queue.specs.Dues.{by_due, vacant, message_at, held, times_held, times_free, IsFirst, IsTold, IsSharedOut}
 use Rattle.event_queue.specs.Numbered.{by_number, IsApart}
 use Rattle.event_queue.specs.Waiting.{before, least, IsNew, joined, without}
 use Rattle.event_queue.proofs.Numbers.{IsPushed, IsPopped, pushed, popped, length-by_number, by_number-permutation, apart-permutation}
@@ -117,12 +117,6 @@ leave slots free v w d shared told apart p top =
       messages = popped (held slots v) (held slots w) (message_at slots d) (held-permutation slots v (d ∷ w) p) (bound_messages slots d w tolds.0 tolds.1 top) apart;
     }
 
--- the first key leaves
-pub first_left : (slots : List Message) (free : List ℕ) (v w : List Due) (d : Due) → IsSharedOut slots free v → AllByRecursion (IsTold slots) v → IsApart (held slots v)
-    → v ≡ d ∷ w → IsUpperBound by_due d w → IsLeft slots free v w d
-first_left slots free v w d shared told apart top bound =
-    leave slots free v w d shared told apart (subst (λ (x : List Due). IsPermutation v x) top (IsPermutation-refl v)) bound
-
 -- what the first key under another time and number leaves, once its message has them too
 pub record IsReplaced (old slots : List Message) (free : List ℕ) (v u : List Due) (d : Due) (m : Message) : Type 0 where
   pub told : AllByRecursion (IsTold slots) u
@@ -156,13 +150,12 @@ replace old slots free v w u d m q fresh written others long p =
     free_taken : (n k a b l r : ℕ) → b ≡ a + cond (eqb k n) 1 0 → r ≡ l → cond (eqb k n) 1 0 + a + cond (ltb n l) 1 0 ≡ b + cond (ltb n r) 1 0
     free_taken n k a b l r h e = rw e (omega (arith, h))
 
--- the top of a heap
-pub peeked : (slots : List Message) (free : List ℕ) (v : List Due) (d : Due) → IsSharedOut slots free v → AllByRecursion (IsTold slots) v → IsApart (held slots v)
-    → 0 < length v → d ≡ get_or v 0 d → IsUpperBound by_due d v → (d.slot < length slots) × (least (by_number (held slots v)) ≡ Some (message_at slots d))
-peeked slots free [] d shared told apart h e top = absurd (omega arith)
-peeked slots free (x ∷ w) d shared told apart h e top =
-    let q = leave slots free (x ∷ w) w x shared told apart (IsPermutation-refl (x ∷ w)) (subst (λ (y : Due). IsUpperBound by_due y w) e top.1) in
-    (subst (λ (y : Due). y.slot < length slots) (sym e) q.within, q.messages.first ∙ ap (λ (y : Due). Some (message_at slots y)) (sym e))
+-- the key that is due first stays
+pub peeked : (slots : List Message) (free : List ℕ) (v : List Due) (d : Due) → IsSharedOut slots free v → AllByRecursion (IsTold slots) v → IsApart (held slots v) → IsFirst v d
+    → (d.slot < length slots) × (least (by_number (held slots v)) ≡ Some (message_at slots d))
+peeked slots free v d shared told apart f =
+    let q = leave slots free v f.rest d shared told apart f.split f.first in
+    (q.within, q.messages.first)
 
 pub length_seen : (slots : List Message) (v : List Due) → length (by_number (held slots v)) ≡ length v
 length_seen slots v = length-by_number (held slots v) ∙ length-map v (λ (d : Due). message_at slots d)
@@ -185,7 +178,7 @@ free-within slots free ds h = All-from_recursion (λ (n : ℕ). n < length slots
 pub held-within : (slots : List Message) (free : List ℕ) (ds : List Due) → IsSharedOut slots free ds → All (λ (d : Due). d.slot < length slots) ds
 held-within slots free ds h = All-from_recursion (λ (d : Due). d.slot < length slots) ds (dues_within (length slots) ds (λ n. omega (arith, h n)))
 
--- a heap made of the same keys is seen as the same list
+-- heaps made of the same keys are seen as the same list
 pub record IsCopied (slots : List Message) (free : List ℕ) (v w : List Due) : Type 0 where
   pub told : AllByRecursion (IsTold slots) w
   pub shared_out : IsSharedOut slots free w

@@ -1,14 +1,34 @@
--- The heap's keys, and the slots in which their messages stay.
+-- The heaps' keys, and the slots in which their messages stay.
 use Rattle.std.specs.Prelude.{◌≡◌, ◌+◌, ◌==◌, ℕ, nat_lt, if◌then◌else◌, List, [], ◌∷◌, length, map, slice_index_or}
+use Rattle.std.specs.BinaryHeap.{IsUpperBound}
+use Rattle.std.specs.List.Sorted.{IsPermutation}
 use Rattle.std.specs.Ordering.{nat_cmp, on, flip_args, then_cmp}
 use Rattle.std.specs.declared.cmp.Ordering.{Ordering}
 use Rattle.market_types.specs.declared.message.Message.{Message}
 use Rattle.market_types.specs.declared.message.Body.TheVariants.{Wake}
 use Rattle.event_queue.specs.declared.due.Due.{Due}
 
--- the order of the heap, whose greatest key is the one that is due first
+-- the order of each heap, whose greatest key is the one that is due first
 abbrev pub by_due : Due → Due → Ordering
 by_due = flip_args (then_cmp (on (λ (d : Due). d.time) nat_cmp) (on (λ (d : Due). d.seq) nat_cmp))
+
+-- the first of some keys is due before none of the others, or there are no keys at all
+abbrev pub IsAhead : List Due → List Due → Type 0
+IsAhead [] others = others ≡ []
+IsAhead (d ∷ _) others = IsUpperBound by_due d others
+
+-- a key is one of some keys, and none of the rest is due before it
+pub record IsFirst (ds : List Due) (d : Due) : Type 0 where
+  pub rest : List Due
+  pub split : IsPermutation ds (d ∷ rest)
+  pub first : IsUpperBound by_due d rest
+
+-- the first of some keys gave way to another key
+pub record IsMoved (old new : List Due) (d e : Due) : Type 0 where
+  pub rest : List Due
+  pub split : IsPermutation old (d ∷ rest)
+  pub first : IsUpperBound by_due d rest
+  pub moved : IsPermutation (e ∷ rest) new
 
 -- what stands where there is no slot
 abbrev pub vacant : Message

@@ -7,6 +7,7 @@
 #![tactic(auto)]
 
 mod due;
+mod heaps;
 pub mod laws;
 mod queue;
 pub mod worked;

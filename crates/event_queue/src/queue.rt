@@ -1,52 +1,47 @@
 //! The queue.
 
-ghost use Rattle.std.specs.Prelude.{◌≡◌, ◌≢◌, ◌<◌, ◌≤◌, ◌+◌, ◌-◌, ◌++◌, ◌∷◌, ◌==◌, ℕ, [], if◌then◌else◌, All, OnOk, OnErr, IfOk, IfSome, IfNone, OnSome, length, nat_lt, option_map, slice_index_or, drop, vec_len, vec_capacity};
-ghost use Rattle.std.specs.BinaryHeap.{heap_items, heap_len, heap_capacity, IsHeap, IsUpperBound};
+ghost use Rattle.std.specs.Prelude.{◌≡◌, ◌≢◌, ◌<◌, ◌≤◌, ◌+◌, ◌-◌, ◌++◌, ◌∷◌, ◌==◌, ℕ, [], if◌then◌else◌, All, OnOk, OnErr, IfOk, IfSome, IfNone, OnSome, length, nat_lt, option_map, slice_index_or, vec_len, vec_capacity};
 ghost use Rattle.std.specs.List.Sorted.{IsPermutation, IsSortedBy};
 ghost use Rattle.event_queue.specs.InOrder.{in_order};
-ghost use Rattle.event_queue.specs.Dues.{by_due, held, times_free, vacant};
+ghost use Rattle.event_queue.specs.Dues.{times_free, vacant};
 ghost use Rattle.event_queue.specs.Rising.{IsRising};
 ghost use Rattle.event_queue.specs.Waiting.{before, least, IsNew, joined, without};
 
 use crate::due::Due;
-use market_types::{Memory, Message, Time, copied};
+use crate::heaps::Heaps;
+use market_types::{Body, Memory, Message, Time, copied};
 use std::alloc::Global;
-use std::collections::BinaryHeap;
 use std::marker::Model;
 
-/// The waiting messages. The heap moves small keys; each message stays in one slot until it leaves.
+/// The waiting messages. The heaps move small keys; each message stays in one slot until it leaves.
 #[derive(Drop)]
 pub struct Queue {
-    heap: BinaryHeap<Due>,
+    heaps: Heaps,
     slots: Vec<Message>,
     // The slots that no key names.
     free: Vec<usize>,
-    spare: usize,
 }
 
 impl Model for Queue {
-    ghost use Rattle.std.specs.Prelude.{◌≡◌, ◌≤◌, ◌+◌, vec_len, vec_capacity};
-    ghost use Rattle.std.specs.BinaryHeap.{heap_items, heap_len, heap_capacity, IsHeap};
+    ghost use Rattle.std.specs.Prelude.{◌≡◌, ◌≤◌, ◌+◌, length, vec_len, vec_capacity};
     ghost use Rattle.std.specs.List.{AllByRecursion};
     ghost use Rattle.market_types.specs.Room.{Room};
     ghost use Rattle.market_types.specs.declared.message.Message.{Message};
-    ghost use Rattle.event_queue.specs.Dues.{by_due, held, IsTold, IsSharedOut};
+    ghost use Rattle.event_queue.specs.Dues.{held, IsTold, IsSharedOut};
     ghost use Rattle.event_queue.specs.Numbered.{by_number, IsApart};
 
     ghost Value = { Room Message };
 
-    ghost view = { λ q. record { list = by_number (held q.slots.items (heap_items q.heap)); spare = q.spare } };
+    ghost view = { λ q. record { list = by_number (held q.slots.items q.heaps.list); spare = q.heaps.spare } };
 
     ghost invariant = { λ q. record {
-      room : heap_len q.heap + q.spare ≤ heap_capacity q.heap;
-      slot_room : heap_len q.heap + q.spare ≤ vec_capacity q.slots;
-      free_room : heap_len q.heap + q.spare ≤ vec_capacity q.free;
-      few : vec_len q.free ≤ q.spare;
-      every : vec_len q.slots ≡ heap_len q.heap + vec_len q.free;
-      ordered : IsHeap by_due (heap_items q.heap);
-      told : AllByRecursion (IsTold q.slots.items) (heap_items q.heap);
-      shared_out : IsSharedOut q.slots.items q.free.items (heap_items q.heap);
-      apart : IsApart (held q.slots.items (heap_items q.heap));
+      slot_room : length q.heaps.list + q.heaps.spare ≤ vec_capacity q.slots;
+      free_room : length q.heaps.list + q.heaps.spare ≤ vec_capacity q.free;
+      few : vec_len q.free ≤ q.heaps.spare;
+      every : vec_len q.slots ≡ length q.heaps.list + vec_len q.free;
+      told : AllByRecursion (IsTold q.slots.items) q.heaps.list;
+      shared_out : IsSharedOut q.slots.items q.free.items q.heaps.list;
+      apart : IsApart (held q.slots.items q.heaps.list);
     } };
 }
 
@@ -56,10 +51,9 @@ impl Queue {
         ensures { result ≡ record { list = []; spare = 0 } }
     {
         Queue {
-            heap: BinaryHeap::new(alloc),
+            heaps: Heaps::new(alloc),
             slots: Vec::new(alloc),
             free: Vec::new(alloc),
-            spare: 0,
         }
     }
 
@@ -67,14 +61,14 @@ impl Queue {
     pub fn len(&self) -> usize
         ensures { result ≡ length self.now.list }
     {
-        self.heap.len()
+        self.heaps.len()
     }
 
     /// The numbers of the waiting messages rise, so no two messages have one number.
     pub fn numbers_rise(&self)
         ensures { IsRising self.now.list }
     {
-        let _heap = &self.heap;
+        let _heaps = &self.heaps;
     }
 
     /// Keeps places for `n` more messages.
@@ -84,15 +78,13 @@ impl Queue {
         ensures never_falls { self.old.spare ≤ self.new.spare }
         ensures refused { OnErr result (self.new ≡ self.old) }
     {
-        if n <= self.spare {
+        if n <= self.heaps.spare() {
             return Ok(());
         }
         let more = n - self.free.len();
-        self.heap.reserve(n)?;
         self.slots.reserve(more)?;
-        self.free.reserve(self.heap.len() + more)?;
-        self.spare = n;
-        Ok(())
+        self.free.reserve(self.heaps.len() + more)?;
+        self.heaps.reserve(self.slots.len() + more)
     }
 
     /// A message joins. A place was kept for it, and no waiting message has its number.
@@ -108,10 +100,7 @@ impl Queue {
             seq: m.seq,
             slot,
         };
-        match self.heap.push(due) {
-            Ok(()) => self.spare -= 1,
-            Err(_) => unreachable!(),
-        }
+        self.heaps.push(due, matches!(m.body, Body::Wake));
     }
 
     /// The least message leaves: the one with the least time, and among those the least number.
@@ -123,11 +112,10 @@ impl Queue {
         ensures shrinks { OnSome result (length self.new.list + 1 ≡ length self.old.list) }
         ensures empty { IfNone result (self.new ≡ self.old) }
     {
-        match self.heap.pop() {
+        match self.heaps.pop() {
             Some(due) => {
                 let message = self.slots[due.slot];
                 put(&mut self.free, due.slot);
-                self.spare += 1;
                 Some(message)
             }
             None => None,
@@ -144,7 +132,7 @@ impl Queue {
         ensures same { length self.new.list ≡ length self.old.list }
         ensures empty { IfNone result (self.new ≡ self.old) }
     {
-        let due = move_top(&mut self.heap, time, seq)?;
+        let due = self.heaps.move_first(time, seq)?;
         Some(rewrite(&mut self.slots, due.slot, time, seq))
     }
 
@@ -152,7 +140,7 @@ impl Queue {
     pub fn peek_least(&self) -> Option<&Message>
         ensures { option_map (λ m. m.now) result ≡ least self.now.list }
     {
-        match self.heap.peek() {
+        match self.heaps.peek() {
             Some(due) => self.slots.get(due.slot),
             None => None,
         }
@@ -162,19 +150,11 @@ impl Queue {
     pub fn copy(&self, alloc: Global) -> Result<Queue, Memory>
         ensures { IfOk result (λ q. q.list ≡ self.now.list) }
     {
-        let spare = self.free.len();
-        let dues = copied(alloc, self.heap.as_slice())?;
-        let mut heap = BinaryHeap::from(dues);
-        heap.reserve(spare)?;
+        let heaps = self.heaps.copy(alloc, self.slots.len())?;
         let slots = copied(alloc, self.slots.as_slice())?;
         let mut free = copied(alloc, self.free.as_slice())?;
-        free.reserve(self.heap.len())?;
-        Ok(Queue {
-            heap,
-            slots,
-            free,
-            spare,
-        })
+        free.reserve(self.heaps.len())?;
+        Ok(Queue { heaps, slots, free })
     }
 
     /// The waiting messages in order of time, and at one time of number.
@@ -183,7 +163,7 @@ impl Queue {
         ensures same { IfOk result (λ v. IsPermutation self.now.list v.items) }
         ensures sorted { IfOk result (λ v. IsSortedBy before v.items) }
     {
-        let mut messages = listed(alloc, self.heap.as_slice(), self.slots.as_slice())?;
+        let mut messages = self.heaps.listed(alloc, self.slots.as_slice())?;
         messages.sort_unstable_by_key(|m| (m.time, m.seq));
         Ok(messages)
     }
@@ -228,29 +208,6 @@ fn store(slots: &mut Vec<Message>, free: &mut Vec<usize>, m: Message) -> usize
     }
 }
 
-// The key that is due first gets another time and number and moves to its place, under its slot. It
-// comes back as it was; `None` where there is no key.
-fn move_top(heap: &mut BinaryHeap<Due>, time: Time, seq: u64) -> Option<Due>
-    requires order { IsHeap by_due (heap_items heap.old) }
-    ensures top { IfSome result (λ d. heap_items heap.old ≡ d ∷ drop 1 (heap_items heap.old)) }
-    ensures first { IfSome result (λ d. IsUpperBound by_due d (drop 1 (heap_items heap.old))) }
-    ensures moved { IfSome result (λ d. IsPermutation (record { time = time; seq = seq; slot = d.slot } ∷ drop 1 (heap_items heap.old)) (heap_items heap.new)) }
-    ensures order { IsHeap by_due (heap_items heap.new) }
-    ensures len { heap_len heap.new ≡ heap_len heap.old }
-    ensures capacity { heap_capacity heap.new ≡ heap_capacity heap.old }
-    ensures none { IfNone result (heap_items heap.old ≡ []) }
-    ensures unchanged { IfNone result (heap.new ≡ heap.old) }
-{
-    let mut top = heap.peek_mut()?;
-    let due = *top;
-    *top = Due {
-        time,
-        seq,
-        slot: due.slot,
-    };
-    Some(due)
-}
-
 // A message gets another time and number in its slot. It comes back as it was.
 fn rewrite(slots: &mut Vec<Message>, slot: usize, time: Time, seq: u64) -> Message
     requires within { slot < length slots.old.items }
@@ -265,16 +222,4 @@ fn rewrite(slots: &mut Vec<Message>, slot: usize, time: Time, seq: u64) -> Messa
     slots[slot].time = time;
     slots[slot].seq = seq;
     message
-}
-
-// The messages in the order in which the heap holds their keys.
-fn listed(alloc: Global, dues: &[Due], slots: &[Message]) -> Result<Vec<Message>, Memory>
-    requires { All (λ due. due.slot < length slots.now) dues.now }
-    ensures { IfOk result (λ v. v.items ≡ held slots.now dues.now) }
-{
-    let mut messages = Vec::new(alloc);
-    for due in dues {
-        messages.push(slots[due.slot])?;
-    }
-    Ok(messages)
 }

@@ -100,7 +100,7 @@ abbrev pub acceptance_of : ℕ → Enter → ℕ → Reply
 acceptance_of time e reference =
     Accepted time e.token e.side e.shares e.stock e.price e.tif e.firm e.display reference e.capacity e.sweep e.minimum e.cross 76 32
 
--- the order that comes to rest with so many open shares; its intended size is the entered one
+-- the order that comes to rest with so many open shares; its intended size is the entered one, and it is shown where its display is 'Y'
 abbrev pub resting_of : ℕ → ℕ → Enter → ℕ → Resting
 resting_of reference agent e left = record {
   reference = reference;
@@ -111,6 +111,7 @@ resting_of reference agent e left = record {
   intended = e.shares;
   left = left;
   tif = e.tif;
+  shown = e.display == 89;
 }
 
 -- the incoming order, for the replies and feed of its matches

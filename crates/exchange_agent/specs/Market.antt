@@ -12,7 +12,7 @@ use Rattle.exchange_agent.specs.Enter.{entered}
 use Rattle.exchange_agent.specs.Outcome.{Outcome, silently}
 use Rattle.exchange_agent.specs.State.{State, Stock, stock_at}
 
--- the best price of a side and its open shares; 0 and 0 where it is empty
+-- the best price of a side's shown orders and their open shares; 0 and 0 where none is shown
 abbrev pub best_or_none_of : Option Best → Best
 best_or_none_of None = record { price = 0; shares = 0 }
 best_or_none_of (Some b) = b

@@ -187,6 +187,7 @@ impl Listing {
             intended: e.shares,
             left,
             tif: e.tif,
+            shown: e.display == b'Y',
         });
         out.tell(Feed {
             locate: taking.locate,

@@ -10,4 +10,5 @@ pub mod Posted
 pub mod Kept
 pub mod Possible
 pub mod Stops
+pub mod Times
 pub mod EditRuns

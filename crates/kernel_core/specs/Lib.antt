@@ -7,6 +7,7 @@ pub mod State
 pub mod Open
 pub mod Step
 pub mod Until
+pub mod Due
 pub mod Edited
 pub mod Sound
 pub mod View

@@ -6,6 +6,7 @@ use Rattle.market_floor.specs.declared.opening.Opening.{Opening}
 use Rattle.kernel_core.specs.Open.{opened}
 use Rattle.kernel_core.specs.Step.{end_of}
 use Rattle.kernel_core.specs.Until.{Run, until}
+use Rattle.kernel_core.specs.Due.{due_by, until_time}
 
 abbrev pub opening_run : Opening → Run
 opening_run o = record { state = opened o; entries = [] }
@@ -28,3 +29,11 @@ rows r = map row_of r.entries
 -- how a run ended: why, how many messages wait, and the number of the next one
 abbrev pub ended : Opening → Run → Option End × ℕ × ℕ
 ended o r = (end_of o r.state, length r.state.post.waiting, r.state.post.next_seq)
+
+-- How far a run came up to a time: how many events stand, when the last of them was, and whether one more is due by then.
+abbrev pub standing : Opening → ℕ → Run → ℕ × ℕ × Bool
+standing o when r = (r.state.events, r.state.time, due_by o when r.state)
+
+-- how far a run from the opening comes up to a time with no more than so many events
+abbrev pub reached : Opening → ℕ → ℕ → ℕ × ℕ × Bool
+reached o when most = standing o when (until_time o when most (opening_run o))

@@ -4,6 +4,7 @@
 //! after another.
 #![tactic(auto)]
 
+mod due;
 mod edit;
 pub mod edits_worked;
 mod jitter;

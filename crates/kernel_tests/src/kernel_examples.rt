@@ -1,6 +1,6 @@
 //! Runs over the code whose events were computed by hand.
 
-mod copies;
+pub(crate) mod copies;
 mod dates;
 mod steps;
 
@@ -46,7 +46,7 @@ fn traders(alloc: Global, kinds: &[(Kind, Time)]) -> Result<Vec<TraderSetting>, 
 }
 
 // A market of such traders, whose exchange computes for `delay` nanoseconds.
-fn market(
+pub(crate) fn market(
     alloc: Global,
     close: Time,
     delay: Time,
@@ -69,7 +69,7 @@ fn market(
 }
 
 // Events until so many of them stand.
-fn run(
+pub(crate) fn run(
     alloc: Global,
     o: &Opening,
     kernel: &mut Kernel,
@@ -88,7 +88,7 @@ fn run(
 }
 
 // A run from the opening on: before each edit events until so many of them stand, and so many at last.
-fn branch(
+pub(crate) fn branch(
     alloc: Global,
     o: &Opening,
     edits: &[(u32, Edit)],

@@ -22,4 +22,6 @@ mod taker_agents_tests;
 #[cfg(test)]
 mod tick_tables;
 #[cfg(test)]
+mod times_tests;
+#[cfg(test)]
 mod trader_party_tests;

@@ -13,7 +13,7 @@ pub each-filter : (P : Resting → Type 0) (p : Resting → Bool) (w : List Rest
 each-filter P p [] a = tt
 each-filter P p (x ∷ w) a = elim (p x) as (λ b. AllByRecursion P (cond b (x ∷ filter p w) (filter p w))) [ true ↦ (a.0, each-filter P p w a.1) | false ↦ each-filter P p w a.1 ]
 
-rising-filter : (p : Resting → Bool) (w : List Resting) → IsRising w → IsRising (filter p w)
+pub rising-filter : (p : Resting → Bool) (w : List Resting) → IsRising w → IsRising (filter p w)
 rising-filter p [] r = tt
 rising-filter p (x ∷ w) r = elim (p x) as (λ b. IsRising (cond b (x ∷ filter p w) (filter p w))) [ true ↦ (each-filter (λ (y : Resting). x.reference < y.reference) p w r.0, rising-filter p w r.1) | false ↦ rising-filter p w r.1 ]
 

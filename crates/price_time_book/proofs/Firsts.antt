@@ -1,4 +1,4 @@
--- The first order of a side, by the levels.
+-- The first order of a queue, by the levels.
 use Rattle.std.proofs.Common.{◌≡◌, ◌≢◌, ◌⊎◌, ℕ, ◌+◌, ◌-◌, ◌*◌, ◌<◌, ◌≤◌, Bool, true, false, cond, ◌&&◌, ltb, eqb, List, [], ◌∷◌, Some, None, length, get_or, set, refl, sym, ap, ◌∙◌, arith, inl, inr, suc, zero, subst, filter, sum_by, Contains, option_map}
 use Rattle.std.specs.List.{AllByRecursion, best_of}
 use Rattle.std.proofs.lemmas.Bool.{cases_Bool, cases_eq, eq-eqb, ne_eqb}
@@ -10,8 +10,10 @@ use Rattle.market_types.specs.declared.order.Side.TheVariants.{Buy, Sell}
 use Rattle.price_time_book.specs.declared.resting.Best.{Best}
 use Rattle.price_time_book.specs.declared.resting.Resting.{Resting}
 use Rattle.price_time_book.specs.declared.levels.Level.{Level}
-use Rattle.price_time_book.specs.Indexed.{key, key_of, open_orders, prices, shares_by, IsImproving, IsNoBetter, nothing, IsOpenAt, IsClear, IsRight, IsIndexed}
-use Rattle.price_time_book.specs.Next.{best_at, first_best, shares_at, top_of}
+use Rattle.price_time_book.specs.declared.levels.Queue.{Queue}
+use Rattle.price_time_book.specs.Indexed.{bit, hidden_bit, key, key_of, open_orders, prices, shares_by, IsImproving, IsNoBetter, nothing, IsOpenAt, IsClear, IsRight, IsIndexed}
+use Rattle.price_time_book.specs.Next.{beats, first_best}
+use Rattle.price_time_book.specs.Queues.{best_in, is_in, is_kind, queue_of, shares_in, top_in}
 use Rattle.price_time_book.specs.Orderly.{IsRising}
 use Rattle.price_time_book.specs.Orders.{changed, with_order, without}
 use Rattle.price_time_book.specs.Sides.{is_better, is_on, is_same_side}
@@ -19,6 +21,7 @@ use Rattle.price_time_book.proofs.Changes.{keep_all, leave_all}
 use Rattle.price_time_book.proofs.Joins.{key_price}
 use Rattle.price_time_book.proofs.Lowers.{open_each}
 use Rattle.price_time_book.proofs.Prices.{rising_top}
+use Rattle.price_time_book.proofs.Ranks.{beats_same}
 
 -- ---- sides
 pub side_same : (a s : Side) → is_same_side a s ≡ true → a ≡ s
@@ -31,34 +34,76 @@ pub same_itself : (s : Side) → is_same_side s s ≡ true
 same_itself Buy = refl
 same_itself Sell = refl
 
-same_key : (a s : Side) (q p : ℕ) → (is_same_side a s && eqb q p) ≡ eqb (key a q) (key s p)
-same_key Buy Buy q p = both q p
-  where
-    both : (q p : ℕ) → eqb q p ≡ eqb (2 * q + 0) (2 * p + 0)
-    both q p = grind (arith, nat_tests)
-same_key Buy Sell q p = apart q p
-  where
-    apart : (q p : ℕ) → false ≡ eqb (2 * q + 0) (2 * p + 1)
-    apart q p = grind (arith, nat_tests)
-same_key Sell Buy q p = apart q p
-  where
-    apart : (q p : ℕ) → false ≡ eqb (2 * q + 1) (2 * p + 0)
-    apart q p = grind (arith, nat_tests)
-same_key Sell Sell q p = both q p
-  where
-    both : (q p : ℕ) → eqb q p ≡ eqb (2 * q + 1) (2 * p + 1)
-    both q p = grind (arith, nat_tests)
+keys_same : (q p r : ℕ) → eqb q p ≡ eqb (4 * q + r) (4 * p + r)
+keys_same q p r = grind (arith, nat_tests)
+
+keys_other : (q p r t : ℕ) → r ≢ t → r ≤ 3 → t ≤ 3 → false ≡ eqb (4 * q + r) (4 * p + t)
+keys_other q p r t n h k = let apart : 4 * q + r ≢ 4 * p + t = (λ e. omega (arith, n, h, k, e)) in sym (ne_eqb (4 * q + r) (4 * p + t) apart)
+
+same_parts : (a s : Side) (x y : Bool) (q p : ℕ) → ((is_same_side a s && is_kind y x) && eqb q p) ≡ eqb (4 * q + (2 * bit a + hidden_bit x)) (4 * p + (2 * bit s + hidden_bit y))
+same_parts Buy Buy true true q p = keys_same q p 0
+same_parts Buy Buy true false q p = keys_other q p 0 1 (omega arith) (omega arith) (omega arith)
+same_parts Buy Buy false true q p = keys_other q p 1 0 (omega arith) (omega arith) (omega arith)
+same_parts Buy Buy false false q p = keys_same q p 1
+same_parts Buy Sell true true q p = keys_other q p 0 2 (omega arith) (omega arith) (omega arith)
+same_parts Buy Sell true false q p = keys_other q p 0 3 (omega arith) (omega arith) (omega arith)
+same_parts Buy Sell false true q p = keys_other q p 1 2 (omega arith) (omega arith) (omega arith)
+same_parts Buy Sell false false q p = keys_other q p 1 3 (omega arith) (omega arith) (omega arith)
+same_parts Sell Buy true true q p = keys_other q p 2 0 (omega arith) (omega arith) (omega arith)
+same_parts Sell Buy true false q p = keys_other q p 2 1 (omega arith) (omega arith) (omega arith)
+same_parts Sell Buy false true q p = keys_other q p 3 0 (omega arith) (omega arith) (omega arith)
+same_parts Sell Buy false false q p = keys_other q p 3 1 (omega arith) (omega arith) (omega arith)
+same_parts Sell Sell true true q p = keys_same q p 2
+same_parts Sell Sell true false q p = keys_other q p 2 3 (omega arith) (omega arith) (omega arith)
+same_parts Sell Sell false true q p = keys_other q p 3 2 (omega arith) (omega arith) (omega arith)
+same_parts Sell Sell false false q p = keys_same q p 3
+
+same_key : (q : Queue) (p : ℕ) (o : Resting) → (is_in q o && eqb o.price p) ≡ eqb (key_of o) (key q p)
+same_key q p o = same_parts o.side q.side o.shown q.shown o.price p
+
+-- ---- queues
+and_first : (a b : Bool) → (a && b) ≡ true → a ≡ true
+and_first true b e = refl
+and_first false b e = e
+
+and_last : (a b : Bool) → (a && b) ≡ true → b ≡ true
+and_last true b e = e
+and_last false b e = absurd (cc e)
+
+kind_same : (y x : Bool) → is_kind y x ≡ true → x ≡ y
+kind_same true x e = e
+kind_same false true e = absurd (cc e)
+kind_same false false e = refl
+
+-- an order is in its queue alone
+pub in_queue : (q : Queue) (o : Resting) → is_in q o ≡ true → queue_of o ≡ q
+in_queue q o e =
+    let side = side_same o.side q.side (and_first (is_on q.side o) (is_kind q.shown o.shown) e) in
+    let shown = kind_same q.shown o.shown (and_last (is_on q.side o) (is_kind q.shown o.shown) e) in
+    λ i. record { side = side i; shown = shown i }
+
+key_in : (q : Queue) (p : ℕ) (o : Resting) → key_of o ≡ key q p → is_in q o ≡ true
+key_in q p o e = and_first (is_in q o) (eqb o.price p) (same_key q p o ∙ eq-eqb (key_of o) (key q p) e)
+
+pub key_queue : (q : Queue) (p : ℕ) (o : Resting) → key_of o ≡ key q p → queue_of o ≡ q
+key_queue q p o e = in_queue q o (key_in q p o e)
+
+key_is : (q : Queue) (p : ℕ) (o : Resting) → key_of o ≡ key q p → o.price ≡ p
+key_is q p o e = key_price q o.price p (ap (λ r. key r o.price) (sym (key_queue q p o e)) ∙ e)
+
+pub key_at : (q : Queue) (o : Resting) → queue_of o ≡ q → key_of o ≡ key q o.price
+key_at q o e = ap (λ r. key r o.price) e
 
 -- ---- shares
 one_more : (b : Bool) (n : ℕ) (v : List Resting) (o : Resting) → n ≡ sum_by (λ (x : Resting). x.left) v → cond b o.left 0 + n ≡ sum_by (λ (x : Resting). x.left) (cond b (o ∷ v) v)
 one_more true n v o e = omega (arith, e, sum_by-cons (λ (x : Resting). x.left) o v)
 one_more false n v o e = omega (arith, e)
 
-pub shares_is : (s : Side) (p : ℕ) (w : List Resting) → shares_by (key s p) w ≡ shares_at s p w
-shares_is s p [] = refl
-shares_is s p (o ∷ w) =
-    let v = filter (λ (x : Resting). is_on s x && eqb x.price p) w in
-    subst (λ b. cond b o.left 0 + shares_by (key s p) w ≡ sum_by (λ (x : Resting). x.left) (cond (is_on s o && eqb o.price p) (o ∷ v) v)) (same_key o.side s o.price p) (one_more (is_on s o && eqb o.price p) (shares_by (key s p) w) v o (shares_is s p w))
+pub shares_is : (q : Queue) (p : ℕ) (w : List Resting) → shares_by (key q p) w ≡ shares_in q p w
+shares_is q p [] = refl
+shares_is q p (o ∷ w) =
+    let v = filter (λ (x : Resting). is_in q x && eqb x.price p) w in
+    subst (λ b. cond b o.left 0 + shares_by (key q p) w ≡ sum_by (λ (x : Resting). x.left) (cond (is_in q o && eqb o.price p) (o ∷ v) v)) (same_key q p o) (one_more (is_in q o && eqb o.price p) (shares_by (key q p) w) v o (shares_is q p w))
 
 -- ---- the best of a list
 best_stays : (beats : Resting → Resting → Bool) (a : Resting) (w : List Resting) → AllByRecursion (λ (x : Resting). beats x a ≡ false) w → best_of beats a w ≡ a
@@ -77,59 +122,56 @@ led beats a o (x ∷ w) h (inl (e, all)) =
     ap (λ b. best_of beats (cond b x a) w) taken ∙ ap (λ (y : Resting). best_of beats y w) e ∙ best_stays beats o w all
 led beats a o (x ∷ w) h (inr (k, l)) = led beats (cond (beats x a) x a) o w (elim (beats x a) as (λ b. beats o (cond b x a) ≡ true) [ true ↦ k | false ↦ h ]) l
 
-abbrev by_price : Side → Resting → Resting → Bool
-by_price s a b = is_better s a.price b.price
-
-first_led : (s : Side) (o : Resting) (w : List Resting) → Leads (by_price s) o w → first_best s w ≡ Some o
+first_led : (s : Side) (o : Resting) (w : List Resting) → Leads (beats s) o w → first_best s w ≡ Some o
 first_led s o [] l = absurd l
-first_led s o (x ∷ w) (inl (e, all)) = ap (λ (y : Resting). Some y) (ap (λ (y : Resting). best_of (by_price s) y w) e ∙ best_stays (by_price s) o w all)
-first_led s o (x ∷ w) (inr (h, l)) = ap (λ (y : Resting). Some y) (led (by_price s) x o w h l)
+first_led s o (x ∷ w) (inl (e, all)) = ap (λ (y : Resting). Some y) (ap (λ (y : Resting). best_of (beats s) y w) e ∙ best_stays (beats s) o w all)
+first_led s o (x ∷ w) (inr (h, l)) = ap (λ (y : Resting). Some y) (led (beats s) x o w h l)
 
--- ---- the orders of a side by their places
-pub each_side : (P : Resting → Type 0) (s : Side) (os : List Resting) → ((k : ℕ) → k < length os → 0 < (get_or os k nothing).left → (get_or os k nothing).side ≡ s → P (get_or os k nothing)) → AllByRecursion P (filter (is_on s) (open_orders os))
-each_side P s [] f = tt
-each_side P s (o ∷ os) f =
-    let rest = each_side P s os (λ k h l e. f (suc k) (omega arith) l e) in
+-- ---- the orders of a queue by their places
+pub each_in : (P : Resting → Type 0) (q : Queue) (os : List Resting) → ((k : ℕ) → k < length os → 0 < (get_or os k nothing).left → is_in q (get_or os k nothing) ≡ true → P (get_or os k nothing)) → AllByRecursion P (filter (is_in q) (open_orders os))
+each_in P q [] f = tt
+each_in P q (o ∷ os) f =
+    let rest = each_in P q os (λ k h l e. f (suc k) (omega arith) l e) in
     elim (cases_eq o.left 0) [
       | inl e ↦ (let t : eqb o.left 0 ≡ true = eq-eqb o.left 0 e in rw t rest)
-      | inr e ↦ (let t : eqb o.left 0 ≡ false = ne_eqb o.left 0 e in rw t (elim (cases_Bool (is_on s o)) [
-        | inl on ↦ rw on (f zero (omega arith) (omega (arith, e)) (side_same o.side s on), rest)
+      | inr e ↦ (let t : eqb o.left 0 ≡ false = ne_eqb o.left 0 e in rw t (elim (cases_Bool (is_in q o)) [
+        | inl on ↦ rw on (f zero (omega arith) (omega (arith, e)) on, rest)
         | inr off ↦ rw off rest
       ]))
     ]
 
--- what stands at a place is the first of its side
-pub record IsFirstAt (s : Side) (os : List Resting) (k : ℕ) : Type 0 where
+-- what stands at a place is the first of its queue
+pub record IsFirstAt (q : Queue) (os : List Resting) (k : ℕ) : Type 0 where
   pub within : k < length os
   pub left : 0 < (get_or os k nothing).left
-  pub side : (get_or os k nothing).side ≡ s
-  pub before : (j : ℕ) → j < k → 0 < (get_or os j nothing).left → (get_or os j nothing).side ≡ s → is_better s (get_or os k nothing).price (get_or os j nothing).price ≡ true
-  pub after : (j : ℕ) → k < j → j < length os → 0 < (get_or os j nothing).left → (get_or os j nothing).side ≡ s → is_better s (get_or os j nothing).price (get_or os k nothing).price ≡ false
+  pub member : is_in q (get_or os k nothing) ≡ true
+  pub before : (j : ℕ) → j < k → 0 < (get_or os j nothing).left → is_in q (get_or os j nothing) ≡ true → beats q.side (get_or os k nothing) (get_or os j nothing) ≡ true
+  pub after : (j : ℕ) → k < j → j < length os → 0 < (get_or os j nothing).left → is_in q (get_or os j nothing) ≡ true → beats q.side (get_or os j nothing) (get_or os k nothing) ≡ false
 
-leads_at : (s : Side) (os : List Resting) (k : ℕ) → IsFirstAt s os k → Leads (by_price s) (get_or os k nothing) (filter (is_on s) (open_orders os))
-leads_at s [] k h = absurd (omega (arith, h.within))
-leads_at s (o ∷ os) zero h =
+leads_at : (q : Queue) (os : List Resting) (k : ℕ) → IsFirstAt q os k → Leads (beats q.side) (get_or os k nothing) (filter (is_in q) (open_orders os))
+leads_at q [] k h = absurd (omega (arith, h.within))
+leads_at q (o ∷ os) zero h =
     let t : eqb o.left 0 ≡ false = ne_eqb o.left 0 (omega (arith, h.left)) in
-    let on : is_on s o ≡ true = subst (λ a. is_same_side a s ≡ true) (sym h.side) (same_itself s) in
-    rw t (rw on (inl (refl, each_side (λ (y : Resting). by_price s y o ≡ false) s os (λ k w l e. h.after (suc k) (omega arith) (omega arith) l e))))
-leads_at s (o ∷ os) (suc k) h =
-    let rest = leads_at s os k (record {
+    let on : is_in q o ≡ true = h.member in
+    rw t (rw on (inl (refl, each_in (λ (y : Resting). beats q.side y o ≡ false) q os (λ k w l e. h.after (suc k) (omega arith) (omega arith) l e))))
+leads_at q (o ∷ os) (suc k) h =
+    let rest = leads_at q os k (record {
       within = omega (arith, h.within);
       left = h.left;
-      side = h.side;
+      member = h.member;
       before = λ j b l e. h.before (suc j) (omega arith) l e;
       after = λ j b w l e. h.after (suc j) (omega arith) (omega arith) l e;
     }) in
     elim (cases_eq o.left 0) [
       | inl e ↦ (let t : eqb o.left 0 ≡ true = eq-eqb o.left 0 e in rw t rest)
-      | inr e ↦ (let t : eqb o.left 0 ≡ false = ne_eqb o.left 0 e in rw t (elim (cases_Bool (is_on s o)) [
-        | inl on ↦ rw on (inr (h.before zero (omega arith) (omega (arith, e)) (side_same o.side s on), rest))
+      | inr e ↦ (let t : eqb o.left 0 ≡ false = ne_eqb o.left 0 e in rw t (elim (cases_Bool (is_in q o)) [
+        | inl on ↦ rw on (inr (h.before zero (omega arith) (omega (arith, e)) on, rest))
         | inr off ↦ rw off rest
       ]))
     ]
 
-pub top_first : (s : Side) (os : List Resting) (k : ℕ) → IsFirstAt s os k → top_of s (open_orders os) ≡ Some (get_or os k nothing)
-top_first s os k h = first_led s (get_or os k nothing) (filter (is_on s) (open_orders os)) (leads_at s os k h)
+pub top_first : (q : Queue) (os : List Resting) (k : ℕ) → IsFirstAt q os k → top_in q (open_orders os) ≡ Some (get_or os k nothing)
+top_first q os k h = first_led q.side (get_or os k nothing) (filter (is_in q) (open_orders os)) (leads_at q os k h)
 
 nobody : (w : List Resting) → AllByRecursion (λ (_ : Resting). ⊥) w → w ≡ []
 nobody [] a = refl
@@ -150,33 +192,24 @@ better_or_same Sell a b h n = way a b h n
     way : (a b : ℕ) → ltb a b ≡ false → a ≢ b → ltb b a ≡ true
     way a b h n = grind (arith, nat_tests)
 
-pub key_side : (s : Side) (p : ℕ) (o : Resting) → key_of o ≡ key s p → o.side ≡ s
-key_side s p o e = side_same o.side s (first_of (is_same_side o.side s) (eqb o.price p) (same_key o.side s o.price p ∙ eq-eqb (key_of o) (key s p) e))
-  where
-    first_of : (a b : Bool) → (a && b) ≡ true → a ≡ true
-    first_of true b e = refl
-    first_of false b e = e
-
-key_is : (s : Side) (p : ℕ) (o : Resting) → key_of o ≡ key s p → o.price ≡ p
-key_is s p o e = key_price s o.price p (ap (λ a. key a o.price) (sym (key_side s p o e)) ∙ e)
-
-pub key_at : (s : Side) (o : Resting) → o.side ≡ s → key_of o ≡ key s o.price
-key_at s o e = ap (λ a. key a o.price) e
-
-pub first_by_level : (s : Side) (os : List Resting) (nx : List ℕ) (ls : List Level) (l : Level) (k : ℕ) → IsIndexed s os nx ls → IsBestLevel s ls l → IsOpenAt os (key s l.price) k → IsClear os (key s l.price) 0 k → IsFirstAt s os k
-first_by_level s os nx ls l k x best o clear =
-    let at : (get_or os k nothing).price ≡ l.price = key_is s l.price (get_or os k nothing) o.price in
-    let worse : (j : ℕ) → j < length os → 0 < (get_or os j nothing).left → (get_or os j nothing).side ≡ s → is_better s (get_or os j nothing).price l.price ≡ false = λ j w f e.
-    best (get_or os j nothing).price (x.covered (get_or os j nothing).price j (record { within = w; left = f; price = key_at s (get_or os j nothing) e })) in
+pub first_by_level : (q : Queue) (os : List Resting) (nx : List ℕ) (ls : List Level) (l : Level) (k : ℕ) → IsIndexed q os nx ls → IsBestLevel q.side ls l → IsOpenAt os (key q l.price) k → IsClear os (key q l.price) 0 k → IsFirstAt q os k
+first_by_level q os nx ls l k x best o clear =
+    let s = q.side in
+    let here : is_in q (get_or os k nothing) ≡ true = key_in q l.price (get_or os k nothing) o.price in
+    let at : (get_or os k nothing).price ≡ l.price = key_is q l.price (get_or os k nothing) o.price in
+    let same : (j : ℕ) → is_in q (get_or os j nothing) ≡ true → (get_or os k nothing).shown ≡ (get_or os j nothing).shown = λ j e.
+    ap (λ (r : Queue). r.shown) (in_queue q (get_or os k nothing) here) ∙ sym (ap (λ (r : Queue). r.shown) (in_queue q (get_or os j nothing) e)) in
+    let worse : (j : ℕ) → j < length os → 0 < (get_or os j nothing).left → is_in q (get_or os j nothing) ≡ true → is_better s (get_or os j nothing).price l.price ≡ false = λ j w f e.
+    best (get_or os j nothing).price (x.covered (get_or os j nothing).price j (record { within = w; left = f; price = key_at q (get_or os j nothing) (in_queue q (get_or os j nothing) e) })) in
     record {
       within = o.within;
       left = o.left;
-      side = key_side s l.price (get_or os k nothing) o.price;
+      member = here;
       before = λ j b f e.
           let w : j < length os = omega (arith, o.within) in
-          let other : (get_or os j nothing).price ≢ l.price = λ q. clear.closed j (omega arith) b (record { within = w; left = f; price = key_at s (get_or os j nothing) e ∙ ap (key s) q }) in
-          subst (λ p. is_better s p (get_or os j nothing).price ≡ true) (sym at) (better_or_same s (get_or os j nothing).price l.price (worse j w f e) other);
-      after = λ j b w f e. subst (λ p. is_better s (get_or os j nothing).price p ≡ false) (sym at) (worse j w f e);
+          let other : (get_or os j nothing).price ≢ l.price = λ p. clear.closed j (omega arith) b (record { within = w; left = f; price = key_at q (get_or os j nothing) (in_queue q (get_or os j nothing) e) ∙ ap (key q) p }) in
+          beats_same s (get_or os k nothing) (get_or os j nothing) (same j e) ∙ subst (λ p. is_better s p (get_or os j nothing).price ≡ true) (sym at) (better_or_same s (get_or os j nothing).price l.price (worse j w f e) other);
+      after = λ j b w f e. beats_same s (get_or os j nothing) (get_or os k nothing) (sym (same j e)) ∙ subst (λ p. is_better s (get_or os j nothing).price p ≡ false) (sym at) (worse j w f e);
     }
 
 -- where a level has shares an order is open
@@ -215,20 +248,20 @@ found p (o ∷ os) h =
           ]
     ]
 
-pub best_by_level : (s : Side) (os : List Resting) (nx : List ℕ) (ls : List Level) (l : Level) → IsIndexed s os nx ls → IsBestLevel s ls l → IsRight s os nx l → best_at s (open_orders os) ≡ Some (record { price = l.price; shares = l.shares })
-best_by_level s os nx ls l x best r =
-    let f = found (key s l.price) os (omega (arith, r.live, r.shares)) in
+pub best_by_level : (q : Queue) (os : List Resting) (nx : List ℕ) (ls : List Level) (l : Level) → IsIndexed q os nx ls → IsBestLevel q.side ls l → IsRight q os nx l → best_in q (open_orders os) ≡ Some (record { price = l.price; shares = l.shares })
+best_by_level q os nx ls l x best r =
+    let f = found (key q l.price) os (omega (arith, r.live, r.shares)) in
     let o = get_or os f.at nothing in
-    let first = top_first s os f.at (first_by_level s os nx ls l f.at x best f.open_at f.clear) in
-    let price : o.price ≡ l.price = key_is s l.price o f.open_at.price in
-    let shares : shares_at s l.price (open_orders os) ≡ l.shares = sym (shares_is s l.price (open_orders os)) ∙ sym r.shares in
-    ap (option_map (λ (y : Resting). let b : Best = record { price = y.price; shares = shares_at s y.price (open_orders os) } in b)) first
-    ∙ ap (λ (p : ℕ). let b : Best = record { price = p; shares = shares_at s p (open_orders os) } in Some b) price
+    let first = top_first q os f.at (first_by_level q os nx ls l f.at x best f.open_at f.clear) in
+    let price : o.price ≡ l.price = key_is q l.price o f.open_at.price in
+    let shares : shares_in q l.price (open_orders os) ≡ l.shares = sym (shares_is q l.price (open_orders os)) ∙ sym r.shares in
+    ap (option_map (λ (y : Resting). let b : Best = record { price = y.price; shares = shares_in q y.price (open_orders os) } in b)) first
+    ∙ ap (λ (p : ℕ). let b : Best = record { price = p; shares = shares_in q p (open_orders os) } in Some b) price
     ∙ ap (λ (n : ℕ). let b : Best = record { price = l.price; shares = n } in Some b) shares
 
-pub top_none : (s : Side) (os : List Resting) (nx : List ℕ) (ls : List Level) → IsIndexed s os nx ls → length ls ≡ 0 → top_of s (open_orders os) ≡ None
-top_none s os nx ls x h =
-    ap (first_best s) (nobody (filter (is_on s) (open_orders os)) (each_side (λ _. ⊥) s os (λ k w f e. (let c = x.covered (get_or os k nothing).price k (record { within = w; left = f; price = key_at s (get_or os k nothing) e }) in absurd (omega (arith, c.1, length-map ls (λ (l : Level). l.price)))))))
+pub top_none : (q : Queue) (os : List Resting) (nx : List ℕ) (ls : List Level) → IsIndexed q os nx ls → length ls ≡ 0 → top_in q (open_orders os) ≡ None
+top_none q os nx ls x h =
+    ap (first_best q.side) (nobody (filter (is_in q) (open_orders os)) (each_in (λ _. ⊥) q os (λ k w f e. (let c = x.covered (get_or os k nothing).price k (record { within = w; left = f; price = key_at q (get_or os k nothing) (in_queue q (get_or os k nothing) e) }) in absurd (omega (arith, c.1, length-map ls (λ (l : Level). l.price)))))))
 
 level_price : (ls : List Level) (k : ℕ) (l : Level) → k < length ls → l ≡ get_or ls k l → get_or (prices ls) k 0 ≡ l.price
 level_price ls k l h e = get_or-map (λ (m : Level). m.price) ls k l 0 h ∙ ap (λ (m : Level). m.price) (sym e)
@@ -300,8 +333,8 @@ open-changed os i x r h g e =
       | inr z ↦ (let b : eqb x.left 0 ≡ false = ne_eqb x.left 0 z in subst (λ c. open_orders (set os i x) ≡ cond c (without x.reference (open_orders os)) (with_order x (open_orders os))) (sym b) (open-with os i x z r h g e))
     ]
 
-pub right_at : (s : Side) (os : List Resting) (nx : List ℕ) (ls : List Level) (at : ℕ) (l : Level) → IsIndexed s os nx ls → at < length ls → l ≡ get_or ls at l → IsRight s os nx l
-right_at s os nx ls at l x h e = subst (λ (m : Level). IsRight s os nx m) (sym e) (x.right at l h)
+pub right_at : (q : Queue) (os : List Resting) (nx : List ℕ) (ls : List Level) (at : ℕ) (l : Level) → IsIndexed q os nx ls → at < length ls → l ≡ get_or ls at l → IsRight q os nx l
+right_at q os nx ls at l x h e = subst (λ (m : Level). IsRight q os nx m) (sym e) (x.right at l h)
 
-pub best_none : (s : Side) (os : List Resting) (nx : List ℕ) (ls : List Level) → IsIndexed s os nx ls → length ls ≡ 0 → best_at s (open_orders os) ≡ None
-best_none s os nx ls x h = ap (option_map (λ (y : Resting). let b : Best = record { price = y.price; shares = shares_at s y.price (open_orders os) } in b)) (top_none s os nx ls x h)
+pub best_none : (q : Queue) (os : List Resting) (nx : List ℕ) (ls : List Level) → IsIndexed q os nx ls → length ls ≡ 0 → best_in q (open_orders os) ≡ None
+best_none q os nx ls x h = ap (option_map (λ (y : Resting). let b : Best = record { price = y.price; shares = shares_in q y.price (open_orders os) } in b)) (top_none q os nx ls x h)

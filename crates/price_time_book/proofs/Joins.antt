@@ -1,5 +1,5 @@
 -- An order joins the vector of arrival, the links and the levels.
-use Rattle.std.proofs.Common.{◌≡◌, ◌≢◌, ℕ, ◌+◌, ◌-◌, ◌<◌, ◌≤◌, true, false, cond, eqb, List, [], ◌∷◌, ◌++◌, length, get_or, set, take, drop, refl, sym, ap, ◌∙◌, arith, inl, inr, suc, zero, subst, All, Contains, ◌⊎◌}
+use Rattle.std.proofs.Common.{◌≡◌, ◌≢◌, ℕ, ◌+◌, ◌-◌, ◌*◌, ◌<◌, ◌≤◌, Bool, true, false, cond, eqb, List, [], ◌∷◌, ◌++◌, length, get_or, set, take, drop, refl, sym, ap, ◌∙◌, arith, inl, inr, suc, zero, subst, All, Contains, ◌⊎◌}
 use Rattle.std.specs.List.{AllByRecursion, insert}
 use Rattle.std.proofs.lemmas.Bool.{cases_eq, cases_lt}
 use Rattle.std.proofs.lemmas.Bool.Decides.{nat_tests}
@@ -7,9 +7,11 @@ use Rattle.std.proofs.lemmas.List.{get_or-map, length-map, length-set, length_pu
 use Rattle.std.proofs.lemmas.List.Elements.{All-from_recursion, All-append, All-cons, All-take, All-drop, Contains-get_or, Contains-append_left, Contains-append_right, Contains-append_cases}
 use Rattle.price_time_book.specs.declared.resting.Resting.{Resting}
 use Rattle.price_time_book.specs.declared.levels.Level.{Level}
+use Rattle.price_time_book.specs.declared.levels.Queue.{Queue}
 use Rattle.market_types.specs.declared.order.Side.{Side}
 use Rattle.market_types.specs.declared.order.Side.TheVariants.{Buy, Sell}
-use Rattle.price_time_book.specs.Indexed.{bit, key, key_of, open_orders, prices, shares_by, IsImproving, IsWorse, nothing, IsOpenAt, IsClear, IsPlacedAt, IsFree, IsRight, IsLinked, IsIndexed}
+use Rattle.price_time_book.specs.Queues.{queue_of}
+use Rattle.price_time_book.specs.Indexed.{bit, hidden_bit, key, key_of, open_orders, prices, shares_by, IsImproving, IsWorse, nothing, IsOpenAt, IsClear, IsPlacedAt, IsFree, IsRight, IsLinked, IsIndexed}
 use Rattle.price_time_book.proofs.Prices.{rising_head, rising_le, worse_after, worse_apart, worse_before, worse-trans}
 
 pub open-push-cases : (os : List Resting) (x : Resting) (p k : ℕ) → IsOpenAt (os ++ x ∷ []) p k → IsOpenAt os p k ⊎ ((k ≡ length os) × (key_of x ≡ p))
@@ -119,7 +121,7 @@ pub linked-push-new : (os : List Resting) (x : Resting) (p : ℕ) → IsLinked (
 linked-push-new os x p = record { next = λ l. absurd (omega arith); between = λ l. absurd (omega arith); none = λ l. free-end os x p }
 
 -- levels after a push
-pub right-push-other : (sd : Side) → (os : List Resting) (nx nexts : List ℕ) (x : Resting) (l : Level) → 0 < x.left → key sd l.price ≢ key_of x → ((k : ℕ) → IsPlacedAt os (key sd l.price) k → get_or nexts k 0 ≡ get_or nx k 0) → IsRight sd os nx l → IsRight sd (os ++ x ∷ []) nexts l
+pub right-push-other : (sd : Queue) → (os : List Resting) (nx nexts : List ℕ) (x : Resting) (l : Level) → 0 < x.left → key sd l.price ≢ key_of x → ((k : ℕ) → IsPlacedAt os (key sd l.price) k → get_or nexts k 0 ≡ get_or nx k 0) → IsRight sd os nx l → IsRight sd (os ++ x ∷ []) nexts l
 right-push-other sd os nx nexts x l h n stays r = record {
   first = placed-push-old os x (key sd l.price) l.first r.first;
   before = clear-push os x (key sd l.price) 0 l.first (omega (arith, r.first.within)) r.before;
@@ -133,7 +135,7 @@ right-push-other sd os nx nexts x l h n stays r = record {
   live = r.live;
 }
 
-pub right-push-same : (sd : Side) → (os : List Resting) (nx : List ℕ) (x : Resting) (l : Level) → 0 < x.left → key sd l.price ≡ key_of x → length nx ≡ length os → IsRight sd os nx l → IsRight sd (os ++ x ∷ []) (set nx l.last (length os) ++ length os ∷ []) (record l { last = length os; shares = l.shares + x.left })
+pub right-push-same : (sd : Queue) → (os : List Resting) (nx : List ℕ) (x : Resting) (l : Level) → 0 < x.left → key sd l.price ≡ key_of x → length nx ≡ length os → IsRight sd os nx l → IsRight sd (os ++ x ∷ []) (set nx l.last (length os) ++ length os ∷ []) (record l { last = length os; shares = l.shares + x.left })
 right-push-same sd os nx x l h e same r =
     let n = length os in
     let nexts = set nx l.last n ++ n ∷ [] in
@@ -164,7 +166,7 @@ right-push-same sd os nx x l h e same r =
       live = omega (arith, r.live);
     }
 
-pub right-push-new : (os : List Resting) (nx : List ℕ) (x : Resting) → 0 < x.left → length nx ≡ length os → ((k : ℕ) → IsOpenAt os (key_of x) k → ⊥) → IsRight x.side (os ++ x ∷ []) (nx ++ length os ∷ []) (record { price = x.price; first = length os; last = length os; shares = x.left })
+pub right-push-new : (os : List Resting) (nx : List ℕ) (x : Resting) → 0 < x.left → length nx ≡ length os → ((k : ℕ) → IsOpenAt os (key_of x) k → ⊥) → IsRight (queue_of x) (os ++ x ∷ []) (nx ++ length os ∷ []) (record { price = x.price; first = length os; last = length os; shares = x.left })
 right-push-new os nx x h same f = record {
   first = placed-push-new os x;
   before = clear-push os x (key_of x) 0 (length os) (omega arith) (record { closed = λ k a b o. f k o });
@@ -208,40 +210,56 @@ pub price_at : (ls : List Level) (k : ℕ) (d : Level) → k < length ls → get
 price_at ls k d h = get_or-map (λ (l : Level). l.price) ls k d 0 h
 
 -- two levels have two prices
-pub levels_differ : (sd : Side) (ls : List Level) (i j : ℕ) (d e : Level) → IsImproving sd (prices ls) → i < length ls → j < length ls → i ≢ j → (get_or ls i d).price ≢ (get_or ls j e).price
+pub levels_differ : (sd : Queue) (ls : List Level) (i j : ℕ) (d e : Level) → IsImproving sd.side (prices ls) → i < length ls → j < length ls → i ≢ j → (get_or ls i d).price ≢ (get_or ls j e).price
 levels_differ sd ls i j d e r a b n q =
     let long = length-map ls (λ (l : Level). l.price) in
     let same : get_or (prices ls) i 0 ≡ get_or (prices ls) j 0 = price_at ls i d a ∙ q ∙ sym (price_at ls j e b) in
     elim (cases_lt i j) [
-      | inl h ↦ worse_apart sd (get_or (prices ls) i 0) (get_or (prices ls) j 0) (rising_lt sd (prices ls) i j r h (omega (arith, long))) same
-      | inr h ↦ (let g : j < i = omega arith in worse_apart sd (get_or (prices ls) j 0) (get_or (prices ls) i 0) (rising_lt sd (prices ls) j i r g (omega (arith, long))) (sym same))
+      | inl h ↦ worse_apart sd.side (get_or (prices ls) i 0) (get_or (prices ls) j 0) (rising_lt sd.side (prices ls) i j r h (omega (arith, long))) same
+      | inr h ↦ (let g : j < i = omega arith in worse_apart sd.side (get_or (prices ls) j 0) (get_or (prices ls) i 0) (rising_lt sd.side (prices ls) j i r g (omega (arith, long))) (sym same))
     ]
 
 -- keys
-pub key_price : (sd : Side) (a b : ℕ) → key sd a ≡ key sd b → a ≡ b
+pub key_price : (sd : Queue) (a b : ℕ) → key sd a ≡ key sd b → a ≡ b
 key_price sd a b e = omega arith
 
-bit_small : (sd : Side) → bit sd ≤ 1
-bit_small Buy = omega arith
-bit_small Sell = omega arith
+part_small : (a : Side) (x : Bool) → 2 * bit a + hidden_bit x ≤ 3
+part_small Buy true = omega arith
+part_small Buy false = omega arith
+part_small Sell true = omega arith
+part_small Sell false = omega arith
 
-bit_apart : (sd t : Side) → sd ≢ t → bit sd ≢ bit t
-bit_apart Buy Buy n e = n refl
-bit_apart Buy Sell n e = omega arith
-bit_apart Sell Buy n e = omega arith
-bit_apart Sell Sell n e = n refl
+part_apart : (a b : Side) (x y : Bool) → (a ≡ b → x ≡ y → ⊥) → 2 * bit a + hidden_bit x ≢ 2 * bit b + hidden_bit y
+part_apart Buy Buy true true n e = n refl refl
+part_apart Buy Buy true false n e = omega arith
+part_apart Buy Buy false true n e = omega arith
+part_apart Buy Buy false false n e = n refl refl
+part_apart Buy Sell true true n e = omega arith
+part_apart Buy Sell true false n e = omega arith
+part_apart Buy Sell false true n e = omega arith
+part_apart Buy Sell false false n e = omega arith
+part_apart Sell Buy true true n e = omega arith
+part_apart Sell Buy true false n e = omega arith
+part_apart Sell Buy false true n e = omega arith
+part_apart Sell Buy false false n e = omega arith
+part_apart Sell Sell true true n e = n refl refl
+part_apart Sell Sell true false n e = omega arith
+part_apart Sell Sell false true n e = omega arith
+part_apart Sell Sell false false n e = n refl refl
 
-pub keys_apart : (sd t : Side) → sd ≢ t → (a b : ℕ) → key sd a ≢ key t b
-keys_apart sd t n a b e = omega (arith, bit_small sd, bit_small t, bit_apart sd t n)
+pub keys_apart : (sd t : Queue) → sd ≢ t → (a b : ℕ) → key sd a ≢ key t b
+keys_apart sd t n a b e =
+    let apart = part_apart sd.side t.side sd.shown t.shown (λ f g. n (λ i. record { side = f i; shown = g i })) in
+    omega (arith, part_small sd.side sd.shown, part_small t.side t.shown, apart)
 
 -- an order at a price that has a level
-pub indexed_extend : (os : List Resting) (nx : List ℕ) (ls : List Level) (x : Resting) (at : ℕ) (l : Level) → IsIndexed x.side os nx ls → at < length ls → l ≡ get_or ls at l → l.price ≡ x.price → 0 < x.left → IsIndexed x.side (os ++ x ∷ []) (set nx l.last (length os) ++ length os ∷ []) (set ls at (record l { last = length os; shares = l.shares + x.left }))
+pub indexed_extend : (os : List Resting) (nx : List ℕ) (ls : List Level) (x : Resting) (at : ℕ) (l : Level) → IsIndexed (queue_of x) os nx ls → at < length ls → l ≡ get_or ls at l → l.price ≡ x.price → 0 < x.left → IsIndexed (queue_of x) (os ++ x ∷ []) (set nx l.last (length os) ++ length os ∷ []) (set ls at (record l { last = length os; shares = l.shares + x.left }))
 indexed_extend os nx ls x at l v h e p live =
     let os' = os ++ x ∷ [] in
     let n = length os in
     let l' : Level = record l { last = n; shares = l.shares + x.left } in
     let nexts = set nx l.last n ++ n ∷ [] in
-    let here : IsRight x.side os nx l = subst (λ (m : Level). IsRight x.side os nx m) (sym e) (v.right at l h) in
+    let here : IsRight (queue_of x) os nx l = subst (λ (m : Level). IsRight (queue_of x) os nx m) (sym e) (v.right at l h) in
     let price : get_or (prices ls) at 0 ≡ l.price = price_at ls at l h ∙ ap (λ (m : Level). m.price) (sym e) in
     let stays : prices (set ls at l') ≡ prices ls = map-set (λ (m : Level). m.price) ls at l' ∙ ap (λ (q : ℕ). set (prices ls) at q) (sym price) ∙ set-get_or (prices ls) at 0 in
     let long : length (set nx l.last n) ≡ n = length-set nx l.last n ∙ v.same in
@@ -251,23 +269,23 @@ indexed_extend os nx ls x at l v h e p live =
       right = λ k d w.
           let within : k < length ls = omega (arith, length-set ls at l') in
           elim (cases_eq k at) [
-            | inl q ↦ subst (λ (m : Level). IsRight x.side os' nexts m) (sym (ap (λ j. get_or (set ls at l') j d) q ∙ get_or-set_same ls at l' d h)) (right-push-same x.side os nx x l live (ap (key x.side) p) v.same here)
+            | inl q ↦ subst (λ (m : Level). IsRight (queue_of x) os' nexts m) (sym (ap (λ j. get_or (set ls at l') j d) q ∙ get_or-set_same ls at l' d h)) (right-push-same (queue_of x) os nx x l live (ap (key (queue_of x)) p) v.same here)
             | inr q ↦
                 let m = get_or ls k d in
-                let apart : key x.side m.price ≢ key_of x = λ f. levels_differ x.side ls k at d l v.rising within h q (key_price x.side m.price x.price f ∙ sym p ∙ ap (λ (m : Level). m.price) e) in
-                let others : (j : ℕ) → IsPlacedAt os (key x.side m.price) j → get_or nexts j 0 ≡ get_or nx j 0 = λ j o.
+                let apart : key (queue_of x) m.price ≢ key_of x = λ f. levels_differ (queue_of x) ls k at d l v.rising within h q (key_price (queue_of x) m.price x.price f ∙ sym p ∙ ap (λ (m : Level). m.price) e) in
+                let others : (j : ℕ) → IsPlacedAt os (key (queue_of x) m.price) j → get_or nexts j 0 ≡ get_or nx j 0 = λ j o.
                 get_or_append_left (set nx l.last n) (n ∷ []) 0 j (omega (arith, o.within, long))
-                ∙ get_or-set_other nx l.last j n 0 (λ s. apart (sym o.price ∙ ap (λ i. key_of (get_or os i nothing)) s ∙ here.last.price ∙ ap (key x.side) p)) in
-                subst (λ (m : Level). IsRight x.side os' nexts m) (sym (get_or-set_other ls at k l' d q)) (right-push-other x.side os nx nexts x m live apart others (v.right k d within))
+                ∙ get_or-set_other nx l.last j n 0 (λ s. apart (sym o.price ∙ ap (λ i. key_of (get_or os i nothing)) s ∙ here.last.price ∙ ap (key (queue_of x)) p)) in
+                subst (λ (m : Level). IsRight (queue_of x) os' nexts m) (sym (get_or-set_other ls at k l' d q)) (right-push-other (queue_of x) os nx nexts x m live apart others (v.right k d within))
           ];
-      covered = λ q k o. elim (open-push-cases os x (key x.side q) k o) [
+      covered = λ q k o. elim (open-push-cases os x (key (queue_of x) q) k o) [
         | inl old ↦ subst (λ (ps : List ℕ). Contains ps q) (sym stays) (v.covered q k old)
-        | inr new ↦ subst (λ (ps : List ℕ). Contains ps q) (sym stays) (subst (λ (m : ℕ). Contains (prices ls) m) (price ∙ p ∙ key_price x.side x.price q new.1) (Contains-get_or (prices ls) at 0 (omega (arith, length-map ls (λ (m : Level). m.price)))))
+        | inr new ↦ subst (λ (ps : List ℕ). Contains ps q) (sym stays) (subst (λ (m : ℕ). Contains (prices ls) m) (price ∙ p ∙ key_price (queue_of x) x.price q new.1) (Contains-get_or (prices ls) at 0 (omega (arith, length-map ls (λ (m : Level). m.price)))))
       ];
     }
 
 -- an order at a price that has no level
-pub indexed_make : (os : List Resting) (nx : List ℕ) (ls : List Level) (x : Resting) (at : ℕ) → IsIndexed x.side os nx ls → at ≤ length ls → ((d : Level) → 0 < at → IsWorse x.side (get_or ls (at - 1) d).price x.price) → ((d : Level) → at < length ls → IsWorse x.side x.price (get_or ls at d).price) → 0 < x.left → IsIndexed x.side (os ++ x ∷ []) (nx ++ length os ∷ []) (insert ls at (record { price = x.price; first = length os; last = length os; shares = x.left }))
+pub indexed_make : (os : List Resting) (nx : List ℕ) (ls : List Level) (x : Resting) (at : ℕ) → IsIndexed (queue_of x) os nx ls → at ≤ length ls → ((d : Level) → 0 < at → IsWorse x.side (get_or ls (at - 1) d).price x.price) → ((d : Level) → at < length ls → IsWorse x.side x.price (get_or ls at d).price) → 0 < x.left → IsIndexed (queue_of x) (os ++ x ∷ []) (nx ++ length os ∷ []) (insert ls at (record { price = x.price; first = length os; last = length os; shares = x.left }))
 indexed_make os nx ls x at v le low high live =
     let os' = os ++ x ∷ [] in
     let n = length os in
@@ -285,40 +303,40 @@ indexed_make os nx ls x at v le low high live =
       | inr a ↦ worse_apart x.side x.price (get_or ps k 0) (worse_after x.side x.price (get_or ps at 0) (get_or ps k 0) (above (omega arith)) (rising_le x.side ps at k v.rising a h)) (sym q)
     ] in
     let none : (k : ℕ) → IsOpenAt os (key_of x) k → ⊥ = λ k o. (let c = v.covered x.price k o in other c.0 c.1 (get_or_default ps c.0 0 x.price c.1 ∙ c.2)) in
-    let kept : All (λ (m : Level). IsRight x.side os' nexts m) ls = λ k d h. right-push-other x.side os nx nexts x (get_or ls k d) live (λ q. other k (omega (arith, long)) (price_at ls k d h ∙ key_price x.side (get_or ls k d).price x.price q)) (λ j o. get_or_append_left nx (n ∷ []) 0 j (omega (arith, o.within, v.same))) (v.right k d h) in
+    let kept : All (λ (m : Level). IsRight (queue_of x) os' nexts m) ls = λ k d h. right-push-other (queue_of x) os nx nexts x (get_or ls k d) live (λ q. other k (omega (arith, long)) (price_at ls k d h ∙ key_price (queue_of x) (get_or ls k d).price x.price q)) (λ j o. get_or_append_left nx (n ∷ []) 0 j (omega (arith, o.within, v.same))) (v.right k d h) in
     record {
       same = length_push nx n ∙ ap (λ k. k + 1) v.same ∙ sym (length_push os x);
       rising = subst (IsImproving x.side) (sym joins) rising;
-      right = All-append (λ (m : Level). IsRight x.side os' nexts m) (take at ls) (l ∷ drop at ls) (All-take (λ (m : Level). IsRight x.side os' nexts m) at ls kept) (All-cons (λ (m : Level). IsRight x.side os' nexts m) l (drop at ls) (right-push-new os nx x live v.same none) (All-drop (λ (m : Level). IsRight x.side os' nexts m) at ls kept));
-      covered = λ q k o. subst (λ (r : List ℕ). Contains r q) (sym joins) (elim (open-push-cases os x (key x.side q) k o) [
+      right = All-append (λ (m : Level). IsRight (queue_of x) os' nexts m) (take at ls) (l ∷ drop at ls) (All-take (λ (m : Level). IsRight (queue_of x) os' nexts m) at ls kept) (All-cons (λ (m : Level). IsRight (queue_of x) os' nexts m) l (drop at ls) (right-push-new os nx x live v.same none) (All-drop (λ (m : Level). IsRight (queue_of x) os' nexts m) at ls kept));
+      covered = λ q k o. subst (λ (r : List ℕ). Contains r q) (sym joins) (elim (open-push-cases os x (key (queue_of x) q) k o) [
         | inl old ↦ elim (Contains-append_cases (take at ps) (drop at ps) q (subst (λ (r : List ℕ). Contains r q) (sym (take-append-drop at ps)) (v.covered q k old))) [
           | inl a ↦ Contains-append_left (take at ps) (x.price ∷ drop at ps) q a
           | inr a ↦ Contains-append_right (take at ps) (x.price ∷ drop at ps) q (Contains-append_right (x.price ∷ []) (drop at ps) q a)
         ]
-        | inr new ↦ Contains-append_right (take at ps) (x.price ∷ drop at ps) q (subst (λ m. Contains (x.price ∷ drop at ps) m) (key_price x.side x.price q new.1) (Contains-get_or (x.price ∷ drop at ps) 0 0 (omega arith)))
+        | inr new ↦ Contains-append_right (take at ps) (x.price ∷ drop at ps) q (subst (λ m. Contains (x.price ∷ drop at ps) m) (key_price (queue_of x) x.price q new.1) (Contains-get_or (x.price ∷ drop at ps) 0 0 (omega arith)))
       ]);
     }
 
--- an order of the other side
-pub indexed_other : (sd : Side) (os : List Resting) (nx nexts : List ℕ) (ls : List Level) (x : Resting) → sd ≢ x.side → 0 < x.left → length nexts ≡ length os + 1 → ((p k : ℕ) → IsPlacedAt os (key sd p) k → get_or nexts k 0 ≡ get_or nx k 0) → IsIndexed sd os nx ls → IsIndexed sd (os ++ x ∷ []) nexts ls
+-- an order of another queue
+pub indexed_other : (sd : Queue) (os : List Resting) (nx nexts : List ℕ) (ls : List Level) (x : Resting) → sd ≢ queue_of x → 0 < x.left → length nexts ≡ length os + 1 → ((p k : ℕ) → IsPlacedAt os (key sd p) k → get_or nexts k 0 ≡ get_or nx k 0) → IsIndexed sd os nx ls → IsIndexed sd (os ++ x ∷ []) nexts ls
 indexed_other sd os nx nexts ls x n live long stays v = record {
   same = long ∙ sym (length_push os x);
   rising = v.rising;
-  right = λ k d w. right-push-other sd os nx nexts x (get_or ls k d) live (keys_apart sd x.side n (get_or ls k d).price x.price) (stays (get_or ls k d).price) (v.right k d w);
+  right = λ k d w. right-push-other sd os nx nexts x (get_or ls k d) live (keys_apart sd (queue_of x) n (get_or ls k d).price x.price) (stays (get_or ls k d).price) (v.right k d w);
   covered = λ q k o. elim (open-push-cases os x (key sd q) k o) [
     | inl old ↦ v.covered q k old
-    | inr new ↦ absurd (keys_apart sd x.side n q x.price (sym new.1))
+    | inr new ↦ absurd (keys_apart sd (queue_of x) n q x.price (sym new.1))
   ];
 }
 
--- what the other side sees of an order that joins a level, or makes one
-pub others_extend : (t : Side) (os : List Resting) (nx : List ℕ) (ls : List Level) (x : Resting) (last q : ℕ) → t ≢ x.side → 0 < x.left → length nx ≡ length os → IsPlacedAt os (key x.side q) last → IsIndexed t os nx ls → IsIndexed t (os ++ x ∷ []) (set nx last (length os) ++ length os ∷ []) ls
+-- what another queue sees of an order that joins a level, or makes one
+pub others_extend : (t : Queue) (os : List Resting) (nx : List ℕ) (ls : List Level) (x : Resting) (last q : ℕ) → t ≢ queue_of x → 0 < x.left → length nx ≡ length os → IsPlacedAt os (key (queue_of x) q) last → IsIndexed t os nx ls → IsIndexed t (os ++ x ∷ []) (set nx last (length os) ++ length os ∷ []) ls
 others_extend t os nx ls x last q n live same here v =
     let m = length os in
     let long : length (set nx last m) ≡ m = length-set nx last m ∙ same in
     indexed_other t os nx (set nx last m ++ m ∷ []) ls x n live (length_push (set nx last m) m ∙ ap (λ k. k + 1) long)
-    (λ p k o. get_or_append_left (set nx last m) (m ∷ []) 0 k (omega (arith, o.within, long)) ∙ get_or-set_other nx last k m 0 (λ s. keys_apart t x.side n p q (sym o.price ∙ ap (λ i. key_of (get_or os i nothing)) s ∙ here.price))) v
+    (λ p k o. get_or_append_left (set nx last m) (m ∷ []) 0 k (omega (arith, o.within, long)) ∙ get_or-set_other nx last k m 0 (λ s. keys_apart t (queue_of x) n p q (sym o.price ∙ ap (λ i. key_of (get_or os i nothing)) s ∙ here.price))) v
 
-pub others_make : (t : Side) (os : List Resting) (nx : List ℕ) (ls : List Level) (x : Resting) → t ≢ x.side → 0 < x.left → length nx ≡ length os → IsIndexed t os nx ls → IsIndexed t (os ++ x ∷ []) (nx ++ length os ∷ []) ls
+pub others_make : (t : Queue) (os : List Resting) (nx : List ℕ) (ls : List Level) (x : Resting) → t ≢ queue_of x → 0 < x.left → length nx ≡ length os → IsIndexed t os nx ls → IsIndexed t (os ++ x ∷ []) (nx ++ length os ∷ []) ls
 others_make t os nx ls x n live same v =
     indexed_other t os nx (nx ++ length os ∷ []) ls x n live (length_push nx (length os) ∙ ap (λ k. k + 1) same) (λ p k o. get_or_append_left nx (length os ∷ []) 0 k (omega (arith, o.within, same))) v

@@ -1,6 +1,7 @@
 pub mod Bests
 pub mod Changes
 pub mod Counts
+pub mod Earliest
 pub mod Firsts
 pub mod Indexes
 pub mod Joins
@@ -8,7 +9,11 @@ pub mod Lowers
 pub mod Matching
 pub mod Packs
 pub mod Places
+pub mod Priceds
 pub mod Prices
+pub mod Ranks
+pub mod Shown
+pub mod Sides
 pub mod Stays
 pub mod Takes
 pub mod Tops

@@ -6,7 +6,9 @@ use Rattle.std.proofs.lemmas.Bool.Decides.{nat_tests}
 use Rattle.std.proofs.lemmas.List.{length-map, length-set, get_or_default, get_or-set_same, get_or-set_other, map-set, set-get_or, take-map, drop-map, map-append}
 use Rattle.price_time_book.specs.declared.resting.Resting.{Resting}
 use Rattle.price_time_book.specs.declared.levels.Level.{Level}
+use Rattle.price_time_book.specs.declared.levels.Queue.{Queue}
 use Rattle.market_types.specs.declared.order.Side.{Side}
+use Rattle.price_time_book.specs.Queues.{queue_of}
 use Rattle.price_time_book.specs.Indexed.{key, key_of, open_orders, prices, shares_by, IsImproving, IsWorse, nothing, IsOpenAt, IsClear, IsPlacedAt, IsFree, IsRight, IsLinked, IsIndexed}
 use Rattle.price_time_book.proofs.Prices.{shares_open}
 use Rattle.price_time_book.proofs.Joins.{key_price, keys_apart, levels_differ, price_at, shares-none}
@@ -73,7 +75,7 @@ linked-up os i v w p k n h f = record {
 }
 
 -- a level after a change of open shares
-pub right-lower : (sd : Side) (os : List Resting) (nx : List ℕ) (l : Level) (i v w s : ℕ) → i < length os → v ≤ (get_or os i nothing).left → s ≡ shares_by (key sd l.price) (open_orders (with_left os i v w)) → 0 < s → IsRight sd os nx l → IsRight sd (with_left os i v w) nx (record l { shares = s })
+pub right-lower : (sd : Queue) (os : List Resting) (nx : List ℕ) (l : Level) (i v w s : ℕ) → i < length os → v ≤ (get_or os i nothing).left → s ≡ shares_by (key sd l.price) (open_orders (with_left os i v w)) → 0 < s → IsRight sd os nx l → IsRight sd (with_left os i v w) nx (record l { shares = s })
 right-lower sd os nx l i v w s h g e live r = record {
   first = placed-up os i v w (key sd l.price) l.first h r.first;
   before = record { closed = λ k a b o. r.before.closed k a b (open-down os i v w (key sd l.price) k h g o) };
@@ -109,7 +111,7 @@ open_each P (o ∷ os) (suc k) h g a =
     open_each P os k (omega arith) g (elim (eqb o.left 0) as (λ b. AllByRecursion P (cond b (open_orders os) (o ∷ open_orders os)) → AllByRecursion P (open_orders os)) [ true ↦ λ q. q | false ↦ λ q. q.1 ] a)
 
 -- one closed order further along a chain
-pub chain_on : (sd : Side) (os : List Resting) (nx : List ℕ) (l : Level) (at : ℕ) → IsRight sd os nx l → l.first ≤ at → IsPlacedAt os (key sd l.price) at → IsClear os (key sd l.price) 0 at → (get_or os at nothing).left ≡ 0 → (at < get_or nx at 0) × IsPlacedAt os (key sd l.price) (get_or nx at 0) × IsClear os (key sd l.price) 0 (get_or nx at 0)
+pub chain_on : (sd : Queue) (os : List Resting) (nx : List ℕ) (l : Level) (at : ℕ) → IsRight sd os nx l → l.first ≤ at → IsPlacedAt os (key sd l.price) at → IsClear os (key sd l.price) 0 at → (get_or os at nothing).left ≡ 0 → (at < get_or nx at 0) × IsPlacedAt os (key sd l.price) (get_or nx at 0) × IsClear os (key sd l.price) 0 (get_or nx at 0)
 chain_on sd os nx l at r w o f z =
     let n = get_or nx at 0 in
     let k = r.linked at w o in
@@ -137,7 +139,7 @@ chain_on sd os nx l at r w o f z =
     )
 
 -- the index after an order keeps fewer open shares
-pub indexed_lower : (sd : Side) (os : List Resting) (nx : List ℕ) (ls : List Level) (at : ℕ) (l : Level) (i v w s : ℕ) → IsIndexed sd os nx ls → at < length ls → l ≡ get_or ls at l → IsOpenAt os (key sd l.price) i → v ≤ (get_or os i nothing).left → s + (get_or os i nothing).left ≡ l.shares + v → 0 < s → IsIndexed sd (with_left os i v w) nx (set ls at (record l { shares = s }))
+pub indexed_lower : (sd : Queue) (os : List Resting) (nx : List ℕ) (ls : List Level) (at : ℕ) (l : Level) (i v w s : ℕ) → IsIndexed sd os nx ls → at < length ls → l ≡ get_or ls at l → IsOpenAt os (key sd l.price) i → v ≤ (get_or os i nothing).left → s + (get_or os i nothing).left ≡ l.shares + v → 0 < s → IsIndexed sd (with_left os i v w) nx (set ls at (record l { shares = s }))
 indexed_lower sd os nx ls at l i v w s x h e o g sum live =
     let os' = with_left os i v w in
     let l' : Level = record l { shares = s } in
@@ -146,7 +148,7 @@ indexed_lower sd os nx ls at l i v w s x h e o g sum live =
     let stays : prices (set ls at l') ≡ prices ls = map-set (λ (m : Level). m.price) ls at l' ∙ ap (λ (q : ℕ). set (prices ls) at q) (sym price) ∙ set-get_or (prices ls) at 0 in
     record {
       same = x.same ∙ sym (length-set os i (record (get_or os i nothing) { left = v; intended = w }));
-      rising = subst (IsImproving sd) (sym stays) x.rising;
+      rising = subst (IsImproving sd.side) (sym stays) x.rising;
       right = λ k d below.
           let within : k < length ls = omega (arith, length-set ls at l') in
           elim (cases_eq k at) [
@@ -185,7 +187,7 @@ contains-remove ps at q h n c =
     ]
 
 -- the index after the last open shares of a level have left
-pub indexed_close : (sd : Side) (os : List Resting) (nx : List ℕ) (ls : List Level) (at : ℕ) (l : Level) (i v w : ℕ) → IsIndexed sd os nx ls → at < length ls → l ≡ get_or ls at l → IsOpenAt os (key sd l.price) i → v ≤ (get_or os i nothing).left → l.shares + v ≤ (get_or os i nothing).left → IsIndexed sd (with_left os i v w) nx (remove ls at)
+pub indexed_close : (sd : Queue) (os : List Resting) (nx : List ℕ) (ls : List Level) (at : ℕ) (l : Level) (i v w : ℕ) → IsIndexed sd os nx ls → at < length ls → l ≡ get_or ls at l → IsOpenAt os (key sd l.price) i → v ≤ (get_or os i nothing).left → l.shares + v ≤ (get_or os i nothing).left → IsIndexed sd (with_left os i v w) nx (remove ls at)
 indexed_close sd os nx ls at l i v w x h e o g sum =
     let os' = with_left os i v w in
     let here : IsRight sd os nx l = subst (λ (m : Level). IsRight sd os nx m) (sym e) (x.right at l h) in
@@ -201,7 +203,7 @@ indexed_close sd os nx ls at l i v w x h e o g sum =
     right-lower sd os nx m i v w m.shares o.within g (r.shares ∙ sym (shares-lower-other os i v w (key sd m.price) o.within apart)) r.live r) in
     record {
       same = x.same ∙ sym (length-set os i (record (get_or os i nothing) { left = v; intended = w }));
-      rising = subst (IsImproving sd) (sym leaves) (rising-remove sd (prices ls) at x.rising);
+      rising = subst (IsImproving sd.side) (sym leaves) (rising-remove sd.side (prices ls) at x.rising);
       right = λ k d below.
           let fits : k + 1 < length ls = omega (arith, length-remove ls at h) in
           elim (cases_lt k at) [
@@ -212,21 +214,21 @@ indexed_close sd os nx ls at l i v w x h e o g sum =
           (contains-remove (prices ls) at q (omega (arith, long)) (λ s. (let z : 0 < shares_by (key sd l.price) (open_orders os') = subst (λ p. 0 < shares_by (key sd p) (open_orders os')) (sym s ∙ price) (shares_open os' (key sd q) k f) in absurd (omega (arith, empty)))) (x.covered q k (open-down os i v w (key sd q) k o.within g f)));
     }
 
--- the index of the other side
-pub indexed_lower-other : (sd : Side) (os : List Resting) (nx : List ℕ) (ls : List Level) (i v w : ℕ) → IsIndexed sd os nx ls → i < length os → sd ≢ (get_or os i nothing).side → v ≤ (get_or os i nothing).left → IsIndexed sd (with_left os i v w) nx ls
+-- the index of another queue
+pub indexed_lower-other : (sd : Queue) (os : List Resting) (nx : List ℕ) (ls : List Level) (i v w : ℕ) → IsIndexed sd os nx ls → i < length os → sd ≢ queue_of (get_or os i nothing) → v ≤ (get_or os i nothing).left → IsIndexed sd (with_left os i v w) nx ls
 indexed_lower-other sd os nx ls i v w x h n g = record {
   same = x.same ∙ sym (length-set os i (record (get_or os i nothing) { left = v; intended = w }));
   rising = x.rising;
   right = λ k d within.
       let m = get_or ls k d in
       let r = x.right k d within in
-      let apart : key_of (get_or os i nothing) ≢ key sd m.price = λ f. keys_apart sd (get_or os i nothing).side n m.price (get_or os i nothing).price (sym f) in
+      let apart : key_of (get_or os i nothing) ≢ key sd m.price = λ f. keys_apart sd (queue_of (get_or os i nothing)) n m.price (get_or os i nothing).price (sym f) in
       right-lower sd os nx m i v w m.shares h g (r.shares ∙ sym (shares-lower-other os i v w (key sd m.price) h apart)) r.live r;
   covered = λ q k f. x.covered q k (open-down os i v w (key sd q) k h g f);
 }
 
 -- a level's chain may begin at its first open order
-right-front : (sd : Side) (os : List Resting) (nx : List ℕ) (l : Level) (k : ℕ) → l.first ≤ k → IsOpenAt os (key sd l.price) k → IsClear os (key sd l.price) 0 k → IsRight sd os nx l → IsRight sd os nx (record l { first = k })
+right-front : (sd : Queue) (os : List Resting) (nx : List ℕ) (l : Level) (k : ℕ) → l.first ≤ k → IsOpenAt os (key sd l.price) k → IsClear os (key sd l.price) 0 k → IsRight sd os nx l → IsRight sd os nx (record l { first = k })
 right-front sd os nx l k le o f r = record {
   first = record { within = o.within; price = o.price };
   before = f;
@@ -237,7 +239,7 @@ right-front sd os nx l k le o f r = record {
   live = r.live;
 }
 
-pub indexed_front : (sd : Side) (os : List Resting) (nx : List ℕ) (ls : List Level) (at : ℕ) (l : Level) (k : ℕ) → IsIndexed sd os nx ls → at < length ls → l ≡ get_or ls at l → l.first ≤ k → IsOpenAt os (key sd l.price) k → IsClear os (key sd l.price) 0 k → IsIndexed sd os nx (set ls at (record l { first = k }))
+pub indexed_front : (sd : Queue) (os : List Resting) (nx : List ℕ) (ls : List Level) (at : ℕ) (l : Level) (k : ℕ) → IsIndexed sd os nx ls → at < length ls → l ≡ get_or ls at l → l.first ≤ k → IsOpenAt os (key sd l.price) k → IsClear os (key sd l.price) 0 k → IsIndexed sd os nx (set ls at (record l { first = k }))
 indexed_front sd os nx ls at l k x h e le o f =
     let l' : Level = record l { first = k } in
     let here : IsRight sd os nx l = subst (λ (m : Level). IsRight sd os nx m) (sym e) (x.right at l h) in
@@ -245,7 +247,7 @@ indexed_front sd os nx ls at l k x h e le o f =
     let stays : prices (set ls at l') ≡ prices ls = map-set (λ (m : Level). m.price) ls at l' ∙ ap (λ (q : ℕ). set (prices ls) at q) (sym price) ∙ set-get_or (prices ls) at 0 in
     record {
       same = x.same;
-      rising = subst (IsImproving sd) (sym stays) x.rising;
+      rising = subst (IsImproving sd.side) (sym stays) x.rising;
       right = λ j d below.
           let within : j < length ls = omega (arith, length-set ls at l') in
           elim (cases_eq j at) [

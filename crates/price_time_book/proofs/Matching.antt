@@ -6,9 +6,9 @@ use Rattle.std.proofs.lemmas.Bool.{cases_Bool, cases_eq, cases_lt, eq-eqb, ne_eq
 use Rattle.market_types.specs.declared.order.Side.{Side}
 use Rattle.price_time_book.specs.declared.resting.Resting.{Resting}
 use Rattle.price_time_book.specs.Matched.{Matching, IsEnded, completed, fill_of, matched_by, with_fill, with_next}
-use Rattle.price_time_book.specs.Next.{crosses, first_best, next_of}
+use Rattle.price_time_book.specs.Next.{beats, crosses, first_best, next_of}
 use Rattle.price_time_book.specs.Orders.{changed, without}
-use Rattle.price_time_book.specs.Sides.{is_better, opposite_of}
+use Rattle.price_time_book.specs.Sides.{opposite_of}
 
 -- ---- the next order is one of the book
 abbrev pub IsAmong : Resting → List Resting → Type 0
@@ -29,7 +29,7 @@ best_among beats a o (x ∷ w) e =
 
 pub first_among : (side : Side) (o : Resting) (w : List Resting) → first_best side w ≡ Some o → IsAmong o w
 first_among side o [] e = absurd (cc e)
-first_among side o (x ∷ w) e = let best : best_of (λ a b. is_better side a.price b.price) x w ≡ o = cc e in best_among (λ a b. is_better side a.price b.price) x o w best
+first_among side o (x ∷ w) e = let best : best_of (beats side) x w ≡ o = cc e in best_among (beats side) x o w best
 
 pub among-filter : (p : Resting → Bool) (o : Resting) (w : List Resting) → IsAmong o (filter p w) → IsAmong o w
 among-filter p o [] a = a

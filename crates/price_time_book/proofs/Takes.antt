@@ -9,31 +9,33 @@ use Rattle.market_types.specs.declared.order.Side.{Side}
 use Rattle.market_types.specs.declared.order.Side.TheVariants.{Buy, Sell}
 use Rattle.price_time_book.specs.declared.resting.Resting.{Resting}
 use Rattle.price_time_book.specs.declared.levels.Level.{Level}
+use Rattle.price_time_book.specs.declared.levels.Queue.{Queue}
 use Rattle.price_time_book.specs.Indexed.{key, key_of, open_orders, prices, shares_by, IsNoBetter, IsWorse, nothing, IsOpenAt, IsIndexed, IsSmall}
 use Rattle.std.specs.Option.{option_map_or}
 use Rattle.std.proofs.lemmas.List.Elements.{recursion_from_All}
 use Rattle.price_time_book.specs.declared.resting.Best.{Best}
-use Rattle.price_time_book.specs.Next.{best_at, crosses, crossing_of, next_of, shares_at, top_of}
+use Rattle.price_time_book.specs.Next.{crosses, crossing_of, next_of}
+use Rattle.price_time_book.specs.Queues.{best_in, better_of, first_of, hidden_of, shares_in, shown_of, top_in}
 use Rattle.price_time_book.proofs.Bests.{none_crosses}
 use Rattle.price_time_book.specs.Orderly.{IsOrderly}
 use Rattle.price_time_book.specs.Orders.{changed, order_with}
-use Rattle.price_time_book.specs.Sides.{is_within, opposite_of}
+use Rattle.price_time_book.specs.Sides.{is_better, is_within, opposite_of}
 use Rattle.price_time_book.proofs.Changes.{orderly-changed}
-use Rattle.price_time_book.proofs.Firsts.{key_side, open-changed}
+use Rattle.price_time_book.proofs.Firsts.{key_queue, open-changed}
 use Rattle.price_time_book.proofs.Joins.{price_at}
 use Rattle.price_time_book.proofs.Lowers.{indexed_lower-other, open_each, with_left}
 use Rattle.price_time_book.proofs.Prices.{no_better_both, rising_le, worse_apart, worse_before}
 use Rattle.price_time_book.proofs.Stays.{each-changed}
-use Rattle.price_time_book.proofs.Tops.{next-beyond, next-none, next-within}
+use Rattle.price_time_book.proofs.Tops.{first_is, next-beyond, next-none, next-within}
 
 -- the next order is the first of the other side, if the limit allows
-pub next_is : (side mine : Side) (limit : ℕ) (w : List Resting) (o : Resting) → mine ≡ opposite_of side → top_of mine w ≡ Some o → is_within side limit o.price ≡ true → next_of w side limit ≡ Some o
+pub next_is : (side mine : Side) (limit : ℕ) (w : List Resting) (o : Resting) → mine ≡ opposite_of side → first_of mine w ≡ Some o → is_within side limit o.price ≡ true → next_of w side limit ≡ Some o
 next_is side mine limit w o s top h = next-within side mine limit w w w (Some (0, o)) 0 o refl refl s (sym top) refl h
 
-pub next_none : (side mine : Side) (limit : ℕ) (w : List Resting) → mine ≡ opposite_of side → top_of mine w ≡ None → next_of w side limit ≡ None
+pub next_none : (side mine : Side) (limit : ℕ) (w : List Resting) → mine ≡ opposite_of side → first_of mine w ≡ None → next_of w side limit ≡ None
 next_none side mine limit w s top = next-none side mine limit w w w None refl refl s (sym top) refl
 
-pub next_beyond : (side mine : Side) (limit : ℕ) (w : List Resting) (o : Resting) → mine ≡ opposite_of side → top_of mine w ≡ Some o → is_within side limit o.price ≡ false → next_of w side limit ≡ None
+pub next_beyond : (side mine : Side) (limit : ℕ) (w : List Resting) (o : Resting) → mine ≡ opposite_of side → first_of mine w ≡ Some o → is_within side limit o.price ≡ false → next_of w side limit ≡ None
 next_beyond side mine limit w o s top h = next-beyond side mine limit w w w (Some (0, o)) 0 o refl refl s (sym top) refl h
 
 -- what a change of the order o at place i leaves
@@ -56,13 +58,14 @@ lowered os new i o v w same h in_range less le is =
     few : IsSmall (open_orders os) → o.left ≤ 4294967295
     few a = omega (arith, ap (λ (q : Resting). q.left) same, open_each (λ (x : Resting). x.left ≤ 4294967295) os i in_range (omega (arith, ap (λ (q : Resting). q.left) same)) a)
 
-pub others_lowered : (mine t : Side) (os new : List Resting) (nx : List ℕ) (ls : List Level) (i v w p : ℕ) → t ≢ mine → IsOpenAt os (key mine p) i → v ≤ (get_or os i nothing).left → new ≡ with_left os i v w → IsIndexed t os nx ls → IsIndexed t new nx ls
+pub others_lowered : (mine t : Queue) (os new : List Resting) (nx : List ℕ) (ls : List Level) (i v w p : ℕ) → t ≢ mine → IsOpenAt os (key mine p) i → v ≤ (get_or os i nothing).left → new ≡ with_left os i v w → IsIndexed t os nx ls → IsIndexed t new nx ls
 others_lowered mine t os new nx ls i v w p n o le is x =
-    subst (λ (u : List Resting). IsIndexed t u nx ls) (sym is) (indexed_lower-other t os nx ls i v w x o.within (λ e. n (e ∙ key_side mine p (get_or os i nothing) o.price)) le)
+    subst (λ (u : List Resting). IsIndexed t u nx ls) (sym is) (indexed_lower-other t os nx ls i v w x o.within (λ e. n (e ∙ key_queue mine p (get_or os i nothing) o.price)) le)
 
 -- the level of a price that has an open order stands where the price does
-pub level_found : (s : Side) (os : List Resting) (nx : List ℕ) (ls : List Level) (at p k : ℕ) → IsIndexed s os nx ls → IsOpenAt os (key s p) k → at ≤ length ls → ((d : Level) → 0 < at → IsWorse s (get_or ls (at - 1) d).price p) → ((d : Level) → at < length ls → IsNoBetter s p (get_or ls at d).price) → (at < length ls) × ((d : Level) → (get_or ls at d).price ≡ p)
-level_found s os nx ls at p k x o le low high =
+pub level_found : (q : Queue) (os : List Resting) (nx : List ℕ) (ls : List Level) (at p k : ℕ) → IsIndexed q os nx ls → IsOpenAt os (key q p) k → at ≤ length ls → ((d : Level) → 0 < at → IsWorse q.side (get_or ls (at - 1) d).price p) → ((d : Level) → at < length ls → IsNoBetter q.side p (get_or ls at d).price) → (at < length ls) × ((d : Level) → (get_or ls at d).price ≡ p)
+level_found q os nx ls at p k x o le low high =
+    let s = q.side in
     let d : Level = record { price = 0; first = 0; last = 0; shares = 0 } in
     let ps = prices ls in
     let c = x.covered p k o in
@@ -83,8 +86,8 @@ shares_few : (p : ℕ) (w : List Resting) → IsSmall w → shares_by p w ≤ 42
 shares_few p [] a = omega arith
 shares_few p (o ∷ w) a = elim (eqb (key_of o) p) as (λ b. cond b o.left 0 + shares_by p w ≤ 4294967295 * length (o ∷ w)) [ true ↦ omega (arith, a.0, shares_few p w a.1) | false ↦ omega (arith, shares_few p w a.1) ]
 
-pub levels_fit : (s : Side) (os : List Resting) (nx : List ℕ) (ls : List Level) → IsIndexed s os nx ls → IsSmall (open_orders os) → length (open_orders os) < 4294967296 → All (λ (l : Level). l.shares < 18446744069414584320) ls
-levels_fit s os nx ls x small few = λ k d h. omega (arith, (x.right k d h).shares, shares_few (key s (get_or ls k d).price) (open_orders os) small, few)
+pub levels_fit : (q : Queue) (os : List Resting) (nx : List ℕ) (ls : List Level) → IsIndexed q os nx ls → IsSmall (open_orders os) → length (open_orders os) < 4294967296 → All (λ (l : Level). l.shares < 18446744069414584320) ls
+levels_fit q os nx ls x small few = λ k d h. omega (arith, (x.right k d h).shares, shares_few (key q (get_or ls k d).price) (open_orders os) small, few)
 
 pub taken : (os new : List Resting) (i : ℕ) (o : Resting) (v : ℕ) → o ≡ get_or os i nothing → IsOrderly (open_orders os) → i < length os → v < o.left → new ≡ with_left os i v o.intended → IsLowered os new o v o.intended
 taken os new i o v same h in_range less is =
@@ -94,11 +97,11 @@ taken os new i o v same h in_range less is =
     lowered os new i o v o.intended same h in_range less (omega (arith, left, intended, le)) is
 
 -- the same at slices of the vectors
-pub placed_seen : (mine : Side) (s w : List Resting) (t v : List Level) (at i : ℕ) → s ≡ w → t ≡ v → ((d : Level) → IsOpenAt s (key mine (get_or t at d).price) i) → (d : Level) → IsOpenAt w (key mine (get_or v at d).price) i
+pub placed_seen : (mine : Queue) (s w : List Resting) (t v : List Level) (at i : ℕ) → s ≡ w → t ≡ v → ((d : Level) → IsOpenAt s (key mine (get_or t at d).price) i) → (d : Level) → IsOpenAt w (key mine (get_or v at d).price) i
 placed_seen mine s w t v at i e f h d = subst (λ (u : List Resting). IsOpenAt u (key mine (get_or v at d).price) i) e (subst (λ (u : List Level). IsOpenAt s (key mine (get_or u at d).price) i) f (h d))
 
-pub top_seen : (mine : Side) (s w : List Resting) (i : ℕ) (o : Resting) → s ≡ w → o ≡ get_or w i nothing → top_of mine (open_orders s) ≡ Some (get_or s i nothing) → top_of mine (open_orders w) ≡ Some o
-top_seen mine s w i o e same h = subst (λ (u : List Resting). top_of mine (open_orders u) ≡ Some (get_or u i nothing)) e h ∙ ap (λ (q : Resting). Some q) (sym same)
+pub top_seen : (mine : Side) (s w : List Resting) (i : ℕ) (o : Resting) → s ≡ w → o ≡ get_or w i nothing → first_of mine (open_orders s) ≡ Some (get_or s i nothing) → first_of mine (open_orders w) ≡ Some o
+top_seen mine s w i o e same h = subst (λ (u : List Resting). first_of mine (open_orders u) ≡ Some (get_or u i nothing)) e h ∙ ap (λ (q : Resting). Some q) (sym same)
 
 abbrev pub no_level : Level
 no_level = record { price = 0; first = 0; last = 0; shares = 0 }
@@ -148,14 +151,30 @@ pub others_sell : (t : Side) → t ≡ Sell → Buy ≢ t
 others_sell t e f = cc
 
 -- ---- orders that cross
--- where the best price of the other side does not cross nothing does
-pub none_cross : (side : Side) (limit : ℕ) (w : List Resting) → option_map_or (λ (b : Best). is_within side limit b.price) (best_at (opposite_of side) w) false ≡ false → crossing_of side limit w ≡ 0
-none_cross side limit w h = none_counted (crosses side limit) w (recursion_from_All (λ (o : Resting). crosses side limit o ≡ false) w (none_crosses w side limit (by_top (top_of (opposite_of side) w) refl)))
+abbrev pub is_met_by : Side → ℕ → Option Best → Bool
+is_met_by side limit best = option_map_or (λ (b : Best). is_within side limit b.price) best false
+
+-- where neither the best price of the shown nor that of the hidden orders of the other side crosses nothing does
+pub none_cross : (side : Side) (limit : ℕ) (w : List Resting) → is_met_by side limit (best_in (shown_of (opposite_of side)) w) ≡ false → is_met_by side limit (best_in (hidden_of (opposite_of side)) w) ≡ false → crossing_of side limit w ≡ 0
+none_cross side limit w h k = none_counted (crosses side limit) w (recursion_from_All (λ (o : Resting). crosses side limit o ≡ false) w (none_crosses w side limit (by_first (top_in (shown_of other) w) (top_in (hidden_of other) w) refl refl)))
   where
+    other : Side
+    other = opposite_of side
+
     none_counted : (p : Resting → Bool) (w : List Resting) → AllByRecursion (λ (o : Resting). p o ≡ false) w → count_by p w ≡ 0
     none_counted p [] a = refl
     none_counted p (o ∷ w) a = sum_by-cons (λ (x : Resting). cond (p x) 1 0) o w ∙ ap (λ b. cond b 1 0 + count_by p w) a.0 ∙ omega (arith, none_counted p w a.1)
 
-    by_top : (top : Option Resting) → top_of (opposite_of side) w ≡ top → next_of w side limit ≡ None
-    by_top None e = next_none side (opposite_of side) limit w refl e
-    by_top (Some o) e = next_beyond side (opposite_of side) limit w o refl e (sym (ap (λ (t : Option Resting). option_map_or (λ (b : Best). is_within side limit b.price) (option_map (λ (y : Resting). let b : Best = record { price = y.price; shares = shares_at (opposite_of side) y.price w } in b) t) false) e) ∙ h)
+    beyond : (q : Queue) (o : Resting) → top_in q w ≡ Some o → is_met_by side limit (best_in q w) ≡ false → is_within side limit o.price ≡ false
+    beyond q o e h = sym (ap (λ (t : Option Resting). is_met_by side limit (option_map (λ (y : Resting). let b : Best = record { price = y.price; shares = shares_in q y.price w } in b) t)) e) ∙ h
+
+    first : (a b : Option Resting) → top_in (shown_of other) w ≡ a → top_in (hidden_of other) w ≡ b → first_of other w ≡ better_of other a b
+    first a b e f = first_is other w ∙ ap (λ (o : Option Resting). better_of other o (top_in (hidden_of other) w)) e ∙ ap (better_of other a) f
+
+    by_first : (a b : Option Resting) → top_in (shown_of other) w ≡ a → top_in (hidden_of other) w ≡ b → next_of w side limit ≡ None
+    by_first None None e f = next_none side other limit w refl (first None None e f)
+    by_first None (Some o) e f = next_beyond side other limit w o refl (first None (Some o) e f) (beyond (hidden_of other) o f k)
+    by_first (Some o) None e f = next_beyond side other limit w o refl (first (Some o) None e f) (beyond (shown_of other) o e h)
+    by_first (Some o) (Some p) e f =
+        next_beyond side other limit w (cond (is_better other p.price o.price) p o) refl (first (Some o) (Some p) e f)
+        (elim (is_better other p.price o.price) as (λ c. is_within side limit (cond c p o).price ≡ false) [ true ↦ beyond (hidden_of other) p f k | false ↦ beyond (shown_of other) o e h ])

@@ -6,5 +6,7 @@ pub mod Matched
 pub mod Next
 pub mod Orderly
 pub mod Orders
+pub mod Priced
+pub mod Queues
 pub mod Sides
 pub mod Worked

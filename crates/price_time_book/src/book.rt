@@ -1,6 +1,6 @@
 //! The book.
 
-ghost use Rattle.std.specs.Prelude.{◌≡◌, ◌<◌, ◌≤◌, ◌-◌, ◌∷◌, ◌++◌, ◌↔◌, [], IsTrue, OnErr, OnOk, IfOk, IfSome, IfNone, All, Some, None, length, option_map, slice_get};
+ghost use Rattle.std.specs.Prelude.{false, ◌≡◌, ◌<◌, ◌≤◌, ◌-◌, ◌∷◌, ◌++◌, ◌↔◌, [], IsTrue, OnErr, OnOk, IfOk, IfSome, IfNone, All, Some, None, length, option_map, slice_get};
 ghost use Rattle.price_time_book.specs.Awaited.{AreAwaited};
 ghost use Rattle.price_time_book.specs.Indexed.{open_orders};
 ghost use Rattle.price_time_book.specs.Matched.{fill_of, after_fill};
@@ -10,10 +10,10 @@ ghost use Rattle.price_time_book.specs.Orders.{order_of, order_with, changed, re
 ghost use Rattle.price_time_book.specs.Sides.{depth_of};
 
 use crate::index::{ReferenceEntry, TokenEntry, enter_reference, enter_token};
-use crate::levels::{Level, best_in, fits, join};
+use crate::levels::{Level, Queue, best_in, fits, is_met, join};
 use crate::lowering::{lower_at, take_first};
 use crate::resting::{Best, Fill, Resting};
-use crate::search::{crossing_in, held_at, is_crossed, open_of, order_of};
+use crate::search::{crossing_in, held_at, open_of, order_of};
 use market_types::{AgentNo, Memory, Side, Token, copied};
 use std::alloc::Global;
 use std::marker::Model;
@@ -24,14 +24,17 @@ const LEFT_BEHIND: usize = 32;
 /// The resting orders of one stock.
 ///
 /// The orders stand in one vector in order of arrival, those that have left at 0 open shares. Over it
-/// stand the levels of price of both sides, and an index by reference and one by agent and token. Where
-/// room is made for more orders and most in the vector have left, all of it is made anew.
+/// stand the levels of price of both sides, those of shown and of hidden orders apart, and an index by
+/// reference and one by agent and token. Where room is made for more orders and most in the vector have
+/// left, all of it is made anew.
 #[derive(Drop)]
 pub struct Book {
     orders: Vec<Resting>,
     nexts: Vec<usize>,
     buys: Vec<Level>,
     sells: Vec<Level>,
+    hidden_buys: Vec<Level>,
+    hidden_sells: Vec<Level>,
     buy_count: usize,
     sell_count: usize,
     references: Vec<ReferenceEntry>,
@@ -47,6 +50,7 @@ impl Model for Book {
     ghost use Rattle.price_time_book.specs.Index.{IsByReference, IsByToken};
     ghost use Rattle.price_time_book.specs.Indexed.{IsIndexed, IsSmall, open_orders};
     ghost use Rattle.price_time_book.specs.Orderly.{IsOrderly};
+    ghost use Rattle.price_time_book.specs.Queues.{hidden_of, shown_of};
     ghost use Rattle.price_time_book.specs.Sides.{depth_of};
 
     ghost Value = { Room Resting };
@@ -58,10 +62,14 @@ impl Model for Book {
       nexts_room : vec_len b.nexts + b.spare ≤ vec_capacity b.nexts;
       buys_room : vec_len b.buys + b.spare ≤ vec_capacity b.buys;
       sells_room : vec_len b.sells + b.spare ≤ vec_capacity b.sells;
+      hidden_buys_room : vec_len b.hidden_buys + b.spare ≤ vec_capacity b.hidden_buys;
+      hidden_sells_room : vec_len b.hidden_sells + b.spare ≤ vec_capacity b.hidden_sells;
       references_room : vec_len b.references + b.spare ≤ vec_capacity b.references;
       tokens_room : vec_len b.tokens + b.spare ≤ vec_capacity b.tokens;
-      buys : IsIndexed Buy b.orders.items b.nexts.items b.buys.items;
-      sells : IsIndexed Sell b.orders.items b.nexts.items b.sells.items;
+      buys : IsIndexed (shown_of Buy) b.orders.items b.nexts.items b.buys.items;
+      sells : IsIndexed (shown_of Sell) b.orders.items b.nexts.items b.sells.items;
+      hidden_buys : IsIndexed (hidden_of Buy) b.orders.items b.nexts.items b.hidden_buys.items;
+      hidden_sells : IsIndexed (hidden_of Sell) b.orders.items b.nexts.items b.hidden_sells.items;
       buy_count : b.buy_count ≡ depth_of Buy (open_orders b.orders.items);
       sell_count : b.sell_count ≡ depth_of Sell (open_orders b.orders.items);
       references : IsByReference b.orders.items b.references.items;
@@ -81,6 +89,8 @@ impl Book {
             nexts: Vec::new(alloc),
             buys: Vec::new(alloc),
             sells: Vec::new(alloc),
+            hidden_buys: Vec::new(alloc),
+            hidden_sells: Vec::new(alloc),
             buy_count: 0,
             sell_count: 0,
             references: Vec::new(alloc),
@@ -115,6 +125,8 @@ impl Book {
         let nexts = copied(alloc, self.nexts.as_slice())?;
         let buys = copied(alloc, self.buys.as_slice())?;
         let sells = copied(alloc, self.sells.as_slice())?;
+        let hidden_buys = copied(alloc, self.hidden_buys.as_slice())?;
+        let hidden_sells = copied(alloc, self.hidden_sells.as_slice())?;
         let references = copied(alloc, self.references.as_slice())?;
         let tokens = copied(alloc, self.tokens.as_slice())?;
         Ok(Book {
@@ -122,6 +134,8 @@ impl Book {
             nexts,
             buys,
             sells,
+            hidden_buys,
+            hidden_sells,
             buy_count: self.buy_count,
             sell_count: self.sell_count,
             references,
@@ -130,20 +144,21 @@ impl Book {
         })
     }
 
-    /// The best price of a side and the open shares at it. `None` where no order rests there.
+    /// The best price of the shown orders of a side and their open shares at it. `None` where no order of
+    /// the side is shown.
     pub fn best(&self, side: Side) -> Option<Best>
         ensures { result ≡ best_at side self.now.list }
     {
         match side {
-            Side::Buy => best_in(side, self.buys.as_slice()),
-            Side::Sell => best_in(side, self.sells.as_slice()),
+            Side::Buy => best_in(Queue { side, shown: true }, self.buys.as_slice()),
+            Side::Sell => best_in(Queue { side, shown: true }, self.sells.as_slice()),
         }
     }
 
     /// Matches an incoming order of `side`, which wants `shares` more and trades at no worse price than
-    /// `limit`, with the next order of the other side: the one with the best price, and at one price the
-    /// earliest. It gives the lesser of its open shares and those wanted, and leaves where none stay open.
-    /// `None` where nothing crosses, and the book is then as it was.
+    /// `limit`, with the next order of the other side: of those with the best price the earliest shown one,
+    /// and where none of them is shown the earliest. It gives the lesser of its open shares and those
+    /// wanted, and leaves where none stay open. `None` where nothing crosses, and the book is then as it was.
     pub fn match_next(&mut self, side: Side, limit: u32, shares: u32) -> Option<Fill>
         requires { 0 < shares }
         ensures next { result ≡ option_map (fill_of shares) (next_of self.old.list side limit) }
@@ -158,6 +173,7 @@ impl Book {
                 Side::Sell,
                 orders,
                 &mut self.sells,
+                &mut self.hidden_sells,
                 &mut self.sell_count,
                 nexts,
                 side,
@@ -168,6 +184,7 @@ impl Book {
                 Side::Buy,
                 orders,
                 &mut self.buys,
+                &mut self.hidden_buys,
                 &mut self.buy_count,
                 nexts,
                 side,
@@ -194,12 +211,24 @@ impl Book {
         enter_token(&mut self.tokens, &order, place);
         match order.side {
             Side::Buy => {
-                join(&mut self.orders, &mut self.nexts, &mut self.buys, order);
+                join(
+                    &mut self.orders,
+                    &mut self.nexts,
+                    &mut self.buys,
+                    &mut self.hidden_buys,
+                    order,
+                );
                 self.buy_count += 1;
                 self.spare -= 1;
             }
             Side::Sell => {
-                join(&mut self.orders, &mut self.nexts, &mut self.sells, order);
+                join(
+                    &mut self.orders,
+                    &mut self.nexts,
+                    &mut self.sells,
+                    &mut self.hidden_sells,
+                    order,
+                );
                 self.sell_count += 1;
                 self.spare -= 1;
             }
@@ -239,6 +268,7 @@ impl Book {
                     Side::Buy,
                     orders,
                     &mut self.buys,
+                    &mut self.hidden_buys,
                     &mut self.buy_count,
                     nexts,
                     at,
@@ -252,6 +282,7 @@ impl Book {
                     Side::Sell,
                     orders,
                     &mut self.sells,
+                    &mut self.hidden_sells,
                     &mut self.sell_count,
                     nexts,
                     at,
@@ -263,7 +294,7 @@ impl Book {
         }
     }
 
-    /// How many orders rest on a side.
+    /// How many orders rest on a side, shown or hidden.
     pub fn depth(&self, side: Side) -> usize
         ensures { result ≡ depth_of side self.now.list }
     {
@@ -273,11 +304,12 @@ impl Book {
         }
     }
 
-    /// How many orders cross an incoming order of `side` with this limit: no match has more fills.
+    /// How many orders, shown or hidden, cross an incoming order of `side` with this limit: no match has more
+    /// fills.
     pub fn crossing(&self, side: Side, limit: u32) -> usize
         ensures { result ≡ crossing_of side limit self.now.list }
     {
-        if !is_crossed(self.best(side.opposite()), side, limit) {
+        if !self.is_met(side, limit) {
             return 0;
         }
         crossing_in(self.orders.as_slice(), side, limit)
@@ -312,6 +344,26 @@ impl Book {
         open_of(alloc, self.orders.as_slice())
     }
 
+    // Whether a best price of the other side, of shown or of hidden orders, meets a limit.
+    fn is_met(&self, side: Side, limit: u32) -> bool
+        ensures { result ≡ false → crossing_of side limit self.now.list ≡ 0 }
+    {
+        match side {
+            Side::Buy => is_met(
+                side,
+                limit,
+                self.sells.as_slice(),
+                self.hidden_sells.as_slice(),
+            ),
+            Side::Sell => is_met(
+                side,
+                limit,
+                self.buys.as_slice(),
+                self.hidden_buys.as_slice(),
+            ),
+        }
+    }
+
     // Whether so many orders of the vector of arrival have left, and more than half, that it is made anew.
     fn is_sparse(&self) -> bool {
         self.orders.len() / 2 > self.len().saturating_add(LEFT_BEHIND)
@@ -331,10 +383,16 @@ impl Book {
         let nexts = self.nexts.reserve(n);
         let buys = self.buys.reserve(n);
         let sells = self.sells.reserve(n);
+        let hidden_buys = self.hidden_buys.reserve(n);
+        let hidden_sells = self.hidden_sells.reserve(n);
         let references = self.references.reserve(n);
         let tokens = self.tokens.reserve(n);
-        match (orders, nexts, buys, sells, references, tokens) {
-            (Ok(()), Ok(()), Ok(()), Ok(()), Ok(()), Ok(())) => {
+        match (orders, nexts, buys, sells) {
+            (Ok(()), Ok(()), Ok(()), Ok(())) => {}
+            _ => return Err(Memory),
+        }
+        match (hidden_buys, hidden_sells, references, tokens) {
+            (Ok(()), Ok(()), Ok(()), Ok(())) => {
                 self.spare = n;
                 Ok(())
             }

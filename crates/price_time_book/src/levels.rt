@@ -1,27 +1,35 @@
 //! The levels of price of a book, and orders that join them.
 //!
 //! The orders stand in one vector in order of arrival. One that has left stays there at 0 open shares.
-//! Each side has its levels in order of price, the best one last. A level knows where the chain of its
-//! orders begins and ends; the chain goes through all orders of its side and price, also those that have
-//! left, so an order that leaves changes no link.
+//! The shown orders of a side are a queue, and its hidden ones another. Each queue has its levels in order
+//! of price, the best one last. A level knows where the chain of its orders begins and ends; the chain goes
+//! through all orders of its queue and price, also those that have left, so an order that leaves changes no
+//! link.
 
 ghost use Rattle.std.specs.Prelude.{◌≡◌, ◌≢◌, ◌<◌, ◌≤◌, ◌+◌, ◌-◌, ◌++◌, ◌∷◌, [], All, length, slice_index_or, vec_len, vec_capacity, ℕ, List, true, false};
 ghost use Rattle.market_types.specs.declared.order.Side.{Side};
 ghost use Rattle.price_time_book.specs.declared.levels.Level.{Level};
+ghost use Rattle.price_time_book.specs.declared.levels.Queue.{Queue};
 ghost use Rattle.price_time_book.specs.declared.resting.Resting.{Resting};
 ghost use Rattle.price_time_book.specs.Indexed.{IsIndexed, IsNoBetter, IsWorse, open_orders};
-ghost use Rattle.price_time_book.specs.Next.{best_at};
+ghost use Rattle.price_time_book.specs.Next.{crossing_of};
+ghost use Rattle.price_time_book.specs.Queues.{best_in, hidden_of, queue_of, shown_of};
+ghost use Rattle.price_time_book.specs.Sides.{opposite_of};
 
 use crate::resting::{Best, Resting};
+use crate::search::is_crossed;
 use market_types::Side;
 
-/// A price of a side: where its chain of orders begins and ends in the vector of arrival, and its open
+/// The orders of a side that are shown, or those that are hidden.
+#[derive(Clone, Copy)]
+pub struct Queue {
+    pub side: Side,
+    /// The orders are displayed.
+    pub shown: bool,
+}
+
+/// A price of a queue: where its chain of orders begins and ends in the vector of arrival, and its open
 /// shares.
-///
-/// Hidden orders join without another layout: they get levels of their own, a vector a side, over the same
-/// orders and links. Whether an order is shown becomes a third part of what its chain is told by, beside
-/// its side and its price. The best price is read from the levels of shown orders alone; an incoming order
-/// meets the last level of either vector, at one price that of the shown orders first.
 #[derive(Clone, Copy)]
 pub struct Level {
     pub price: u32,
@@ -71,10 +79,11 @@ pub fn place_of_best(levels: &[Level]) -> usize
     levels.len() - 1
 }
 
-// The best price of a side and the open shares at it.
-pub fn best_in(side: Side, levels: &[Level]) -> Option<Best>
-    ensures { (os : List Resting) (nx : List ℕ) → IsIndexed side os nx levels.now → result ≡ best_at side (open_orders os) }
+// The best price of a queue and the open shares at it.
+pub fn best_in(queue: Queue, levels: &[Level]) -> Option<Best>
+    ensures { (os : List Resting) (nx : List ℕ) → IsIndexed queue os nx levels.now → result ≡ best_in queue (open_orders os) }
 {
+    let _queue = queue;
     if levels.is_empty() {
         return None;
     }
@@ -83,6 +92,32 @@ pub fn best_in(side: Side, levels: &[Level]) -> Option<Best>
         price: level.price,
         shares: level.shares,
     })
+}
+
+// Whether the best price of shown or that of hidden orders of the other side meets the limit of an incoming
+// order of this side. If neither does, nothing crosses.
+pub fn is_met(side: Side, limit: u32, shown: &[Level], hidden: &[Level]) -> bool
+    ensures { (os : List Resting) (nx : List ℕ) →
+        IsIndexed (shown_of (opposite_of side)) os nx shown.now →
+        IsIndexed (hidden_of (opposite_of side)) os nx hidden.now →
+        result ≡ false → crossing_of side limit (open_orders os) ≡ 0 }
+{
+    let other = side.opposite();
+    let before = best_in(
+        Queue {
+            side: other,
+            shown: true,
+        },
+        shown,
+    );
+    let behind = best_in(
+        Queue {
+            side: other,
+            shown: false,
+        },
+        hidden,
+    );
+    is_crossed(before, side, limit) || is_crossed(behind, side, limit)
 }
 
 // An order joins the vector of arrival; none follows it.
@@ -119,10 +154,10 @@ fn extend(
     requires level { at < vec_len levels.old }
     requires price { (d : Level) → (slice_index_or levels.old.items at d).price ≡ order.price }
     requires small { (d : Level) → (slice_index_or levels.old.items at d).shares < 18446744069414584320 }
-    requires indexed { IsIndexed order.side orders.old.items nexts.old.items levels.old.items }
+    requires indexed { IsIndexed (queue_of order) orders.old.items nexts.old.items levels.old.items }
     ensures orders { orders.new.items ≡ orders.old.items ++ order ∷ [] }
-    ensures indexed { IsIndexed order.side orders.new.items nexts.new.items levels.new.items }
-    ensures others { (t : Side) (ls : List Level) → t ≢ order.side → IsIndexed t orders.old.items nexts.old.items ls → IsIndexed t orders.new.items nexts.new.items ls }
+    ensures indexed { IsIndexed (queue_of order) orders.new.items nexts.new.items levels.new.items }
+    ensures others { (t : Queue) (ls : List Level) → t ≢ queue_of order → IsIndexed t orders.old.items nexts.old.items ls → IsIndexed t orders.new.items nexts.new.items ls }
     ensures orders_capacity { vec_capacity orders.old ≤ vec_capacity orders.new }
     ensures nexts_len { vec_len nexts.new ≡ vec_len nexts.old + 1 }
     ensures nexts_capacity { vec_capacity nexts.old ≤ vec_capacity nexts.new }
@@ -155,10 +190,10 @@ fn make(
     requires within { at ≤ vec_len levels.old }
     requires below { (d : Level) → 0 < at → IsWorse order.side (slice_index_or levels.old.items (at - 1) d).price order.price }
     requires above { (d : Level) → at < vec_len levels.old → IsWorse order.side order.price (slice_index_or levels.old.items at d).price }
-    requires indexed { IsIndexed order.side orders.old.items nexts.old.items levels.old.items }
+    requires indexed { IsIndexed (queue_of order) orders.old.items nexts.old.items levels.old.items }
     ensures orders { orders.new.items ≡ orders.old.items ++ order ∷ [] }
-    ensures indexed { IsIndexed order.side orders.new.items nexts.new.items levels.new.items }
-    ensures others { (t : Side) (ls : List Level) → t ≢ order.side → IsIndexed t orders.old.items nexts.old.items ls → IsIndexed t orders.new.items nexts.new.items ls }
+    ensures indexed { IsIndexed (queue_of order) orders.new.items nexts.new.items levels.new.items }
+    ensures others { (t : Queue) (ls : List Level) → t ≢ queue_of order → IsIndexed t orders.old.items nexts.old.items ls → IsIndexed t orders.new.items nexts.new.items ls }
     ensures orders_capacity { vec_capacity orders.old ≤ vec_capacity orders.new }
     ensures nexts_len { vec_len nexts.new ≡ vec_len nexts.old + 1 }
     ensures nexts_capacity { vec_capacity nexts.old ≤ vec_capacity nexts.new }
@@ -179,8 +214,8 @@ fn make(
     arrive(orders, nexts, order);
 }
 
-// An order joins the end of its level, or makes one.
-pub fn join(
+// An order joins the end of its level, or makes one, among the levels of its queue.
+fn join_queue(
     orders: &mut Vec<Resting>,
     nexts: &mut Vec<usize>,
     levels: &mut Vec<Level>,
@@ -191,10 +226,10 @@ pub fn join(
     requires levels_room { vec_len levels.old < vec_capacity levels.old }
     requires open { 0 < order.left }
     requires small { All (λ (l : Level). l.shares < 18446744069414584320) levels.old.items }
-    requires indexed { IsIndexed order.side orders.old.items nexts.old.items levels.old.items }
+    requires indexed { IsIndexed (queue_of order) orders.old.items nexts.old.items levels.old.items }
     ensures orders { orders.new.items ≡ orders.old.items ++ order ∷ [] }
-    ensures indexed { IsIndexed order.side orders.new.items nexts.new.items levels.new.items }
-    ensures others { (t : Side) (ls : List Level) → t ≢ order.side → IsIndexed t orders.old.items nexts.old.items ls → IsIndexed t orders.new.items nexts.new.items ls }
+    ensures indexed { IsIndexed (queue_of order) orders.new.items nexts.new.items levels.new.items }
+    ensures others { (t : Queue) (ls : List Level) → t ≢ queue_of order → IsIndexed t orders.old.items nexts.old.items ls → IsIndexed t orders.new.items nexts.new.items ls }
     ensures orders_capacity { vec_capacity orders.old ≤ vec_capacity orders.new }
     ensures nexts_len { vec_len nexts.new ≡ vec_len nexts.old + 1 }
     ensures nexts_capacity { vec_capacity nexts.old ≤ vec_capacity nexts.new }
@@ -210,6 +245,42 @@ pub fn join(
         }
     }
     make(orders, nexts, levels, at, order);
+}
+
+// An order joins the levels of its side, whether shown or hidden.
+pub fn join(
+    orders: &mut Vec<Resting>,
+    nexts: &mut Vec<usize>,
+    shown: &mut Vec<Level>,
+    hidden: &mut Vec<Level>,
+    order: Resting,
+)
+    requires orders_room { vec_len orders.old < vec_capacity orders.old }
+    requires nexts_room { vec_len nexts.old < vec_capacity nexts.old }
+    requires shown_room { vec_len shown.old < vec_capacity shown.old }
+    requires hidden_room { vec_len hidden.old < vec_capacity hidden.old }
+    requires open { 0 < order.left }
+    requires shown_small { All (λ (l : Level). l.shares < 18446744069414584320) shown.old.items }
+    requires hidden_small { All (λ (l : Level). l.shares < 18446744069414584320) hidden.old.items }
+    requires shown { IsIndexed (shown_of order.side) orders.old.items nexts.old.items shown.old.items }
+    requires hidden { IsIndexed (hidden_of order.side) orders.old.items nexts.old.items hidden.old.items }
+    ensures orders { orders.new.items ≡ orders.old.items ++ order ∷ [] }
+    ensures shown { IsIndexed (shown_of order.side) orders.new.items nexts.new.items shown.new.items }
+    ensures hidden { IsIndexed (hidden_of order.side) orders.new.items nexts.new.items hidden.new.items }
+    ensures others { (t : Queue) (ls : List Level) → t.side ≢ order.side → IsIndexed t orders.old.items nexts.old.items ls → IsIndexed t orders.new.items nexts.new.items ls }
+    ensures orders_capacity { vec_capacity orders.old ≤ vec_capacity orders.new }
+    ensures nexts_len { vec_len nexts.new ≡ vec_len nexts.old + 1 }
+    ensures nexts_capacity { vec_capacity nexts.old ≤ vec_capacity nexts.new }
+    ensures shown_len { vec_len shown.new ≤ vec_len shown.old + 1 }
+    ensures shown_capacity { vec_capacity shown.old ≤ vec_capacity shown.new }
+    ensures hidden_len { vec_len hidden.new ≤ vec_len hidden.old + 1 }
+    ensures hidden_capacity { vec_capacity hidden.old ≤ vec_capacity hidden.new }
+{
+    if order.shown {
+        join_queue(orders, nexts, shown, order);
+        return;
+    }
+    join_queue(orders, nexts, hidden, order);
 }
 
 // Open shares are a number of 32 bits.

@@ -1,52 +1,62 @@
 //! Orders that give shares to an incoming order, or are lowered.
 
-ghost use Rattle.std.specs.Prelude.{◌≡◌, ◌≢◌, ◌<◌, ◌≤◌, ◌+◌, Some, None, IfSome, IfNone, length, option_map, slice_index_or, slice_set, vec_len, vec_capacity, List};
+ghost use Rattle.std.specs.Prelude.{true, false, ◌≡◌, ◌≢◌, ◌<◌, ◌≤◌, ◌+◌, Some, None, IfSome, IfNone, length, option_map, slice_index_or, slice_set, vec_len, vec_capacity, List};
 ghost use Rattle.market_types.specs.declared.order.Side.{Side};
 ghost use Rattle.price_time_book.specs.declared.levels.Level.{Level};
+ghost use Rattle.price_time_book.specs.declared.levels.Queue.{Queue};
 ghost use Rattle.price_time_book.specs.declared.resting.Resting.{Resting};
 ghost use Rattle.price_time_book.specs.Index.{AreLessened};
 ghost use Rattle.price_time_book.specs.Indexed.{IsClear, IsIndexed, IsOpenAt, IsRight, IsSmall, key, nothing, open_orders};
 ghost use Rattle.price_time_book.specs.Matched.{after_fill, fill_of};
-ghost use Rattle.price_time_book.specs.Next.{next_of, top_of};
+ghost use Rattle.price_time_book.specs.Next.{next_of};
 ghost use Rattle.price_time_book.specs.Orderly.{IsOrderly};
 ghost use Rattle.price_time_book.specs.Orders.{changed};
+ghost use Rattle.price_time_book.specs.Queues.{better_of, first_of, hidden_of, queue_of, shown_of, top_in};
 ghost use Rattle.price_time_book.specs.Sides.{depth_of, opposite_of};
 
-use crate::levels::{Level, place_of, place_of_best};
+use crate::levels::{Level, Queue, place_of, place_of_best};
 use crate::resting::{Fill, Resting};
-use crate::search::is_within;
+use crate::search::{is_better, is_within};
 use market_types::Side;
 
+// Where the first order of a side stands: among the shown or the hidden ones, its level in its queue, and
+// itself in the vector of arrival.
+#[derive(Clone, Copy)]
+struct First {
+    shown: bool,
+    level: usize,
+    place: usize,
+}
+
 // The first open order of a level.
-fn front(side: Side, orders: &[Resting], nexts: &[usize], level: &Level) -> usize
+fn front(queue: Queue, orders: &[Resting], nexts: &[usize], level: &Level) -> usize
     requires same { length nexts.now ≡ length orders.now }
-    requires right { IsRight side orders.now nexts.now level.now }
-    ensures found { IsOpenAt orders.now (key side level.now.price) result }
-    ensures before { IsClear orders.now (key side level.now.price) 0 result }
+    requires right { IsRight queue orders.now nexts.now level.now }
+    ensures found { IsOpenAt orders.now (key queue level.now.price) result }
+    ensures before { IsClear orders.now (key queue level.now.price) 0 result }
     ensures from { level.now.first ≤ result }
 {
     let mut at = level.first;
     while orders[at].left == 0 {
         at = nexts[at];
     }
-    let _side = side;
+    let _queue = queue;
     at
 }
 
-// The first order of a side: where its level stands, and where it stands itself. The level's chain then
+// The first order of a queue: where its level stands, and where it stands itself. The level's chain then
 // begins there, so that each order that has left is passed over once.
 fn first_in(
-    side: Side,
+    queue: Queue,
     orders: &[Resting],
     nexts: &[usize],
     levels: &mut Vec<Level>,
 ) -> Option<(usize, usize)>
-    requires { IsIndexed side orders.now nexts.now levels.old.items }
-    ensures none { IfNone result (top_of side (open_orders orders.now) ≡ None) }
+    requires { IsIndexed queue orders.now nexts.now levels.old.items }
+    ensures first { top_in queue (open_orders orders.now) ≡ option_map (λ p. slice_index_or orders.now p.1 nothing) result }
     ensures level { IfSome result (λ p. p.0 < length levels.new.items) }
-    ensures placed { IfSome result (λ p. (d : Level) → IsOpenAt orders.now (key side (slice_index_or levels.new.items p.0 d).price) p.1) }
-    ensures first { IfSome result (λ p. top_of side (open_orders orders.now) ≡ Some (slice_index_or orders.now p.1 nothing)) }
-    ensures indexed { IsIndexed side orders.now nexts.now levels.new.items }
+    ensures placed { IfSome result (λ p. (d : Level) → IsOpenAt orders.now (key queue (slice_index_or levels.new.items p.0 d).price) p.1) }
+    ensures indexed { IsIndexed queue orders.now nexts.now levels.new.items }
     ensures levels_len { vec_len levels.new ≡ vec_len levels.old }
     ensures levels_capacity { vec_capacity levels.new ≡ vec_capacity levels.old }
 {
@@ -55,7 +65,7 @@ fn first_in(
     }
     let at = place_of_best(levels.as_slice());
     let level = levels[at];
-    let place = front(side, orders, nexts, &level);
+    let place = front(queue, orders, nexts, &level);
     levels[at] = Level {
         first: place,
         ..level
@@ -63,9 +73,81 @@ fn first_in(
     Some((at, place))
 }
 
+// Of the first shown and the first hidden order of a side, each by its level and its place, the one that
+// comes first: at one price the shown one.
+fn earlier(
+    side: Side,
+    orders: &[Resting],
+    shown: Option<(usize, usize)>,
+    hidden: Option<(usize, usize)>,
+) -> Option<First>
+    requires shown { IfSome shown (λ p. p.1 < length orders.now) }
+    requires hidden { IfSome hidden (λ p. p.1 < length orders.now) }
+    ensures first { option_map (λ f. slice_index_or orders.now f.place nothing) result ≡
+        better_of side (option_map (λ p. slice_index_or orders.now p.1 nothing) shown) (option_map (λ p. slice_index_or orders.now p.1 nothing) hidden) }
+    ensures shown { IfSome result (λ f. f.shown ≡ true → shown ≡ Some (f.level, f.place)) }
+    ensures hidden { IfSome result (λ f. f.shown ≡ false → hidden ≡ Some (f.level, f.place)) }
+{
+    match (shown, hidden) {
+        (None, None) => None,
+        (Some((level, place)), None) => Some(First {
+            shown: true,
+            level,
+            place,
+        }),
+        (None, Some((level, place))) => Some(First {
+            shown: false,
+            level,
+            place,
+        }),
+        (Some((level, place)), Some((hidden_level, hidden_place))) => {
+            if is_better(side, orders[hidden_place].price, orders[place].price) {
+                return Some(First {
+                    shown: false,
+                    level: hidden_level,
+                    place: hidden_place,
+                });
+            }
+            Some(First {
+                shown: true,
+                level,
+                place,
+            })
+        }
+    }
+}
+
+// The first order of a side, shown or hidden.
+fn first_of(
+    side: Side,
+    orders: &[Resting],
+    nexts: &[usize],
+    shown: &mut Vec<Level>,
+    hidden: &mut Vec<Level>,
+) -> Option<First>
+    requires shown { IsIndexed (shown_of side) orders.now nexts.now shown.old.items }
+    requires hidden { IsIndexed (hidden_of side) orders.now nexts.now hidden.old.items }
+    ensures first { first_of side (open_orders orders.now) ≡ option_map (λ f. slice_index_or orders.now f.place nothing) result }
+    ensures within { IfSome result (λ f. f.place < length orders.now) }
+    ensures shown_level { IfSome result (λ f. f.shown ≡ true → f.level < length shown.new.items) }
+    ensures hidden_level { IfSome result (λ f. f.shown ≡ false → f.level < length hidden.new.items) }
+    ensures shown_placed { IfSome result (λ f. f.shown ≡ true → (d : Level) → IsOpenAt orders.now (key (shown_of side) (slice_index_or shown.new.items f.level d).price) f.place) }
+    ensures hidden_placed { IfSome result (λ f. f.shown ≡ false → (d : Level) → IsOpenAt orders.now (key (hidden_of side) (slice_index_or hidden.new.items f.level d).price) f.place) }
+    ensures shown { IsIndexed (shown_of side) orders.now nexts.now shown.new.items }
+    ensures hidden { IsIndexed (hidden_of side) orders.now nexts.now hidden.new.items }
+    ensures shown_len { vec_len shown.new ≡ vec_len shown.old }
+    ensures shown_capacity { vec_capacity shown.new ≡ vec_capacity shown.old }
+    ensures hidden_len { vec_len hidden.new ≡ vec_len hidden.old }
+    ensures hidden_capacity { vec_capacity hidden.new ≡ vec_capacity hidden.old }
+{
+    let before = first_in(Queue { side, shown: true }, orders, nexts, shown);
+    let behind = first_in(Queue { side, shown: false }, orders, nexts, hidden);
+    earlier(side, orders, before, behind)
+}
+
 // The order at a place keeps fewer open shares; its level keeps some.
 fn lower(
-    side: Side,
+    queue: Queue,
     orders: &mut Vec<Resting>,
     levels: &mut Vec<Level>,
     nexts: &[usize],
@@ -75,12 +157,12 @@ fn lower(
     intended: u32,
 )
     requires level { at < vec_len levels.old }
-    requires place { (d : Level) → IsOpenAt orders.old.items (key side (slice_index_or levels.old.items at d).price) place }
+    requires place { (d : Level) → IsOpenAt orders.old.items (key queue (slice_index_or levels.old.items at d).price) place }
     requires lower { (d : Resting) → left < (slice_index_or orders.old.items place d).left }
     requires some { (d : Level) (e : Resting) → (slice_index_or orders.old.items place e).left < (slice_index_or levels.old.items at d).shares + left }
-    requires indexed { IsIndexed side orders.old.items nexts.now levels.old.items }
+    requires indexed { IsIndexed queue orders.old.items nexts.now levels.old.items }
     ensures orders { orders.new.items ≡ slice_set orders.old.items place (record (slice_index_or orders.old.items place nothing) { left = left; intended = intended }) }
-    ensures indexed { IsIndexed side orders.new.items nexts.now levels.new.items }
+    ensures indexed { IsIndexed queue orders.new.items nexts.now levels.new.items }
     ensures orders_len { vec_len orders.new ≡ vec_len orders.old }
     ensures orders_capacity { vec_capacity orders.new ≡ vec_capacity orders.old }
     ensures levels_len { vec_len levels.new ≤ vec_len levels.old }
@@ -101,7 +183,7 @@ fn lower(
 
 // The order at a place keeps fewer open shares; its level keeps none and leaves.
 fn close(
-    side: Side,
+    queue: Queue,
     orders: &mut Vec<Resting>,
     levels: &mut Vec<Level>,
     nexts: &[usize],
@@ -111,12 +193,12 @@ fn close(
     intended: u32,
 )
     requires level { at < vec_len levels.old }
-    requires place { (d : Level) → IsOpenAt orders.old.items (key side (slice_index_or levels.old.items at d).price) place }
+    requires place { (d : Level) → IsOpenAt orders.old.items (key queue (slice_index_or levels.old.items at d).price) place }
     requires lower { (d : Resting) → left < (slice_index_or orders.old.items place d).left }
     requires none { (d : Level) (e : Resting) → (slice_index_or levels.old.items at d).shares + left ≤ (slice_index_or orders.old.items place e).left }
-    requires indexed { IsIndexed side orders.old.items nexts.now levels.old.items }
+    requires indexed { IsIndexed queue orders.old.items nexts.now levels.old.items }
     ensures orders { orders.new.items ≡ slice_set orders.old.items place (record (slice_index_or orders.old.items place nothing) { left = left; intended = intended }) }
-    ensures indexed { IsIndexed side orders.new.items nexts.now levels.new.items }
+    ensures indexed { IsIndexed queue orders.new.items nexts.now levels.new.items }
     ensures orders_len { vec_len orders.new ≡ vec_len orders.old }
     ensures orders_capacity { vec_capacity orders.new ≡ vec_capacity orders.old }
     ensures levels_len { vec_len levels.new ≤ vec_len levels.old }
@@ -133,7 +215,7 @@ fn close(
 
 // The order at a place keeps fewer open shares.
 pub fn set_left(
-    side: Side,
+    queue: Queue,
     orders: &mut Vec<Resting>,
     levels: &mut Vec<Level>,
     nexts: &[usize],
@@ -143,11 +225,11 @@ pub fn set_left(
     intended: u32,
 )
     requires level { at < vec_len levels.old }
-    requires place { (d : Level) → IsOpenAt orders.old.items (key side (slice_index_or levels.old.items at d).price) place }
+    requires place { (d : Level) → IsOpenAt orders.old.items (key queue (slice_index_or levels.old.items at d).price) place }
     requires lower { (d : Resting) → left < (slice_index_or orders.old.items place d).left }
-    requires indexed { IsIndexed side orders.old.items nexts.now levels.old.items }
+    requires indexed { IsIndexed queue orders.old.items nexts.now levels.old.items }
     ensures orders { orders.new.items ≡ slice_set orders.old.items place (record (slice_index_or orders.old.items place nothing) { left = left; intended = intended }) }
-    ensures indexed { IsIndexed side orders.new.items nexts.now levels.new.items }
+    ensures indexed { IsIndexed queue orders.new.items nexts.now levels.new.items }
     ensures orders_len { vec_len orders.new ≡ vec_len orders.old }
     ensures orders_capacity { vec_capacity orders.new ≡ vec_capacity orders.old }
     ensures levels_len { vec_len levels.new ≤ vec_len levels.old }
@@ -156,9 +238,9 @@ pub fn set_left(
     let had = orders[place].left;
     let shares = levels[at].shares;
     if shares <= u64::from(had - left) {
-        close(side, orders, levels, nexts, at, place, left, intended);
+        close(queue, orders, levels, nexts, at, place, left, intended);
     } else {
-        lower(side, orders, levels, nexts, at, place, left, intended);
+        lower(queue, orders, levels, nexts, at, place, left, intended);
     }
 }
 
@@ -173,31 +255,31 @@ fn count_out(count: &mut usize, left: u32)
     }
 }
 
-// The first order of a side gives up to so many shares to an incoming order of the other, if that one's limit allows.
-pub fn take_first(
-    mine: Side,
+// The order at a place of a level gives up to so many shares.
+fn give(
+    queue: Queue,
     orders: &mut Vec<Resting>,
     levels: &mut Vec<Level>,
     count: &mut usize,
     nexts: &[usize],
-    side: Side,
-    limit: u32,
+    at: usize,
+    place: usize,
     shares: u32,
-) -> Option<Fill>
+) -> Fill
     requires some { 0 < shares }
-    requires side { mine ≡ opposite_of side }
-    requires indexed { IsIndexed mine orders.old.items nexts.now levels.old.items }
-    requires count { count.old ≡ depth_of mine (open_orders orders.old.items) }
+    requires level { at < vec_len levels.old }
+    requires place { (d : Level) → IsOpenAt orders.old.items (key queue (slice_index_or levels.old.items at d).price) place }
+    requires indexed { IsIndexed queue orders.old.items nexts.now levels.old.items }
+    requires count { count.old ≡ depth_of queue.side (open_orders orders.old.items) }
     requires orderly { IsOrderly (open_orders orders.old.items) }
-    ensures next { result ≡ option_map (fill_of shares) (next_of (open_orders orders.old.items) side limit) }
-    ensures gives { IfSome result (λ f. 0 < f.shares) }
-    ensures filled { IfSome result (λ f. open_orders orders.new.items ≡ after_fill f (open_orders orders.old.items)) }
-    ensures unmatched { IfNone result (orders.new.items ≡ orders.old.items) }
-    ensures indexed { IsIndexed mine orders.new.items nexts.now levels.new.items }
-    ensures others { (t : Side) (ls : List Level) → t ≢ mine → IsIndexed t orders.old.items nexts.now ls → IsIndexed t orders.new.items nexts.now ls }
+    ensures fill { result ≡ fill_of shares (slice_index_or orders.old.items place nothing) }
+    ensures gives { 0 < result.shares }
+    ensures filled { open_orders orders.new.items ≡ after_fill result (open_orders orders.old.items) }
+    ensures indexed { IsIndexed queue orders.new.items nexts.now levels.new.items }
+    ensures others { (t : Queue) (ls : List Level) → t ≢ queue → IsIndexed t orders.old.items nexts.now ls → IsIndexed t orders.new.items nexts.now ls }
     ensures lessened { AreLessened orders.old.items orders.new.items }
-    ensures count { count.new ≡ depth_of mine (open_orders orders.new.items) }
-    ensures other_count { (t : Side) → t ≢ mine →
+    ensures count { count.new ≡ depth_of queue.side (open_orders orders.new.items) }
+    ensures other_count { (t : Side) → t ≢ queue.side →
         depth_of t (open_orders orders.new.items) ≡ depth_of t (open_orders orders.old.items) }
     ensures orderly { IsOrderly (open_orders orders.new.items) }
     ensures small { IsSmall (open_orders orders.old.items) → IsSmall (open_orders orders.new.items) }
@@ -206,15 +288,11 @@ pub fn take_first(
     ensures levels_len { vec_len levels.new ≤ vec_len levels.old }
     ensures levels_capacity { vec_capacity levels.new ≡ vec_capacity levels.old }
 {
-    let (at, place) = first_in(mine, orders.as_slice(), nexts, levels)?;
     let resting = orders[place];
-    if !is_within(side, limit, resting.price) {
-        return None;
-    }
     let taken = shares.min(resting.left);
     let left = resting.left - taken;
     set_left(
-        mine,
+        queue,
         orders,
         levels,
         nexts,
@@ -224,17 +302,116 @@ pub fn take_first(
         resting.intended,
     );
     count_out(count, left);
-    Some(Fill {
+    Fill {
         resting,
         shares: taken,
-    })
+    }
+}
+
+// The first order of a side gives up to so many shares to an incoming order of the other, if that one's limit allows.
+pub fn take_first(
+    mine: Side,
+    orders: &mut Vec<Resting>,
+    shown: &mut Vec<Level>,
+    hidden: &mut Vec<Level>,
+    count: &mut usize,
+    nexts: &[usize],
+    side: Side,
+    limit: u32,
+    shares: u32,
+) -> Option<Fill>
+    requires some { 0 < shares }
+    requires side { mine ≡ opposite_of side }
+    requires shown { IsIndexed (shown_of mine) orders.old.items nexts.now shown.old.items }
+    requires hidden { IsIndexed (hidden_of mine) orders.old.items nexts.now hidden.old.items }
+    requires count { count.old ≡ depth_of mine (open_orders orders.old.items) }
+    requires orderly { IsOrderly (open_orders orders.old.items) }
+    ensures next { result ≡ option_map (fill_of shares) (next_of (open_orders orders.old.items) side limit) }
+    ensures gives { IfSome result (λ f. 0 < f.shares) }
+    ensures filled { IfSome result (λ f. open_orders orders.new.items ≡ after_fill f (open_orders orders.old.items)) }
+    ensures unmatched { IfNone result (orders.new.items ≡ orders.old.items) }
+    ensures shown { IsIndexed (shown_of mine) orders.new.items nexts.now shown.new.items }
+    ensures hidden { IsIndexed (hidden_of mine) orders.new.items nexts.now hidden.new.items }
+    ensures others { (t : Queue) (ls : List Level) → t.side ≢ mine → IsIndexed t orders.old.items nexts.now ls → IsIndexed t orders.new.items nexts.now ls }
+    ensures lessened { AreLessened orders.old.items orders.new.items }
+    ensures count { count.new ≡ depth_of mine (open_orders orders.new.items) }
+    ensures other_count { (t : Side) → t ≢ mine →
+        depth_of t (open_orders orders.new.items) ≡ depth_of t (open_orders orders.old.items) }
+    ensures orderly { IsOrderly (open_orders orders.new.items) }
+    ensures small { IsSmall (open_orders orders.old.items) → IsSmall (open_orders orders.new.items) }
+    ensures orders_len { vec_len orders.new ≡ vec_len orders.old }
+    ensures orders_capacity { vec_capacity orders.new ≡ vec_capacity orders.old }
+    ensures shown_len { vec_len shown.new ≤ vec_len shown.old }
+    ensures shown_capacity { vec_capacity shown.new ≡ vec_capacity shown.old }
+    ensures hidden_len { vec_len hidden.new ≤ vec_len hidden.old }
+    ensures hidden_capacity { vec_capacity hidden.new ≡ vec_capacity hidden.old }
+{
+    let First {
+        shown: is_shown,
+        level,
+        place,
+    } = first_of(mine, orders.as_slice(), nexts, shown, hidden)?;
+    let price = orders[place].price;
+    if !is_within(side, limit, price) {
+        return None;
+    }
+    if is_shown {
+        let queue = Queue {
+            side: mine,
+            shown: true,
+        };
+        return Some(give(queue, orders, shown, count, nexts, level, place, shares));
+    }
+    let queue = Queue {
+        side: mine,
+        shown: false,
+    };
+    Some(give(queue, orders, hidden, count, nexts, level, place, shares))
+}
+
+// The open order at a place keeps fewer open shares and another intended size; its queue is known.
+fn lower_in(
+    queue: Queue,
+    orders: &mut Vec<Resting>,
+    levels: &mut Vec<Level>,
+    count: &mut usize,
+    nexts: &[usize],
+    place: usize,
+    left: u32,
+    intended: u32,
+)
+    requires within { place < length orders.old.items }
+    requires queue { queue_of (slice_index_or orders.old.items place nothing) ≡ queue }
+    requires lower { left < (slice_index_or orders.old.items place nothing).left }
+    requires size { left ≤ intended }
+    requires indexed { IsIndexed queue orders.old.items nexts.now levels.old.items }
+    requires count { count.old ≡ depth_of queue.side (open_orders orders.old.items) }
+    requires orderly { IsOrderly (open_orders orders.old.items) }
+    ensures list { open_orders orders.new.items ≡ changed (record (slice_index_or orders.old.items place nothing) { left = left; intended = intended }) (open_orders orders.old.items) }
+    ensures indexed { IsIndexed queue orders.new.items nexts.now levels.new.items }
+    ensures others { (t : Queue) (ls : List Level) → t ≢ queue → IsIndexed t orders.old.items nexts.now ls → IsIndexed t orders.new.items nexts.now ls }
+    ensures lessened { AreLessened orders.old.items orders.new.items }
+    ensures count { count.new ≡ depth_of queue.side (open_orders orders.new.items) }
+    ensures other_count { (t : Side) → t ≢ queue.side →
+        depth_of t (open_orders orders.new.items) ≡ depth_of t (open_orders orders.old.items) }
+    ensures orderly { IsOrderly (open_orders orders.new.items) }
+    ensures small { IsSmall (open_orders orders.old.items) → IsSmall (open_orders orders.new.items) }
+    ensures orders_len { vec_len orders.new ≡ vec_len orders.old }
+    ensures orders_capacity { vec_capacity orders.new ≡ vec_capacity orders.old }
+    ensures levels_len { vec_len levels.new ≤ vec_len levels.old }
+    ensures levels_capacity { vec_capacity levels.new ≡ vec_capacity levels.old }
+{
+    let at = place_of(queue.side, levels.as_slice(), orders[place].price);
+    set_left(queue, orders, levels, nexts, at, place, left, intended);
+    count_out(count, left);
 }
 
 // The open order at a place keeps fewer open shares and another intended size.
 pub fn lower_at(
     mine: Side,
     orders: &mut Vec<Resting>,
-    levels: &mut Vec<Level>,
+    shown: &mut Vec<Level>,
+    hidden: &mut Vec<Level>,
     count: &mut usize,
     nexts: &[usize],
     place: usize,
@@ -245,12 +422,14 @@ pub fn lower_at(
     requires side { (slice_index_or orders.old.items place nothing).side ≡ mine }
     requires lower { left < (slice_index_or orders.old.items place nothing).left }
     requires size { left ≤ intended }
-    requires indexed { IsIndexed mine orders.old.items nexts.now levels.old.items }
+    requires shown { IsIndexed (shown_of mine) orders.old.items nexts.now shown.old.items }
+    requires hidden { IsIndexed (hidden_of mine) orders.old.items nexts.now hidden.old.items }
     requires count { count.old ≡ depth_of mine (open_orders orders.old.items) }
     requires orderly { IsOrderly (open_orders orders.old.items) }
     ensures list { open_orders orders.new.items ≡ changed (record (slice_index_or orders.old.items place nothing) { left = left; intended = intended }) (open_orders orders.old.items) }
-    ensures indexed { IsIndexed mine orders.new.items nexts.now levels.new.items }
-    ensures others { (t : Side) (ls : List Level) → t ≢ mine → IsIndexed t orders.old.items nexts.now ls → IsIndexed t orders.new.items nexts.now ls }
+    ensures shown { IsIndexed (shown_of mine) orders.new.items nexts.now shown.new.items }
+    ensures hidden { IsIndexed (hidden_of mine) orders.new.items nexts.now hidden.new.items }
+    ensures others { (t : Queue) (ls : List Level) → t.side ≢ mine → IsIndexed t orders.old.items nexts.now ls → IsIndexed t orders.new.items nexts.now ls }
     ensures lessened { AreLessened orders.old.items orders.new.items }
     ensures count { count.new ≡ depth_of mine (open_orders orders.new.items) }
     ensures other_count { (t : Side) → t ≢ mine →
@@ -259,10 +438,23 @@ pub fn lower_at(
     ensures small { IsSmall (open_orders orders.old.items) → IsSmall (open_orders orders.new.items) }
     ensures orders_len { vec_len orders.new ≡ vec_len orders.old }
     ensures orders_capacity { vec_capacity orders.new ≡ vec_capacity orders.old }
-    ensures levels_len { vec_len levels.new ≤ vec_len levels.old }
-    ensures levels_capacity { vec_capacity levels.new ≡ vec_capacity levels.old }
+    ensures shown_len { vec_len shown.new ≤ vec_len shown.old }
+    ensures shown_capacity { vec_capacity shown.new ≡ vec_capacity shown.old }
+    ensures hidden_len { vec_len hidden.new ≤ vec_len hidden.old }
+    ensures hidden_capacity { vec_capacity hidden.new ≡ vec_capacity hidden.old }
 {
-    let at = place_of(mine, levels.as_slice(), orders[place].price);
-    set_left(mine, orders, levels, nexts, at, place, left, intended);
-    count_out(count, left);
+    let resting = orders[place];
+    if resting.shown {
+        let queue = Queue {
+            side: mine,
+            shown: true,
+        };
+        lower_in(queue, orders, shown, count, nexts, place, left, intended);
+        return;
+    }
+    let queue = Queue {
+        side: mine,
+        shown: false,
+    };
+    lower_in(queue, orders, hidden, count, nexts, place, left, intended);
 }

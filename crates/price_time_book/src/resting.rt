@@ -18,6 +18,8 @@ pub struct Resting {
     pub left: u32,
     /// Time in force, as the order gave it.
     pub tif: u32,
+    /// Whether it is displayed; an order that is not is hidden.
+    pub shown: bool,
 }
 
 /// A resting order and the shares that an incoming order took of it.
@@ -29,7 +31,7 @@ pub struct Fill {
     pub shares: u32,
 }
 
-/// The best price of a side and the open shares at it.
+/// The best price of the shown orders of a side and their open shares at it.
 #[derive(Clone, Copy, PartialEq, Eq, Debug)]
 pub struct Best {
     /// Dollars with four implied decimals.

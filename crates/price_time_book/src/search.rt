@@ -6,7 +6,7 @@ ghost use Rattle.price_time_book.specs.Index.{IsByReference, IsByToken};
 ghost use Rattle.price_time_book.specs.Indexed.{open_orders};
 ghost use Rattle.price_time_book.specs.Orders.{order_of, order_with};
 ghost use Rattle.price_time_book.specs.Next.{crosses, crossing_of};
-ghost use Rattle.price_time_book.specs.Sides.{is_within};
+ghost use Rattle.price_time_book.specs.Sides.{is_better, is_within};
 
 use crate::index::{ReferenceEntry, TokenEntry, by_reference, by_token};
 use crate::resting::{Best, Resting};
@@ -20,6 +20,16 @@ pub fn is_within(side: Side, limit: u32, price: u32) -> bool
     match side {
         Side::Buy => price <= limit,
         Side::Sell => limit <= price,
+    }
+}
+
+// Whether a price is better than another for orders that rest on this side.
+pub fn is_better(side: Side, a: u32, b: u32) -> bool
+    ensures { result ≡ is_better side a b }
+{
+    match side {
+        Side::Buy => b < a,
+        Side::Sell => a < b,
     }
 }
 

@@ -121,7 +121,7 @@ fn maker() -> Kind
 }
 
 // A market of one trader of each kind.
-fn crowd(alloc: Global) -> Result<Opening, Memory>
+pub(crate) fn crowd(alloc: Global) -> Result<Opening, Memory>
     ensures { IfOk result IsOpening }
 {
     let kinds = [
@@ -147,13 +147,13 @@ fn halfway(alloc: Global, o: &Opening) -> Result<Kernel, Memory>
 
 // A run to its end: why it ended, its state, and its trace.
 #[derive(Drop)]
-struct Gone {
-    end: Option<End>,
-    kernel: Kernel,
-    trace: Trace,
+pub(crate) struct Gone {
+    pub(crate) end: Option<End>,
+    pub(crate) kernel: Kernel,
+    pub(crate) trace: Trace,
 }
 
-fn gone_on(alloc: Global, o: &Opening, mut kernel: Kernel) -> Result<Gone, Memory>
+pub(crate) fn gone_on(alloc: Global, o: &Opening, mut kernel: Kernel) -> Result<Gone, Memory>
     requires { Fits o.now kernel }
 {
     let mut trace = Trace::new(alloc);
@@ -173,7 +173,7 @@ fn both(alloc: Global, o: &Opening) -> Result<(Gone, Gone), Memory>
 }
 
 // Whether two runs ended in one state after the same events.
-fn are_alike(alloc: Global, a: &Gone, b: &Gone) -> Result<bool, Memory> {
+pub(crate) fn are_alike(alloc: Global, a: &Gone, b: &Gone) -> Result<bool, Memory> {
     let waiting = wait_alike(alloc, &a.kernel, &b.kernel)?;
     let traders = tell_alike(alloc, &a.kernel, &b.kernel)?;
     let counts = a.kernel.counts() == b.kernel.counts();

@@ -1,5 +1,5 @@
 use Rattle.std.proofs.Common.{◌≡◌, ◌≤◌, ◌<◌, ◌+◌, ℕ, pos, List, All, length, true, arith, ap, ◌∙◌, sym, subst, false}
-use Rattle.std.specs.Prelude.{nat_le, ◌&&◌}
+use Rattle.std.specs.Prelude.{nat_le, ◌&&◌, ◌==◌}
 use Rattle.std.proofs.lemmas.Bool.Decides.{nat_tests}
 use Rattle.std.proofs.lemmas.List.Elements.{All-weaker}
 use Rattle.price_time_book.specs.declared.resting.Resting.{Resting}
@@ -79,7 +79,7 @@ returns-clause-stock c =
     let old-here : All (λ (o : Resting). p o ≡ true) c.reserve-2.new.self.list = subst (λ (b : List Resting). All (λ (o : Resting). p o ≡ true) b) (sym c.reserve-2.ensures.list) old in
     let known : All (λ (o : Resting). p o ≡ true) c.trade.new.self.book.list =
     c.trade.ensures.tested p (λ o left le q. q)
-    (λ left. and-both (is_trader n (record { reference = orders + 1; agent = agent; token = e.token; side = e.side; price = e.price; intended = e.shares; left = left; tif = e.tif })) (nat_le (orders + 1) (orders + 1) && has_pair pair after) (trader-is n agent c.requires.trader c.requires.exists) (and-both (nat_le (orders + 1) (orders + 1)) (has_pair pair after) (at_most-self (orders + 1)) new)) old-here in
+    (λ left. and-both (is_trader n (record { reference = orders + 1; agent = agent; token = e.token; side = e.side; price = e.price; intended = e.shares; left = left; tif = e.tif; shown = e.display == 89 })) (nat_le (orders + 1) (orders + 1) && has_pair pair after) (trader-is n agent c.requires.trader c.requires.exists) (and-both (nat_le (orders + 1) (orders + 1)) (has_pair pair after) (at_most-self (orders + 1)) new)) old-here in
     let long : length c.reserve-2.new.self.list ≡ length c.args.listing.now.book.list = ap (λ (b : List Resting). length b) c.reserve-2.ensures.list in
     let fit : length c.trade.new.self.book.list ≤ orders + 1 = omega (arith, c.trade.ensures.few, long, c.requires.stock.few) in
     subst (λ (m : ℕ). IsSoundStock m (orders + 1) after (stock_of c.trade.new.self)) (sym c.trade.ensures.same)

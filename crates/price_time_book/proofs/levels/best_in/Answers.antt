@@ -7,7 +7,7 @@ use Rattle.price_time_book.proofs.levels.best_in.Goals as goal
 pub returns-then-is_empty : goal.returns-then-is_empty
 returns-then-is_empty c = λ os nx x.
     let none : length c.args.levels.now ≡ 0 = search rules in
-    sym (best_none c.args.side os nx c.args.levels.now x none)
+    sym (best_none c.args.queue os nx c.args.levels.now x none)
 
 pub returns : goal.returns
 returns c = λ os nx x.
@@ -17,4 +17,4 @@ returns c = λ os nx x.
     let l = get_or ls at d in
     let h : at < length ls = c.place_of_best.ensures.within in
     let e : l ≡ get_or ls at l = get_or_default ls at d l h in
-    sym (best_by_level c.args.side os nx ls l x (best_level_at c.args.side ls at l x.rising h c.place_of_best.ensures.last e) (right_at c.args.side os nx ls at l x h e))
+    sym (best_by_level c.args.queue os nx ls l x (best_level_at c.args.queue.side ls at l x.rising h c.place_of_best.ensures.last e) (right_at c.args.queue os nx ls at l x h e))

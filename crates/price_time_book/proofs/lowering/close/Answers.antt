@@ -22,9 +22,9 @@ returns-clause-indexed c =
     let d : Level = record { price = 0; first = 0; last = 0; shares = 0 } in
     let l = get_or ls c.args.at d in
     let h : c.args.at < length ls = search rules in
-    let placed : IsOpenAt os (key c.args.side l.price) i = c.requires.place d in
+    let placed : IsOpenAt os (key c.args.queue l.price) i = c.requires.place d in
     let same : o ≡ get_or os i nothing = c.index-order.ensures ∙ get_or_default os i o nothing placed.within in
     let lower = c.requires.lower nothing in
     let none = c.requires.none d nothing in
-    let t = indexed_close c.args.side os c.args.nexts.now ls c.args.at l i c.args.left c.args.intended c.requires.indexed h (get_or_default ls c.args.at d l h) placed (omega arith) (omega arith) in
-    rw c.remove.ensures.items (subst (λ (q : Resting). IsIndexed c.args.side (set os i (record q { left = c.args.left; intended = c.args.intended })) c.args.nexts.now (remove ls c.args.at)) (sym same) t)
+    let t = indexed_close c.args.queue os c.args.nexts.now ls c.args.at l i c.args.left c.args.intended c.requires.indexed h (get_or_default ls c.args.at d l h) placed (omega arith) (omega arith) in
+    rw c.remove.ensures.items (subst (λ (q : Resting). IsIndexed c.args.queue (set os i (record q { left = c.args.left; intended = c.args.intended })) c.args.nexts.now (remove ls c.args.at)) (sym same) t)

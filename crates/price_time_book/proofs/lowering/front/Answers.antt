@@ -7,12 +7,12 @@ pub loop-at-preserved : goal.loop-at-preserved
 loop-at-preserved c =
     let v = c.loop-at.invariant in
     let closed : (get_or c.args.orders.now c.loop-at.at nothing).left ≡ 0 = search rules in
-    let n = chain_on c.args.side c.args.orders.now c.args.nexts.now c.args.level.now c.loop-at.at c.requires.right v.from v.placed v.before closed in
+    let n = chain_on c.args.queue c.args.orders.now c.args.nexts.now c.args.level.now c.loop-at.at c.requires.right v.from v.placed v.before closed in
     record { placed = n.1; before = n.2; from = omega (arith, n.0, v.from) }
 
 pub loop-at-smaller : goal.loop-at-smaller
 loop-at-smaller c =
     let v = c.loop-at.invariant in
     let closed : (get_or c.args.orders.now c.loop-at.at nothing).left ≡ 0 = search rules in
-    let n = chain_on c.args.side c.args.orders.now c.args.nexts.now c.args.level.now c.loop-at.at c.requires.right v.from v.placed v.before closed in
+    let n = chain_on c.args.queue c.args.orders.now c.args.nexts.now c.args.level.now c.loop-at.at c.requires.right v.from v.placed v.before closed in
     omega (arith, n.0, v.placed.within)

@@ -4,8 +4,8 @@ use Rattle.price_time_book.proofs.lowering.front.Given as goal
 
 abbrev pub invariant-loop-at : goal.invariant-loop-at
 invariant-loop-at l = record {
-  placed : IsPlacedAt l.orders (key l.side l.level.price) l.at;
-  before : IsClear l.orders (key l.side l.level.price) 0 l.at;
+  placed : IsPlacedAt l.orders (key l.queue l.level.price) l.at;
+  before : IsClear l.orders (key l.queue l.level.price) 0 l.at;
   from : l.level.first ≤ l.at;
 }
 

@@ -20,7 +20,7 @@ returns-clause-indexed c =
     let l = c.index-level.result.now in
     let o = c.index-order.result.now in
     let e : l ≡ get_or ls c.args.at l = c.index-level.ensures in
-    let placed : IsOpenAt os (key c.args.side l.price) i = subst (λ (m : Level). IsOpenAt os (key c.args.side m.price) i) (sym e) (c.requires.place l) in
+    let placed : IsOpenAt os (key c.args.queue l.price) i = subst (λ (m : Level). IsOpenAt os (key c.args.queue m.price) i) (sym e) (c.requires.place l) in
     let within = (c.requires.place l).within in
     let same : o ≡ get_or os i nothing = c.index-order.ensures ∙ get_or_default os i o nothing within in
     let lower = c.requires.lower nothing in
@@ -28,5 +28,5 @@ returns-clause-indexed c =
     let shares : (get_or ls c.args.at l).shares ≡ l.shares = ap (λ (m : Level). m.shares) (sym e) in
     let left : o.left ≡ (get_or os i nothing).left = ap (λ (m : Resting). m.left) same in
     let by : c.from.result ≡ o.left - c.args.left = c.from.ensures in
-    let t = indexed_lower c.args.side os c.args.nexts.now ls c.args.at l i c.args.left c.args.intended (l.shares - c.from.result) c.requires.indexed (search rules) e placed (omega arith) (omega arith) (omega arith) in
-    subst (λ (q : Resting). IsIndexed c.args.side (set os i (record q { left = c.args.left; intended = c.args.intended })) c.args.nexts.now (set ls c.args.at (record l { shares = l.shares - c.from.result }))) (sym same) t
+    let t = indexed_lower c.args.queue os c.args.nexts.now ls c.args.at l i c.args.left c.args.intended (l.shares - c.from.result) c.requires.indexed (search rules) e placed (omega arith) (omega arith) (omega arith) in
+    subst (λ (q : Resting). IsIndexed c.args.queue (set os i (record q { left = c.args.left; intended = c.args.intended })) c.args.nexts.now (set ls c.args.at (record l { shares = l.shares - c.from.result }))) (sym same) t

@@ -1,105 +1,36 @@
-use Rattle.std.proofs.Common.{◌≡◌, inl, inr, ◌<◌, ◌≤◌, ◌-◌, List, length, get_or, sym, ap, ◌∙◌, subst, refl, arith}
+use Rattle.std.proofs.Common.{◌≡◌, true, false, get_or, sym, ap, ◌∙◌}
 use Rattle.std.proofs.lemmas.List.{get_or_default}
-use Rattle.price_time_book.specs.declared.levels.Level.{Level}
+use Rattle.price_time_book.specs.declared.levels.Queue.{Queue}
 use Rattle.price_time_book.specs.declared.resting.Resting.{Resting}
-use Rattle.price_time_book.specs.Indexed.{IsNoBetter, IsOpenAt, IsWorse, key, nothing}
-use Rattle.price_time_book.proofs.Firsts.{key_at}
-use Rattle.std.proofs.lemmas.Bool.{cases_eq}
-use Rattle.price_time_book.proofs.Counts.{depth_kept, depth_left, depth_other}
-use Rattle.price_time_book.proofs.Takes.{IsLowered, level_found, lowered, others_lowered}
+use Rattle.price_time_book.specs.Indexed.{nothing}
+use Rattle.price_time_book.specs.Queues.{hidden_of, shown_of}
+use Rattle.price_time_book.proofs.Sides.{hidden_apart, queue_is, shown_apart}
 use Rattle.price_time_book.proofs.lowering.lower_at.Goals as goal
 
-pub set_left-requires-clause-level : goal.set_left-requires-clause-level
-set_left-requires-clause-level c =
+pub lower_in-requires-clause-queue : goal.lower_in-requires-clause-queue
+lower_in-requires-clause-queue c =
     let os = c.args.orders.now.items in
-    let ls = c.args.levels.now.items in
     let i = c.args.place in
-    let o = get_or os i nothing in
-    let here : IsOpenAt os (key c.args.mine o.price) i = record { within = c.requires.within; left = omega (arith, c.requires.lower); price = key_at c.args.mine o c.requires.side } in
-    let at = c.place_of-at.result in
-    let price : c.index.result.now.price ≡ o.price = ap (λ (q : Resting). q.price) (c.index.ensures ∙ get_or_default os i c.index.result.now nothing here.within) in
-    let seen = c.as_slice.ensures.value in
-    let within : at ≤ length ls = subst (λ (v : List Level). at ≤ length v) seen c.place_of-at.ensures.within in
-    let low : (d : Level) → 0 < at → IsWorse c.args.mine (get_or ls (at - 1) d).price o.price = λ d h. subst (λ p. IsWorse c.args.mine (get_or ls (at - 1) d).price p) price (subst (λ (v : List Level). IsWorse c.args.mine (get_or v (at - 1) d).price c.index.result.now.price) seen (c.place_of-at.ensures.below d h)) in
-    let high : (d : Level) → at < length ls → IsNoBetter c.args.mine o.price (get_or ls at d).price = λ d h. subst (λ p. IsNoBetter c.args.mine p (get_or ls at d).price) price (subst (λ (v : List Level). at < length v → IsNoBetter c.args.mine c.index.result.now.price (get_or v at d).price) seen (c.place_of-at.ensures.above d) h) in
-    let found = level_found c.args.mine os c.args.nexts.now ls at o.price i c.requires.indexed here within low high in
-    omega (arith, found.0, c.args.levels.now.ok.0)
+    let o = c.index-resting.result.now in
+    let same : o ≡ get_or os i nothing = c.index-resting.ensures ∙ get_or_default os i o nothing c.requires.within in
+    queue_is (get_or os i nothing) c.args.mine true c.requires.side (sym (ap (λ (q : Resting). q.shown) same) ∙ c.if-resting.true)
 
-pub set_left-requires-clause-place : goal.set_left-requires-clause-place
-set_left-requires-clause-place c = λ d.
-    let os = c.args.orders.now.items in
-    let ls = c.args.levels.now.items in
-    let i = c.args.place in
-    let o = get_or os i nothing in
-    let here : IsOpenAt os (key c.args.mine o.price) i = record { within = c.requires.within; left = omega (arith, c.requires.lower); price = key_at c.args.mine o c.requires.side } in
-    let at = c.place_of-at.result in
-    let price : c.index.result.now.price ≡ o.price = ap (λ (q : Resting). q.price) (c.index.ensures ∙ get_or_default os i c.index.result.now nothing here.within) in
-    let seen = c.as_slice.ensures.value in
-    let within : at ≤ length ls = subst (λ (v : List Level). at ≤ length v) seen c.place_of-at.ensures.within in
-    let low : (d : Level) → 0 < at → IsWorse c.args.mine (get_or ls (at - 1) d).price o.price = λ d h. subst (λ p. IsWorse c.args.mine (get_or ls (at - 1) d).price p) price (subst (λ (v : List Level). IsWorse c.args.mine (get_or v (at - 1) d).price c.index.result.now.price) seen (c.place_of-at.ensures.below d h)) in
-    let high : (d : Level) → at < length ls → IsNoBetter c.args.mine o.price (get_or ls at d).price = λ d h. subst (λ p. IsNoBetter c.args.mine p (get_or ls at d).price) price (subst (λ (v : List Level). at < length v → IsNoBetter c.args.mine c.index.result.now.price (get_or v at d).price) seen (c.place_of-at.ensures.above d) h) in
-    let found = level_found c.args.mine os c.args.nexts.now ls at o.price i c.requires.indexed here within low high in
-    subst (λ p. IsOpenAt os (key c.args.mine p) i) (sym (found.1 d)) here
+pub returns-then-resting-clause-hidden : goal.returns-then-resting-clause-hidden
+returns-then-resting-clause-hidden c = c.lower_in.ensures.others (hidden_of c.args.mine) c.args.hidden.now.items (hidden_apart c.args.mine c.args.mine) c.requires.hidden
 
-pub returns-clause-list : goal.returns-clause-list
-returns-clause-list c =
+pub returns-then-resting-clause-others : goal.returns-then-resting-clause-others
+returns-then-resting-clause-others c = λ t ms n x. c.lower_in.ensures.others t ms (λ e. n (ap (λ (r : Queue). r.side) e)) x
+
+pub lower_in-requires-2-clause-queue : goal.lower_in-requires-2-clause-queue
+lower_in-requires-2-clause-queue c =
     let os = c.args.orders.now.items in
-    let ls = c.args.levels.now.items in
     let i = c.args.place in
-    let o = get_or os i nothing in
-    let here : IsOpenAt os (key c.args.mine o.price) i = record { within = c.requires.within; left = omega (arith, c.requires.lower); price = key_at c.args.mine o c.requires.side } in
-    let lowered_is : IsLowered os c.set_left.new.orders.items o c.args.left c.args.intended = lowered os c.set_left.new.orders.items i o c.args.left c.args.intended refl c.requires.orderly here.within c.requires.lower c.requires.size c.set_left.ensures.orders in
-    lowered_is.list
+    let o = c.index-resting.result.now in
+    let same : o ≡ get_or os i nothing = c.index-resting.ensures ∙ get_or_default os i o nothing c.requires.within in
+    queue_is (get_or os i nothing) c.args.mine false c.requires.side (sym (ap (λ (q : Resting). q.shown) same) ∙ c.if-resting.false)
+
+pub returns-clause-shown : goal.returns-clause-shown
+returns-clause-shown c = c.lower_in-2.ensures.others (shown_of c.args.mine) c.args.shown.now.items (shown_apart c.args.mine c.args.mine) c.requires.shown
 
 pub returns-clause-others : goal.returns-clause-others
-returns-clause-others c = λ t ms n x.
-    let os = c.args.orders.now.items in
-    let ls = c.args.levels.now.items in
-    let i = c.args.place in
-    let o = get_or os i nothing in
-    let here : IsOpenAt os (key c.args.mine o.price) i = record { within = c.requires.within; left = omega (arith, c.requires.lower); price = key_at c.args.mine o c.requires.side } in
-    others_lowered c.args.mine t os c.set_left.new.orders.items c.args.nexts.now ms i c.args.left c.args.intended o.price n here (omega (arith, c.requires.lower)) c.set_left.ensures.orders x
-
-pub returns-clause-orderly : goal.returns-clause-orderly
-returns-clause-orderly c =
-    let os = c.args.orders.now.items in
-    let ls = c.args.levels.now.items in
-    let i = c.args.place in
-    let o = get_or os i nothing in
-    let here : IsOpenAt os (key c.args.mine o.price) i = record { within = c.requires.within; left = omega (arith, c.requires.lower); price = key_at c.args.mine o c.requires.side } in
-    let lowered_is : IsLowered os c.set_left.new.orders.items o c.args.left c.args.intended = lowered os c.set_left.new.orders.items i o c.args.left c.args.intended refl c.requires.orderly here.within c.requires.lower c.requires.size c.set_left.ensures.orders in
-    lowered_is.orderly
-
-pub returns-clause-small : goal.returns-clause-small
-returns-clause-small c =
-    let os = c.args.orders.now.items in
-    let ls = c.args.levels.now.items in
-    let i = c.args.place in
-    let o = get_or os i nothing in
-    let here : IsOpenAt os (key c.args.mine o.price) i = record { within = c.requires.within; left = omega (arith, c.requires.lower); price = key_at c.args.mine o c.requires.side } in
-    let lowered_is : IsLowered os c.set_left.new.orders.items o c.args.left c.args.intended = lowered os c.set_left.new.orders.items i o c.args.left c.args.intended refl c.requires.orderly here.within c.requires.lower c.requires.size c.set_left.ensures.orders in
-    lowered_is.small
-
-pub count_out-requires : goal.count_out-requires
-count_out-requires c = λ z.
-    let os = c.args.orders.now.items in
-    let i = c.args.place in
-    let some : 0 < (get_or os i nothing).left = omega (arith, c.requires.lower) in
-    omega (arith, depth_left c.args.mine os c.set_left.new.orders.items i c.args.left c.args.intended c.requires.within some c.requires.side z c.set_left.ensures.orders, c.requires.count)
-
-pub returns-clause-count : goal.returns-clause-count
-returns-clause-count c =
-    let os = c.args.orders.now.items in
-    let i = c.args.place in
-    let some : 0 < (get_or os i nothing).left = omega (arith, c.requires.lower) in
-    elim (cases_eq c.args.left 0) [
-      | inl z ↦ omega (arith, c.count_out.ensures.left z, depth_left c.args.mine os c.set_left.new.orders.items i c.args.left c.args.intended c.requires.within some c.requires.side z c.set_left.ensures.orders, c.requires.count)
-      | inr n ↦ c.count_out.ensures.kept n ∙ c.requires.count ∙ sym (depth_kept c.args.mine os c.set_left.new.orders.items i c.args.left c.args.intended c.requires.within some n c.set_left.ensures.orders)
-    ]
-
-pub returns-clause-other_count : goal.returns-clause-other_count
-returns-clause-other_count c = λ t n.
-    let os = c.args.orders.now.items in
-    let i = c.args.place in
-    let some : 0 < (get_or os i nothing).left = omega (arith, c.requires.lower) in
-    depth_other t os c.set_left.new.orders.items i c.args.left c.args.intended c.requires.within (λ e. n (sym e ∙ c.requires.side)) c.set_left.ensures.orders
+returns-clause-others c = λ t ms n x. c.lower_in-2.ensures.others t ms (λ e. n (ap (λ (r : Queue). r.side) e)) x

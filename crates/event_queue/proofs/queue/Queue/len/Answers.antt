@@ -1,5 +1,4 @@
 use Rattle.std.proofs.Common.{length, ap, arith}
-use Rattle.std.specs.BinaryHeap.{heap_items}
 use Rattle.market_types.specs.Room.{Room}
 use Rattle.market_types.specs.declared.message.Message.{Message}
 use Rattle.event_queue.proofs.Slots.{length_seen}
@@ -7,5 +6,5 @@ use Rattle.event_queue.proofs.queue.Queue.len.Goals as goal
 
 pub returns : goal.returns
 returns c =
-    let v = heap_items c.self.inside.heap in
-    omega (arith, c.len.ensures, c.self.inside.heap.«data».ok.0, length_seen c.self.inside.slots.items v, ap (λ (r : Room Message). length r.list) c.self.view_is)
+    let v = c.self.inside.heaps.list in
+    omega (arith, c.len.ensures, length_seen c.self.inside.slots.items v, ap (λ (r : Room Message). length r.list) c.self.view_is)

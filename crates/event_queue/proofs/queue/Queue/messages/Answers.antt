@@ -1,5 +1,4 @@
 use Rattle.std.proofs.Common.{◌≡◌, ◌<◌, ◌+◌, All, List, length, sym, ap, ◌∙◌, get_or, false, arith, rules, subst}
-use Rattle.std.specs.BinaryHeap.{heap_items}
 use Rattle.std.specs.List.Sorted.{IsPermutation}
 use Rattle.std.specs.Ordering.{is_lt, ordering_then, nat_cmp}
 use Rattle.std.proofs.lemmas.Bool.Decides.{nat_tests}
@@ -23,10 +22,9 @@ not_before a b h = grind (arith, nat_tests)
 pub listed-requires : goal.listed-requires
 listed-requires c =
     let slots = c.self.inside.slots.items in
-    let v = heap_items c.self.inside.heap in
+    let v = c.self.inside.heaps.list in
     let within = held-within slots c.self.inside.free.items v c.self.invariant.shared_out in
-    let here = subst (λ (s : List Message). All (λ (d : Due). d.slot < length s) v) (sym c.as_slice-2.ensures.value) within in
-    subst (λ (ds : List Due). All (λ (d : Due). d.slot < length c.as_slice-2.result.now) ds) (sym c.as_slice.ensures.value) here
+    subst (λ (s : List Message). All (λ (d : Due). d.slot < length s) v) (sym c.as_slice.ensures.value) within
 
 pub returns-clause-sorted : goal.returns-clause-sorted
 returns-clause-sorted c = λ k d low high.
@@ -35,7 +33,7 @@ returns-clause-sorted c = λ k d low high.
 
 pub returns-clause-same : goal.returns-clause-same
 returns-clause-same c =
-    let u = held c.self.inside.slots.items (heap_items c.self.inside.heap) in
+    let u = held c.self.inside.slots.items (c.self.inside.heaps.list) in
     let v = c.sort_unstable_by_key.new.self.items in
     let copied : c.in_ok-messages.messages.items ≡ u = search rules in
     let moved = subst (λ (w : List Message). IsPermutation w v) copied c.sort_unstable_by_key.ensures.permutation in
@@ -44,7 +42,7 @@ returns-clause-same c =
 
 pub returns-clause-listed : goal.returns-clause-listed
 returns-clause-listed c =
-    let u = held c.self.inside.slots.items (heap_items c.self.inside.heap) in
+    let u = held c.self.inside.slots.items (c.self.inside.heaps.list) in
     let v = c.sort_unstable_by_key.new.self.items in
     let copied : c.in_ok-messages.messages.items ≡ u = search rules in
     let moved = subst (λ (w : List Message). IsPermutation w v) copied c.sort_unstable_by_key.ensures.permutation in

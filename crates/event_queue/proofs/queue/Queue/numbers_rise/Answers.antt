@@ -4,9 +4,8 @@ use Rattle.market_types.specs.declared.message.Message.{Message}
 use Rattle.event_queue.specs.Dues.{held}
 use Rattle.event_queue.specs.Rising.{IsRising}
 use Rattle.event_queue.proofs.Numbers.{rising-by_number}
-use Rattle.std.specs.BinaryHeap.{heap_items}
 use Rattle.event_queue.proofs.queue.Queue.numbers_rise.Goals as goal
 
 pub returns : goal.returns
 returns c =
-    subst (λ (q : Room Message). IsRising q.list) c.self.view_is (rising-by_number (held c.self.inside.slots.items (heap_items c.self.inside.heap)) c.self.invariant.apart)
+    subst (λ (q : Room Message). IsRising q.list) c.self.view_is (rising-by_number (held c.self.inside.slots.items (c.self.inside.heaps.list)) c.self.invariant.apart)

@@ -1,5 +1,4 @@
-use Rattle.std.proofs.Common.{◌≡◌, ◌<◌, length, Some, sym, ap, ◌∙◌, arith, refl, rules, option_map}
-use Rattle.std.specs.BinaryHeap.{heap_items}
+use Rattle.std.proofs.Common.{◌≡◌, Some, sym, ap, ◌∙◌, rules, option_map}
 use Rattle.market_types.specs.Room.{Room}
 use Rattle.market_types.specs.declared.message.Message.{Message}
 use Rattle.event_queue.specs.Dues.{message_at}
@@ -12,9 +11,8 @@ returns-in-Some c =
     let e = c.in-Some.ensures in
     let i = c.self.invariant in
     let slots = c.self.inside.slots.items in
-    let v = heap_items c.self.inside.heap in
-    let some : 0 < length v = omega (arith, e.variant.0 refl, c.self.inside.heap.«data».ok.0) in
-    let p = peeked slots c.self.inside.free.items v c.in-Some.due.now i.shared_out i.told i.apart some e.lookup (e.greatest i.ordered) in
+    let v = c.self.inside.heaps.list in
+    let p = peeked slots c.self.inside.free.items v c.in-Some.due.now i.shared_out i.told i.apart e.first in
     let within = p.0 in
     let found : option_map (λ (m : _). m.now) c.get.result ≡ Some (message_at slots c.in-Some.due.now) = search rules in
     found ∙ sym p.1 ∙ ap (λ (r : Room Message). least r.list) c.self.view_is

@@ -3,6 +3,7 @@ use Rattle.market_types.specs.Room.{Room}
 use Rattle.market_types.specs.declared.order.Side.TheVariants.{Buy, Sell}
 use Rattle.price_time_book.specs.declared.resting.Resting.{Resting}
 use Rattle.price_time_book.specs.Indexed.{IsIndexed}
+use Rattle.price_time_book.specs.Queues.{hidden_of, shown_of}
 use Rattle.price_time_book.proofs.Indexes.{references_lessened, tokens_lessened}
 use Rattle.price_time_book.proofs.Takes.{held, others_buy, others_sell}
 use Rattle.price_time_book.proofs.book.Book.reduce.Goals as goal
@@ -52,14 +53,18 @@ invariant_of-self c =
       nexts_room = c.self.invariant.nexts_room;
       buys_room = search rules;
       sells_room = search rules;
+      hidden_buys_room = search rules;
+      hidden_sells_room = search rules;
       references_room = c.self.invariant.references_room;
       tokens_room = c.self.invariant.tokens_room;
       buy_count = c.lower_at.ensures.count;
       sell_count = c.self.invariant.sell_count ∙ sym (c.lower_at.ensures.other_count Sell (others_buy Buy refl));
       references = references_lessened k.orders.items c.lower_at.new.orders.items k.references.items c.lower_at.ensures.lessened c.self.invariant.references;
       tokens = tokens_lessened k.orders.items c.lower_at.new.orders.items k.tokens.items c.lower_at.ensures.lessened c.self.invariant.tokens;
-      buys = subst (λ n. IsIndexed Buy c.lower_at.new.orders.items n c.lower_at.new.levels.items) c.as_slice-nexts.ensures.value c.lower_at.ensures.indexed;
-      sells = subst (λ n. IsIndexed Sell c.lower_at.new.orders.items n k.sells.items) c.as_slice-nexts.ensures.value (c.lower_at.ensures.others Sell k.sells.items (others_buy Buy refl) (subst (λ n. IsIndexed Sell k.orders.items n k.sells.items) (sym c.as_slice-nexts.ensures.value) c.self.invariant.sells));
+      buys = subst (λ n. IsIndexed (shown_of Buy) c.lower_at.new.orders.items n c.lower_at.new.shown.items) c.as_slice-nexts.ensures.value c.lower_at.ensures.shown;
+      hidden_buys = subst (λ n. IsIndexed (hidden_of Buy) c.lower_at.new.orders.items n c.lower_at.new.hidden.items) c.as_slice-nexts.ensures.value c.lower_at.ensures.hidden;
+      sells = subst (λ n. IsIndexed (shown_of Sell) c.lower_at.new.orders.items n k.sells.items) c.as_slice-nexts.ensures.value (c.lower_at.ensures.others (shown_of Sell) k.sells.items (others_buy Buy refl) (subst (λ n. IsIndexed (shown_of Sell) k.orders.items n k.sells.items) (sym c.as_slice-nexts.ensures.value) c.self.invariant.sells));
+      hidden_sells = subst (λ n. IsIndexed (hidden_of Sell) c.lower_at.new.orders.items n k.hidden_sells.items) c.as_slice-nexts.ensures.value (c.lower_at.ensures.others (hidden_of Sell) k.hidden_sells.items (others_buy Buy refl) (subst (λ n. IsIndexed (hidden_of Sell) k.orders.items n k.hidden_sells.items) (sym c.as_slice-nexts.ensures.value) c.self.invariant.hidden_sells));
       orderly = c.lower_at.ensures.orderly;
       small = c.lower_at.ensures.small c.self.invariant.small;
     }
@@ -102,14 +107,18 @@ invariant_of-self-in-Sell c =
       nexts_room = c.self.invariant.nexts_room;
       buys_room = search rules;
       sells_room = search rules;
+      hidden_buys_room = search rules;
+      hidden_sells_room = search rules;
       references_room = c.self.invariant.references_room;
       tokens_room = c.self.invariant.tokens_room;
       sell_count = c.lower_at-in-Sell.ensures.count;
       buy_count = c.self.invariant.buy_count ∙ sym (c.lower_at-in-Sell.ensures.other_count Buy (others_sell Sell refl));
       references = references_lessened k.orders.items c.lower_at-in-Sell.new.orders.items k.references.items c.lower_at-in-Sell.ensures.lessened c.self.invariant.references;
       tokens = tokens_lessened k.orders.items c.lower_at-in-Sell.new.orders.items k.tokens.items c.lower_at-in-Sell.ensures.lessened c.self.invariant.tokens;
-      sells = subst (λ n. IsIndexed Sell c.lower_at-in-Sell.new.orders.items n c.lower_at-in-Sell.new.levels.items) c.as_slice-nexts.ensures.value c.lower_at-in-Sell.ensures.indexed;
-      buys = subst (λ n. IsIndexed Buy c.lower_at-in-Sell.new.orders.items n k.buys.items) c.as_slice-nexts.ensures.value (c.lower_at-in-Sell.ensures.others Buy k.buys.items (others_sell Sell refl) (subst (λ n. IsIndexed Buy k.orders.items n k.buys.items) (sym c.as_slice-nexts.ensures.value) c.self.invariant.buys));
+      sells = subst (λ n. IsIndexed (shown_of Sell) c.lower_at-in-Sell.new.orders.items n c.lower_at-in-Sell.new.shown.items) c.as_slice-nexts.ensures.value c.lower_at-in-Sell.ensures.shown;
+      hidden_sells = subst (λ n. IsIndexed (hidden_of Sell) c.lower_at-in-Sell.new.orders.items n c.lower_at-in-Sell.new.hidden.items) c.as_slice-nexts.ensures.value c.lower_at-in-Sell.ensures.hidden;
+      buys = subst (λ n. IsIndexed (shown_of Buy) c.lower_at-in-Sell.new.orders.items n k.buys.items) c.as_slice-nexts.ensures.value (c.lower_at-in-Sell.ensures.others (shown_of Buy) k.buys.items (others_sell Sell refl) (subst (λ n. IsIndexed (shown_of Buy) k.orders.items n k.buys.items) (sym c.as_slice-nexts.ensures.value) c.self.invariant.buys));
+      hidden_buys = subst (λ n. IsIndexed (hidden_of Buy) c.lower_at-in-Sell.new.orders.items n k.hidden_buys.items) c.as_slice-nexts.ensures.value (c.lower_at-in-Sell.ensures.others (hidden_of Buy) k.hidden_buys.items (others_sell Sell refl) (subst (λ n. IsIndexed (hidden_of Buy) k.orders.items n k.hidden_buys.items) (sym c.as_slice-nexts.ensures.value) c.self.invariant.hidden_buys));
       orderly = c.lower_at-in-Sell.ensures.orderly;
       small = c.lower_at-in-Sell.ensures.small c.self.invariant.small;
     }

@@ -6,6 +6,7 @@ use Rattle.price_time_book.specs.declared.resting.Resting.{Resting}
 use Rattle.price_time_book.specs.Index.{IsByReference, IsByToken}
 use Rattle.price_time_book.specs.Indexed.{IsIndexed, IsSmall, open_orders}
 use Rattle.price_time_book.specs.Orders.{order_of}
+use Rattle.price_time_book.specs.Queues.{hidden_of, shown_of}
 use Rattle.price_time_book.specs.Sides.{depth_of}
 use Rattle.price_time_book.proofs.Counts.{depth-push_off, depth-push_on}
 use Rattle.price_time_book.specs.Orderly.{IsOrderly}
@@ -14,11 +15,27 @@ use Rattle.price_time_book.proofs.Joins.{open_orders-push}
 use Rattle.price_time_book.proofs.Takes.{levels_fit, others_buy, others_sell}
 use Rattle.price_time_book.proofs.book.Book.rest.Goals as goal
 
-pub join-requires-clause-small : goal.join-requires-clause-small
-join-requires-clause-small c =
+pub join-requires-clause-shown_small : goal.join-requires-clause-shown_small
+join-requires-clause-shown_small c =
     let k = c.self.inside in
     let few : length (open_orders k.orders.items) < 4294967296 = subst (λ (r : Room Resting). length r.list < 4294967296) (sym c.self.view_is) c.requires.few in
-    levels_fit Buy k.orders.items k.nexts.items k.buys.items c.self.invariant.buys c.self.invariant.small few
+    levels_fit (shown_of Buy) k.orders.items k.nexts.items k.buys.items c.self.invariant.buys c.self.invariant.small few
+
+pub join-requires-clause-shown : goal.join-requires-clause-shown
+join-requires-clause-shown c =
+    let k = c.self.inside in
+    subst (λ (s : Side). IsIndexed (shown_of s) k.orders.items k.nexts.items k.buys.items) (sym c.in-Buy.is) c.self.invariant.buys
+
+pub join-requires-clause-hidden_small : goal.join-requires-clause-hidden_small
+join-requires-clause-hidden_small c =
+    let k = c.self.inside in
+    let few : length (open_orders k.orders.items) < 4294967296 = subst (λ (r : Room Resting). length r.list < 4294967296) (sym c.self.view_is) c.requires.few in
+    levels_fit (hidden_of Buy) k.orders.items k.nexts.items k.hidden_buys.items c.self.invariant.hidden_buys c.self.invariant.small few
+
+pub join-requires-clause-hidden : goal.join-requires-clause-hidden
+join-requires-clause-hidden c =
+    let k = c.self.inside in
+    subst (λ (s : Side). IsIndexed (hidden_of s) k.orders.items k.nexts.items k.hidden_buys.items) (sym c.in-Buy.is) c.self.invariant.hidden_buys
 
 pub invariant_of-self : goal.invariant_of-self
 invariant_of-self c =
@@ -33,14 +50,18 @@ invariant_of-self c =
       nexts_room = search rules;
       buys_room = search rules;
       sells_room = search rules;
+      hidden_buys_room = search rules;
+      hidden_sells_room = search rules;
       references_room = search rules;
       tokens_room = search rules;
       buy_count = ap (λ n. n + 1) c.self.invariant.buy_count ∙ sym (depth-push_on Buy (open_orders k.orders.items) order c.in-Buy.is) ∙ ap (depth_of Buy) (sym list);
       sell_count = c.self.invariant.sell_count ∙ sym (depth-push_off Sell (open_orders k.orders.items) order (λ q. others_buy order.side c.in-Buy.is (sym q))) ∙ ap (depth_of Sell) (sym list);
       references = subst (λ (w : List Resting). IsByReference w c.enter_reference.new.entries.items) (sym c.join.ensures.orders) (c.enter_reference.ensures.indexed k.orders.items (search rules) c.self.invariant.references later);
       tokens = subst (λ (w : List Resting). IsByToken w c.enter_token.new.entries.items) (sym c.join.ensures.orders) (c.enter_token.ensures.indexed k.orders.items (search rules) c.self.invariant.tokens fresh);
-      buys = subst (λ (s : Side). IsIndexed s c.join.new.orders.items c.join.new.nexts.items c.join.new.levels.items) c.in-Buy.is c.join.ensures.indexed;
-      sells = c.join.ensures.others Sell k.sells.items (others_buy order.side c.in-Buy.is) c.self.invariant.sells;
+      buys = subst (λ (s : Side). IsIndexed (shown_of s) c.join.new.orders.items c.join.new.nexts.items c.join.new.shown.items) c.in-Buy.is c.join.ensures.shown;
+      hidden_buys = subst (λ (s : Side). IsIndexed (hidden_of s) c.join.new.orders.items c.join.new.nexts.items c.join.new.hidden.items) c.in-Buy.is c.join.ensures.hidden;
+      sells = c.join.ensures.others (shown_of Sell) k.sells.items (others_buy order.side c.in-Buy.is) c.self.invariant.sells;
+      hidden_sells = c.join.ensures.others (hidden_of Sell) k.hidden_sells.items (others_buy order.side c.in-Buy.is) c.self.invariant.hidden_sells;
       orderly = subst IsOrderly (sym list) (orderly-push (open_orders k.orders.items) order c.self.invariant.orderly c.requires.shares c.requires.intended few later);
       small = subst IsSmall (sym list) (each-push (λ (o : Resting). o.left ≤ 4294967295) (open_orders k.orders.items) order c.self.invariant.small c.fits.ensures);
     }
@@ -49,11 +70,27 @@ pub returns-in-Buy : goal.returns-in-Buy
 returns-in-Buy c =
     rw (c.join.ensures.orders, open_orders-push c.self.inside.orders.items c.args.order c.requires.shares, ← c.self.view_is) refl
 
-pub join-requires-in-Sell-clause-small : goal.join-requires-in-Sell-clause-small
-join-requires-in-Sell-clause-small c =
+pub join-requires-in-Sell-clause-shown_small : goal.join-requires-in-Sell-clause-shown_small
+join-requires-in-Sell-clause-shown_small c =
     let k = c.self.inside in
     let few : length (open_orders k.orders.items) < 4294967296 = subst (λ (r : Room Resting). length r.list < 4294967296) (sym c.self.view_is) c.requires.few in
-    levels_fit Sell k.orders.items k.nexts.items k.sells.items c.self.invariant.sells c.self.invariant.small few
+    levels_fit (shown_of Sell) k.orders.items k.nexts.items k.sells.items c.self.invariant.sells c.self.invariant.small few
+
+pub join-requires-in-Sell-clause-shown : goal.join-requires-in-Sell-clause-shown
+join-requires-in-Sell-clause-shown c =
+    let k = c.self.inside in
+    subst (λ (s : Side). IsIndexed (shown_of s) k.orders.items k.nexts.items k.sells.items) (sym c.in-Sell.is) c.self.invariant.sells
+
+pub join-requires-in-Sell-clause-hidden_small : goal.join-requires-in-Sell-clause-hidden_small
+join-requires-in-Sell-clause-hidden_small c =
+    let k = c.self.inside in
+    let few : length (open_orders k.orders.items) < 4294967296 = subst (λ (r : Room Resting). length r.list < 4294967296) (sym c.self.view_is) c.requires.few in
+    levels_fit (hidden_of Sell) k.orders.items k.nexts.items k.hidden_sells.items c.self.invariant.hidden_sells c.self.invariant.small few
+
+pub join-requires-in-Sell-clause-hidden : goal.join-requires-in-Sell-clause-hidden
+join-requires-in-Sell-clause-hidden c =
+    let k = c.self.inside in
+    subst (λ (s : Side). IsIndexed (hidden_of s) k.orders.items k.nexts.items k.hidden_sells.items) (sym c.in-Sell.is) c.self.invariant.hidden_sells
 
 pub invariant_of-self-in-Sell : goal.invariant_of-self-in-Sell
 invariant_of-self-in-Sell c =
@@ -68,14 +105,18 @@ invariant_of-self-in-Sell c =
       nexts_room = search rules;
       buys_room = search rules;
       sells_room = search rules;
+      hidden_buys_room = search rules;
+      hidden_sells_room = search rules;
       references_room = search rules;
       tokens_room = search rules;
       sell_count = ap (λ n. n + 1) c.self.invariant.sell_count ∙ sym (depth-push_on Sell (open_orders k.orders.items) order c.in-Sell.is) ∙ ap (depth_of Sell) (sym list);
       buy_count = c.self.invariant.buy_count ∙ sym (depth-push_off Buy (open_orders k.orders.items) order (λ q. others_sell order.side c.in-Sell.is (sym q))) ∙ ap (depth_of Buy) (sym list);
       references = subst (λ (w : List Resting). IsByReference w c.enter_reference.new.entries.items) (sym c.join-in-Sell.ensures.orders) (c.enter_reference.ensures.indexed k.orders.items (search rules) c.self.invariant.references later);
       tokens = subst (λ (w : List Resting). IsByToken w c.enter_token.new.entries.items) (sym c.join-in-Sell.ensures.orders) (c.enter_token.ensures.indexed k.orders.items (search rules) c.self.invariant.tokens fresh);
-      sells = subst (λ (s : Side). IsIndexed s c.join-in-Sell.new.orders.items c.join-in-Sell.new.nexts.items c.join-in-Sell.new.levels.items) c.in-Sell.is c.join-in-Sell.ensures.indexed;
-      buys = c.join-in-Sell.ensures.others Buy k.buys.items (others_sell order.side c.in-Sell.is) c.self.invariant.buys;
+      sells = subst (λ (s : Side). IsIndexed (shown_of s) c.join-in-Sell.new.orders.items c.join-in-Sell.new.nexts.items c.join-in-Sell.new.shown.items) c.in-Sell.is c.join-in-Sell.ensures.shown;
+      hidden_sells = subst (λ (s : Side). IsIndexed (hidden_of s) c.join-in-Sell.new.orders.items c.join-in-Sell.new.nexts.items c.join-in-Sell.new.hidden.items) c.in-Sell.is c.join-in-Sell.ensures.hidden;
+      buys = c.join-in-Sell.ensures.others (shown_of Buy) k.buys.items (others_sell order.side c.in-Sell.is) c.self.invariant.buys;
+      hidden_buys = c.join-in-Sell.ensures.others (hidden_of Buy) k.hidden_buys.items (others_sell order.side c.in-Sell.is) c.self.invariant.hidden_buys;
       orderly = subst IsOrderly (sym list) (orderly-push (open_orders k.orders.items) order c.self.invariant.orderly c.requires.shares c.requires.intended few later);
       small = subst IsSmall (sym list) (each-push (λ (o : Resting). o.left ≤ 4294967295) (open_orders k.orders.items) order c.self.invariant.small c.fits.ensures);
     }

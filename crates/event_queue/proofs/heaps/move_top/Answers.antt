@@ -1,7 +1,7 @@
 use Rattle.std.proofs.Common.{rules}
 use Rattle.std.proofs.lemmas.List.Sorted.{IsPermutation-trans, IsPermutation-cons}
 use Rattle.event_queue.specs.declared.due.Due.{Due}
-use Rattle.event_queue.proofs.queue.move_top.Goals as goal
+use Rattle.event_queue.proofs.heaps.move_top.Goals as goal
 
 pub returns-clause-moved : goal.returns-clause-moved
 returns-clause-moved c =

@@ -1,0 +1,123 @@
+//! Runs of a kernel up to a time.
+
+ghost use Rattle.std.specs.Prelude.{◌≤◌, ℕ, length, All};
+ghost use Rattle.market_floor.specs.Opening.{IsOpening};
+ghost use Rattle.kernel_core.specs.Step.{Fits};
+ghost use Rattle.kernel_core.specs.EditsWorked.{IsPlain};
+
+use crate::kernel_examples::copies::{Gone, are_alike, crowd, gone_on};
+use crate::kernel_examples::{branch, market, run};
+use agent_shell::Kind;
+use kernel_core::{Kernel, Opening};
+use market_rules::Edit;
+use market_types::{End, Memory, Time, Trace};
+use outside::{Counted, Steps};
+use std::alloc::Global;
+use std::test::Fail;
+
+// A run up to a time: the answer, and by how much the counter rose.
+fn timed(
+    alloc: Global,
+    o: &Opening,
+    kernel: &mut Kernel,
+    when: Time,
+    most: u32,
+    trace: &mut Trace,
+) -> Result<(Option<End>, u64), Memory>
+    requires { Fits o.now kernel.old }
+    ensures { Fits o.now kernel.new }
+{
+    let mut steps: Steps<Counted> = Steps::new();
+    let end = kernel.run_until_time(alloc, o, when, most, trace, &mut steps);
+    let ticks = steps.close();
+    Ok((end?, ticks))
+}
+
+// What a run up to a time answers, how often it ticked, the state's count of events and time, and whether one more is due.
+type Reached = (Option<End>, u64, u32, Time, bool);
+
+// A run up to a time once the edits are made and so many events stand.
+fn reached(
+    alloc: Global,
+    o: &Opening,
+    edits: &[(u32, Edit)],
+    first: u32,
+    when: Time,
+    most: u32,
+) -> Result<Reached, Memory>
+    requires opening { IsOpening o.now }
+    requires few { length edits.now ≤ 16 }
+    requires plain { All (λ (e : ℕ × Edit). IsPlain e.1) edits.now }
+{
+    let mut trace = Trace::new(alloc);
+    let mut kernel = branch(alloc, o, edits, first, &mut trace)?;
+    let (end, ticks) = timed(alloc, o, &mut kernel, when, most, &mut trace)?;
+    let due = kernel.due_by(o, when);
+    Ok((end, ticks, kernel.events(), kernel.time(), due))
+}
+
+// Two watchers wake at 1000 and ask, and the market closes at 1005, when their questions are due.
+#[test]
+fn a_run_stops_at_a_time(rt: HostRuntime) -> Result<(), Fail> {
+    let alloc = rt.alloc();
+    let watchers = [(Kind::Watcher, 1000), (Kind::Watcher, 1000)];
+    let o = market(alloc, 1005, 0, &watchers)?;
+    let closed = Some(End::Closed);
+    let rows = [
+        (0, 999, 100, (None, 0, 0, 1000, false)),
+        (0, 1000, 0, (None, 0, 0, 1000, true)),
+        (0, 1000, 1, (None, 1, 1, 1000, true)),
+        (0, 1000, 100, (None, 2, 2, 1000, false)),
+        (0, 1004, 100, (None, 2, 2, 1000, false)),
+        (0, 1005, 3, (None, 3, 3, 1005, true)),
+        (2, 1000, 100, (None, 0, 2, 1000, false)),
+        (3, 1005, 2, (None, 0, 3, 1005, true)),
+        (0, 1005, 100, (closed, 4, 4, 1005, false)),
+        (0, 5000, 100, (closed, 4, 4, 1005, false)),
+        (4, 5000, 0, (closed, 0, 4, 1005, false)),
+    ];
+    for (first, when, most, hoped) in rows {
+        let told = reached(alloc, &o, &[], first, when, most)?;
+        assert!(rt; told == hoped, "from {first} to {when} with {most}");
+    }
+    Ok(())
+}
+
+// A silenced watcher asks for nothing when it wakes, so that no message waits.
+#[test]
+fn a_run_up_to_a_time_tells_that_it_is_quiet(rt: HostRuntime) -> Result<(), Fail> {
+    let alloc = rt.alloc();
+    let o = market(alloc, 2000, 0, &[(Kind::Watcher, 1000)])?;
+    let silence = [(0, Edit::Silence { agent: 1 })];
+    let quiet = reached(alloc, &o, &silence, 0, 5000, 100)?;
+    assert!(rt; quiet == (Some(End::Quiet), 1, 1, 1000, false));
+    Ok(())
+}
+
+// A run that stops at a time and then goes on to its end.
+fn stopped(alloc: Global, o: &Opening, when: Time) -> Result<Gone, Memory>
+    requires { IsOpening o.now }
+{
+    let mut kernel = Kernel::open(alloc, o)?;
+    let mut trace = Trace::new(alloc);
+    timed(alloc, o, &mut kernel, when, 100_000, &mut trace)?;
+    let end = run(alloc, o, &mut kernel, 100_000, &mut trace)?;
+    Ok(Gone { end, kernel, trace })
+}
+
+#[test]
+fn a_run_that_stops_at_a_time_goes_on_as_if_it_had_not(rt: HostRuntime) -> Result<(), Fail> {
+    let alloc = rt.alloc();
+    let o = crowd(alloc)?;
+    let kernel = Kernel::open(alloc, &o)?;
+    let whole = gone_on(alloc, &o, kernel)?;
+    assert!(rt; whole.end == Some(End::Closed) && whole.kernel.events() > 1000);
+    for when in [0, 1000, 1_001_000, 30_000_000, 60_000_000, 90_000_000] {
+        let parts = stopped(alloc, &o, when)?;
+        assert!(rt;
+            parts.end == whole.end && are_alike(alloc, &parts, &whole)?,
+            "at {when}"
+        );
+    }
+    Ok(())
+}
