@@ -28,6 +28,29 @@ fn join(queue: &mut Queue, time: u64, next: u64)
     queue.push(wakeup(time, next));
 }
 
+// A question of agent 1 to the exchange.
+fn question(time: u64, seq: u64) -> Message
+    ensures { result.seq ≡ seq }
+{
+    Message {
+        time,
+        seq,
+        from: 1,
+        to: 0,
+        body: Body::Ask(0),
+    }
+}
+
+// A question joins under the next number.
+fn ask(queue: &mut Queue, time: u64, next: u64)
+    requires room { 0 < queue.old.spare }
+    requires before { All (λ m. m.seq < next) queue.old.list }
+    ensures before { All (λ m. m.seq < next + 1) queue.new.list }
+    ensures spare { queue.new.spare ≡ queue.old.spare - 1 }
+{
+    queue.push(question(time, next));
+}
+
 // The least message is put back to a time.
 fn put_back(queue: &mut Queue, time: u64, next: u64) -> Option<Message>
     requires before { All (λ m. m.seq < next) queue.old.list }
@@ -158,4 +181,25 @@ fn replaces_the_least_among_several(rt: HostRuntime) {
     assert_eq!(rt; leave(&mut queue, 6), Some(wakeup(1006, 5)));
     assert_eq!(rt; leave(&mut queue, 6), Some(wakeup(1009, 3)));
     assert_eq!(rt; replace(&mut queue, 1010, 6), None);
+}
+
+#[test]
+fn delivers_wakeups_and_questions_in_one_order(rt: HostRuntime) {
+    let mut queue = Queue::new(rt.alloc());
+    assert!(rt; queue.reserve(5).is_ok());
+    join(&mut queue, 1004, 0);
+    ask(&mut queue, 1004, 1);
+    ask(&mut queue, 1003, 2);
+    join(&mut queue, 1003, 3);
+    ask(&mut queue, 1001, 4);
+    assert_eq!(rt; put_back(&mut queue, 1002, 5), Some(question(1001, 4)));
+    assert_eq!(rt; leave(&mut queue, 5), Some(question(1002, 4)));
+    assert_eq!(rt; put_back(&mut queue, 1006, 5), Some(question(1003, 2)));
+    assert_eq!(rt; replace(&mut queue, 1004, 5), Some(wakeup(1003, 3)));
+    assert_eq!(rt; queue.len(), 4);
+    assert_eq!(rt; leave(&mut queue, 6), Some(wakeup(1004, 0)));
+    assert_eq!(rt; leave(&mut queue, 6), Some(question(1004, 1)));
+    assert_eq!(rt; leave(&mut queue, 6), Some(wakeup(1004, 5)));
+    assert_eq!(rt; leave(&mut queue, 6), Some(question(1006, 2)));
+    assert_eq!(rt; leave(&mut queue, 6), None);
 }

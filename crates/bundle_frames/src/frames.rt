@@ -1,18 +1,14 @@
 //! The fixed fields of each frame in bytes.
 
-ghost use Rattle.std.specs.Prelude.{◌≡◌, ◌<◌, ◌/◌, ◌%◌, ◌^◌, ◌∷◌, [], length};
+ghost use Rattle.std.specs.Prelude.{◌≡◌, ◌<◌, ◌/◌, ◌%◌, ◌^◌, length};
 ghost use Rattle.std.specs.Int.{cast_unsigned, w64, w128};
 ghost use Rattle.market_types.specs.Told.{event_told, edit_told};
-ghost use Rattle.wire_fields.specs.Values.{number};
-ghost use Rattle.wire_fields.specs.Wire.{spelling, spelled_fields};
-ghost use Rattle.bundle_frames.specs.Layouts.{ask_kinds, quote_kinds};
-ghost use Rattle.bundle_frames.specs.Wires.{header_wire, branch_wire, event_wire, edit_wire, counts_wire, stock_wire, order_wire, agent_wire, end_wire, quote_values, position_bytes, letter_of_delivery, letter_of_silence, letter_of_body};
+ghost use Rattle.wire_fields.specs.Wire.{spelling};
+ghost use Rattle.bundle_frames.specs.Wires.{header_wire, branch_wire, event_wire, edit_wire, counts_wire, stock_wire, order_wire, agent_wire, end_wire, position_bytes, letter_of_delivery, letter_of_silence, letter_of_body};
 
 use crate::closing::{ClosingAgent, ClosingCounts, ClosingOrder, ClosingStock};
-use crate::layouts::{
-    AGENT, ASK, BRANCH, COUNTS, EDIT, END, HEADER, ORDER, POSITION, QUOTE, STOCK,
-};
-use market_types::{Body, EditMark, Quote, Record, StockNo};
+use crate::layouts::{AGENT, BRANCH, COUNTS, EDIT, END, HEADER, ORDER, POSITION, STOCK};
+use market_types::{Body, EditMark, Record};
 use wire_fields::{Value, fields, message};
 
 // The header, for so many agents with the exchange, stocks and branches.
@@ -82,31 +78,6 @@ pub(crate) fn event_head(r: &Record) -> [u8; 43]
     head[34..42].copy_from_slice(&r.fee.cast_unsigned().to_be_bytes());
     head[42] = body_letter(&r.body);
     head
-}
-
-// The body of a question.
-pub(crate) fn ask_body(stock: StockNo) -> [u8; 2]
-    ensures { result ≡ spelled_fields ask_kinds (number stock ∷ []) }
-{
-    fields(&ASK, &[Value::Number(u64::from(stock))])
-}
-
-// The body of a quote.
-pub(crate) fn quote_body(q: &Quote) -> [u8; 31]
-    ensures { result ≡ spelled_fields quote_kinds (quote_values q.now) }
-{
-    fields(
-        &QUOTE,
-        &[
-            Value::Number(u64::from(q.stock)),
-            Value::Byte(q.state),
-            Value::Number(u64::from(q.bid)),
-            Value::Number(q.bid_shares),
-            Value::Number(u64::from(q.ask)),
-            Value::Number(q.ask_shares),
-            Value::Number(u64::from(q.last)),
-        ],
-    )
 }
 
 // An edit.

@@ -2,16 +2,26 @@
 
 ghost use Rattle.std.specs.Prelude.{◌≡◌, ◌<◌, ◌≤◌, ◌+◌, ◌++◌, length, OnOk, OnErr};
 ghost use Rattle.market_types.specs.Told.{event_told, edit_told};
+ghost use Rattle.wire_fields.specs.Wire.{spelling};
+ghost use Rattle.ouch_codec.specs.Outbound.{reply_wire};
 ghost use Rattle.itch_codec.specs.Frames.{framed};
-ghost use Rattle.bundle_frames.specs.Wires.{body_bytes};
 ghost use Rattle.bundle_frames.specs.Frames.{event_frame, edit_frame};
 
 use crate::closing::{Closing, ClosingAgent, ClosingCounts, ClosingOrder, ClosingStock};
-use crate::frames;
 use crate::written::{Written, put_all};
+use crate::{frames, orders, whole};
 use itch_codec::{encode_feed, frame, frame_of_two};
-use market_types::{Body, EditMark, Entry, Feed, Inbound, Memory, Record};
-use ouch_codec::{encode_cancel, encode_enter, encode_reply};
+use market_types::{Body, EditMark, Entry, Feed, Inbound, Memory, Record, Reply, What};
+use ouch_codec::encode_reply;
+
+// Appends a whole frame. With a length that the compiler knows, it costs a few moves and no call.
+fn put_whole<const N: usize>(out: &mut Vec<u8>, frame: &[u8; N]) -> Result<(), Memory>
+    ensures appended { OnOk result (out.new.items ≡ out.old.items ++ frame.now) }
+    ensures refused { OnErr result (out.new.items ≡ out.old.items) }
+{
+    out.extend_from_slice(frame)?;
+    Ok(())
+}
 
 impl Written for Feed {
     ghost use Rattle.std.specs.Prelude.{◌<◌, ◌^◌};
@@ -23,7 +33,28 @@ impl Written for Feed {
 
     #[tactic(auto, unfolding(crate::specs::Frames::message_frame))]
     fn put(&self, out: &mut Vec<u8>) -> Result<(), Memory> {
-        frame(encode_feed(self).as_slice(), out)
+        match self.what {
+            What::Add {
+                reference,
+                side,
+                shares,
+                stock,
+                price,
+            } => put_whole(
+                out,
+                &whole::added(self, reference, side, shares, stock, price),
+            ),
+            What::Executed {
+                reference,
+                shares,
+                number,
+            } => put_whole(out, &whole::executed(self, reference, shares, number)),
+            What::Cancel { reference, shares } => {
+                put_whole(out, &whole::canceled(self, reference, shares))
+            }
+            What::Delete { reference } => put_whole(out, &whole::deleted(self, reference)),
+            _ => frame(encode_feed(self).as_slice(), out),
+        }
     }
 }
 
@@ -48,18 +79,37 @@ fn put_arrays<const N: usize, const M: usize>(
     Ok(())
 }
 
-// Appends a frame that ends in a body.
-fn put_with_body(out: &mut Vec<u8>, head: &[u8; 43], body: &Body) -> Result<(), Memory>
-    ensures appended { OnOk result (out.new.items ≡ out.old.items ++ framed (head.now ++ body_bytes body.now)) }
+// Appends a frame that ends in a reply of the exchange.
+fn put_answer(out: &mut Vec<u8>, head: &[u8; 43], reply: &Reply) -> Result<(), Memory>
+    ensures appended { OnOk result (out.new.items ≡ out.old.items ++ framed (head.now ++ spelling (reply_wire reply.now))) }
     ensures refused { OnErr result (out.new.items ≡ out.old.items) }
 {
-    match body {
-        Body::Wake => put_arrays(out, head, &[]),
-        Body::Order(Inbound::Enter(enter)) => put_arrays(out, head, &encode_enter(enter)),
-        Body::Order(Inbound::Cancel(cancel)) => put_arrays(out, head, &encode_cancel(cancel)),
-        Body::Answer(reply) => frame_of_two(head, encode_reply(reply).as_slice(), out),
-        Body::Ask(stock) => put_arrays(out, head, &frames::ask_body(*stock)),
-        Body::Quote(quote) => put_arrays(out, head, &frames::quote_body(quote)),
+    match *reply {
+        Reply::System { time, code } => put_arrays(out, head, &orders::system(time, code)),
+        Reply::Canceled {
+            time,
+            token,
+            decrement,
+            reason,
+        } => put_arrays(out, head, &orders::canceled(time, token, decrement, reason)),
+        Reply::Executed {
+            time,
+            token,
+            shares,
+            price,
+            flag,
+            number,
+        } => put_arrays(
+            out,
+            head,
+            &orders::executed(time, token, shares, price, flag, number),
+        ),
+        Reply::Rejected {
+            time,
+            token,
+            reason,
+        } => put_arrays(out, head, &orders::rejected(time, token, reason)),
+        Reply::Accepted { .. } => frame_of_two(head, encode_reply(reply).as_slice(), out),
     }
 }
 
@@ -69,7 +119,18 @@ pub fn put_event(out: &mut Vec<u8>, event: &Record) -> Result<(), Memory>
     ensures appended { OnOk result (out.new.items ≡ out.old.items ++ event_frame (event_told event.now)) }
     ensures refused { OnErr result (out.new.items ≡ out.old.items) }
 {
-    put_with_body(out, &frames::event_head(event), &event.body)
+    match &event.body {
+        Body::Wake => put_whole(out, &whole::wake(event)),
+        Body::Order(Inbound::Enter(enter)) => {
+            put_arrays(out, &frames::event_head(event), &orders::enter(enter))
+        }
+        Body::Order(Inbound::Cancel(cancel)) => {
+            put_arrays(out, &frames::event_head(event), &orders::cancel(cancel))
+        }
+        Body::Answer(reply) => put_answer(out, &frames::event_head(event), reply),
+        Body::Ask(stock) => put_whole(out, &whole::ask(event, *stock)),
+        Body::Quote(quote) => put_whole(out, &whole::quote(event, quote)),
+    }
 }
 
 /// Appends an edit without its feed.

@@ -6,6 +6,8 @@ mod ends;
 mod frames;
 mod items;
 mod layouts;
+mod orders;
+mod whole;
 mod worked;
 mod written;
 
