@@ -22,7 +22,7 @@ use Rattle.shelf_core.specs.declared.plan.Key.{Key}
 use Rattle.shelf_core.specs.declared.plan.ShelfPlan.{ShelfPlan}
 use Rattle.shelf_core.specs.declared.seat.SeatView.{SeatView}
 use Rattle.branch_workers.specs.Layout.{key_at, grid_keys}
-use Rattle.branch_workers.proofs.Grids.{grid_key}
+use Rattle.branch_workers.proofs.Grids.{IsGridKey, grid_key}
 use Rattle.branch_workers.specs.Runs.{IsPassed, IsUnderway}
 
 -- a segment's run at its beginning
@@ -98,11 +98,12 @@ module _ (c : CourseTold) (s : ℕ) (h : IsCourse c) (l : s < length (segments_i
       ap (λ (y : RanTold). y.state) is ∙ sym (ap (λ (q : Run). q.state) (segment-after c.opening c.plan s e (course-tree c h) l (omega arith)))
 
   -- Where the segment passes an event number, so many events stand there.
-  pub passed_events : (keep : Keep) (e : ℕ) (x : RanTold) → (segment_at c.plan s).start ≤ e → e ≤ (segment_at c.plan s).stop → x ≡ ran_as keep (until c.opening e (started_at c.opening c.plan (segment_at c.plan s))) → IsPassed c s e → x.state.events ≡ e
-  passed_events keep e x from to is passed =
+  pub passed_events : (keep : Keep) (e : ℕ) (x : RanTold) → e ≤ (segment_at c.plan s).stop → x ≡ ran_as keep (until c.opening e (started_at c.opening c.plan (segment_at c.plan s))) → IsPassed c s e → x.state.events ≡ e
+  passed_events keep e x to is passed =
       let stop = (segment_at c.plan s).stop in
       let y = until c.opening e (first_of c s) in
-      let starts = segment-starts c.opening c.plan s (course-tree c h) l in
+      let begins = passed.begins in
+      let reaches = passed.reaches in
       let first = first_events in
       let within = until-within c.opening e (first_of c s) (omega arith) in
       let copy = ap (λ (q : Run). q.state.events) (segment-copy c.opening c.plan s (course-tree c h) l) in
@@ -131,21 +132,27 @@ module _ (c : CourseTold) (s : ℕ) (h : IsCourse c) (l : s < length (segments_i
   pub number_is_key : (e : ℕ) → (segment_at c.plan s).start ≤ e → e ≤ (segment_at c.plan s).stop → IsKeyOf c (key_at s e)
   number_is_key e from to = record { segment = l; from = from; to = to }
 
--- What a seat knows of the grid of a segment before an event number.
-abbrev pub KnowsBefore : CourseTold → ShelfPlan → ℕ → ℕ → ℕ → SeatView → Type 0
-KnowsBefore c plan stride s n v = (e : ℕ) → (segment_at c.plan s).start < e → e < n → e % stride ≡ 0 → is_sole plan (key_at s e) ≡ true → IsPassed c s e → is_in (key_at s e) v.known ≡ true
+-- a key of the shelf's grid is one of the plan's
+grid_at : (c : CourseTold) (plan : ShelfPlan) (stride s e : ℕ) → plan.grid ≡ grid_keys c.plan stride → is_in (key_at s e) plan.grid ≡ true → IsGridKey c.plan stride (key_at s e)
+grid_at c plan stride s e grid there = grid_key c.plan stride (key_at s e) (ap (λ (keys : List Key). is_in (key_at s e) keys) (sym grid) ∙ there)
 
-pub knows_none : (c : CourseTold) (plan : ShelfPlan) (stride s n : ℕ) (v : SeatView) → n ≤ (segment_at c.plan s).start + 1 → KnowsBefore c plan stride s n v
-knows_none c plan stride s n v l e from below d sole passed = absurd (omega arith)
+-- What a seat knows of the grid of a segment before an event number: the state at each number that the run passed and that has a
+-- place of its own.
+abbrev pub KnowsBefore : CourseTold → ShelfPlan → ℕ → ℕ → SeatView → Type 0
+KnowsBefore c plan s n v = (e : ℕ) → is_in (key_at s e) plan.grid ≡ true → e < n → is_sole plan (key_at s e) ≡ true → IsPassed c s e → is_in (key_at s e) v.known ≡ true
 
-pub knows_more : (c : CourseTold) (plan : ShelfPlan) (stride s n : ℕ) (v w : SeatView) → KnowsBefore c plan stride s n v → ((key : Key) → is_in key v.known ≡ true → is_in key w.known ≡ true)
-    → (n % stride ≡ 0 → is_sole plan (key_at s n) ≡ true → IsPassed c s n → is_in (key_at s n) w.known ≡ true) → KnowsBefore c plan stride s (n + 1) w
-knows_more c plan stride s n v w h keeps here e from below d sole passed = dite (ℕ_discrete e n)
-    (λ (one : e ≡ n). subst (λ (m : ℕ). m % stride ≡ 0 → is_sole plan (key_at s m) ≡ true → IsPassed c s m → is_in (key_at s m) w.known ≡ true) (sym one) here d sole passed)
-    (λ (ne : e ≢ n). keeps (key_at s e) (h e from (omega arith) d sole passed))
+module _ (c : CourseTold) (plan : ShelfPlan) (stride s n : ℕ) (v : SeatView) (grid : plan.grid ≡ grid_keys c.plan stride) where
+  pub knows_none : n ≤ (segment_at c.plan s).start + 1 → KnowsBefore c plan s n v
+  knows_none l e there below sole passed = let from = (grid_at c plan stride s e grid there).from in absurd (omega arith)
 
-pub knows_all : (c : CourseTold) (plan : ShelfPlan) (stride s n : ℕ) (v : SeatView) → plan.grid ≡ grid_keys c.plan stride → (segment_at c.plan s).stop ≤ n → KnowsBefore c plan stride s n v
-    → (e : ℕ) → is_in (key_at s e) plan.grid ≡ true → is_sole plan (key_at s e) ≡ true → IsPassed c s e → is_in (key_at s e) v.known ≡ true
-knows_all c plan stride s n v grid all h e there sole passed =
-    let k = grid_key c.plan stride (key_at s e) (ap (λ (keys : List Key). is_in (key_at s e) keys) (sym grid) ∙ there) in
-    h e k.from (let b = k.below in omega arith) k.divides sole passed
+  pub knows_more : (w : SeatView) → KnowsBefore c plan s n v → ((key : Key) → is_in key v.known ≡ true → is_in key w.known ≡ true)
+      → (n % stride ≡ 0 → is_sole plan (key_at s n) ≡ true → IsPassed c s n → is_in (key_at s n) w.known ≡ true) → KnowsBefore c plan s (n + 1) w
+  knows_more w h keeps here e there below sole passed =
+      let at = grid_at c plan stride s e grid there in
+      dite (ℕ_discrete e n)
+      (λ (one : e ≡ n). subst (λ (m : ℕ). m % stride ≡ 0 → is_sole plan (key_at s m) ≡ true → IsPassed c s m → is_in (key_at s m) w.known ≡ true) (sym one) here at.divides sole passed)
+      (λ (ne : e ≢ n). keeps (key_at s e) (h e there (omega arith) sole passed))
+
+  pub knows_all : (segment_at c.plan s).stop ≤ n → KnowsBefore c plan s n v
+      → (e : ℕ) → is_in (key_at s e) plan.grid ≡ true → is_sole plan (key_at s e) ≡ true → IsPassed c s e → is_in (key_at s e) v.known ≡ true
+  knows_all all h e there sole passed = let below = (grid_at c plan stride s e grid there).below in h e there (omega arith) sole passed

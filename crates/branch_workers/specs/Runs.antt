@@ -10,7 +10,7 @@ use Rattle.checkpoint_shelf.specs.Told.{ShelfTold}
 use Rattle.kernel_core.specs.Step.{Fits}
 use Rattle.kernel_core.specs.Until.{Run, until}
 use Rattle.kernel_copy.specs.Courses.{CourseTold}
-use Rattle.kernel_copy.specs.Segmentwise.{segment_end, segment_run, started_at}
+use Rattle.kernel_copy.specs.Segmentwise.{from_count, segment_end, segment_run, started_at}
 use Rattle.kernel_copy.specs.Ran.{RanTold, ran_as}
 use Rattle.kernel_copy.specs.declared.kept.Keep.{Keep}
 use Rattle.branch_workers.specs.Layout.{end_key, fork_keys, key_at, grid_keys}
@@ -26,9 +26,11 @@ pub record IsShelfOf (c : CourseTold) (stride : ℕ) (shelf : ShelfTold CourseTo
   pub forks : shelf.plan.forks ≡ fork_keys c.plan
   pub grid : shelf.plan.grid ≡ grid_keys c.plan stride
 
--- The run of a segment reached this event number or passed it: its state at the segment's end has so many events or more.
-abbrev pub IsPassed : CourseTold → ℕ → ℕ → Type 0
-IsPassed c s e = e ≤ (segment_end c.opening c.plan (segment_at c.plan s)).state.events
+-- The run of a segment reached this event number or passed it on its way: it begins with fewer events, and its state at the
+-- segment's end has so many or more.
+pub record IsPassed (c : CourseTold) (s e : ℕ) : Type 0 where
+  pub begins : from_count c.opening c.plan (segment_at c.plan s) < e
+  pub reaches : e ≤ (segment_end c.opening c.plan (segment_at c.plan s)).state.events
 
 -- The seat found the end of a segment's parent, if it has one; it knows the segment's own end, if others go on from it;
 -- and it knows the state at each number of the segment's grid that the run passed and that has a place of its own.

@@ -2,16 +2,17 @@
 use Rattle.std.proofs.Common.{◌≡◌, ◌≤◌, ◌<◌, ℕ, ◌-◌, inl, inr, List, [], Option, Some, None, length, refl, sym, ap, ◌∙◌, arith, subst, suc, zero, append-nil}
 use Rattle.std.proofs.lemmas.Bool.{cases_eq, cases_lt}
 use Rattle.market_types.specs.Told.{EntryTold}
+use Rattle.market_types.specs.declared.entry.End.{End}
 use Rattle.shelf_core.specs.declared.plan.Key.{Key}
 use Rattle.checkpoint_shelf.specs.Told.{ClosedTold}
 use Rattle.branch_tree.specs.Segments.{segments_in, segment_at, last_of}
-use Rattle.branch_tree.proofs.PartLemmas.{last-at}
+use Rattle.branch_tree.proofs.PartLemmas.{last-at, rises-at}
 use Rattle.market_floor.specs.declared.opening.Opening.{Opening}
 use Rattle.kernel_core.specs.State.{State}
 use Rattle.kernel_core.specs.Step.{end_of}
 use Rattle.kernel_core.specs.Until.{Run, advanced, advanced_by, behind, until}
 use Rattle.kernel_core.proofs.Runs.{advanced_by_ended, advanced_by-grows}
-use Rattle.kernel_core.proofs.Stops.{advanced-events, going-events, until-again, until-behind, until-grows, until-until, until-within}
+use Rattle.kernel_core.proofs.Stops.{advanced-events, end_cases, going-events, until-again, until-behind, until-grows, until-until, until-within}
 use Rattle.kernel_copy.specs.Courses.{CourseTold, IsCourse, IsKeyOf}
 use Rattle.kernel_copy.specs.Full.{opening_run, begun, reach, full}
 use Rattle.kernel_copy.specs.Segmentwise.{afresh, from_count, parent_end, segment_end, started_at, started_from}
@@ -55,16 +56,35 @@ at-run c s e h l low high =
     let y = until o e first in
     let whole : segment_end o c.plan g ≡ until o g.stop y = end-reach c s ∙ sym (until-until o e g.stop first high) in
     let events = ap (λ (r : Run). r.state.events) whole in
+    let within = until-within o e first low in
+    let stays : (x : End) → end_of o y.state ≡ Some x → segment_end o c.plan g ≡ y = λ x over. whole ∙ advanced_by_ended (g.stop - y.state.events) o y x over in
     record {
       state = sym (ap (λ (r : Run). r.state) (full-begun o c.plan g.branch e low));
-      within = until-within o e first low;
-      going = λ n. omega (arith, going-events (e - first.state.events) o first n);
-      passed = λ n less. elim (cases_lt e y.state.events) [
-        | inl past ↦ omega (arith, events, until-grows o g.stop y)
-        | inr under ↦ omega (arith, events, one-more o g.stop y n (omega arith), going-events (e - first.state.events) o first n)
+      within = within;
+      events = λ less. elim (end_cases (end_of o y.state)) [
+        | inl going ↦ omega (arith, going-events (e - first.state.events) o first going)
+        | inr over ↦ absurd (omega (arith, within, ap (λ (r : Run). r.state.events) (stays over.0 over.1)))
       ];
-      ended = λ x over. sym (ap (λ (r : Run). r.state) (whole ∙ advanced_by_ended (g.stop - y.state.events) o y x over));
+      whole = λ all. elim (end_cases (end_of o y.state)) [
+        | inl going ↦ elim (cases_lt e g.stop) [
+          | inl less ↦ absurd (omega (arith, events, one-more o g.stop y going (omega (arith, within)), going-events (e - first.state.events) o first going))
+          | inr most ↦ let same : g.stop ≡ e = omega arith in sym (ap (λ (r : Run). r.state) (end-reach c s ∙ ap (λ (n : ℕ). until o n first) same))
+        ]
+        | inr over ↦ sym (ap (λ (r : Run). r.state) (stays over.0 over.1))
+      ];
+      ended = λ x over. sym (ap (λ (r : Run). r.state) (stays x over));
     }
+
+-- an end that isn't ended has all events up to its segment's stop
+pub end-going : (c : CourseTold) (s : ℕ) → IsCourse c → s < length (segments_in c.plan) → end_of c.opening (segment_end c.opening c.plan (segment_at c.plan s)).state ≡ None
+    → (segment_end c.opening c.plan (segment_at c.plan s)).state.events ≡ (segment_at c.plan s).stop
+end-going c s h l going =
+    let o = c.opening in
+    let g = segment_at c.plan s in
+    let first = begun o c.plan g.branch in
+    let t = course-tree c h in
+    let made = going-events (g.stop - first.state.events) o first (subst (λ (r : Run). end_of o r.state ≡ None) (end-reach c s) going) in
+    omega (arith, made, ap (λ (r : Run). r.state.events) (end-reach c s), begins c s h l, (segment-goes o c.plan s t l).starts, rises-at c.plan s t l)
 
 -- a segment's branch after so many events, from where the branch begins on
 pub at-full : (c : CourseTold) (s e : ℕ) (k : State) → IsCourse c → s < length (segments_in c.plan) → from_count c.opening c.plan (segment_at c.plan s) ≤ e
@@ -170,7 +190,10 @@ at-parent c s q e k h l is less going at =
     let t = course-tree c h in
     let p = has_parent c.plan s q t l is in
     let stop = parent-stop c s q h l is in
-    let past = at.passed going (omega arith) in
+    let past : e < (segment_end o c.plan (segment_at c.plan q)).state.events = elim (cases_lt e (segment_end o c.plan (segment_at c.plan q)).state.events) [
+      | inl under ↦ under
+      | inr all ↦ absurd (omega (arith, stop, end-going c q h (omega (arith, p.earlier)) (subst (λ (x : State). end_of o x ≡ None) (at.whole all) going)))
+    ] in
     let more : e < (segment_end o c.plan (segment_at c.plan s)).state.events = omega (arith, past, parent-events c s q is, segment-grows o c.plan s t l) in
     record {
       state = elim p.joins [
@@ -181,21 +204,15 @@ at-parent c s q e k h l is less going at =
             at.state ∙ sym (ap (λ (r : Run). r.state) (segment-before o c.plan s q e t l is (omega (arith, n.parent)) past))
       ];
       within = at.within;
-      going = at.going;
-      passed = λ n high. more;
+      events = λ high. at.events past;
+      whole = λ all. absurd (omega (arith, more));
       ended = λ x over. cc (going, over);
     }
 
--- the parent's end, reached or ended before
+-- the parent's end, at the segment's start
 pub at-start : (c : CourseTold) (s q : ℕ) (k : State) → IsCourse c → s < length (segments_in c.plan) → (segment_at c.plan s).parent ≡ Some q → IsAt c q (segment_at c.plan s).start k
     → k ≡ (segment_end c.opening c.plan (segment_at c.plan q)).state
-at-start c s q k h l is at =
-    let o = c.opening in
-    let t = course-tree c h in
-    let earlier = (has_parent c.plan s q t l is).earlier in
-    at.state
-    ∙ ap (λ (e : ℕ). (full o c.plan (segment_at c.plan q).branch e).state) (sym (parent-stop c s q h l is))
-    ∙ sym (ap (λ (r : Run). r.state) (segment-ends o c.plan q t (omega arith)))
+at-start c s q k h l is at = at.whole (omega (arith, parent-events c s q is, (segment-goes c.opening c.plan s (course-tree c h) l).starts))
 
 -- a run that a kernel makes, in the words of a course
 pub run-made : (o q : Opening) (e : ℕ) (s t : State) (es : List EntryTold) (k : State) → o ≡ q → s ≡ t → es ≡ [] → k ≡ (until o e (record { state = s; entries = es })).state → k ≡ (until q e (afresh t)).state

@@ -1,6 +1,6 @@
 -- Workers leave on their shelf what they surely leave.
-use Rattle.std.proofs.Common.{◌≡◌, ◌<◌, ◌+◌, ℕ, suc, ◌&&◌, Bool, true, false, List, [], ◌∷◌, ◌++◌, length, get_or, nat_lt, if◌then◌else◌, ◌||◌, refl, sym, ap, ◌∙◌, subst, inl, inr, ◌⊎◌, arith}
-use Rattle.std.proofs.lemmas.Bool.{and_parts}
+use Rattle.std.proofs.Common.{◌≡◌, ◌<◌, ◌+◌, ℕ, suc, ◌&&◌, Bool, true, false, List, [], ◌∷◌, ◌++◌, length, get_or, nat_lt, ltb-true, if◌then◌else◌, ◌||◌, refl, sym, ap, ◌∙◌, subst, inl, inr, ◌⊎◌, arith}
+use Rattle.std.proofs.lemmas.Bool.{and_parts, leb-true}
 use Rattle.branch_tree.specs.declared.segment.Segment.{Segment}
 use Rattle.branch_tree.specs.Plan.{Plan}
 use Rattle.branch_tree.specs.Segments.{segments_in, segment_at, last_of, no_segment}
@@ -10,26 +10,13 @@ use Rattle.shelf_core.specs.Plan.{is_in, is_sole, same_key}
 use Rattle.shelf_core.proofs.Plans.{key_is, or_either}
 use Rattle.checkpoint_shelf.specs.Told.{ClosedTold}
 use Rattle.kernel_copy.specs.Courses.{CourseTold}
+use Rattle.kernel_copy.specs.Segmentwise.{from_count}
 use Rattle.branch_workers.specs.Layout.{end_key, fork_keys, forks_from, layout}
 use Rattle.branch_workers.specs.Workers.{RanOnce}
 use Rattle.rewind_desk.specs.Best.{is_held, keys_in}
-use Rattle.rewind_desk.specs.Sure.{HoldsSure, end_events, is_sure}
+use Rattle.rewind_desk.specs.Sure.{HoldsSure, end_events, is_passed, is_sure}
+use Rattle.rewind_desk.proofs.Most.{in-either}
 use Rattle.std.specs.Prelude.{nat_le}
-
-or_right : (a b : Bool) → b ≡ true → (a || b) ≡ true
-or_right true b i = refl
-or_right false b i = i
-
--- a key of two lists is one of the first or of the second
-in-either : (k : Key) (xs ys : List Key) → is_in k (xs ++ ys) ≡ true → (is_in k xs ≡ true) ⊎ (is_in k ys ≡ true)
-in-either k [] ys h = inr h
-in-either k (x ∷ xs) ys h = elim (or_either (same_key x k) (is_in k (xs ++ ys)) h) [
-  | inl same ↦ inl (ap (λ (t : Bool). t || is_in k xs) same)
-  | inr rest ↦ elim (in-either k xs ys rest) [
-    | inl first ↦ inl (or_right (same_key x k) (is_in k xs) first)
-    | inr second ↦ inr second
-  ]
-]
 
 -- a key is that of the end of a segment from which others go on
 record IsEnd (p : Plan) (k : Key) : Type 0 where
@@ -86,11 +73,15 @@ module _ (shelf : ClosedTold CourseTold) (stride places workers : ℕ) (laid : s
       → is_held shelf k ≡ true
   sure-held plan is k inside sure = elim (in-either k plan.forks plan.grid inside) [
     | inl fork ↦ fork-held k (subst (λ (x : ShelfPlan). is_in k x.forks ≡ true) is fork)
-    | inr between ↦ elim (or_either (is_in k plan.forks) (is_sole plan k && nat_le k.event (end_events shelf.course k.segment)) sure) [
+    | inr between ↦ elim (or_either (is_in k plan.forks) (is_sole plan k && is_passed shelf.course k.segment k.event) sure) [
       | inl fork ↦ fork-held k (subst (λ (x : ShelfPlan). is_in k x.forks ≡ true) is fork)
       | inr both ↦
-          let parts = and_parts (is_sole plan k) (nat_le k.event (end_events shelf.course k.segment)) both in
-          ran.grid k.segment k.event (subst (λ (x : ShelfPlan). is_in k x.grid ≡ true) is between) (subst (λ (x : ShelfPlan). is_sole x k ≡ true) is parts.0) (grind (arith, parts.1))
+          let c = shelf.course in
+          let parts = and_parts (is_sole plan k) (is_passed c k.segment k.event) both in
+          let from = from_count c.opening c.plan (segment_at c.plan k.segment) in
+          let passes = and_parts (nat_lt from k.event) (nat_le k.event (end_events c k.segment)) parts.1 in
+          ran.grid k.segment k.event (subst (λ (x : ShelfPlan). is_in k x.grid ≡ true) is between) (subst (λ (x : ShelfPlan). is_sole x k ≡ true) is parts.0)
+          (record { begins = ltb-true from k.event passes.0; reaches = leb-true k.event (end_events c k.segment) passes.1 })
     ]
   ]
 

@@ -1,5 +1,5 @@
 -- The greatest count among keys that pass a test.
-use Rattle.std.proofs.Common.{◌≡◌, ◌≤◌, ℕ, Bool, true, false, ◌||◌, ◌&&◌, inl, inr, List, [], ◌∷◌, ◌++◌, refl, sym, ap, ◌∙◌, arith, true≢false}
+use Rattle.std.proofs.Common.{◌≡◌, ◌≤◌, ℕ, Bool, true, false, ◌||◌, ◌&&◌, ◌⊎◌, inl, inr, List, [], ◌∷◌, ◌++◌, refl, sym, ap, ◌∙◌, arith, true≢false}
 use Rattle.std.specs.Prelude.{max, if◌then◌else◌}
 use Rattle.shelf_core.specs.declared.plan.Key.{Key}
 use Rattle.shelf_core.specs.Plan.{is_in, same_key}
@@ -13,22 +13,6 @@ pub and-false : (a b : Bool) → b ≡ false → (a && b) ≡ false
 and-false true b h = h
 and-false false b h = refl
 
-pub most-append : (count : Key → ℕ) (test : Key → Bool) (xs ys : List Key) → most_among count test (xs ++ ys) ≡ max (most_among count test xs) (most_among count test ys)
-most-append count test [] ys = omega arith
-most-append count test (k ∷ xs) ys = omega (arith, most-append count test xs ys)
-
--- it is the same under a test that says the same of each key
-pub most-same : (count : Key → ℕ) (a b : Key → Bool) (ks : List Key) → ((k : Key) → a k ≡ b k) → most_among count a ks ≡ most_among count b ks
-most-same count a b [] h = refl
-most-same count a b (k ∷ ks) h =
-    ap (λ (t : Bool). max (if t then count k else 0) (most_among count a ks)) (h k)
-    ∙ ap (λ (n : ℕ). max (if b k then count k else 0) n) (most-same count a b ks h)
-
-one-fewer : (a b : Bool) (n : ℕ) → (a ≡ true → b ≡ true) → (if a then n else 0) ≤ (if b then n else 0)
-one-fewer true b n h = rw (h refl) (omega arith)
-one-fewer false b n h = omega arith
-
--- and no less under one that passes where another does
 or_right : (a b : Bool) → b ≡ true → (a || b) ≡ true
 or_right true b i = refl
 or_right false b i = i
@@ -36,6 +20,40 @@ or_right false b i = i
 in-first : (k : Key) (ks : List Key) → is_in k (k ∷ ks) ≡ true
 in-first k ks = ap (λ (t : Bool). t || is_in k ks) (key_self k)
 
+-- a key of two lists is one of the first or of the second
+pub in-either : (k : Key) (xs ys : List Key) → is_in k (xs ++ ys) ≡ true → (is_in k xs ≡ true) ⊎ (is_in k ys ≡ true)
+in-either k [] ys h = inr h
+in-either k (x ∷ xs) ys h = elim (or_either (same_key x k) (is_in k (xs ++ ys)) h) [
+  | inl same ↦ inl (ap (λ (t : Bool). t || is_in k xs) same)
+  | inr rest ↦ elim (in-either k xs ys rest) [
+    | inl first ↦ inl (or_right (same_key x k) (is_in k xs) first)
+    | inr second ↦ inr second
+  ]
+]
+
+-- a key of one alone is that one
+pub in-one : (k x : Key) → is_in x (k ∷ []) ≡ true → k ≡ x
+in-one k x i = elim (or_either (same_key k x) (is_in x []) i) [
+  | inl same ↦ key_is k x same
+  | inr none ↦ absurd (true≢false (sym none))
+]
+
+pub most-append : (count : Key → ℕ) (test : Key → Bool) (xs ys : List Key) → most_among count test (xs ++ ys) ≡ max (most_among count test xs) (most_among count test ys)
+most-append count test [] ys = omega arith
+most-append count test (k ∷ xs) ys = omega (arith, most-append count test xs ys)
+
+-- it is the same under a test that says the same of each of these keys
+pub most-same : (count : Key → ℕ) (a b : Key → Bool) (ks : List Key) → ((k : Key) → is_in k ks ≡ true → a k ≡ b k) → most_among count a ks ≡ most_among count b ks
+most-same count a b [] h = refl
+most-same count a b (k ∷ ks) h =
+    ap (λ (t : Bool). max (if t then count k else 0) (most_among count a ks)) (h k (in-first k ks))
+    ∙ ap (λ (n : ℕ). max (if b k then count k else 0) n) (most-same count a b ks (λ x i. h x (or_right (same_key k x) (is_in x ks) i)))
+
+one-fewer : (a b : Bool) (n : ℕ) → (a ≡ true → b ≡ true) → (if a then n else 0) ≤ (if b then n else 0)
+one-fewer true b n h = rw (h refl) (omega arith)
+one-fewer false b n h = omega arith
+
+-- and no less under one that passes where another does
 pub most-fewer : (count : Key → ℕ) (a b : Key → Bool) (ks : List Key) → ((k : Key) → is_in k ks ≡ true → a k ≡ true → b k ≡ true) → most_among count a ks ≤ most_among count b ks
 most-fewer count a b [] h = omega arith
 most-fewer count a b (k ∷ ks) h =

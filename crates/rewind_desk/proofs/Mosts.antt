@@ -15,7 +15,7 @@ use Rattle.shelf_core.proofs.Plans.{and_left, and_right, place_cases}
 use Rattle.branch_tree.specs.Segments.{last_of}
 use Rattle.checkpoint_shelf.specs.Told.{ClosedTold}
 use Rattle.kernel_copy.specs.Courses.{CourseTold}
-use Rattle.rewind_desk.specs.Best.{best, most_among, count_at, is_held, is_held_near, is_key_in, is_near, is_on, keys_in}
+use Rattle.rewind_desk.specs.Best.{best, most_among, count_at, is_held, is_held_near, is_near, is_on, keys_in}
 use Rattle.rewind_desk.proofs.Most.{most-least}
 
 index-in : (k : Key) (i j : ℕ) (ks : List Key) → position_from (λ (x : Key). same_key x k) i ks ≡ Some j → is_in k ks ≡ true
@@ -81,6 +81,6 @@ best-within shelf b e =
       | inr one ↦
           let k = one.0 in
           let near = and_right (is_held shelf k) (is_near c s e k) one.1 in
-          let early = and_right (is_key_in c.plan k) (nat_le (count_at c k) e) (and_right (is_on c.plan s k.segment) (is_key_in c.plan k && nat_le (count_at c k) e) near) in
+          let early = and_right (is_on c.plan s k.segment) (nat_le (count_at c k) e) near in
           omega (arith, one.2, leb-true (count_at c k) e early)
     ]

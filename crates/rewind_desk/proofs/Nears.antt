@@ -74,21 +74,15 @@ ended-last : (c : CourseTold) (b m : ℕ) (k : State) → IsCourse c → b < len
 ended-last c b m k h l is = ap (λ (s : State). s.events) is ∙ sym (last-end c b h l)
 
 arrived-whole : (c : CourseTold) (b e m : ℕ) (k : State) → IsCourse c → b < length c.plan.branches → m ≡ min e c.opening.limit → IsAt c (last_of c.plan.branches b) m k → k.events < e → k.events ≡ last_event c b
-arrived-whole c b e m k h l is at less = elim (end_cases (end_of c.opening k)) [
-  | inl going ↦ let all = at.going going in at-limit c b m k h l (omega arith) at
-  | inr over ↦ ended-last c b m k h l (at.ended over.0 over.1)
+arrived-whole c b e m k h l is at less = elim (cases_lt m (segment_end c.opening c.plan (segment_at c.plan (last_of c.plan.branches b))).state.events) [
+  | inl under ↦ let all = at.events under in at-limit c b m k h l (omega arith) at
+  | inr most ↦ ended-last c b m k h l (at.whole most)
 ]
 
 arrived-exists : (c : CourseTold) (b e m : ℕ) (k : State) → IsCourse c → b < length c.plan.branches → m ≡ min e c.opening.limit → IsAt c (last_of c.plan.branches b) m k → e ≤ k.events → e ≤ last_event c b
-arrived-exists c b e m k h l is at more = elim (end_cases (end_of c.opening k)) [
-  | inl going ↦ elim (cases_lt m c.opening.limit) [
-    | inl less ↦
-        let stop = (last-at c.plan b l).1.stop in
-        let past = at.passed going (omega (arith, stop, h.limit)) in
-        omega (arith, past, at.within, last-end c b h l)
-    | inr most ↦ omega (arith, at-limit c b m k h l (omega arith) at)
-  ]
-  | inr over ↦ omega (arith, ended-last c b m k h l (at.ended over.0 over.1))
+arrived-exists c b e m k h l is at more = elim (cases_lt m (segment_end c.opening c.plan (segment_at c.plan (last_of c.plan.branches b))).state.events) [
+  | inl under ↦ omega (arith, at.within, last-end c b h l)
+  | inr most ↦ omega (arith, ended-last c b m k h l (at.whole most))
 ]
 
 pub arrived : (c : CourseTold) (b e m : ℕ) (k : State) → IsCourse c → b < length c.plan.branches → m ≡ min e c.opening.limit → IsAt c (last_of c.plan.branches b) m k → Arrived c b e k

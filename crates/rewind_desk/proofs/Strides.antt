@@ -1,8 +1,8 @@
 -- How near the states are that the workers surely leave.
 use Rattle.std.proofs.Common.{◌≡◌, ◌≤◌, ◌<◌, ℕ, ◌+◌, ◌-◌, ◌*◌, ◌/◌, ◌%◌, true, ◌&&◌, ◌⊎◌, inl, inr, List, [], ◌∷◌, ◌++◌, Option, Some, None, get_or, length, refl, sym, ap, ◌∙◌, arith, suc, zero}
-use Rattle.std.specs.Prelude.{nat_le}
+use Rattle.std.specs.Prelude.{nat_le, nat_lt}
 use Rattle.std.proofs.Math.Nat.{mul-mod_left, mod-lt}
-use Rattle.std.proofs.lemmas.Bool.{cases_eq, cases_lt, le-leb, or_left, or_right, ne_eqb}
+use Rattle.std.proofs.lemmas.Bool.{cases_eq, cases_lt, le-leb, lt-ltb, or_left, or_right, ne_eqb}
 use Rattle.std.proofs.lemmas.List.Folds.{list_any-append}
 use Rattle.std.proofs.lemmas.Nat.{div-add-mod'}
 use Rattle.shelf_core.specs.declared.plan.Key.{Key}
@@ -20,16 +20,15 @@ use Rattle.kernel_core.specs.Step.{end_of}
 use Rattle.kernel_core.specs.Until.{Run}
 use Rattle.kernel_core.proofs.Runs.{advanced_by_ended}
 use Rattle.kernel_core.proofs.Stops.{end_cases}
-use Rattle.kernel_copy.specs.Courses.{CourseTold, IsCourse, IsKeyOf, state_at}
-use Rattle.kernel_copy.specs.Segmentwise.{segment_end}
+use Rattle.kernel_copy.specs.Courses.{CourseTold, IsCourse, state_at}
+use Rattle.kernel_copy.specs.Segmentwise.{from_count, segment_end}
 use Rattle.kernel_copy.proofs.Trees.{course-tree}
 use Rattle.kernel_copy.proofs.Walks.{has_parent, planned-at, segment-ends, segment-next, segment-starts}
-use Rattle.rewind_desk.specs.Best.{best, count_at, is_held, is_held_near, is_near, is_on, is_key_in, keys_in}
+use Rattle.rewind_desk.specs.Best.{best, count_at, is_held, is_held_near, is_near, is_on, keys_in}
 use Rattle.rewind_desk.specs.Reach.{IsAt, IsOn}
 use Rattle.rewind_desk.specs.Rewinds.{last_event}
-use Rattle.rewind_desk.specs.Sure.{end_events, is_sure, is_sure_near, sure, HoldsSure, IsLaidFor, AreAllSole, IsWholeAtForks}
-use Rattle.rewind_desk.proofs.Arrivals.{at-full, parent-stop}
-use Rattle.rewind_desk.proofs.Bests.{key-in}
+use Rattle.rewind_desk.specs.Sure.{end_events, is_passed, is_sure, is_sure_near, sure, HoldsSure, IsLaidFor, AreAllSole, IsWholeAtForks}
+use Rattle.rewind_desk.proofs.Arrivals.{at-full, end-going, parent-stop}
 use Rattle.rewind_desk.proofs.Chained.{on-more, on-self, parent_cases}
 use Rattle.rewind_desk.proofs.Lasts.{last-end}
 use Rattle.rewind_desk.proofs.Most.{and-true, most-fewer, most-least}
@@ -87,9 +86,9 @@ passed-count : (c : CourseTold) (s n : ℕ) → IsCourse c → s < length (segme
 passed-count c s n h l from to passes =
     let k : State = state_at c (record { segment = s; event = n }) in
     let at = at-full c s n k h l (omega (arith, segment-starts c.opening c.plan s (course-tree c h) l)) to refl in
-    elim (end_cases (end_of c.opening k)) [
-      | inl going ↦ omega (arith, at.within, at.going going)
-      | inr over ↦ omega (arith, at.within, ap (λ (x : State). x.events) (at.ended over.0 over.1))
+    elim (cases_lt n (end_events c s)) [
+      | inl less ↦ at.events less
+      | inr all ↦ omega (arith, ap (λ (x : State). x.events) (at.whole all))
     ]
 
 -- A segment that goes on in its own branch from an end before its stop has no event of its own.
@@ -98,9 +97,8 @@ still-ended : (c : CourseTold) (s q : ℕ) → IsCourse c → s < length (segmen
 still-ended c s q h l k is same early =
     let o = c.opening in
     let y = segment_end o c.plan (segment_at c.plan q) in
-    let at = end-at c q h k in
     elim (end_cases (end_of o y.state)) [
-      | inl going ↦ absurd (omega (arith, at.going going))
+      | inl going ↦ absurd (omega (arith, end-going c q h k going))
       | inr over ↦ ap (λ (r : Run). r.state.events) (segment-next o c.plan s q (course-tree c h) l is same
           ∙ advanced_by_ended ((segment_at c.plan s).stop - y.state.events) o y over.0 over.1)
     ]
@@ -132,12 +130,11 @@ in-back : (k : Key) (xs ys : List Key) → is_in k ys ≡ true → is_in k (xs +
 in-back k xs ys i = list_any-append (λ (x : Key). same_key x k) xs ys ∙ or_right (is_in k xs) (is_in k ys) i
 
 -- a state that surely stands and is near has at most the events of the nearest one
-sure-least : (c : CourseTold) (plan : ShelfPlan) (b e : ℕ) (k : Key) → is_in k (keys_in plan) ≡ true → is_sure c plan k ≡ true → IsOn c.plan (last_of c.plan.branches b) k.segment → IsKeyOf c k
+sure-least : (c : CourseTold) (plan : ShelfPlan) (b e : ℕ) (k : Key) → is_in k (keys_in plan) ≡ true → is_sure c plan k ≡ true → IsOn c.plan (last_of c.plan.branches b) k.segment
     → count_at c k ≤ e → count_at c k ≤ sure c plan b e
-sure-least c plan b e k i known on key early =
+sure-least c plan b e k i known on early =
     let s = last_of c.plan.branches b in
-    let near = and-true (is_on c.plan s k.segment) (is_key_in c.plan k && nat_le (count_at c k) e) on
-    (and-true (is_key_in c.plan k) (nat_le (count_at c k) e) (key-in c k key) (le-leb (count_at c k) e early)) in
+    let near = and-true (is_on c.plan s k.segment) (nat_le (count_at c k) e) on (le-leb (count_at c k) e early) in
     most-least (count_at c) (is_sure_near c plan s e) k (keys_in plan) i (and-true (is_sure c plan k) (is_near c s e k) known near)
 
 -- the state at a fork is one of them
@@ -151,8 +148,7 @@ fork-least c plan b e stride s q h laid l is on early =
     let here = laid.forks q lq parent.unfinished in
     let count = end-count c q h lq in
     let least = sure-least c plan b e k (in-front k plan.forks plan.grid here)
-    (or_left (is_in k plan.forks) (is_sole plan k && nat_le k.event (end_events c k.segment)) here) on
-    (record { segment = lq; from = rises-at c.plan q t lq; to = omega arith }) (omega arith) in
+    (or_left (is_in k plan.forks) (is_sole plan k && is_passed c k.segment k.event) here) on (omega arith) in
     omega (arith, count, least)
 
 -- so is that at a grid key that its segment passes
@@ -162,9 +158,11 @@ grid-least c plan b e stride s n h laid sole l on above below at passes early =
     let k : Key = record { segment = s; event = n } in
     let here = laid.grid s n l above below at in
     let count = passed-count c s n h l (omega arith) (omega arith) passes in
+    let from = from_count c.opening c.plan (segment_at c.plan s) in
+    let begins : from < n = omega (arith, segment-starts c.opening c.plan s (course-tree c h) l) in
+    let passed = and-true (nat_lt from n) (nat_le n (end_events c s)) (lt-ltb from n begins) (le-leb n (end_events c s) passes) in
     let least = sure-least c plan b e k (in-back k plan.forks plan.grid here)
-    (or_right (is_in k plan.forks) (is_sole plan k && nat_le k.event (end_events c k.segment)) (and-true (is_sole plan k) (nat_le n (end_events c s)) (sole k here) (le-leb n (end_events c s) passes))) on
-    (record { segment = l; from = omega arith; to = omega arith }) (omega arith) in
+    (or_right (is_in k plan.forks) (is_sole plan k && is_passed c k.segment k.event) (and-true (is_sole plan k) (is_passed c s n) (sole k here) passed)) on (omega arith) in
     omega (arith, count, least)
 
 -- a multiple of the stride is less than a number, and at most the stride before it

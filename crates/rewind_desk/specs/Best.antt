@@ -2,7 +2,7 @@
 use Rattle.std.specs.Prelude.{ℕ, ◌==◌, ◌&&◌, Bool, nat_le, if◌then◌else◌, max, List, [], ◌∷◌, ◌++◌}
 use Rattle.std.specs.List.{list_any}
 use Rattle.branch_tree.specs.Plan.{Plan}
-use Rattle.branch_tree.specs.Segments.{segment_at, last_of}
+use Rattle.branch_tree.specs.Segments.{last_of}
 use Rattle.shelf_core.specs.declared.plan.Key.{Key}
 use Rattle.shelf_core.specs.declared.plan.ShelfPlan.{ShelfPlan}
 use Rattle.shelf_core.specs.Words.{is_ready}
@@ -24,13 +24,9 @@ count_at c k = (state_at c k).events
 abbrev pub is_on : Plan → ℕ → ℕ → Bool
 is_on p s q = list_any (λ x. x == q) (chain_to p s)
 
--- a key of a segment: its event number is one from the segment's start to its stop
-abbrev pub is_key_in : Plan → Key → Bool
-is_key_in p k = nat_le (segment_at p k.segment).start k.event && nat_le k.event (segment_at p k.segment).stop
-
 -- a key of a segment of the chain that ends with s, and its state has at most e events
 abbrev pub is_near : CourseTold → ℕ → ℕ → Key → Bool
-is_near c s e k = is_on c.plan s k.segment && (is_key_in c.plan k && nat_le (count_at c k) e)
+is_near c s e k = is_on c.plan s k.segment && nat_le (count_at c k) e
 
 -- the keys for which a shelf is laid out: no others have a place
 abbrev pub keys_in : ShelfPlan → List Key

@@ -1,6 +1,7 @@
 -- The nearest state that a closed shelf holds.
 use Rattle.std.specs.Prelude.{◌≡◌, ◌≤◌, ℕ, true, List, Option, None, Some, IfSome, is_some, nat_lt, if◌then◌else◌}
 use Rattle.std.specs.List.{list_any}
+use Rattle.shelf_core.specs.Plan.{is_in}
 use Rattle.shelf_core.specs.declared.plan.Key.{Key}
 use Rattle.checkpoint_shelf.specs.Told.{ClosedTold}
 use Rattle.kernel_copy.specs.Courses.{CourseTold, IsKeyOf}
@@ -26,6 +27,10 @@ pub record IsHeld (shelf : ClosedTold CourseTold) (e : ℕ) (n : Near) : Type 0 
   pub events : n.events ≡ count_at shelf.course n.key
   pub early : n.events ≤ e
 
+-- Of these keys, those under which the shelf holds a state are keys of its course.
+abbrev pub HasKeys : ClosedTold CourseTold → List Key → Type 0
+HasKeys shelf keys = (k : Key) → is_in k keys ≡ true → is_held shelf k ≡ true → IsKeyOf shelf.course k
+
 -- It is one that the shelf holds under one of these keys of the chain that ends with s, with the most events up to e; there is
 -- none exactly where the shelf holds none.
 pub record IsNearest (shelf : ClosedTold CourseTold) (s e : ℕ) (keys : List Key) (found : Option Near) : Type 0 where
@@ -33,3 +38,4 @@ pub record IsNearest (shelf : ClosedTold CourseTold) (s e : ℕ) (keys : List Ke
   pub most : events_of found ≡ most_among (count_at shelf.course) (is_held_near shelf s e) keys
   pub held : IfSome found (IsHeld shelf e)
   pub chain : IfSome found (λ n. IsOn shelf.course.plan s n.key.segment)
+  pub of : HasKeys shelf keys

@@ -1,5 +1,5 @@
 -- States that are reached along a chain of segments.
-use Rattle.std.specs.Prelude.{◌≡◌, ◌≤◌, ◌<◌, ℕ, true, None, Some}
+use Rattle.std.specs.Prelude.{◌≡◌, ◌≤◌, ◌<◌, ℕ, true, Some}
 use Rattle.market_types.specs.declared.entry.End.{End}
 use Rattle.branch_tree.specs.Plan.{Plan}
 use Rattle.branch_tree.specs.Segments.{segment_at}
@@ -14,11 +14,11 @@ use Rattle.rewind_desk.specs.Best.{is_on}
 abbrev pub IsOn : Plan → ℕ → ℕ → Type 0
 IsOn p s q = is_on p s q ≡ true
 
--- It is the state of a segment's branch after e events. Where it isn't ended, all of them stand, and the segment's end has more
--- if e is before its stop; where it is ended, it is the segment's end.
+-- It is the state of a segment's branch after e events. Where the segment's end has more, all of them stand; where it hasn't, or
+-- the state is ended, it is the segment's end.
 pub record IsAt (c : CourseTold) (s e : ℕ) (k : State) : Type 0 where
   pub state : k ≡ (full c.opening c.plan (segment_at c.plan s).branch e).state
   pub within : k.events ≤ e
-  pub going : end_of c.opening k ≡ None → e ≤ k.events
-  pub passed : end_of c.opening k ≡ None → e < (segment_at c.plan s).stop → e < (segment_end c.opening c.plan (segment_at c.plan s)).state.events
+  pub events : e < (segment_end c.opening c.plan (segment_at c.plan s)).state.events → k.events ≡ e
+  pub whole : (segment_end c.opening c.plan (segment_at c.plan s)).state.events ≤ e → k ≡ (segment_end c.opening c.plan (segment_at c.plan s)).state
   pub ended : (x : End) → end_of c.opening k ≡ Some x → k ≡ (segment_end c.opening c.plan (segment_at c.plan s)).state

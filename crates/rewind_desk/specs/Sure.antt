@@ -1,5 +1,5 @@
 -- The states that the workers of a course surely leave on a shelf.
-use Rattle.std.specs.Prelude.{◌≡◌, ◌≢◌, ◌<◌, ◌%◌, ℕ, Bool, true, ◌&&◌, ◌||◌, nat_le, Some, length}
+use Rattle.std.specs.Prelude.{◌≡◌, ◌≢◌, ◌<◌, ◌%◌, ℕ, Bool, true, ◌&&◌, ◌||◌, nat_le, nat_lt, Some, length}
 use Rattle.branch_tree.specs.Plan.{Plan}
 use Rattle.branch_tree.specs.Segments.{segments_in, segment_at, last_of}
 use Rattle.shelf_core.specs.declared.plan.Key.{Key}
@@ -7,7 +7,7 @@ use Rattle.shelf_core.specs.declared.plan.ShelfPlan.{ShelfPlan}
 use Rattle.shelf_core.specs.Plan.{is_in, is_sole}
 use Rattle.checkpoint_shelf.specs.Told.{ClosedTold}
 use Rattle.kernel_copy.specs.Courses.{CourseTold}
-use Rattle.kernel_copy.specs.Segmentwise.{segment_end}
+use Rattle.kernel_copy.specs.Segmentwise.{from_count, segment_end}
 use Rattle.rewind_desk.specs.Best.{most_among, count_at, is_near, keys_in, is_held}
 use Rattle.rewind_desk.specs.Reach.{IsOn}
 
@@ -15,9 +15,13 @@ use Rattle.rewind_desk.specs.Reach.{IsOn}
 abbrev pub end_events : CourseTold → ℕ → ℕ
 end_events c s = (segment_end c.opening c.plan (segment_at c.plan s)).state.events
 
+-- a segment passes an event number: it begins with fewer events, and its end has so many or more
+abbrev pub is_passed : CourseTold → ℕ → ℕ → Bool
+is_passed c s e = nat_lt (from_count c.opening c.plan (segment_at c.plan s)) e && nat_le e (end_events c s)
+
 -- The workers surely leave the state of each fork key, and that of each sole grid key whose number its segment passes.
 abbrev pub is_sure : CourseTold → ShelfPlan → Key → Bool
-is_sure c plan k = is_in k plan.forks || (is_sole plan k && nat_le k.event (end_events c k.segment))
+is_sure c plan k = is_in k plan.forks || (is_sole plan k && is_passed c k.segment k.event)
 
 abbrev pub is_sure_near : CourseTold → ShelfPlan → ℕ → ℕ → Key → Bool
 is_sure_near c plan s e k = is_sure c plan k && is_near c s e k

@@ -2,7 +2,8 @@
 
 ghost use Rattle.std.specs.Prelude.{◌≡◌, ◌≤◌, ◌+◌, ◌-◌, ◌<◌, ◌^◌, ◌⊎◌, None, Some, Err, IfOk, IfErr, OnOk, length};
 ghost use Rattle.kernel_copy.specs.Full.{full};
-ghost use Rattle.rewind_desk.specs.Best.{best};
+ghost use Rattle.rewind_desk.specs.Best.{best, keys_in};
+ghost use Rattle.rewind_desk.specs.Nearest.{HasKeys};
 ghost use Rattle.rewind_desk.specs.Rewinds.{last_event, rewind_refusal};
 
 use crate::finding::nearest_to;
@@ -53,6 +54,7 @@ fn reached<L: Ledger>(
     ensures exists { IfOk result (λ r. event ≤ r.kernel.events → event ≤ last_event course.now branch) }
     ensures within { IfOk result (λ r. r.kernel.events ≤ event) }
     ensures from { IfOk result (λ r. r.from ≡ best shelf.now branch event) }
+    ensures keys { HasKeys shelf.now (keys_in shelf.now.plan) }
     ensures ticks { IfOk result (λ r. steps.new + r.from ≡ steps.old + r.kernel.events) }
     ensures least { steps.old ≤ steps.new }
     ensures most { steps.new ≤ steps.old + (event - best shelf.now branch event) }

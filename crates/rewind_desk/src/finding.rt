@@ -116,6 +116,7 @@ pub fn nearest(
     ensures exists { is_some result ≡ list_any (is_held_near shelf.now (last_of course.now.value.plan.branches branch) event) (keys_in shelf.now.plan) }
     ensures held { IfSome result (λ k. is_held_near shelf.now (last_of course.now.value.plan.branches branch) event k ≡ true) }
     ensures most { IfSome result (λ k. count_at course.now.value k ≡ best shelf.now branch event) }
+    ensures of { IfSome result (λ k. IsKeyOf course.now.value k) }
 {
     match nearest_to(course, shelf, course.last_segment(branch), event) {
         None => None,

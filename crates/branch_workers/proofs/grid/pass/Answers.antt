@@ -15,7 +15,7 @@ returns-then-events-key-clause-known g c = λ divides sole passed.
     let x : RanTold = ran_told c.run_to.new.ran in
     let is : x ≡ ran_as c.args.keep (until k.opening e (started_at k.opening k.plan (segment_at k.plan s))) =
     c.in_ok-run_to.ensures.ran ∙ ap (λ (y : CourseTold). ran_as c.args.keep (until y.opening e (started_at y.opening y.plan (segment_at y.plan s)))) c.deref.ensures in
-    let events = passed_events k s (subst IsCourse c.deref.ensures c.run_to.ensures.course) c.requires.key.segment c.args.keep e x c.requires.key.from c.requires.key.to is passed in
+    let events = passed_events k s (subst IsCourse c.deref.ensures c.run_to.ensures.course) c.requires.key.segment c.args.keep e x c.requires.key.to is passed in
     absurd (omega (arith, c.events.ensures, c.if-events-key.true))
 
 pub put_copy-requires-clause-state : goal.put_copy-requires-clause-state

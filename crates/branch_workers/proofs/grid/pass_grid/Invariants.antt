@@ -16,5 +16,5 @@ invariant-loop-event g l = record {
   underway : IsUnderway l.course.value l.keep l.segment (l.event - 1) (ran_told l.ran);
   ticks : l.steps + l.initial.ran.kernel.events ≡ l.initial.steps + l.ran.kernel.events;
   grows : l.initial.ran.kernel.events ≤ l.ran.kernel.events;
-  known : KnowsBefore l.course.value l.shelf.plan l.stride l.segment l.event l.seat.view;
+  known : KnowsBefore l.course.value l.shelf.plan l.segment l.event l.seat.view;
 }

@@ -92,3 +92,9 @@ returns-clause-within g c =
     let limit = ap (λ (o : Opening). o.limit) c.opening.ensures.value in
     (arrived k c.args.branch c.args.event c.lesser-most.result c.in_ok-kernel.kernel c.opening.ensures.course c.requires.branch (omega (arith, limit, c.lesser-most.ensures))
     (subst (λ (s : ℕ). IsAt k s c.lesser-most.result c.in_ok-kernel.kernel) c.last_segment-last.ensures.last c.in_ok-kernel.ensures.at)).within
+
+pub returns-in_err-kernel-clause-keys : goal.returns-in_err-kernel-clause-keys
+returns-in_err-kernel-clause-keys g c = c.nearest_to-near.ensures.of
+
+pub returns-clause-keys : goal.returns-clause-keys
+returns-clause-keys g c = c.nearest_to-near.ensures.of

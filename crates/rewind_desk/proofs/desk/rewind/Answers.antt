@@ -17,4 +17,4 @@ returns-then-events-event-clause-past g c = λ same.
     let under : b < length k.plan.branches = omega (arith, count, c.from.ensures, c.if-from-branches.false) in
     let less : kernel.events < c.args.event = omega (arith, c.if-events-event.true, c.events-events.ensures) in
     let whole : kernel.events ≡ last_event k b = c.in-Ok.ensures.whole less ∙ ap (λ (x : CourseTold). last_event x b) c.deref-2.ensures in
-    past-rose c.args.shelf.now k b c.args.event c.in-Ok.rewound.from c.args.steps.now c.reached.new.steps kernel.events c.requires.shelf course under less whole c.in-Ok.ensures.from c.in-Ok.ensures.ticks
+    past-rose c.args.shelf.now k b c.args.event c.in-Ok.rewound.from c.args.steps.now c.reached.new.steps kernel.events c.requires.shelf course c.reached.ensures.keys under less whole c.in-Ok.ensures.from c.in-Ok.ensures.ticks

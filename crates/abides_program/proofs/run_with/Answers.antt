@@ -1,0 +1,14 @@
+use Rattle.abides_program.proofs.run_with.Goals as goal
+
+pub returns : goal.returns
+returns g c =
+    let answered = c.run-status.ensures.answered in
+    let noted = c.run-status.ensures.noted in
+    record {
+      name = noted.0;
+      noted = noted.2;
+      refused = answered.refused;
+      still = answered.out_still;
+      write_fault = answered.write_fault;
+      steady = λ ok. (answered.steady ok).1;
+    }
