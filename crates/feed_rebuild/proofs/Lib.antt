@@ -1,0 +1,5 @@
+pub mod Folding
+pub mod Grouping
+pub mod Marking
+pub mod Places
+pub mod Sames
