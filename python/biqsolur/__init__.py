@@ -12,9 +12,10 @@ A number that a row does not have is 0 and its column in dollars is not-a-number
 reference or match number of a market is 0.  A stock is its number from 0, and -1 where there is none.
 """
 
-from biqsolur.bundle import Branch, Bundle, Closing, read
+from biqsolur.bundle import Branch, Bundle, read
+from biqsolur.closing import Closing
+from biqsolur.columns import timedeltas
 from biqsolur.errors import BundleError, InputError, LevelsError, OutputExistsError, UnknownBranchError
-from biqsolur.frames import timedeltas
 from biqsolur.itch import to_itch
 from biqsolur.lobster import to_lobster
 from biqsolur.rewind import Rewind, State, read_rewind
