@@ -10,8 +10,9 @@ import pandas
 from biqsolur.bundle import Branch, Bundle
 from biqsolur.report_series import LEVELS, StockSeries, from_fork, stock_series, thin
 
-POINTS = 600_000     # at most about so many numbers in the pictures of a page
-CELLS = (40, 400)    # the fewest and the most cells of time that a series is thinned to; a cell has up to four points
+NUMBERS = 1_500_000  # about so many numbers at most are in the pictures of a page
+OF_CELL = 200        # about so many numbers one cell of one stock and branch has at most, in all series together
+CELLS = (40, 400)    # the fewest and the most cells of time that a series is thinned to
 
 
 @dataclass
@@ -174,7 +175,7 @@ def picture(series: StockSeries, fork: int, cells: int) -> dict:
         rows = thin(times, values, [values], cells, span)
         result[name] = [steps(times[rows]), gaps(values[rows])]
     sums = [bids.sum(axis=1), asks.sum(axis=1), bids[:, 0], asks[:, 0]]
-    rows = thin(times, numpy.hstack([bids, asks]), sums, max(1, cells // 4), span)
+    rows = thin(times, numpy.hstack([bids, asks]), sums, cells, span)
     result["depth"] = [steps(times[rows]), bids[rows].T.tolist(), asks[rows].T.tolist()]
     times = numpy.maximum(series.trade_times[trade], fork)
     for name, values in (("volume", series.volume[trade]), ("fees", series.trade_fees[trade])):
@@ -186,7 +187,7 @@ def picture(series: StockSeries, fork: int, cells: int) -> dict:
 def page_data(bundle: Bundle, branches: list[BranchData]) -> dict:
     """The data of the page's pictures: whole numbers alone."""
     pairs = max(1, len(branches) * len(bundle.symbols))
-    cells = min(CELLS[1], max(CELLS[0], POINTS // (pairs * 50)))
+    cells = min(CELLS[1], max(CELLS[0], NUMBERS // (pairs * OF_CELL)))
     roots = {data.name: data.parent is None for data in branches}
     begin = min((series.begin for data in branches for series in data.stocks), default=0)
     return {

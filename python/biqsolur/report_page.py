@@ -22,7 +22,7 @@ FIGURES = [
      "is drawn from where it leaves its parent. ▲ is the first event that differs from the parent."),
     ("spread", "Spread", "Best ask less best bid."),
     ("depth", "Depth by level", "Shares displayed at the best five prices of each side, the best one nearest to zero: "
-     "asks above, bids below. The first branch is filled, the second one is drawn over it in lines."),
+     "asks above, bids below. The first branch is filled; of the second one level 1 and all five together are lines."),
     ("volume", "Traded volume", "Shares of all trades up to that time."),
     ("fees", "Fees", "Fees of both sides of all trades up to that time. Below zero the venue has paid."),
 ]

@@ -106,7 +106,8 @@ def changes(columns: numpy.ndarray) -> numpy.ndarray:
 def extremes(cells: numpy.ndarray, values: numpy.ndarray) -> numpy.ndarray:
     """The rows that stand first, last, lowest and highest in their cell, and its first missing value.
 
-    `cells` rise. What is left out lies between two rows that are kept, and neither above nor below them in value.
+    `cells` rise. No value that is left out is below the lowest or above the highest that is kept of its cell; and the
+    rows behind the lowest, the highest and the missing one are kept, so that these last as long as they did.
     """
     starts = numpy.flatnonzero(numpy.append(True, numpy.diff(cells) != 0))
     ends = numpy.append(starts[1:], len(cells))
@@ -115,8 +116,8 @@ def extremes(cells: numpy.ndarray, values: numpy.ndarray) -> numpy.ndarray:
     highest = numpy.lexsort((numpy.nan_to_num(values, nan=-numpy.inf), cells))[ends - 1]
     missing = numpy.flatnonzero(numpy.isnan(values))
     first_missing = missing[numpy.unique(cells[missing], return_index=True)[1]]
-    behind = numpy.minimum(first_missing + 1, len(cells) - 1)
-    return numpy.unique(numpy.concatenate([starts, ends - 1, lowest, highest, first_missing, behind]))
+    extreme = numpy.concatenate([lowest, highest, first_missing])
+    return numpy.unique(numpy.concatenate([starts, ends - 1, extreme, numpy.minimum(extreme + 1, len(cells) - 1)]))
 
 
 def thin(times: numpy.ndarray, table: numpy.ndarray, values: list[numpy.ndarray], cells: int,
@@ -128,7 +129,7 @@ def thin(times: numpy.ndarray, table: numpy.ndarray, values: list[numpy.ndarray]
     """
     begin, end = span
     rows = changes(table)
-    if len(rows) <= 4 * cells:
+    if len(rows) <= 6 * cells:
         return rows
     width = max(1, -(-(end - begin + 1) // cells))
     numbers = (times[rows] - begin) // width

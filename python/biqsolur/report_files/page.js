@@ -33,6 +33,11 @@ function timeText(time, decimals = 9) {
     return `${pad(Math.floor(seconds / 3600), 2)}:${pad(Math.floor(seconds / 60) % 60, 2)}:${pad(seconds % 60, 2)}${decimals ? "." + part : ""}`;
 }
 
+// As short as it is exact.
+function shortTime(time) {
+    return timeText(time).replace(/\.?0+$/, "");
+}
+
 function timeOf(text) {
     const found = /^\s*(\d{1,2}):(\d{2})(?::(\d{2})(?:\.(\d{1,9}))?)?\s*$/.exec(text);
     if (!found) return null;
@@ -122,9 +127,9 @@ function timeAxis() {
 }
 
 function layoutOf(height, title, more = {}) {
-    return { height, font, margin: { l: 70, r: 20, t: 40, b: 50 }, paper_bgcolor: "#ffffff", plot_bgcolor: "#ffffff",
-        hovermode: "closest", showlegend: true, legend: { orientation: "h", x: 0, y: 1.02, yanchor: "bottom", font: { size: 12 } },
-        xaxis: timeAxis(), yaxis: { ...grid, title: { text: title }, tickformat: more.format || "" },
+    return { height, font, margin: { l: 80, r: 20, t: 40, b: 50 }, paper_bgcolor: "#ffffff", plot_bgcolor: "#ffffff",
+        hovermode: "closest", showlegend: true, legend: { orientation: "h", x: 0, y: 1.02, yanchor: "bottom", font: { size: 12 }, traceorder: "normal" },
+        xaxis: timeAxis(), yaxis: { ...grid, title: { text: title, standoff: 14 }, tickformat: more.format || "" },
         yaxis2: { overlaying: "y", range: [0, 1], visible: false, fixedrange: true }, shapes: [], ...more.layout };
 }
 
@@ -184,7 +189,7 @@ function drawLines(name) {
 const bidShades = ["#08519c", "#3182bd", "#6baed6", "#9ecae1", "#c6dbef"];
 const askShades = ["#a63603", "#e6550d", "#fd8d3c", "#fdae6b", "#fdd0a2"];
 
-function depthTraces(number, isFilled, legend) {
+function depthTraces(number, isFilled) {
     const series = seriesOf(number, stockNow(), "depth", true);
     const x = series.times.map(toAxis), traces = [];
     for (const [side, sign, shades] of [["bid", -1, bidShades], ["ask", 1, askShades]]) {
@@ -193,14 +198,15 @@ function depthTraces(number, isFilled, legend) {
         for (let level = 0; level < data.levels; level++) {
             const column = series.columns[offset + level] || [];
             total = total.map((value, place) => value + (column[place] || 0));
-            const outline = level === 0 ? { width: 1.6, dash: "solid" } : { width: 0.9, dash: "2px,2px" };
+            if (!isFilled && level > 0 && level < data.levels - 1) continue;      // of lines the innermost and the outermost
+            const outline = { width: 1.4, dash: level === 0 ? "solid" : "2px,2px" };
             traces.push({ x, y: total.map((value) => sign * value), customdata: column, mode: "lines", type: "scatter",
-                name: isFilled ? `${side} ${level + 1}` : `${safe(branches[number].name)}: level 1 solid, 2 to ${data.levels} dotted`,
+                name: isFilled ? `${side} ${level + 1}` : `${safe(branches[number].name)}: ${level ? `all ${data.levels} levels` : "level 1"}`,
                 line: isFilled ? { shape: "hv", width: 0, color: shades[level] } : { shape: "hv", color: "#1b1f24", ...outline },
                 fill: isFilled ? (level === 0 ? "tozeroy" : "tonexty") : "none", fillcolor: shades[level],
-                showlegend: isFilled || (legend && side === "bid" && level === 0), hoveron: "points",
-                hovertemplate: `${safe(branches[number].name)}, ${side} level ${level + 1}<br>${hoverTime}<br>%{customdata:,} shares` +
-                    "<extra></extra>" });
+                showlegend: isFilled || side === "bid", hoveron: "points",
+                hovertemplate: `${safe(branches[number].name)}, ${side} level ${level + 1}<br>${hoverTime}<br>%{customdata:,} shares, ` +
+                    `levels 1 to ${level + 1} together %{y:,}<extra></extra>` });
         }
     }
     return traces;
@@ -208,10 +214,10 @@ function depthTraces(number, isFilled, legend) {
 
 function drawDepth() {
     const below = first(), above = second_();
-    let traces = depthTraces(below, true, true);
+    let traces = depthTraces(below, true);
     let title = safe(branches[below].name);
     if (above >= 0 && above !== below) {
-        traces = traces.concat(depthTraces(above, false, true));
+        traces = traces.concat(depthTraces(above, false));
         title += ` (filled) and ${safe(branches[above].name)} (lines)`;
     }
     const layout = layoutOf(440, "Shares: bids below, asks above");
@@ -285,8 +291,8 @@ function show(from, to) {
     if (!(from < to)) return;
     shown.from = Math.round(from);
     shown.to = Math.round(to);
-    byId("from").value = timeText(shown.from);
-    byId("to").value = timeText(shown.to);
+    byId("from").value = shortTime(shown.from);
+    byId("to").value = shortTime(shown.to);
     isLinking = true;
     const changes = plots.map((name) => Plotly.relayout(byId(`plot-${name}`), { "xaxis.range": [toAxis(shown.from), toAxis(shown.to)] }));
     Promise.all(changes).then(() => { isLinking = false; });
@@ -362,8 +368,8 @@ function makeControls() {
         if (isRight) show(from, to);
     };
     for (const name of ["from", "to"]) byId(name).addEventListener("change", choose);
-    byId("from").value = timeText(shown.from);
-    byId("to").value = timeText(shown.to);
+    byId("from").value = shortTime(shown.from);
+    byId("to").value = shortTime(shown.to);
     byId("controls").addEventListener("submit", (event) => event.preventDefault());
     byId("controls").hidden = false;
 }
