@@ -127,6 +127,11 @@ class Branch:
         those of the message in `feed`. In a market of many stocks each row has the book of its own stock."""
         return book_frame(self.bundle.frames, self.part, self.symbols, levels)
 
+    def displayed_orders(self) -> pandas.DataFrame:
+        """The orders that rest at the end, from the feed alone, by stock and then by arrival: reference, side, open
+        (shares), stock, symbol, price, price_dollars. They are those of `closing.orders`."""
+        return feed.displayed_frame(self.bundle.frames, self.part, self.symbols)
+
     @cached_property
     def first_difference(self) -> int:
         """The first event that differs from the parent's, or stands in one of both alone; 0 where none does, and for

@@ -160,6 +160,18 @@ def trades_frame(frames: Frames, part: Part, symbols: list[str]) -> pandas.DataF
     }, copy=False)
 
 
+def displayed_frame(frames: Frames, part: Part, symbols: list[str]) -> pandas.DataFrame:
+    """A row an order that the feed says is resting at the end, by stock and then by arrival."""
+    feed = feed_frame(frames, part, symbols)
+    orders = feed.loc[feed.kind == "A", ["reference", "side", "shares", "stock", "symbol", "price", "price_dollars"]]
+    orders = orders.rename(columns={"shares": "open"})
+    taken = feed.loc[feed.kind.isin(["E", "X"])].groupby("reference").shares.sum()
+    gone = feed.loc[feed.kind == "D", "reference"]
+    orders["open"] -= taken.reindex(orders.reference, fill_value=0).to_numpy()
+    left = orders[(orders.open > 0) & ~orders.reference.isin(gone)]
+    return left.sort_values("stock", kind="stable", ignore_index=True)
+
+
 def opposite(sides: numpy.ndarray) -> numpy.ndarray:
     """The other side of each; 0 stays."""
     other = sides.copy()
