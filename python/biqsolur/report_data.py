@@ -65,7 +65,9 @@ def details(branch: Branch, number: int, kind: str) -> str:
         return ""
     row = rows.iloc[0]
     if kind == "quote":
-        return f"bid {price_text(row.bid)} with {row.bid_shares} shares, ask {price_text(row.ask)} with {row.ask_shares}"
+        state = "halted" if row.state == "H" else "trading"
+        return (f"{state}, bid {price_text(row.bid)} with {row.bid_shares} shares, ask {price_text(row.ask)} with "
+                f"{row.ask_shares}")
     parts = [str(row.kind)]
     if row.side:
         parts.append({"B": "buy", "S": "sell"}[row.side])
@@ -95,10 +97,10 @@ def price_text(price: int) -> str:
 
 
 def money_text(amount: int) -> str:
-    """Millionths of a dollar in dollars, exactly: at least two decimals, and as many as there are."""
+    """Millionths of a dollar in dollars, exactly: at least three decimals, and as many as there are."""
     whole, part = divmod(abs(amount), 1_000_000)
-    decimals = f"{part:06d}".rstrip("0").ljust(2, "0")
-    return f"{'−' if amount < 0 else ''}{whole:,}.{decimals}".replace(",", "\u202f")
+    decimals = f"{part:06d}".rstrip("0").ljust(3, "0")
+    return f"{'−' if amount < 0 else ''}{whole:,}.{decimals}"
 
 
 def time_text(time: int, decimals: int = 9) -> str:
@@ -115,7 +117,8 @@ def find_difference(bundle: Bundle, branch: Branch) -> Difference | None:
         return None
     parent = bundle.branches[branch.parent]
     rows = [row for row in (event_row(branch, number), event_row(parent, number)) if row is not None]
-    return Difference(number, min(int(row.time) for row in rows), event_text(branch, number), event_text(parent, number))
+    time = min(int(row.time) for row in rows)
+    return Difference(number, time, event_text(branch, number), event_text(parent, number))
 
 
 def fork_time(branch: Branch, begin: int) -> int:

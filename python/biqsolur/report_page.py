@@ -65,7 +65,8 @@ def stock_section(branches: list[BranchData], stock: int, symbol: str) -> str:
     depths = "".join(tables.depth_table(data, number, stock, instants) for number, data in enumerate(branches))
     return (f'<section class="stock" data-stock="{stock}"><h3>{html.escape(symbol)}</h3>'
             + tables.against_parent_table(branches, stock) + tables.over_time_table(branches, stock, symbol)
-            + f"<details><summary>{html.escape(symbol)}: depth by level over time</summary>{depths}</details></section>")
+            + f"<details><summary>{html.escape(symbol)}: depth by level over time</summary>{depths}</details>"
+            + "</section>")
 
 
 def page_text(bundle: Bundle) -> str:

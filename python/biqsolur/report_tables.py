@@ -1,4 +1,4 @@
-"""The tables of a report, as HTML. A column or row of branch number N has the class `of-N`, so that it can be hidden."""
+"""The tables of a report, as HTML. What is of branch number N has the class `of-N`, so that it can be hidden."""
 
 from __future__ import annotations
 
@@ -32,9 +32,31 @@ def table(caption: str, heads: Iterable[str], rows: Iterable[str], note: str = "
             f"<caption>{html.escape(caption)}</caption><thead>{head}</thead><tbody>{body}</tbody></table></div>{below}")
 
 
-def head_cells(names: Iterable[str]) -> str:
-    """A row of heads."""
-    return "".join(cell(name, tag="th", more=' scope="col"') for name in names)
+def head_cells(names: Iterable[str], numbers: Iterable[int] = ()) -> str:
+    """A row of heads; `numbers` are the places of those over numbers."""
+    right = set(numbers)
+    return "".join(cell(name, "number" if place in right else "", "th", ' scope="col"')
+                   for place, name in enumerate(names))
+
+
+def row_head(text: object) -> str:
+    """The first cell of a row."""
+    return cell(text, tag="th", more=' scope="row"')
+
+
+def tall_head(text: str) -> str:
+    """A head over two rows."""
+    return cell(text, tag="th", more=' rowspan="2" scope="col"')
+
+
+def branch_heads(branches: list[BranchData], names: list[str]) -> tuple[str, str]:
+    """Two rows of heads: each branch over its own columns."""
+    first = second = ""
+    for number, data in enumerate(branches):
+        first += cell(data.name, f"of-{number} group", "th", f' colspan="{len(names)}" scope="colgroup"')
+        second += "".join(cell(name, f"number of-{number}" + ("" if place else " group"), "th", ' scope="col"')
+                          for place, name in enumerate(names))
+    return first, second
 
 
 def branches_table(branches: list[BranchData]) -> str:
@@ -42,11 +64,11 @@ def branches_table(branches: list[BranchData]) -> str:
     rows = []
     for number, data in enumerate(branches):
         difference = data.difference
-        cells = [cell(data.name, tag="th", more=' scope="row"'), cell(data.parent or "–"),
+        cells = [row_head(data.name), cell(data.parent or "–"),
                  cell(f"{data.stop:,}" if data.parent else "–", "number"),
                  cell(", ".join(data.edits.kind) or "–"),
                  cell(f"{data.counts['events']:,}", "number"), cell(time_text(data.end), "number"),
-                 cell(ENDS.get(data.counts["end"], data.counts["end"])),
+                 cell(ENDS.get(data.counts["end"], data.counts["end"]), "short"),
                  cell(f"{difference.event:,}" if difference else "none" if data.parent else "–", "number"),
                  cell(f"{data.counts['matches']:,}", "number"),
                  cell(f"{sum(int(shares) for shares in data.closing_stocks.matched):,}", "number"),
@@ -54,7 +76,7 @@ def branches_table(branches: list[BranchData]) -> str:
         rows.append(f'<tr class="of-{number}">{"".join(cells)}</tr>')
     heads = ["Branch", "Parent", "Leaves after event", "Edits", "Events", "Last time", "How it ended",
              "First event that differs", "Trades", "Shares traded", "Fees, dollars"]
-    return table("The branches", [head_cells(heads)], rows, "Counts are from the opening on, so what a branch shares "
+    return table("The branches", [head_cells(heads, (2, 4, 5, 7, 8, 9, 10))], rows, "Counts are from the opening on, so what a branch shares "
                  "with its parent is in them. Fees are those of both sides together.")
 
 
@@ -67,23 +89,23 @@ def differences_table(branches: list[BranchData]) -> str:
         found = data.difference
         texts = ([f"{found.event:,}", time_text(found.time), found.own, found.parents] if found
                  else ["none", "–", "all events are its parent's", "–"])
-        rows.append(f'<tr class="of-{number}">{cell(data.name, tag="th", more=" scope=row")}{cell(data.parent)}'
+        rows.append(f'<tr class="of-{number}">{row_head(data.name)}{cell(data.parent)}'
                     f'{cell(time_text(data.fork), "number")}'
                     + "".join(cell(text, "number" if place < 2 else "words") for place, text in enumerate(texts))
                     + "</tr>")
     if not rows:
         return ""
     heads = ["Branch", "Parent", "Leaves it at", "First event that differs", "Time", "In the branch", "In its parent"]
-    return table("Where branches part from their parents", [head_cells(heads)], rows)
+    return table("Where branches part from their parents", [head_cells(heads, (2, 3, 4))], rows)
 
 
 def edits_table(branches: list[BranchData]) -> str:
     """The edits of all branches."""
-    rows = [f'<tr class="of-{number}">{cell(data.name, tag="th", more=" scope=row")}{cell(edit.kind)}'
+    rows = [f'<tr class="of-{number}">{row_head(data.name)}{cell(edit.kind)}'
             f'{cell(f"{edit.event:,}", "number")}{cell(time_text(edit.time), "number")}</tr>'
             for number, data in enumerate(branches) for edit in data.edits.itertuples()]
     heads = ["Branch", "Edit", "Made after event", "At"]
-    return table("Edits", [head_cells(heads)], rows) if rows else ""
+    return table("Edits", [head_cells(heads, (2, 3))], rows) if rows else ""
 
 
 def mean_text(spread: float) -> str:
@@ -104,14 +126,13 @@ def against_parent_table(branches: list[BranchData], stock: int) -> str:
         texts = [time_text(begin)]
         for values in (spreads, [f"{shares:,}" for shares, _ in traded], [money_text(fees) for _, fees in traded]):
             texts += values if len(values) == 2 else [*values, "–"]
-        rows.append(f'<tr class="of-{number}">{cell(data.name, tag="th", more=" scope=row")}{cell(data.parent or "–")}'
+        rows.append(f'<tr class="of-{number}">{row_head(data.name)}{cell(data.parent or "–")}'
                     + "".join(cell(text, "number") for text in texts) + "</tr>")
-    first = (cell("Branch", tag="th", more=' rowspan="2" scope="col"') + cell("Parent", tag="th", more=' rowspan="2" scope="col"')
-             + cell("From", tag="th", more=' rowspan="2" scope="col"')
-             + "".join(cell(name, tag="th", more=' colspan="2" scope="colgroup"') for name in
-                       ("Mean spread over time, cents", "Shares traded", "Fees, dollars")))
+    groups = ("Mean spread over time, cents", "Shares traded", "Fees, dollars")
+    first = (tall_head("Branch") + tall_head("Parent") + tall_head("From")
+             + "".join(cell(name, tag="th", more=' colspan="2" scope="colgroup"') for name in groups))
     return table("Each branch beside its parent, from where it left it to the end",
-                 [first, head_cells(["branch", "parent"] * 3)], rows,
+                 [first, head_cells(["branch", "parent"] * 3, range(6))], rows,
                  "The mean is over the time in which both sides of the displayed book have an order.")
 
 
@@ -127,30 +148,32 @@ def last_before(times: numpy.ndarray, values: numpy.ndarray, instants: numpy.nda
     return [int(values[place - 1]) if place else 0 for place in places.tolist()]
 
 
+def mid_text(bid: int, ask: int) -> str:
+    """Half of bid and ask in dollars, exactly."""
+    return f"{(bid + ask) // 20_000}.{(bid + ask) % 20_000 * 5:05d}" if bid and ask else "–"
+
+
 def quote_texts(series: StockSeries, instants: numpy.ndarray) -> list[list[str]]:
-    """Of each instant bid, ask, spread in cents, shares at all drawn levels of each side."""
+    """Of each instant bid, ask, mid, spread in cents, and the shares at all drawn levels of each side."""
     texts = []
     for state in series.at(instants).tolist():
         if state < 0:
-            texts.append(["–", "–", "–", "0", "0"])
+            texts.append(["–", "–", "–", "–", "0", "0"])
             continue
         bid, ask = int(series.bid[state]), int(series.ask[state])
         spread = f"{(ask - bid) / 100:.2f}" if bid and ask else "–"
-        texts.append([price_text(bid), price_text(ask), spread, f"{series.bid_shares[state].sum():,}",
-                      f"{series.ask_shares[state].sum():,}"])
+        texts.append([price_text(bid), price_text(ask), mid_text(bid, ask), spread,
+                      f"{series.bid_shares[state].sum():,}", f"{series.ask_shares[state].sum():,}"])
     return texts
 
 
 def over_time_table(branches: list[BranchData], stock: int, symbol: str) -> str:
     """The numbers of the pictures over time, of all branches, at some instants."""
     instants = instants_of(branches)
-    names = ["Bid", "Ask", "Spread, cents", "Shares bid", "Shares asked", "Traded, shares", "Fees, dollars"]
-    first = cell("Time", tag="th", more=' rowspan="2" scope="col"')
-    second, columns = "", []
-    for number, data in enumerate(branches):
-        first += cell(data.name, f"of-{number} group", "th", f' colspan="{len(names)}" scope="colgroup"')
-        second += "".join(cell(name, f"of-{number}" + (" group" if place == 0 else ""), "th", ' scope="col"')
-                          for place, name in enumerate(names))
+    names = ["Bid", "Ask", "Mid", "Spread, cents", "Shares bid", "Shares asked", "Traded, shares", "Fees, dollars"]
+    first, second = branch_heads(branches, names)
+    columns = []
+    for data in branches:
         series = data.stocks[stock]
         volume = last_before(series.trade_times, series.volume, instants)
         fees = last_before(series.trade_times, series.trade_fees, instants)
@@ -158,13 +181,13 @@ def over_time_table(branches: list[BranchData], stock: int, symbol: str) -> str:
                         in zip(quote_texts(series, instants), volume, fees)])
     rows = []
     for place, instant in enumerate(instants.tolist()):
-        row = cell(time_text(instant, 3), tag="th", more=' scope="row"')
+        row = row_head(time_text(instant, 3 if instants[-1] - instants[0] > 10**9 else 9))
         for number, column in enumerate(columns):
-            row += "".join(cell(text, f"number of-{number}" + (" group" if which == 0 else ""))
+            row += "".join(cell(text, f"number of-{number}" + ("" if which else " group"))
                            for which, text in enumerate(column[place]))
         rows.append(row)
     return table(f"{symbol} over time: best prices in dollars, and what was displayed at the best {LEVELS} levels",
-                 [first, second], rows)
+                 [tall_head("Time") + first, second], rows)
 
 
 def depth_table(data: BranchData, number: int, stock: int, instants: numpy.ndarray) -> str:
@@ -174,30 +197,29 @@ def depth_table(data: BranchData, number: int, stock: int, instants: numpy.ndarr
     for instant, state in zip(instants.tolist(), series.at(instants).tolist()):
         shares = ([0] * (2 * LEVELS) if state < 0 else
                   series.bid_shares[state, ::-1].tolist() + series.ask_shares[state].tolist())
-        rows.append(cell(time_text(instant, 3), tag="th", more=' scope="row"')
+        rows.append(row_head(time_text(instant, 3 if instants[-1] - instants[0] > 10**9 else 9))
                     + "".join(cell(f"{value:,}", "number" + (" group" if place == LEVELS else ""))
                               for place, value in enumerate(shares)))
-    heads = ["Time", *[f"bid {level}" for level in range(LEVELS, 0, -1)], *[f"ask {level}" for level in range(1, LEVELS + 1)]]
-    return (f'<div class="of-{number}">'
-            + table(f"{data.name}: shares displayed at each level, 1 is the best", [head_cells(heads)], rows) + "</div>")
+    levels = range(1, LEVELS + 1)
+    heads = head_cells(["Time", *[f"bid {level}" for level in reversed(levels)], *[f"ask {level}" for level in levels]],
+                       range(1, 2 * LEVELS + 1))
+    made = table(f"{data.name}: shares displayed at each level, 1 is the best", [heads], rows)
+    return f'<div class="of-{number}">{made}</div>'
 
 
 def agents_table(branches: list[BranchData], symbols: list[str]) -> str:
     """Each agent's cash and positions at the end of each branch."""
     names = ["cash, dollars", *[f"{symbol}, shares" for symbol in symbols]]
-    first, second = cell("Agent", tag="th", more=' rowspan="2" scope="col"'), ""
-    for number, data in enumerate(branches):
-        first += cell(data.name, f"of-{number} group", "th", f' colspan="{len(names)}" scope="colgroup"')
-        second += "".join(cell(name, f"of-{number}" + (" group" if place == 0 else ""), "th", ' scope="col"')
-                          for place, name in enumerate(names))
+    first, second = branch_heads(branches, names)
     agents = branches[0].agents
     rows = []
     for place, agent in enumerate(agents[:AGENTS]):
-        row = cell(agent, tag="th", more=' scope="row"')
+        row = row_head(agent)
         for number, data in enumerate(branches):
             row += cell(money_text(data.cash[place]), f"number of-{number} group")
-            row += "".join(cell(f"{held[place]:,}".replace("-", "−"), f"number of-{number}") for held in data.positions)
+            row += "".join(cell(f"{held[place]:,}".replace("-", "−"), f"number of-{number}")
+                           for held in data.positions)
         rows.append(row)
     note = (f"The first {AGENTS:,} of {len(agents):,} agents; closing.agents of the package has all."
             if len(agents) > AGENTS else "")
-    return table("Each agent at the end: settled cash and positions", [first, second], rows, note)
+    return table("Each agent at the end: settled cash and positions", [tall_head("Agent") + first, second], rows, note)

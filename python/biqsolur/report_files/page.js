@@ -162,7 +162,8 @@ function noteOf(numbers) {
         return { xref: "x", yref: "paper", x: toAxis(time), y: 0.97 - 0.1 * place, yanchor: "top", showarrow: false,
             xanchor: isLeft ? "right" : "left", xshift: isLeft ? -4 : 4, bgcolor: "rgba(255,255,255,0.85)",
             font: { size: 12, color: number ? styleOf(number).color : "#1b1f24" },
-            text: `${safe(branches[number].name)}: first difference, event ${event}, ${timeText(time, 3)}` };
+            text: byId("plot-mid").clientWidth < 900 ? `${safe(branches[number].name)}: event ${event}`
+                : `${safe(branches[number].name)}: first difference, event ${event}, ${timeText(time, 3)}` };
     }).filter((_, place) => { const t = branches[marked[place]].difference.time; return t >= shown.from && t <= shown.to; });
 }
 
@@ -215,17 +216,16 @@ function depthTraces(number, isFilled) {
 function drawDepth() {
     const below = first(), above = second_();
     let traces = depthTraces(below, true);
-    let title = safe(branches[below].name);
+    let title = branches[below].name;
     if (above >= 0 && above !== below) {
         traces = traces.concat(depthTraces(above, false));
-        title += ` (filled) and ${safe(branches[above].name)} (lines)`;
+        title += ` (filled) and ${branches[above].name} (lines)`;
     }
+    document.querySelector("#figure-depth h3").textContent = `Depth by level: ${title}`;
     const layout = layoutOf(440, "Shares: bids below, asks above");
     const numbers = [...new Set([below, above])].filter((number) => number >= 0);
     const { shapes, traces: marks } = marksOf(numbers);
     layout.shapes = shapes;
-    layout.margin.t = 70;
-    layout.title = { text: title, font: { size: 14 }, x: 0, xref: "paper", xanchor: "left", y: 0.985, yanchor: "top" };
     layout.yaxis.tickformat = ",d";
     draw("depth", traces.concat(marks), layout);
 }
