@@ -76,8 +76,9 @@ def branches_table(branches: list[BranchData]) -> str:
         rows.append(f'<tr class="of-{number}">{"".join(cells)}</tr>')
     heads = ["Branch", "Parent", "Leaves after event", "Edits", "Events", "Last time", "How it ended",
              "First event that differs", "Trades", "Shares traded", "Fees, dollars"]
-    return table("The branches", [head_cells(heads, (2, 4, 5, 7, 8, 9, 10))], rows, "Counts are from the opening on, so what a branch shares "
-                 "with its parent is in them. Fees are those of both sides together.")
+    note = ("Counts are from the opening on, so what a branch shares with its parent is in them. Fees are those of "
+            "both sides together.")
+    return table("The branches", [head_cells(heads, (2, 4, 5, 7, 8, 9, 10))], rows, note)
 
 
 def differences_table(branches: list[BranchData]) -> str:
@@ -170,8 +171,8 @@ def quote_texts(series: StockSeries, instants: numpy.ndarray) -> list[list[str]]
 def over_time_table(branches: list[BranchData], stock: int, symbol: str) -> str:
     """The numbers of the pictures over time, of all branches, at some instants."""
     instants = instants_of(branches)
-    names = ["Bid", "Ask", "Mid", "Spread, cents", "Shares bid", "Shares asked", "Traded, shares", "Fees, dollars"]
-    first, second = branch_heads(branches, names)
+    heads = ["Time", "Branch", "Bid", "Ask", "Mid", "Spread, cents", "Shares bid", "Shares asked", "Traded, shares",
+             "Fees, dollars"]
     columns = []
     for data in branches:
         series = data.stocks[stock]
@@ -181,13 +182,17 @@ def over_time_table(branches: list[BranchData], stock: int, symbol: str) -> str:
                         in zip(quote_texts(series, instants), volume, fees)])
     rows = []
     for place, instant in enumerate(instants.tolist()):
-        row = row_head(time_text(instant, 3 if instants[-1] - instants[0] > 10**9 else 9))
         for number, column in enumerate(columns):
-            row += "".join(cell(text, f"number of-{number}" + ("" if which else " group"))
-                           for which, text in enumerate(column[place]))
-        rows.append(row)
+            texts = "".join(cell(text, "number") for text in column[place])
+            start = row_head(instant_text(instant, instants)) + cell(branches[number].name)
+            rows.append(f'<tr class="of-{number}{"" if number else " block"}">{start}{texts}</tr>')
     return table(f"{symbol} over time: best prices in dollars, and what was displayed at the best {LEVELS} levels",
-                 [tall_head("Time") + first, second], rows)
+                 [head_cells(heads, range(2, len(heads)))], rows)
+
+
+def instant_text(instant: int, instants: numpy.ndarray) -> str:
+    """A time of day, to the millisecond where the whole run is longer than a second."""
+    return time_text(instant, 3 if instants[-1] - instants[0] > 1_000_000_000 else 9)
 
 
 def depth_table(data: BranchData, number: int, stock: int, instants: numpy.ndarray) -> str:
@@ -197,7 +202,7 @@ def depth_table(data: BranchData, number: int, stock: int, instants: numpy.ndarr
     for instant, state in zip(instants.tolist(), series.at(instants).tolist()):
         shares = ([0] * (2 * LEVELS) if state < 0 else
                   series.bid_shares[state, ::-1].tolist() + series.ask_shares[state].tolist())
-        rows.append(row_head(time_text(instant, 3 if instants[-1] - instants[0] > 10**9 else 9))
+        rows.append(row_head(instant_text(instant, instants))
                     + "".join(cell(f"{value:,}", "number" + (" group" if place == LEVELS else ""))
                               for place, value in enumerate(shares)))
     levels = range(1, LEVELS + 1)
