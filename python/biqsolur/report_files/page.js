@@ -15,7 +15,7 @@ const dashes = ["solid", "5px,3px", "2px,2px", "8px,3px,2px,3px"];
 const symbols = ["circle", "diamond", "square", "triangle-up", "cross", "x", "star"];
 
 function styleOf(number) {
-    if (number === 0) return { color: "#8b949e", width: 4, dash: "solid" };
+    if (number === 0) return { color: "#8b949e", width: 3.5, dash: "solid" };
     const place = number - 1;
     return { color: colours[place % colours.length], width: 1.8, dash: dashes[Math.floor(place / colours.length) % dashes.length] };
 }
@@ -127,7 +127,7 @@ function timeAxis() {
 }
 
 function layoutOf(height, title, more = {}) {
-    return { height, font, margin: { l: 80, r: 20, t: 40, b: 50 }, paper_bgcolor: "#ffffff", plot_bgcolor: "#ffffff",
+    return { height, font, margin: { l: 80, r: 45, t: 40, b: 50 }, modebar: { orientation: "v" }, paper_bgcolor: "#ffffff", plot_bgcolor: "#ffffff",
         hovermode: "closest", showlegend: true, legend: { orientation: "h", x: 0, y: 1.02, yanchor: "bottom", font: { size: 12 }, traceorder: "normal" },
         xaxis: timeAxis(), yaxis: { ...grid, title: { text: title, standoff: 14 }, tickformat: more.format || "" },
         yaxis2: { overlaying: "y", range: [0, 1], visible: false, fixedrange: true }, shapes: [], ...more.layout };
@@ -176,7 +176,7 @@ function drawLines(name) {
         const style = styleOf(number);
         return { x: series.times.map(toAxis), y: series.columns[0].map((value) => value === null ? null : unit.of(value)),
             name: safe(branches[number].name), mode: "lines", type: "scatter", showlegend: numbers.length <= legendLimit,
-            line: { ...style, dash: isPair && place === 1 ? "5px,3px" : style.dash, shape: "hv" }, connectgaps: false, meta: number,
+            line: { ...style, width: numbers.length > 1 ? style.width : 1.6, dash: isPair && place === 1 ? "5px,3px" : style.dash, shape: "hv" }, connectgaps: false, meta: number,
             hovertemplate: `${safe(branches[number].name)}<br>${hoverTime}<br>${unit.hover}<extra></extra>` };
     });
     const { shapes, traces: marks } = marksOf(numbers);
