@@ -200,10 +200,10 @@ function depthTraces(number, isFilled) {
             const column = series.columns[offset + level] || [];
             total = total.map((value, place) => value + (column[place] || 0));
             if (!isFilled && level > 0 && level < data.levels - 1) continue;      // of lines the innermost and the outermost
-            const outline = { width: 1.4, dash: level === 0 ? "solid" : "2px,2px" };
+            const outline = { width: 1.1, dash: level === 0 ? "solid" : "2px,2px" };
             traces.push({ x, y: total.map((value) => sign * value), customdata: column, mode: "lines", type: "scatter",
                 name: isFilled ? `${side} ${level + 1}` : `${safe(branches[number].name)}: ${level ? `all ${data.levels} levels` : "level 1"}`,
-                line: isFilled ? { shape: "hv", width: 0, color: shades[level] } : { shape: "hv", color: "#1b1f24", ...outline },
+                line: isFilled ? { shape: "hv", width: 0, color: shades[level] } : { shape: "hv", color: "rgba(27,31,36,0.7)", ...outline },
                 fill: isFilled ? (level === 0 ? "tozeroy" : "tonexty") : "none", fillcolor: shades[level],
                 showlegend: isFilled || side === "bid", hoveron: "points",
                 hovertemplate: `${safe(branches[number].name)}, ${side} level ${level + 1}<br>${hoverTime}<br>%{customdata:,} shares, ` +
