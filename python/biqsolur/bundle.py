@@ -111,7 +111,7 @@ class Branch:
             "branch": numpy.array([names.get(number, str(number)) for number in edits["branch"].tolist()], object),
             "index": columns.small(edits["index"]),
             "kind": columns.words(edits["letter"], EDIT_WORDS),
-            "letter": columns.letters(edits["letter"]),
+            "letter": columns.letters(edits["letter"], "".join(map(chr, EDIT_WORDS))),
         })
 
     @cached_property

@@ -58,7 +58,7 @@ def stocks_frame(frames: Frames, indexes: numpy.ndarray, symbols: list[str]) -> 
     return pandas.DataFrame({
         "stock": number,
         "symbol": columns.stock_symbols(number, symbols),
-        "state": columns.letters(stocks["state"]),
+        "state": columns.letters(stocks["state"], "HT"),
         "last": last,
         "last_dollars": columns.dollars(last),
         "matched": columns.whole(stocks["matched"]),

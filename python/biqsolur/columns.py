@@ -34,29 +34,29 @@ def dollars(price: numpy.ndarray) -> numpy.ndarray:
 
 
 def words(codes: numpy.ndarray, names: dict[int, str]) -> pandas.Categorical:
-    """A column of words from a column of codes. A code without a name gets its letter."""
+    """A column of words from a column of codes. A code without a name gets its letter, as a further category."""
     other = {int(code): chr(code) for code in numpy.unique(codes) if int(code) not in names}
     texts = list(dict.fromkeys([*names.values(), *other.values()]))
-    places = numpy.zeros(256, numpy.int8)
+    places = numpy.zeros(256, numpy.int16)
     for code, text in {**names, **other}.items():
         places[code] = texts.index(text)
     return pandas.Categorical.from_codes(places[codes], texts)
 
 
-def letters(codes: numpy.ndarray) -> pandas.Categorical:
-    """A column of letters from their codes; 0 is the empty text."""
-    return words(codes, {0: ""})
+def letters(codes: numpy.ndarray, known: str) -> pandas.Categorical:
+    """A column of letters from their codes; 0 is the empty text. The letters of `known` are always categories."""
+    return words(codes, {0: "", **{ord(letter): letter for letter in known}})
 
 
 def symbols_of(texts: numpy.ndarray, known: list[str]) -> pandas.Categorical:
-    """A column of symbols from their eight bytes, taken as a number. Those of `known` are the first categories."""
-    found = {int(text): symbol_text(int(text)) for text in pandas.unique(texts.astype(numpy.uint64))}
-    categories = list(dict.fromkeys([*known, *found.values()]))
-    values = numpy.array(sorted(found), numpy.uint64)
-    codes = numpy.array([categories.index(found[int(value)]) for value in values], numpy.int32)
-    if len(values) == 0:
-        return pandas.Categorical.from_codes(numpy.zeros(0, numpy.int8), categories)
-    return pandas.Categorical.from_codes(codes[numpy.searchsorted(values, texts.astype(numpy.uint64))], categories)
+    """A column of symbols from their eight bytes, taken as a number. Those of `known` are always categories."""
+    texts = texts.astype(numpy.uint64)
+    values = numpy.sort(pandas.unique(texts))
+    found = [symbol_text(int(value)) for value in values]
+    categories = list(dict.fromkeys([*known, "", *found]))
+    places = numpy.array([categories.index(symbol) for symbol in found], numpy.int64)
+    codes = places[numpy.searchsorted(values, texts)] if len(values) else numpy.zeros(0, numpy.int64)
+    return pandas.Categorical.from_codes(codes, categories)
 
 
 def symbol_text(number: int) -> str:

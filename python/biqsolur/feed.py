@@ -83,7 +83,7 @@ def feed_frame(frames: Frames, part: Part, symbols: list[str]) -> pandas.DataFra
         "event": columns.small(rows.event),
         "time": feed_time(head),
         "source": pandas.Categorical.from_codes(rows.source, SOURCES),
-        "kind": columns.letters(rows.kinds),
+        "kind": columns.letters(rows.kinds, "".join(layouts.FEED)),
         "stock": stock,
         "symbol": columns.stock_symbols(stock, symbols),
         "reference": columns.whole(numbers["reference"]),
@@ -92,7 +92,7 @@ def feed_frame(frames: Frames, part: Part, symbols: list[str]) -> pandas.DataFra
         "price": price,
         "price_dollars": columns.dollars(price),
         "match": columns.whole(numbers["match"]),
-        "state": columns.letters(codes["state"] + codes["code"]),
+        "state": columns.letters(codes["state"] + codes["code"], "HTOC"),
     }, copy=False)
 
 

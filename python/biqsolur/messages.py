@@ -136,8 +136,8 @@ def replies_frame(source: Source, indexes: numpy.ndarray) -> pandas.DataFrame:
         "price_dollars": columns.dollars(table.columns["price"]),
         "reference": columns.whole(table.columns["reference"]),
         "match": columns.whole(table.columns["match"]),
-        "flag": columns.letters(table.columns["flag"]),
-        "reason": columns.letters(table.columns["reason"]),
+        "flag": columns.letters(table.columns["flag"], "AR"),
+        "reason": columns.letters(table.columns["reason"], "HIOSUX"),
     }, copy=False)
 
 
@@ -151,7 +151,7 @@ def quotes_frame(source: Source, indexes: numpy.ndarray) -> pandas.DataFrame:
         **message_columns(source, indexes, "receiver"),
         "stock": stock,
         "symbol": columns.stock_symbols(stock, source.symbols),
-        "state": columns.letters(quote["state"]),
+        "state": columns.letters(quote["state"], "HT"),
         "bid": prices["bid"],
         "bid_shares": columns.whole(quote["bid_shares"]),
         "ask": prices["ask"],

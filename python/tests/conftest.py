@@ -19,8 +19,12 @@ STUDY = ROOT / "examples" / "two_watchers.toml"
 
 
 def program_path():
-    """The program: BIQSOLUR_PROGRAM, else what rt built, else ./abides; None where none of them runs."""
-    for place in (os.environ.get("BIQSOLUR_PROGRAM"), ROOT / "crates/abides_main/out/abides_main", ROOT / "abides"):
+    """The program: BIQSOLUR_PROGRAM, else what rt built, else ./abides; None where none of them runs.
+
+    ./abides is asked only where there is a release: else it would prove and build the program, which takes hours.
+    """
+    released = ROOT / "abides" if (ROOT / "release/SOURCES").exists() else None
+    for place in (os.environ.get("BIQSOLUR_PROGRAM"), ROOT / "crates/abides_main/out/abides_main", released):
         if place and Path(place).is_file():
             try:
                 answer = subprocess.run([str(place), "check", str(STUDY)], capture_output=True, cwd=ROOT, timeout=600)

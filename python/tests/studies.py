@@ -10,6 +10,8 @@ SYMBOLS = ["ABM", "XYZ", "A", "EIGHTCHR", "a/b", "Q-1"]
 
 def text_of(value):
     """A value in TOML."""
+    if isinstance(value, bool):
+        return str(value).lower()
     if isinstance(value, str):
         return f'"{value}"'
     if isinstance(value, list):
@@ -23,7 +25,7 @@ def toml(study):
     """The text of a study, whose arrays of tables come last."""
     lines, tables = [], []
     for key, value in study.items():
-        if isinstance(value, list):
+        if isinstance(value, list) and value and all(isinstance(entry, dict) for entry in value):
             for entry in value:
                 tables += ["", f"[[{key}]]"] + [f"{name} = {text_of(item)}" for name, item in entry.items()]
         else:

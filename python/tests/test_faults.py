@@ -32,8 +32,7 @@ def test_damage_is_told_as_by_the_plain_reader(market, tmp_path):
     data = market.bundle.read_bytes()
     generator = random.Random(len(data))
     path = tmp_path / "damaged"
-    found = set()
-    for _ in range(12):
+    for _ in range(5):
         at = generator.choice([generator.randrange(len(data)), generator.randrange(min(len(data), 300))])
         changed = generator.choice([
             data[:at],
@@ -43,10 +42,7 @@ def test_damage_is_told_as_by_the_plain_reader(market, tmp_path):
             data + data[at:at + 1],
         ])
         path.write_bytes(changed)
-        expected = plain_verdict(changed)
-        assert verdict(path) == expected
-        found.add(expected[1] if expected else None)
-    assert found - {None}
+        assert verdict(path) == plain_verdict(changed)
 
 
 def test_each_frame_in_the_wrong_place_is_told(market, tmp_path):
@@ -55,7 +51,7 @@ def test_each_frame_in_the_wrong_place_is_told(market, tmp_path):
     payloads = plain.split_frames(data)
     generator = random.Random(len(payloads))
     path = tmp_path / "damaged"
-    for _ in range(12):
+    for _ in range(5):
         changed = list(payloads)
         one, other = generator.randrange(len(changed)), generator.randrange(len(changed))
         generator.choice([
@@ -67,17 +63,27 @@ def test_each_frame_in_the_wrong_place_is_told(market, tmp_path):
         assert verdict(path) == plain_verdict(damaged)
 
 
-def test_walkers_find_what_one_walker_finds(market, monkeypatch):
-    """Many walkers over a small file, also over a damaged one."""
-    data = numpy.frombuffer(market.bundle.read_bytes(), numpy.uint8)
+@pytest.fixture
+def many_walkers(monkeypatch):
+    """Small files are walked by many walkers too."""
     monkeypatch.setattr(frames, "SMALL_FILE", 0)
-    monkeypatch.setattr(frames, "WALKERS", 16)
-    for cut in (0, 1, 2, 50):
-        part = data[:len(data) - cut]
+    monkeypatch.setattr(frames, "WALKERS", 64)
+
+
+def test_walkers_find_what_one_walker_finds(market, many_walkers):
+    """Also where the file is cut, and where its middle is damaged."""
+    data = numpy.frombuffer(market.bundle.read_bytes(), numpy.uint8)
+    damaged = data.copy()
+    damaged[len(data) // 2:len(data) // 2 + 300] = 1
+    for part in (data, data[:-1], data[:-2], data[:-50], damaged):
         assert (frames.find_offsets(part) == frames.walk_alone(part)).all()
-    noise = numpy.random.default_rng(1).integers(0, 3, len(data), numpy.uint8)
-    for changed in (noise, numpy.zeros_like(data), numpy.where(numpy.arange(len(data)) < len(data) // 2, data, noise)):
-        assert (frames.find_offsets(changed) == frames.walk_alone(changed)).all()
+
+
+@pytest.mark.parametrize("greatest", [0, 1, 2, 50, 255])
+def test_walkers_in_bytes_that_are_no_bundle(many_walkers, greatest):
+    for size in (1_000, 20_000):
+        noise = numpy.random.default_rng(size).integers(0, greatest, size, numpy.uint8, endpoint=True)
+        assert (frames.find_offsets(noise) == frames.walk_alone(noise)).all()
 
 
 @pytest.fixture(scope="module")
@@ -93,8 +99,7 @@ def test_each_byte_of_a_small_bundle(small):
     """Every byte changed, and every length that a cut file can have."""
     data, folder = small
     path = folder / "damaged"
-    data = data[:]
-    for at in range(0, len(data), max(1, len(data) // 400)):
+    for at in range(0, len(data), max(1, len(data) // 150)):
         for changed in (data[:at], data[:at] + bytes([data[at] ^ 0x21]) + data[at + 1:]):
             path.write_bytes(changed)
             assert verdict(path) == plain_verdict(changed)
