@@ -20,6 +20,7 @@ from biqsolur.messages import Source
 from biqsolur.output import new_folder, plain_name
 
 FRAME_NAMES = ("events", "orders", "replies", "quotes", "feed", "trades", "edits")
+TABLE_START = b"branch,parent,"
 CLOSING_NAMES = ("stocks", "orders", "agents")
 EDIT_WORDS = {ord(letter): word for letter, word in {
     "t": "tick", "f": "fee", "h": "halt", "r": "resume", "l": "latency", "p": "agent", "s": "silence", "i": "inject",
@@ -240,4 +241,6 @@ def read(path: str | Path) -> Bundle:
     frames = read_frames(path)
     if len(frames.kinds) and frames.kinds[0] == ord("b"):
         raise BundleError(frames.path, 0, "this is a rewind, which `biqsolur.read_rewind` reads")
+    if frames.raw[:len(TABLE_START)].tobytes() == TABLE_START:
+        raise BundleError(frames.path, 0, "this is a table, which `biqsolur.read_table` reads")
     return Bundle(frames)

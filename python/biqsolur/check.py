@@ -137,7 +137,7 @@ class Order:
             cause = "bad frame: these bytes are no frame of a bundle"
         else:
             cause = f"cut: {len(frames.raw) - frames.end} bytes are left where a frame should stand"
-        return BundleError(frames.path, offset, cause)
+        return BundleError(frames.path, offset, cause if offset else f"{cause}; this file is no bundle")
 
     def ask(self, kind: str, count: int = 1) -> int:
         """The index of the first of the next `count` frames, which are all of this kind."""

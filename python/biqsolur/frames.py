@@ -10,6 +10,7 @@ so where all arrive, each began at a frame. A beginning at which nobody arrives 
 from __future__ import annotations
 
 import mmap
+from array import array
 from dataclasses import dataclass
 from pathlib import Path
 
@@ -19,6 +20,8 @@ from biqsolur import layouts
 
 SMALL_FILE = 1_000_000      # bytes; below, a single walker is quick enough
 WALKERS = 4096
+FEWEST_WALKERS = 16         # below, one walker is quicker
+SHORTEST = 3                # bytes of a payload
 ROUNDS = 4                  # of walkers together, before one walks alone
 WINDOW = 256                # bytes in which a walker looks for the beginning of a frame; the longest frame has 200
 
@@ -96,13 +99,16 @@ def lengths_at(raw: numpy.ndarray, offsets: numpy.ndarray) -> numpy.ndarray:
 
 
 def find_offsets(raw: numpy.ndarray) -> numpy.ndarray:
-    """The offset of each frame of which two bytes of length are there. The last frame may be cut."""
+    """The offset of each frame of which two bytes of length are there. The last one may be cut, or too short to be one:
+    behind that nothing is looked for, so that a file of zeros is no file of a million empty frames."""
     if len(raw) >= SMALL_FILE:
         starts = likely_starts(raw)
         for _ in range(ROUNDS):
             offsets, missed = walk_together(raw, starts)
-            if len(missed) == 0:
+            if offsets is not None and len(missed) == 0:
                 return offsets
+            if offsets is None:
+                break
             starts = numpy.setdiff1d(starts, missed)
     return walk_alone(raw)
 
@@ -110,23 +116,32 @@ def find_offsets(raw: numpy.ndarray) -> numpy.ndarray:
 def walk_alone(raw: numpy.ndarray) -> numpy.ndarray:
     """The same by one walker."""
     data = memoryview(raw)
-    found = []
+    found = array("q")
     at, last = 0, len(raw) - 1
     while at < last:
         found.append(at)
-        at += 2 + data[at] * 256 + data[at + 1]
+        size = data[at] * 256 + data[at + 1]
+        if size < SHORTEST:
+            break
+        at += 2 + size
     return numpy.array(found, numpy.int64)
 
 
-def walk_together(raw: numpy.ndarray, starts: numpy.ndarray) -> tuple[numpy.ndarray, numpy.ndarray]:
-    """The same by a walker from each of `starts`, which rise from 0; and which of `starts` were missed."""
+def walk_together(raw: numpy.ndarray, starts: numpy.ndarray) -> tuple[numpy.ndarray | None, numpy.ndarray]:
+    """The same by a walker from each of `starts`, which rise from 0; and which of `starts` were missed. None where a
+    walker comes to a frame that is too short, or where there are too few of them."""
     last = len(raw) - 1
     goals = numpy.append(starts[1:], last)
     at = starts
     found, missed = [], []
+    if len(at) < FEWEST_WALKERS:
+        return None, starts
     while len(at):
         found.append(at)
-        at = at + 2 + lengths_at(raw, at)
+        sizes = lengths_at(raw, at)
+        if sizes.min() < SHORTEST:
+            return None, starts
+        at = at + 2 + sizes
         walking = at < goals
         missed.append(goals[(at > goals) & (goals < last)])
         at, goals = at[walking], goals[walking]

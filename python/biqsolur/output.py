@@ -30,5 +30,6 @@ def new_file(path: str | Path) -> BinaryIO:
 
 
 def plain_name(name: str, number: int, kind: str) -> str:
-    """A name as part of a path: itself where it has plain characters alone, else the kind and the number."""
-    return name if PLAIN_NAME.fullmatch(name) else f"{kind}{number}"
+    """A name as part of a path: itself where it has plain characters alone, else the kind and the number, with a `+`
+    between them, which no plain name has."""
+    return name if PLAIN_NAME.fullmatch(name) else f"{kind}+{number}"

@@ -481,11 +481,10 @@ def branch_faults(study: Table, rule: int, place: int) -> list[str]:
 def edit_faults(study: Table, rule: int, place: int) -> list[str]:
     """Rules 34 and 35."""
     edits = study["branch"][place // 16]["edit"]
-    if rule == 34 and len(edits) > 16 and place % 16 == 0 and not edit_key_faults(edits[0]):
-        return [f"there are {len(edits)} edits, and are to be at most 16"]
+    many = [f"there are {len(edits)} edits, and are to be at most 16"] if len(edits) > 16 and place % 16 == 0 else []
     edit = edits[place % 16]
     faults = edit_key_faults(edit) if rule == 34 else EDIT_FAULTS[edit["kind"]](edit, study)
-    return [f"edit {place % 16} (its {ordinal(place % 16)}): {faults[0]}", *faults[1:]] if faults else []
+    return many + ([f"edit {place % 16} (its {ordinal(place % 16)}): {faults[0]}", *faults[1:]] if faults else [])
 
 
 def edit_key_faults(edit: Table) -> list[str]:

@@ -188,6 +188,10 @@ def test_each_reader_names_the_right_one(market, tmp_path):
         biqsolur.read(states)
     with pytest.raises(biqsolur.BundleError, match="biqsolur.read"):
         biqsolur.read_rewind(market.bundle)
+    table = tmp_path / "table.csv"
+    table.write_bytes(market.run("table"))
+    with pytest.raises(biqsolur.BundleError, match="read_table"):
+        biqsolur.read(table)
     with pytest.raises(biqsolur.InputError, match="there are root:3"):
         biqsolur.read_rewind(states).state("root", 4)
     states.write_bytes(states.read_bytes()[:-1])

@@ -36,7 +36,7 @@ def test_itch_file_has_the_messages_of_the_feed(market, bundle, tmp_path):
 
 
 def lobster_name(symbol, stock):
-    return symbol if symbol != "a/b" else f"stock{stock}"
+    return symbol if symbol != "a/b" else f"stock+{stock}"
 
 
 def test_lobster_rows_are_the_feed_and_the_book(bundle, tmp_path):
