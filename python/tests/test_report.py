@@ -219,9 +219,9 @@ def browse(page, width, *words):
     return done.stdout, console
 
 
-def with_script(made, name, script):
+def with_script(made, name, script, source="halt.html"):
     """A copy of the page that does something once it is ready, and writes what `script` gives into #trouble."""
-    page = (made[0] / "halt.html").read_text()
+    page = (made[0] / source).read_text()
     waiting = ("<script>const wait = setInterval(() => { if (!document.documentElement.dataset.ready) return; "
                "clearInterval(wait); byId('trouble').textContent = JSON.stringify((() => {" + script + "})()); }, 50);"
                "</script></body>")
@@ -230,8 +230,8 @@ def with_script(made, name, script):
     return str(path)
 
 
-def answer(made, name, script):
-    page, console = browse(with_script(made, name, script), 1400, "--dump-dom")
+def answer(made, name, script, source="halt.html"):
+    page, console = browse(with_script(made, name, script, source), 1400, "--dump-dom")
     assert console == []
     return json.loads(html.unescape(re.search(r'<p id="trouble"[^>]*>(.*?)</p>', page).group(1)))
 
@@ -306,6 +306,28 @@ def test_the_times_are_chosen_by_keyboard(made):
             .every((control) => control.tabIndex === 0);
         return [ranges, said, reached];"""
     assert answer(made, "times.html", script) == [[[34230, 34260], [34230, 34260]], True, True]
+
+
+@needs_browser
+def test_two_stocks_and_an_odd_symbol(made):
+    study = (ROOT / "examples" / "halt.toml").read_text()
+    symbol = "X<b>&"
+    head, *rest = study.split("[[stock]]")
+    stock = "[[stock]]" + rest[0].split("[[agent]]")[0]
+    text = study.replace("[[agent]]", stock.replace('"ABM"', f'"{symbol}"') + "[[agent]]", 1)
+    (made[0] / "two.toml").write_text(text)
+    with open(made[0] / "two.bundle", "wb") as file:
+        subprocess.run([program(), "run", made[0] / "two.toml"], stdout=file, check=True)
+    report.write_report(made[0] / "two.bundle", made[0] / "two.html")
+    script = """
+        const state = () => [[...document.querySelectorAll("section.stock")].map((section) => section.hidden),
+            byId("plot-mid").data[0].y.some((value) => value !== null), byId("plot-position").layout.yaxis.title.text];
+        const seen = [byId("stock").options[1].textContent, document.querySelectorAll("h3 b, td b, th b").length, ...state()];
+        byId("stock").value = "1";
+        byId("stock").dispatchEvent(new Event("change"));
+        return [...seen, ...state()];"""
+    assert answer(made, "second.html", script, "two.html") == [
+        symbol, 0, [False, True], True, "ABM, shares", [True, False], False, "X&lt;b&gt;&amp;, shares"]
 
 
 @needs_browser
