@@ -2,11 +2,13 @@
 
 import csv
 import io
+import subprocess
 from collections import Counter
 
 import numpy
 import plain
 import pytest
+from conftest import ROOT
 
 import biqsolur
 
@@ -262,3 +264,23 @@ def test_table_counts_what_the_frames_have(market, bundle, tmp_path):
         assert row.spread_sum == (quoted.ask - quoted.bid).sum()
         assert row.range == (taken.price.max() - taken.price.min() if len(taken) else 0)
         assert row.fees == branch.events.fee.sum() == sum(branch.closing.stocks.fees) == branch.trades.fees.sum()
+
+
+def test_a_difference_of_a_dated_change_alone(program, tmp_path):
+    """A branch halts a stock right before its dated halt, which so tells the feed nothing: the first event differs that
+    the halt came with."""
+    def run(command, text):
+        (tmp_path / "study.toml").write_text(text)
+        out = subprocess.run([program, command, "study.toml"], cwd=tmp_path, capture_output=True, check=True).stdout
+        (tmp_path / command).write_bytes(out)
+        return tmp_path / command
+
+    text = (ROOT / "examples" / "two_watchers.toml").read_text().replace("close = 1005", "close = 1900")
+    text = text.replace("every = 1000000             # nanoseconds from one wakeup", "every = 90 # nanoseconds from one wakeup")
+    text += '\n[[change]]\ntime = 1500\nstock = "ABM"\nkind = "halt"\n'
+    feed = biqsolur.read(run("run", text)).branches["root"].feed
+    (event,) = feed.event[feed.source == "change"]
+    text += f'\n[[branch]]\nname = "halt"\nparent = "root"\nat = {event - 1}\nedit = [{{ kind = "halt", stock = "ABM" }}]\n'
+    branch = biqsolur.read(run("run", text)).branches["halt"]
+    assert branch.feed.source[branch.feed.kind == "H"].tolist() == ["opening", "edit"]
+    assert branch.first_difference == biqsolur.read_table(run("table", text)).first_difference[1] == event

@@ -53,7 +53,9 @@ def test_each_frame_in_the_wrong_place_is_told(market, tmp_path):
     path = tmp_path / "damaged"
     for _ in range(5):
         changed = list(payloads)
-        one, other = generator.randrange(len(changed)), generator.randrange(len(changed))
+        kind = generator.choice(sorted({payload[:1] for payload in payloads}))
+        other = generator.choice([place for place, payload in enumerate(payloads) if payload[:1] == kind])
+        one = generator.randrange(len(changed))
         generator.choice([
             lambda: changed.pop(one), lambda: changed.insert(one, changed[other]),
             lambda: changed.__setitem__(one, changed[other]),
@@ -68,6 +70,25 @@ def many_walkers(monkeypatch):
     """Small files are walked by many walkers too."""
     monkeypatch.setattr(frames, "SMALL_FILE", 0)
     monkeypatch.setattr(frames, "WALKERS", 64)
+
+
+def test_each_byte_of_each_kind_of_frame(market, tmp_path):
+    """Each byte of a frame of each kind and size is set to bytes of every class: which of them are no frames."""
+    kinds = {}
+    for payload in plain.split_frames(market.bundle.read_bytes()):
+        kinds.setdefault((payload[:1], len(payload)), payload)
+    header = kinds.pop((b"h", 9))
+    payloads = [header]
+    for payload in kinds.values():
+        for at in range(len(payload)):
+            payloads += [payload[:at] + byte + payload[at + 1:] for byte in (b"\0", b" ", b"!", b"A", b"~", b"\x7f", b"\xff")]
+        payloads += [payload + b"\0", payload[:-1]]
+    path = tmp_path / "frames"
+    path.write_bytes(b"".join(len(payload).to_bytes(2, "big") + payload for payload in payloads))
+    found = frames.read_frames(path)
+    stocks = plain.number(header, 5, 2)
+    expected = [not plain.frame_is_right(payload, stocks) for payload in payloads]
+    assert check.bad_frames(found, 0, len(payloads), stocks).tolist() == expected
 
 
 def test_walkers_find_what_one_walker_finds(market, many_walkers):
