@@ -3,8 +3,8 @@
     python3 examples/spread_under_ticks.py [STUDY [KEYS]]
 
 Runs examples/tick_size.toml under the keys 1 to 30, with branches at event 5,000 for ticks of two, five and ten cents,
-and reads each bundle with the package. Text alone is written: a table, and the picture of README over all keys. It needs
-numpy and pandas. The program is found as the sweep finds it: BIQSOLUR_PROGRAM, else the one that was built, else ./abides.
+and reads each bundle with the package. Text alone is written: a table, and the picture of README over all keys. It
+needs numpy and pandas. The program is found as the sweep finds it: BIQSOLUR_PROGRAM, else what was built, else ./abides.
 The cells between the lines `# %%` can be run one by one.
 """
 

@@ -193,7 +193,8 @@ def test_the_mean_spread_by_hand():
     assert series.traded(0) == (12, 120) and series.traded(10) == (7, 70) and series.traded(70) == (0, 0)
 
 
-@pytest.mark.parametrize("amount, text", [(0, "0.000"), (1, "0.000001"), (-1500000, "−1.500"), (1234567890123, "1,234,567.890123")])
+@pytest.mark.parametrize("amount, text", [(0, "0.000"), (1, "0.000001"), (-1500000, "−1.500"),
+                                          (1234567890123, "1,234,567.890123")])
 def test_money_is_exact(amount, text):
     assert report_data.money_text(amount) == text
 
@@ -244,11 +245,12 @@ def test_the_page_draws_its_pictures(made, width):
     assert 'data-ready="yes"' in page
     assert re.search(r'<p id="trouble"[^>]*></p>', page)
     for name in PLOTS:
-        assert re.search(rf'id="plot-{name}"[^>]*class="[^"]*js-plotly-plot|class="[^"]*js-plotly-plot[^>]*id="plot-{name}"', page)
-    for title in ("Mid price, dollars", "Spread, cents", "Shares traded", "Fees, dollars", "Cash, dollars", "ABM, shares",
-                  "Time of day", "09:31:00"):
+        place = re.search(rf'<div [^>]*id="plot-{name}"[^>]*>', page).group()
+        assert "js-plotly-plot" in place
+    for title in ("Mid price, dollars", "Spread, cents", "Shares traded", "Fees, dollars", "Cash, dollars",
+                  "ABM, shares", "Time of day", "09:31:00"):
         assert title in page
-    assert "resume: event 4302" in page if width == 700 else "resume: first difference, event 4302, 09:30:58.500" in page
+    assert ("resume: event 4302" if width == 700 else "resume: first difference, event 4302, 09:30:58.500") in page
 
 
 @needs_browser
@@ -262,7 +264,8 @@ def test_the_page_can_be_photographed(made):
 def test_branches_are_switched_and_laid_over_each_other(made):
     script = """
         const names = () => byId("plot-mid").data.filter((trace) => trace.mode === "lines").map((trace) => trace.name);
-        const isShown = (number) => getComputedStyle(document.querySelector(`td.of-${number}, tr.of-${number}`)).display !== "none";
+        const isShown = (number) =>
+            getComputedStyle(document.querySelector(`td.of-${number}, tr.of-${number}`)).display !== "none";
         const seen = [names(), [0, 1, 2].map(isShown)];
         byId("branch-1").click();
         seen.push(names(), [0, 1, 2].map(isShown));
@@ -279,7 +282,8 @@ def test_branches_are_switched_and_laid_over_each_other(made):
         return seen;"""
     assert answer(made, "switched.html", script) == [
         ["root", "halt", "resume"], [True, True, True], ["root", "resume"], [True, False, True],
-        ["resume", "halt"], "5px,3px", "Depth by level: resume (filled) and halt (lines)", [], ["root", "halt", "resume"]]
+        ["resume", "halt"], "5px,3px", "Depth by level: resume (filled) and halt (lines)", [],
+        ["root", "halt", "resume"]]
 
 
 @needs_browser
@@ -298,7 +302,8 @@ def test_the_times_are_chosen_by_keyboard(made):
         byId("from").value = "09:30:30";
         byId("to").value = "09:31";
         byId("to").dispatchEvent(new Event("change"));
-        const ranges = ["mid", "fees"].map((name) => byId(`plot-${name}`).layout.xaxis.range.map((value) => fromAxis(value) / 1e9));
+        const ranges = ["mid", "fees"].map((name) =>
+            byId(`plot-${name}`).layout.xaxis.range.map((value) => fromAxis(value) / 1e9));
         byId("from").value = "soon";
         byId("from").dispatchEvent(new Event("change"));
         const said = byId("trouble").textContent.length > 0;
@@ -322,7 +327,8 @@ def test_two_stocks_and_an_odd_symbol(made):
     script = """
         const state = () => [[...document.querySelectorAll("section.stock")].map((section) => section.hidden),
             byId("plot-mid").data[0].y.some((value) => value !== null), byId("plot-position").layout.yaxis.title.text];
-        const seen = [byId("stock").options[1].textContent, document.querySelectorAll("h3 b, td b, th b").length, ...state()];
+        const bold = document.querySelectorAll("h3 b, td b, th b").length;
+        const seen = [byId("stock").options[1].textContent, bold, ...state()];
         byId("stock").value = "1";
         byId("stock").dispatchEvent(new Event("change"));
         return [...seen, ...state()];"""

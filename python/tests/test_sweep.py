@@ -252,7 +252,8 @@ def test_a_written_study_is_the_study(path):
 
 
 def test_odd_values_are_written_as_they_are():
-    study = {"a b": 'q"\\\n\x7f\u00e9', "e": [], "t": {}, "m": [1, [2, "x"]], "n": [{"k": {"l": [{}]}}, {}], "f": 1.5, "b": True}
+    study = {"a b": 'q"\\\n\x7f\u00e9', "e": [], "t": {}, "m": [1, [2, "x"]], "n": [{"k": {"l": [{}]}}, {}],
+             "f": 1.5, "b": True}
     assert tomllib.loads(study_text(study)) == study
 
 
