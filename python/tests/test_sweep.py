@@ -208,20 +208,21 @@ def test_the_summary_against_another_computation():
             assert row["pairs"] == len(own)
             assert math.isclose(row["difference"], differences.mean(), rel_tol=1e-12)
             assert math.isclose(row["difference_standard_error"], stats.sem(differences), rel_tol=1e-12)
-            assert math.isclose(row["low"], low, rel_tol=1e-9) and math.isclose(row["high"], high, rel_tol=1e-9)
+            assert math.isclose(row["low"], low, rel_tol=1e-7) and math.isclose(row["high"], high, rel_tol=1e-7)
         else:
             assert "pairs" not in row
 
 
 def test_the_summary_by_hand():
-    """Differences 1, 2 and 3: mean 2, variance 1, and Student's t at two degrees of freedom is 4.302653."""
+    """Differences 1, 2 and 3: mean 2, variance 1; within t are t / sqrt(2 + t t) at two degrees of freedom."""
     rows = [{"point": "0", "key": str(key), "status": "0", "branch": branch, "parent": parent,
              **{name: str(10 * key + more) for name in summary.MEASURES}}
             for key in (1, 2, 3) for branch, parent, more in (("root", "", 0), ("wide", "root", key))]
     row = summary.summary_rows(rows, [])[5]
     assert (row["branch"], row["mean"], row["difference"], row["pairs"]) == ("wide", 22.0, 2.0, 3)
     assert math.isclose(row["difference_standard_error"], 1 / math.sqrt(3))
-    assert math.isclose(row["high"] - 2, 4.302652729911275 / math.sqrt(3), rel_tol=1e-12)
+    t = 0.95 * math.sqrt(2 / (1 - 0.95**2))
+    assert math.isclose(row["high"] - 2, t / math.sqrt(3), rel_tol=1e-12)
     assert math.isclose(2 - row["low"], row["high"] - 2, rel_tol=1e-12)
 
 
@@ -238,10 +239,18 @@ def test_a_point_that_is_always_refused_is_one_line():
 
 
 def test_quantiles_of_student():
+    """scipy's own quantiles are right to about eight digits; its distribution is exact."""
     stats = pytest.importorskip("scipy.stats")
     for freedom in [*range(1, 40), 99, 100, 999]:
         for level in (0.5, 0.9, 0.95, 0.99):
-            assert math.isclose(student.quantile(level, freedom), stats.t.ppf((1 + level) / 2, freedom), rel_tol=1e-9)
+            t = student.quantile(level, freedom)
+            assert math.isclose(t, stats.t.ppf((1 + level) / 2, freedom), rel_tol=1e-7)
+            assert math.isclose(2 * stats.t.cdf(t, freedom) - 1, level, rel_tol=1e-12)
+
+
+@pytest.mark.parametrize("freedom, t", [(1, 12.706), (2, 4.303), (3, 3.182), (9, 2.262), (29, 2.045), (100, 1.984)])
+def test_quantiles_of_a_printed_table(freedom, t):
+    assert round(student.quantile(0.95, freedom), 3) == t
 
 
 @pytest.mark.parametrize("path", sorted((HOME / "examples").glob("*.toml")), ids=lambda path: path.stem)
