@@ -1,0 +1,83 @@
+"""The command line: python3 -m biqsolur COMMAND ..."""
+
+from __future__ import annotations
+
+import argparse
+import sys
+
+import biqsolur
+from biqsolur import why
+
+
+def parser() -> argparse.ArgumentParser:
+    """The words of each command."""
+    out = argparse.ArgumentParser(prog="python3 -m biqsolur", description="Reads what the program wrote.")
+    commands = out.add_subparsers(dest="command", required=True, metavar="COMMAND")
+
+    report = commands.add_parser("report", help="one HTML page with the pictures and tables of all branches")
+    report.add_argument("bundle", metavar="BUNDLE")
+    report.add_argument("-o", "--output", metavar="FILE", default="report.html", help="a file that is not there yet")
+    report.set_defaults(run=run_report)
+
+    reason = commands.add_parser("why", help="why a study is refused, in a sentence")
+    reason.add_argument("study", metavar="STUDY")
+    reason.add_argument("--program", metavar="PATH", help="the program that is asked, where it is not ./abides of the checkout")
+    reason.set_defaults(run=why.main)
+
+    files = commands.add_parser("csv", help="each data frame of each branch as a file of comma-separated values")
+    files.add_argument("bundle", metavar="BUNDLE")
+    files.add_argument("-o", "--output", metavar="FOLDER", required=True, help="a folder that is not there yet")
+    files.set_defaults(run=run_csv)
+
+    itch = commands.add_parser("itch", help="the feed of a branch as a file of TotalView-ITCH 5.0 messages")
+    itch.add_argument("bundle", metavar="BUNDLE")
+    itch.add_argument("branch", metavar="BRANCH")
+    itch.add_argument("-o", "--output", metavar="FILE", required=True, help="a file that is not there yet")
+    itch.set_defaults(run=run_itch)
+
+    lobster = commands.add_parser("lobster", help="the feed of a branch as LOBSTER's message and orderbook files")
+    lobster.add_argument("bundle", metavar="BUNDLE")
+    lobster.add_argument("branch", metavar="BRANCH")
+    lobster.add_argument("-o", "--output", metavar="FOLDER", required=True, help="a folder that is not there yet")
+    lobster.add_argument("--levels", metavar="N", type=int, default=10, help="levels of the book, 10 where nothing is said")
+    lobster.set_defaults(run=run_lobster)
+    return out
+
+
+def run_report(arguments: argparse.Namespace) -> int:
+    """The command `report`."""
+    from biqsolur import report
+    return report.main(arguments) or 0
+
+
+def run_csv(arguments: argparse.Namespace) -> int:
+    """The command `csv`."""
+    biqsolur.read(arguments.bundle).to_csv(arguments.output)
+    return 0
+
+
+def run_itch(arguments: argparse.Namespace) -> int:
+    """The command `itch`."""
+    biqsolur.to_itch(arguments.output, biqsolur.read(arguments.bundle).branches[arguments.branch])
+    return 0
+
+
+def run_lobster(arguments: argparse.Namespace) -> int:
+    """The command `lobster`."""
+    branch = biqsolur.read(arguments.bundle).branches[arguments.branch]
+    biqsolur.to_lobster(arguments.output, branch, arguments.levels)
+    return 0
+
+
+def main(words: list[str] | None = None) -> int:
+    """Runs a command; what is wrong with what it was given is one line on standard error, status 1."""
+    arguments = parser().parse_args(words)
+    try:
+        return arguments.run(arguments)
+    except (biqsolur.InputError, OSError) as error:
+        print(f"biqsolur: {error}", file=sys.stderr)
+        return 1
+
+
+if __name__ == "__main__":
+    sys.exit(main())

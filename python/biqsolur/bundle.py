@@ -1,0 +1,246 @@
+"""A bundle: what `run` writes, with each branch as data frames."""
+
+from __future__ import annotations
+
+from functools import cached_property
+from pathlib import Path
+
+import numpy
+import pandas
+
+from biqsolur import columns, feed, layouts, messages
+from biqsolur.book import book_frame
+from biqsolur.check import Part, bundle_parts
+from biqsolur.closing import Closing, read_closing
+from biqsolur.columns import Tokens
+from biqsolur.difference import first_difference
+from biqsolur.errors import BundleError, UnknownBranchError
+from biqsolur.frames import Frames, read_frames
+from biqsolur.messages import Source
+from biqsolur.output import new_folder, plain_name
+
+FRAME_NAMES = ("events", "orders", "replies", "quotes", "feed", "trades", "edits")
+TABLE_START = b"branch,parent,"
+CLOSING_NAMES = ("stocks", "orders", "agents")
+EDIT_WORDS = {ord(letter): word for letter, word in {
+    "t": "tick", "f": "fee", "h": "halt", "r": "resume", "l": "latency", "p": "agent", "s": "silence", "i": "inject",
+    "v": "series"}.items()}
+
+
+class Branch:
+    """One branch: all entries of its full run from the opening, so also those that it shares with its parent.
+
+    Attributes: name, number (the root is 0), parent (a name, None for the root), stop (the number of events
+    after which it leaves its parent), symbols (a list, by number of the stock), bundle.
+
+    The data frames are made when they are first asked for, and kept; `forget` gives them up. A column of words is
+    a pandas Categorical: group by it with `observed=True`. A number of an agent or an event has 32 bits, others 64.
+    """
+
+    def __init__(self, bundle: Bundle, part: Part) -> None:
+        head = bundle.frames.records(numpy.array([part.branch]), layouts.BRANCH)[0]
+        self.bundle = bundle
+        self.part = part
+        self.name = branch_name(bundle.frames, part.branch)
+        self.number = int(head["branch"])
+        self.parent_number = int(head["parent"])
+        self.stop = int(head["stop"])
+        self.symbols = bundle.symbols
+
+    def __repr__(self) -> str:
+        return f"<branch {self.name!r} of {self.bundle.path!r}>"
+
+    @property
+    def parent(self) -> str | None:
+        """The name of the parent, None for the root."""
+        names = list(self.bundle.branches)
+        return names[self.parent_number] if self.parent_number < len(names) else None
+
+    @cached_property
+    def events(self) -> pandas.DataFrame:
+        """A row an event, in order: number, time (ns), message (its sequence number), sender, receiver
+        (agents; 0 is the exchange), kind ("wakeup", "order", "reply", "question", "quote"), put_back (bool),
+        busy_until (the receiver's own time afterwards, ns), fee (both sides', millionths of a dollar)."""
+        return messages.events_frame(self._source, self._event_frames())
+
+    @cached_property
+    def orders(self) -> pandas.DataFrame:
+        """A row an order message that was delivered: event, time (ns), agent (who sent it), kind ("enter", "cancel"),
+        token (a number; `bundle.tokens.text` gives the text), side ("B", "S", "" for a cancel), shares (of a cancel:
+        what is to stay), symbol, price, price_dollars, time_in_force."""
+        return messages.orders_frame(self._source, self._event_frames(put_back=False))
+
+    @cached_property
+    def replies(self) -> pandas.DataFrame:
+        """A row a reply that was delivered: event, time (ns; when the agent heard it), agent, kind ("accepted",
+        "executed", "canceled", "rejected"), handled (the exchange's time, ns), token, side, shares, symbol, price,
+        price_dollars, reference, match, flag ("A" added, "R" removed liquidity), reason."""
+        return messages.replies_frame(self._source, self._event_frames(put_back=False))
+
+    @cached_property
+    def quotes(self) -> pandas.DataFrame:
+        """A row a quote that was delivered: event, time (ns), agent, stock, symbol, state ("T" or "H"), bid,
+        bid_shares, ask, ask_shares, last, bid_dollars, ask_dollars, last_dollars."""
+        return messages.quotes_frame(self._source, self._event_frames(put_back=False))
+
+    @cached_property
+    def feed(self) -> pandas.DataFrame:
+        """A row a feed message, in order: event (the one that it came with; 0 at the opening, of an edit the number
+        of events before it), time (ns), source ("opening", "event", "change", "edit", "close"), kind (ITCH's letter:
+        S R H A E X D P), stock, symbol, reference, side, shares, price (of A and P), price_dollars, match,
+        state (of H; of S its code)."""
+        return feed.feed_frame(self.bundle.frames, self.part, self.symbols)
+
+    @cached_property
+    def trades(self) -> pandas.DataFrame:
+        """A row a match, in order: event, time (ns), stock, symbol, side (the aggressor's, "B" or "S"), price,
+        price_dollars, shares, match (its number), aggressor, resting (agents; -1 where the feed never added the
+        resting order), reference (of the resting order), fees (both sides' together, millionths of a dollar)."""
+        return feed.trades_frame(self.bundle.frames, self.part, self.symbols)
+
+    @cached_property
+    def edits(self) -> pandas.DataFrame:
+        """A row an edit, in order: event (after which it was made), time (ns), branch (a name: an ancestor's edits
+        stand here too), index, kind ("tick", "fee", "halt", "resume", "latency", "agent", "silence", "inject",
+        "series"), letter."""
+        indexes = self._entries_of("d")
+        edits = self.bundle.frames.records(indexes, layouts.EDIT)
+        names = dict(enumerate(self.bundle.branches))
+        return pandas.DataFrame({
+            "event": columns.small(edits["event"]),
+            "time": columns.whole(edits["time"]),
+            "branch": numpy.array([names.get(number, str(number)) for number in edits["branch"].tolist()], object),
+            "index": columns.small(edits["index"]),
+            "kind": columns.words(edits["letter"], EDIT_WORDS),
+            "letter": columns.letters(edits["letter"], "".join(map(chr, EDIT_WORDS))),
+        })
+
+    @cached_property
+    def closing(self) -> Closing:
+        """What stands at the end."""
+        return read_closing(self.bundle.frames, self.part, self.bundle.tokens, self.symbols)
+
+    def book(self, levels: int = 10) -> pandas.DataFrame:
+        """The displayed book after each feed message of a stock, from the feed alone.
+
+        Columns: event, time (ns), kind, stock, symbol, and for each level from 1 on bid_1, bid_shares_1, ask_1,
+        ask_shares_1 (prices with four implied decimals; 0 and 0 where the level is empty). The row labels are
+        those of the message in `feed`. In a market of many stocks each row has the book of its own stock."""
+        return book_frame(self.bundle.frames, self.part, self.symbols, levels)
+
+    def displayed_orders(self) -> pandas.DataFrame:
+        """The orders that rest at the end, from the feed alone, by stock and then by arrival: reference, side, open
+        (shares), stock, symbol, price, price_dollars. They are those of `closing.orders`."""
+        return feed.displayed_frame(self.bundle.frames, self.part, self.symbols)
+
+    @cached_property
+    def first_difference(self) -> int:
+        """The first event that differs from the parent's, or stands in one of both alone; 0 where none does, and for
+        the root. It is that of `table`."""
+        parent = self.parent
+        if parent is None:
+            return 0
+        return first_difference(self.bundle.frames, self.part, self.bundle.branches[parent].part)
+
+    def forget(self) -> None:
+        """Gives up the data frames that were made."""
+        for name in (*FRAME_NAMES, "closing"):
+            self.__dict__.pop(name, None)
+
+    @property
+    def _source(self) -> Source:
+        return Source(self.bundle.frames, self.bundle.tokens, self.symbols)
+
+    def _entries_of(self, kind: str) -> numpy.ndarray:
+        part = self.part
+        return part.entries + numpy.flatnonzero(self.bundle.frames.kinds[part.entries:part.entries_end] == ord(kind))
+
+    def _event_frames(self, put_back: bool = True) -> numpy.ndarray:
+        """The indexes of the events' frames, with or without those that were put back."""
+        indexes = self._entries_of("e")
+        if put_back:
+            return indexes
+        frames = self.bundle.frames
+        return indexes[frames.raw[frames.starts[indexes] + layouts.EVENT.fields["delivery"][1]] != ord("P")]
+
+
+class Branches(dict[str, Branch]):
+    """The branches of a bundle by name, in the study's order."""
+
+    def __missing__(self, name: str) -> Branch:
+        raise UnknownBranchError(name, list(self))
+
+
+class Bundle:
+    """What `run` wrote.
+
+    Attributes: path, agents (their number, with the exchange), symbols (a list, by number of the stock),
+    branches (a dict in the study's order, from name to Branch; an unknown name raises UnknownBranchError),
+    tokens (turns numbers of order tokens into texts).
+    """
+
+    def __init__(self, frames: Frames) -> None:
+        self.frames = frames
+        self.path = frames.path
+        self.agents, stocks, parts = bundle_parts(frames)
+        self.symbols = read_symbols(frames, parts, stocks)
+        self.branches = Branches()
+        for part in parts:
+            branch = Branch(self, part)
+            if branch.name in self.branches:
+                raise BundleError(self.path, frames.offset(part.branch), f"a second branch is called {branch.name!r}")
+            self.branches[branch.name] = branch
+
+    def __repr__(self) -> str:
+        return f"<bundle {self.path!r}: {', '.join(self.branches)}>"
+
+    @cached_property
+    def tokens(self) -> Tokens:
+        """Turns numbers of order tokens into texts."""
+        return Tokens(self.frames)
+
+    def to_csv(self, folder: str | Path) -> None:
+        """Writes each data frame of each branch as FOLDER/BRANCH/NAME.csv. The folder must not be there yet."""
+        folder = new_folder(folder)
+        for branch in self.branches.values():
+            inside = new_folder(folder / plain_name(branch.name, branch.number, "branch"))
+            made = set(branch.__dict__)
+            for name in FRAME_NAMES:
+                self._write(inside / f"{name}.csv", getattr(branch, name))
+                if name not in made:
+                    del branch.__dict__[name]
+            for name in CLOSING_NAMES:
+                self._write(inside / f"closing_{name}.csv", getattr(branch.closing, name))
+            self._write(inside / "closing_counts.csv", pandas.DataFrame([branch.closing.counts]))
+
+    def _write(self, path: Path, frame: pandas.DataFrame) -> None:
+        if "token" in frame:
+            frame = frame.assign(token=self.tokens.texts(frame["token"]))
+        frame.to_csv(path, index=False)
+
+
+def read_symbols(frames: Frames, parts: list[Part], stocks: int) -> list[str]:
+    """The symbols of the stocks, as the opening of the first branch has them."""
+    if not parts:
+        return [str(stock) for stock in range(stocks)]
+    directory = frames.records(parts[0].branch + 2 + numpy.arange(stocks), layouts.FEED_DIRECTORY)
+    return [columns.symbol_text(int(symbol)) for symbol in directory["symbol"]]
+
+
+def branch_name(frames: Frames, index: int) -> str:
+    """The name that a `b` frame has."""
+    start, size = int(frames.starts[index]), int(frames.sizes[index])
+    return frames.raw[start + layouts.BRANCH.itemsize:start + size].tobytes().decode("latin1")
+
+
+def read(path: str | Path) -> Bundle:
+    """Reads a bundle. Raises BundleError where the bytes are none, with the offset and the cause.
+
+    The file is mapped: it has to stay as it is while the bundle is used.
+    """
+    frames = read_frames(path)
+    if len(frames.kinds) and frames.kinds[0] == ord("b"):
+        raise BundleError(frames.path, 0, "this is a rewind, which `biqsolur.read_rewind` reads")
+    if frames.raw[:len(TABLE_START)].tobytes() == TABLE_START:
+        raise BundleError(frames.path, 0, "this is a table, which `biqsolur.read_table` reads")
+    return Bundle(frames)

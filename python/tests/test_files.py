@@ -1,0 +1,168 @@
+"""The files that the package writes, and the rewinds that it reads, against plain readers."""
+
+import csv
+from collections import defaultdict
+
+import numpy
+import pandas
+import plain
+import pytest
+
+import biqsolur
+
+LEVELS = 3
+
+
+def table_of(path):
+    with open(path, newline="") as file:
+        return list(csv.reader(file))
+
+
+@pytest.fixture(scope="module")
+def bundle(market):
+    return biqsolur.read(market.bundle)
+
+
+def test_itch_file_has_the_messages_of_the_feed(market, bundle, tmp_path):
+    for branch, told in zip(bundle.branches.values(), plain.read_plain(market.bundle.read_bytes())[2]):
+        path = tmp_path / f"{branch.number}.itch"
+        biqsolur.to_itch(path, branch)
+        messages = plain.split_frames(path.read_bytes())
+        assert messages == [*told.opening, *(m for _, before, behind in told.entries for m in before + behind), told.end]
+        assert all(plain.message_is_right(plain.ITCH, message) for message in messages)
+        columns = ["time", "kind", "stock", "reference", "side", "shares", "price", "match", "state"]
+        assert [plain.feed_row(message) for message in messages] == list(
+            zip(*(branch.feed[column].tolist() for column in columns)))
+
+
+def lobster_name(symbol, stock):
+    return symbol if symbol != "a/b" else f"stock+{stock}"
+
+
+def test_lobster_rows_are_the_feed_and_the_book(bundle, tmp_path):
+    for branch in bundle.branches.values():
+        folder = tmp_path / str(branch.number)
+        biqsolur.to_lobster(folder, branch, LEVELS)
+        assert len(list(folder.iterdir())) == 2 * len(bundle.symbols)
+        book = branch.book(LEVELS)
+        for stock, symbol in enumerate(bundle.symbols):
+            name = lobster_name(symbol, stock)
+            messages = table_of(folder / f"{name}_message_{LEVELS}.csv")
+            books = table_of(folder / f"{name}_orderbook_{LEVELS}.csv")
+            mine = branch.feed.kind.isin(list("AXDEH")) & (branch.feed.stock == stock) & (branch.feed.source != "opening")
+            feed = branch.feed[mine]
+            assert len(messages) == len(books) == len(feed)
+            for row, message in zip(feed.itertuples(), messages):
+                seconds, nanoseconds = message[0].split(".")
+                assert len(nanoseconds) == 9 and int(seconds) * 10**9 + int(nanoseconds) == row.time
+                assert int(message[1]) == {"A": 1, "X": 2, "D": 3, "E": 4, "H": 7}[row.kind]
+                assert int(message[2]) == row.reference
+                if row.kind == "H":
+                    assert message[3:] == ["0", {"H": "-1", "T": "1"}[row.state], "-1"]
+                if row.kind == "A":
+                    assert message[3:] == [str(row.shares), str(row.price), {"B": "1", "S": "-1"}[row.side]]
+                if row.kind in "XE":
+                    assert int(message[3]) == row.shares
+            for label, line in zip(feed.index, books):
+                expected = []
+                for level in range(1, LEVELS + 1):
+                    for side, empty in (("ask", 9999999999), ("bid", -9999999999)):
+                        price, shares = book.at[label, f"{side}_{level}"], book.at[label, f"{side}_shares_{level}"]
+                        expected += [empty if price == 0 else price, shares]
+                assert list(map(int, line)) == expected
+
+
+def test_lobster_messages_replay_to_the_book(bundle, tmp_path):
+    """The two files alone: each message changes the book before it to the book behind it."""
+    for branch in bundle.branches.values():
+        folder = tmp_path / str(branch.number)
+        biqsolur.to_lobster(folder, branch, LEVELS)
+        for path in folder.glob("*_message_*"):
+            totals = {1: defaultdict(int), -1: defaultdict(int)}
+            books = table_of(str(path).replace("_message_", "_orderbook_"))
+            for (_, kind, _, shares, price, direction), line in zip(table_of(path), books):
+                if kind != "7":
+                    totals[int(direction)][int(price)] += int(shares) if kind == "1" else -int(shares)
+                asks = sorted((p, n) for p, n in totals[-1].items() if n)
+                bids = sorted(((p, n) for p, n in totals[1].items() if n), reverse=True)
+                assert min([n for side in totals.values() for n in side.values()], default=0) >= 0
+                expected = []
+                for level in range(LEVELS):
+                    expected += asks[level] if level < len(asks) else (9999999999, 0)
+                    expected += bids[level] if level < len(bids) else (-9999999999, 0)
+                assert list(map(int, line)) == expected
+
+
+def test_csv_files_have_each_frame(bundle, tmp_path):
+    folder = tmp_path / "out"
+    bundle.to_csv(folder)
+    assert sorted(path.name for path in folder.iterdir()) == sorted(bundle.branches)
+    for branch in list(bundle.branches.values())[-1:]:
+        for name in ("events", "orders", "replies", "quotes", "feed", "trades", "edits"):
+            check_csv(folder / branch.name / f"{name}.csv", getattr(branch, name), bundle)
+        for name in ("stocks", "orders", "agents"):
+            check_csv(folder / branch.name / f"closing_{name}.csv", getattr(branch.closing, name), bundle)
+        (counts,) = csv.DictReader(open(folder / branch.name / "closing_counts.csv", newline=""))
+        assert counts == {name: str(value) for name, value in branch.closing.counts.items()}
+
+
+def check_csv(path, frame, bundle):
+    header, *lines = table_of(path)
+    assert header == list(frame)
+    if "token" in frame:
+        frame = frame.assign(token=bundle.tokens.texts(frame.token))
+    for place, name in enumerate(header):
+        found = [line[place] for line in lines]
+        if frame[name].dtype == numpy.float64:
+            assert [float(text) if text else 0 for text in found] == frame[name].fillna(0).tolist()
+        else:
+            assert found == [str(value) for value in frame[name].tolist()]
+
+
+def test_rewinds_are_those_of_the_plain_reader(market, bundle, tmp_path):
+    arguments = ["root:0", "root:0"]
+    for branch in bundle.branches.values():
+        last = branch.closing.counts["events"]
+        arguments += [f"{branch.name}:{event}" for event in sorted({last, last // 2, min(7, last)})]
+    path = tmp_path / "states"
+    path.write_bytes(market.run("rewind", "--", *arguments))
+    rewind = biqsolur.read_rewind(path)
+    assert [f"{state.branch}:{state.event}" for state in rewind.states] == arguments
+    payloads = plain.split_frames(path.read_bytes())
+    for state in rewind.states:
+        assert payloads.pop(0)[:1] == b"b"
+        of_kind = defaultdict(list)
+        while payloads[0][:1] in (b"c", b"s", b"l", b"a", b"w"):
+            payload = payloads.pop(0)
+            of_kind[payload[:1]].append(payload)
+        (counts,) = of_kind[b"c"]
+        assert state.closing.counts["events"] == plain.number(counts, 2, 4)
+        assert state.closing.agents.cash.tolist() == [plain.number(a, 24, 16, True) for a in of_kind[b"a"]]
+        assert state.closing.orders.reference.tolist() == [plain.number(o, 1, 8) for o in of_kind[b"l"]]
+        waiting = state.waiting
+        assert len(waiting) == state.closing.counts["waiting"]
+        columns = ["time", "message", "sender", "receiver"]
+        assert list(zip(*(waiting[column].tolist() for column in columns))) == [
+            (plain.number(w, 1, 8), plain.number(w, 9, 8), plain.number(w, 17, 2), plain.number(w, 19, 2))
+            for w in of_kind[b"w"]]
+        tokens = [plain.text(w[23:37]) for w in of_kind[b"w"] if w[21:22] == b"i"]
+        assert rewind.tokens.texts(state.waiting_orders.token) == tokens
+        assert len(state.waiting_replies) == (waiting.kind == "reply").sum()
+        assert len(state.waiting_quotes) == (waiting.kind == "quote").sum()
+    assert payloads == [b"z" + len(arguments).to_bytes(2, "big")]
+
+
+def test_rewind_to_the_last_event_is_the_closing(market, bundle, tmp_path):
+    branches = list(bundle.branches.values())
+    path = tmp_path / "states"
+    path.write_bytes(market.run("rewind", "--", *(f"{b.name}:{b.closing.counts['events']}" for b in branches)))
+    rewind = biqsolur.read_rewind(path)
+    for branch in branches:
+        state = rewind.state(branch.name, branch.closing.counts["events"])
+        assert state.closing.counts == branch.closing.counts
+        one, other = state.closing.agents, branch.closing.agents
+        pandas.testing.assert_frame_equal(one.set_axis(list(other), axis=1), other)
+        numbers = ["reference", "agent", "intended", "open", "stock", "price", "time_in_force"]
+        pandas.testing.assert_frame_equal(state.closing.orders[numbers], branch.closing.orders[numbers])
+        numbers = ["stock", "last", "matched", "fees", "offset", "live"]
+        pandas.testing.assert_frame_equal(state.closing.stocks[numbers], branch.closing.stocks[numbers])

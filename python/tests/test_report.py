@@ -1,0 +1,343 @@
+"""The report: its numbers against the program's table, and the page opened in a browser where there is one."""
+
+import csv
+import functools
+import html.parser
+import io
+import json
+import os
+import re
+import shutil
+import subprocess
+import sys
+from pathlib import Path
+
+import numpy
+import pytest
+
+pytest.importorskip("plotly", reason="no plotly: Debian's python3-plotly")
+
+PACKAGE = Path(__file__).resolve().parent.parent
+ROOT = PACKAGE.parent
+sys.path.insert(0, str(PACKAGE))
+
+import biqsolur  # noqa: E402
+from biqsolur import report, report_data, report_page, report_series  # noqa: E402
+
+BROWSER = next(filter(None, map(shutil.which, ("chromium", "chromium-browser", "google-chrome"))), None)
+needs_browser = pytest.mark.skipif(BROWSER is None, reason="no browser: Debian's chromium")
+
+PLOTS = ["mid", "spread", "depth", "volume", "fees", "cash", "position"]
+
+
+def program():
+    """The program, or the test is skipped. A build is never started from here."""
+    for place in (os.environ.get("BIQSOLUR_PROGRAM"), ROOT / "crates/abides_main/out/abides_main"):
+        if place and os.access(place, os.X_OK):
+            return str(place)
+    pytest.skip("no program: set BIQSOLUR_PROGRAM or build one")
+
+
+@pytest.fixture(scope="module")
+def made(tmp_path_factory):
+    """The bundle of a halt and its end, its page and its table."""
+    folder = tmp_path_factory.mktemp("report")
+    study = ROOT / "examples" / "halt.toml"
+    with open(folder / "halt.bundle", "wb") as file:
+        subprocess.run([program(), "run", study], stdout=file, check=True)
+    done = subprocess.run([program(), "table", study], stdout=subprocess.PIPE, check=True, text=True)
+    report.write_report(folder / "halt.bundle", folder / "halt.html")
+    return folder, list(csv.DictReader(io.StringIO(done.stdout)))
+
+
+class Tables(html.parser.HTMLParser):
+    """The tables of a page by caption, as lists of rows of texts; and all attributes that may refer outside."""
+
+    def __init__(self):
+        super().__init__()
+        self.tables, self.references, self.words = {}, [], None
+
+    def handle_starttag(self, tag, attributes):
+        self.references += [value for name, value in attributes if name in ("src", "href", "data", "action", "srcset")]
+        if tag == "tr":
+            self.row = []
+        if tag in ("td", "th", "caption"):
+            self.words = ""
+
+    def handle_data(self, text):
+        if self.words is not None:
+            self.words += text
+
+    def handle_endtag(self, tag):
+        if tag == "caption":
+            self.rows = self.tables.setdefault(self.words, [])
+        if tag in ("td", "th"):
+            self.row.append(self.words)
+        if tag == "tr":
+            self.rows.append(self.row)
+        if tag in ("td", "th", "caption"):
+            self.words = None
+
+
+def tables_of(page):
+    reader = Tables()
+    reader.feed(re.sub(r"(?s)<script.*?</script>", "", page))
+    return reader
+
+
+def test_the_numbers_are_those_of_the_table(made):
+    folder, expected = made
+    rows = tables_of((folder / "halt.html").read_text()).tables["The branches"][1:]
+    assert len(rows) == len(expected) == 3
+    for row, line in zip(rows, expected):
+        number = [text.replace(",", "") for text in row]
+        assert (row[0], row[1].strip("–")) == (line["branch"], line["parent"])
+        assert int(number[4]) == int(line["events"]) and int(number[9]) == int(line["volume"])
+        assert round(float(number[10]) * 1_000_000) == int(line["fees"])
+        assert row[7] in ("–", "none") if line["first_difference"] == "0" else number[7] == line["first_difference"]
+
+
+def test_the_accounts_are_the_closings(made):
+    folder, _ = made
+    bundle = biqsolur.read(folder / "halt.bundle")
+    rows = tables_of((folder / "halt.html").read_text()).tables["Each agent at the end: settled cash and positions"][2:]
+    assert len(rows) == bundle.agents - 1
+    for number, branch in enumerate(bundle.branches.values()):
+        agents = branch.closing.agents[1:]
+        for row, agent in zip(rows, agents.itertuples()):
+            cash, shares = (text.replace(",", "").replace("−", "-") for text in row[1 + 2 * number:3 + 2 * number])
+            whole, part = cash.split(".")
+            amount = int(whole.strip("-")) * 10**6 + int(part.ljust(6, "0"))
+            assert (int(row[0]), -amount if cash.startswith("-") else amount) == (agent.agent, agent.cash)
+            assert int(shares) == agent.position_ABM
+
+
+def test_nothing_outside_is_referred_to(made):
+    page = (made[0] / "halt.html").read_text()
+    assert all(value.startswith("#") for value in tables_of(page).references)
+    outside = re.sub(r'(?s)<script type="text/plain" id="plotly">.*?</script>', "", page)
+    assert re.findall(r"https?://[^\s\"'<]+", outside.replace("http://www.w3.org/2000/svg", "")) == []
+    assert "default-src &#x27;none&#x27;" in page
+    assert len(page) < 4_000_000
+
+
+def test_the_same_bundle_gives_the_same_page(made, tmp_path):
+    report.write_report(made[0] / "halt.bundle", tmp_path / "again.html")
+    assert (tmp_path / "again.html").read_bytes() == (made[0] / "halt.html").read_bytes()
+
+
+def test_a_file_that_is_there_is_kept(made, tmp_path):
+    (tmp_path / "kept.html").write_text("mine")
+    with pytest.raises(biqsolur.OutputExistsError):
+        report.write_report(made[0] / "halt.bundle", tmp_path / "kept.html")
+    assert (tmp_path / "kept.html").read_text() == "mine"
+
+
+def test_a_cut_bundle_leaves_no_page(made, tmp_path):
+    (tmp_path / "cut.bundle").write_bytes((made[0] / "halt.bundle").read_bytes()[:-5])
+    with pytest.raises(biqsolur.BundleError):
+        report.write_report(tmp_path / "cut.bundle", tmp_path / "cut.html")
+    assert not (tmp_path / "cut.html").exists()
+
+
+def test_the_command(made, tmp_path):
+    done = subprocess.run([sys.executable, "-m", "biqsolur", "report", made[0] / "halt.bundle", "-o",
+                           tmp_path / "page.html"], env={**os.environ, "PYTHONPATH": str(PACKAGE)})
+    assert done.returncode == 0
+    assert (tmp_path / "page.html").read_bytes() == (made[0] / "halt.html").read_bytes()
+
+
+# ---- thinning
+
+def drawn_at(times, values, instants):
+    """The values of a step at some instants."""
+    return values[numpy.searchsorted(times, instants, side="right") - 1]
+
+
+@pytest.mark.parametrize("seed", range(20))
+def test_thinning_keeps_the_extremes_of_each_cell(seed):
+    random = numpy.random.default_rng(seed)
+    count, cells, span = 5000, 50, (1000, 101_000)
+    times = numpy.sort(random.choice(numpy.arange(*span), count, replace=False))
+    values = random.integers(0, 1000, count).astype(float)
+    values[random.random(count) < 0.01] = numpy.nan
+    rows = report_series.thin(times, values, [values], cells, span)
+    assert len(rows) <= 10 * (cells + 1) and (numpy.diff(rows) > 0).all() and rows[0] == 0
+    width = -(-(span[1] - span[0] + 1) // cells)
+    for cell in range(cells):
+        inside = (times - span[0]) // width == cell
+        kept = numpy.isin(numpy.arange(count), rows) & inside
+        assert numpy.nanmin(values[inside]) == numpy.nanmin(values[kept])
+        assert numpy.nanmax(values[inside]) == numpy.nanmax(values[kept])
+        assert numpy.isnan(values[inside]).any() == numpy.isnan(values[kept]).any()
+
+
+def test_a_short_series_is_kept_whole():
+    times = numpy.arange(10) * 7
+    values = numpy.array([1, 1, 2, numpy.nan, numpy.nan, 2, 2, 1, 5, 5.0])
+    rows = report_series.thin(times, values, [values], 40, (0, 63))
+    assert rows.tolist() == [0, 2, 3, 5, 7, 8]
+    instants = numpy.arange(64)
+    assert numpy.array_equal(drawn_at(times, values, instants), drawn_at(times[rows], values[rows], instants), True)
+
+
+def test_the_mean_spread_by_hand():
+    """Over 100 ns: 20 ns of 2 cents, 30 ns without a bid, 50 ns of 4 cents; from 60 ns on 4 cents alone."""
+    none = numpy.zeros(0, int)
+    series = report_series.StockSeries(
+        times=numpy.array([0, 20, 50]), bid=numpy.array([10000, 0, 10000]), ask=numpy.array([10200, 10200, 10400]),
+        bid_shares=none, ask_shares=none, trade_times=numpy.array([10, 70]), volume=numpy.array([5, 12]),
+        trade_fees=numpy.array([50, 120]), begin=0, end=100)
+    assert series.mean_spread(0) == (20 * 200 + 50 * 400) / 70
+    assert series.mean_spread(60) == 400
+    assert series.traded(0) == (12, 120) and series.traded(10) == (7, 70) and series.traded(70) == (0, 0)
+
+
+@pytest.mark.parametrize("amount, text", [(0, "0.000"), (1, "0.000001"), (-1500000, "−1.500"),
+                                          (1234567890123, "1,234,567.890123")])
+def test_money_is_exact(amount, text):
+    assert report_data.money_text(amount) == text
+
+
+def test_names_cannot_leave_their_place():
+    """Data that looks like the end of a script stays data."""
+    script = report_page.data_script({"name": "</script><script>alert(1)</script>"})
+    assert "<" not in script and json.loads(script)["name"].startswith("</script>")
+
+
+# ---- in a browser
+
+@functools.cache
+def browse(page, width, *words):
+    """The page as the browser has it after its scripts ran, without a network; and what it wrote to its console."""
+    folder = Path(page).parent
+    done = subprocess.run(
+        [BROWSER, "--headless=new", "--no-sandbox", "--disable-gpu", "--hide-scrollbars", "--no-first-run",
+         f"--user-data-dir={folder / 'browser'}", f"--window-size={width},3000", "--virtual-time-budget=30000",
+         "--host-resolver-rules=MAP * ~NOTFOUND", "--enable-logging=stderr", "--v=0", *words, Path(page).as_uri()],
+        stdout=subprocess.PIPE, stderr=subprocess.PIPE, text=True, timeout=600)
+    console = [line for line in done.stderr.splitlines() if "CONSOLE" in line]
+    return done.stdout, console
+
+
+def with_script(made, name, script, source="halt.html"):
+    """A copy of the page that does something once it is ready, and writes what `script` gives into #trouble."""
+    page = (made[0] / source).read_text()
+    waiting = ("<script>const wait = setInterval(() => { if (!document.documentElement.dataset.ready) return; "
+               "clearInterval(wait); byId('trouble').textContent = JSON.stringify((() => {" + script + "})()); }, 50);"
+               "</script></body>")
+    path = made[0] / name
+    path.write_text(page.replace("</body>", waiting))
+    return str(path)
+
+
+def answer(made, name, script, source="halt.html"):
+    page, console = browse(with_script(made, name, script, source), 1400, "--dump-dom")
+    assert console == []
+    return json.loads(html.unescape(re.search(r'<p id="trouble"[^>]*>(.*?)</p>', page).group(1)))
+
+
+@needs_browser
+@pytest.mark.parametrize("width", [1400, 700])
+def test_the_page_draws_its_pictures(made, width):
+    page, console = browse(str(made[0] / "halt.html"), width, "--dump-dom")
+    assert console == []
+    assert 'data-ready="yes"' in page
+    assert re.search(r'<p id="trouble"[^>]*></p>', page)
+    for name in PLOTS:
+        place = re.search(rf'<div [^>]*id="plot-{name}"[^>]*>', page).group()
+        assert "js-plotly-plot" in place
+    for title in ("Mid price, dollars", "Spread, cents", "Shares traded", "Fees, dollars", "Cash, dollars",
+                  "ABM, shares", "Time of day", "09:31:00"):
+        assert title in page
+    assert ("resume: event 4302" if width == 700 else "resume: first difference, event 4302, 09:30:58.500") in page
+
+
+@needs_browser
+def test_the_page_can_be_photographed(made):
+    picture = made[0] / "halt.png"
+    browse(str(made[0] / "halt.html"), 1400, f"--screenshot={picture}")
+    assert picture.read_bytes().startswith(b"\x89PNG") and picture.stat().st_size > 50_000
+
+
+@needs_browser
+def test_branches_are_switched_and_laid_over_each_other(made):
+    script = """
+        const names = () => byId("plot-mid").data.filter((trace) => trace.mode === "lines").map((trace) => trace.name);
+        const isShown = (number) =>
+            getComputedStyle(document.querySelector(`td.of-${number}, tr.of-${number}`)).display !== "none";
+        const seen = [names(), [0, 1, 2].map(isShown)];
+        byId("branch-1").click();
+        seen.push(names(), [0, 1, 2].map(isShown));
+        byId("second").value = "1";
+        byId("first").value = "2";
+        byId("pair").click();
+        seen.push(names(), byId("plot-mid").data[1].line.dash);
+        seen.push(document.querySelector("#figure-depth h3").textContent);
+        byId("pair").click();
+        byId("none").click();
+        seen.push(names());
+        byId("all").click();
+        seen.push(names());
+        return seen;"""
+    assert answer(made, "switched.html", script) == [
+        ["root", "halt", "resume"], [True, True, True], ["root", "resume"], [True, False, True],
+        ["resume", "halt"], "5px,3px", "Depth by level: resume (filled) and halt (lines)", [],
+        ["root", "halt", "resume"]]
+
+
+@needs_browser
+def test_a_branch_without_its_parent_is_drawn_from_the_opening(made):
+    script = """
+        const first = () => byId("plot-volume").data.filter((trace) => trace.name === "resume")[0].x[0];
+        const fork = first();
+        byId("branch-1").click();
+        return [fork > toAxis(data.begin) + 50000, first() < toAxis(data.begin) + 5000];"""
+    assert answer(made, "whole.html", script) == [True, True]
+
+
+@needs_browser
+def test_the_times_are_chosen_by_keyboard(made):
+    script = """
+        byId("from").value = "09:30:30";
+        byId("to").value = "09:31";
+        byId("to").dispatchEvent(new Event("change"));
+        const ranges = ["mid", "fees"].map((name) =>
+            byId(`plot-${name}`).layout.xaxis.range.map((value) => fromAxis(value) / 1e9));
+        byId("from").value = "soon";
+        byId("from").dispatchEvent(new Event("change"));
+        const said = byId("trouble").textContent.length > 0;
+        const reached = [...document.querySelectorAll("#controls input, #controls select, #controls button")]
+            .every((control) => control.tabIndex === 0);
+        return [ranges, said, reached];"""
+    assert answer(made, "times.html", script) == [[[34230, 34260], [34230, 34260]], True, True]
+
+
+@needs_browser
+def test_two_stocks_and_an_odd_symbol(made):
+    study = (ROOT / "examples" / "halt.toml").read_text()
+    symbol = "X<b>&"
+    head, *rest = study.split("[[stock]]")
+    stock = "[[stock]]" + rest[0].split("[[agent]]")[0]
+    text = study.replace("[[agent]]", stock.replace('"ABM"', f'"{symbol}"') + "[[agent]]", 1)
+    (made[0] / "two.toml").write_text(text)
+    with open(made[0] / "two.bundle", "wb") as file:
+        subprocess.run([program(), "run", made[0] / "two.toml"], stdout=file, check=True)
+    report.write_report(made[0] / "two.bundle", made[0] / "two.html")
+    script = """
+        const state = () => [[...document.querySelectorAll("section.stock")].map((section) => section.hidden),
+            byId("plot-mid").data[0].y.some((value) => value !== null), byId("plot-position").layout.yaxis.title.text];
+        const bold = document.querySelectorAll("h3 b, td b, th b").length;
+        const seen = [byId("stock").options[1].textContent, bold, ...state()];
+        byId("stock").value = "1";
+        byId("stock").dispatchEvent(new Event("change"));
+        return [...seen, ...state()];"""
+    assert answer(made, "second.html", script, "two.html") == [
+        symbol, 0, [False, True], True, "ABM, shares", [True, False], False, "X&lt;b&gt;&amp;, shares"]
+
+
+@needs_browser
+def test_the_page_prints(made):
+    paper = made[0] / "halt.pdf"
+    browse(str(made[0] / "halt.html"), 1400, f"--print-to-pdf={paper}")
+    assert paper.read_bytes().startswith(b"%PDF")
