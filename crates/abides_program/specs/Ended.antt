@@ -1,11 +1,12 @@
 -- How the program ends, as far as its streams and its exit status show it.
-use Rattle.std.specs.Prelude.{◌≡◌, ℕ, List, Option}
+use Rattle.std.specs.Prelude.{◌≡◌, ◌⊎◌, ℕ, List, Option, None}
 use Rattle.outside.specs.Rose.{Rose}
 use Rattle.abides_run.specs.Code.{code_of}
 use Rattle.abides_run.specs.Headline.{Noted}
 use Rattle.abides_run.specs.Statuses.{IsRefusal}
+use Rattle.abides_run.specs.Words.{asked_of}
 use Rattle.abides_run.specs.declared.status.Status.{Status}
-use Rattle.abides_run.specs.declared.status.Status.TheVariants.{Ok, WriteFault}
+use Rattle.abides_run.specs.declared.status.Status.TheVariants.{Ok, Usage, WriteFault, Memory}
 
 -- What a sink shows at one moment: how many writes failed, and what it has taken where it tells its bytes.
 pub record Sunk : Type 0 where
@@ -27,3 +28,8 @@ pub record EndedAs (exit : ℕ) (out_before out_after notes_before notes_after :
   pub status : Status
   pub code : exit ≡ code_of status
   pub ended : Ended status out_before out_after notes_before notes_after
+
+-- Faulty words are told as such, and no others; of them no other end is told but want of memory.
+pub record TellsFaulty (words : List (List ℕ)) (status : Status) : Type 0 where
+  pub usage : status ≡ Usage → asked_of words ≡ None
+  pub not_asked : asked_of words ≡ None → (status ≡ Usage) ⊎ (status ≡ Memory)

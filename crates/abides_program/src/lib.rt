@@ -5,7 +5,8 @@
 ghost use Rattle.std.specs.Prelude.{◌≡◌, ◌⊎◌, IfOk, IfErr, OnErr};
 ghost use Rattle.std.specs.Process.{exit_status};
 ghost use Rattle.abides_run.specs.Code.{code_of};
-ghost use Rattle.abides_program.specs.Ended.{Ended, EndedAs};
+ghost use Rattle.abides_run.specs.Words.{texts};
+ghost use Rattle.abides_program.specs.Ended.{Ended, EndedAs, TellsFaulty};
 
 use abides_run::{Status, run, write_note};
 use outside::{Counted, FileLibrary, OpenGate, Sink, Steps};
@@ -67,11 +68,12 @@ pub fn run_words<R: Files + AllocGlobal + Threads + Wait + Sync, O: Sink, N: Sin
     out: &mut O,
     notes: &mut N,
 ) -> Status
-    ensures { Ended result
+    ensures ended { Ended result
         (record { faults = O.faults out.old; taken = O.taken out.old })
         (record { faults = O.faults out.new; taken = O.taken out.new })
         (record { faults = N.faults notes.old; taken = N.taken notes.old })
         (record { faults = N.faults notes.new; taken = N.taken notes.new }) }
+    ensures asked { TellsFaulty (texts words.now) result }
 {
     match run_with_probes(rt, words, out, notes) {
         Ok(status) => status,
@@ -92,6 +94,7 @@ fn run_with_probes<R: Files + AllocGlobal + Threads + Wait + Sync, O: Sink, N: S
         (record { faults = O.faults out.new; taken = O.taken out.new })
         (record { faults = N.faults notes.old; taken = N.taken notes.old })
         (record { faults = N.faults notes.new; taken = N.taken notes.new })) }
+    ensures asked { IfOk result (TellsFaulty (texts words.now)) }
     ensures stand { OnErr result ((out.new ≡ out.old) × (notes.new ≡ notes.old)) }
 {
     let alloc = rt.alloc();
@@ -111,11 +114,12 @@ fn run_with<R: Files + AllocGlobal + Threads + Wait + Sync, O: Sink, N: Sink>(
     out: &mut O,
     notes: &mut N,
 ) -> Status
-    ensures { Ended result
+    ensures ended { Ended result
         (record { faults = O.faults out.old; taken = O.taken out.old })
         (record { faults = O.faults out.new; taken = O.taken out.new })
         (record { faults = N.faults notes.old; taken = N.taken notes.old })
         (record { faults = N.faults notes.new; taken = N.taken notes.new }) }
+    ensures asked { TellsFaulty (texts words.now) result }
 {
     let mut library = FileLibrary::new(rt);
     let mut steps: Steps<Counted> = Steps::new();

@@ -1,7 +1,7 @@
 use Rattle.abides_program.proofs.run_with.Goals as goal
 
-pub returns : goal.returns
-returns g c =
+pub returns-clause-ended : goal.returns-clause-ended
+returns-clause-ended g c =
     let answered = c.run-status.ensures.answered in
     let noted = c.run-status.ensures.noted in
     record {
@@ -12,3 +12,7 @@ returns g c =
       write_fault = answered.write_fault;
       steady = λ ok. (answered.steady ok).1;
     }
+
+pub returns-clause-asked : goal.returns-clause-asked
+returns-clause-asked g c =
+    let answered = c.run-status.ensures.answered in record { usage = answered.usage; not_asked = answered.not_asked }
