@@ -1,4 +1,4 @@
-//! Tests of what the kernel and the branches stand on: types, rules, draws, queues, books, codecs, frames, names and shelves.
+//! Tests of what the kernel and the branches stand on: types, rules, draws, queues, books, codecs, frames, names, shelves, crosses and rebuilt books.
 #![tactic(auto)]
 
 #[cfg(test)]
@@ -15,6 +15,8 @@ mod command_words_tests;
 mod draw_streams_tests;
 #[cfg(test)]
 mod event_queue_tests;
+#[cfg(test)]
+mod feed_rebuild_tests;
 #[cfg(test)]
 mod fundamental_series_tests;
 #[cfg(test)]
@@ -39,5 +41,7 @@ mod plain_lists_tests;
 mod price_time_book_tests;
 #[cfg(test)]
 mod probe_desk_tests;
+#[cfg(test)]
+mod reopen_cross_tests;
 #[cfg(test)]
 mod shelf_core_tests;
