@@ -10,6 +10,7 @@ ghost use Rattle.feed_rebuild.specs.Worked.{add, buy, cancel, delete, executed, 
 pub fn orders_that_come()
     ensures nothing { fold 2 [] ≡ Ok (fresh 2) }
     ensures two { fold 2 (add 2 5 100 ∷ add 1 6 200 ∷ []) ≡ Ok (record { orders = buy 1 5 100 ∷ buy 0 6 200 ∷ []; states = 84 ∷ 84 ∷ []; last = Some 6 }) }
+    ensures none_open { fold 1 (add 1 5 0 ∷ []) ≡ Ok (record { orders = buy 0 5 0 ∷ []; states = 84 ∷ []; last = Some 5 }) }
     ensures zero_first { fold 1 (add 1 0 100 ∷ []) ≡ Ok (record { orders = buy 0 0 100 ∷ []; states = 84 ∷ []; last = Some 0 }) }
     ensures again { fold 2 (add 1 5 100 ∷ add 2 5 100 ∷ []) ≡ Err 5 }
     ensures after_it_left { fold 1 (add 1 5 100 ∷ delete 1 5 ∷ add 1 5 100 ∷ []) ≡ Err 5 }

@@ -10,9 +10,10 @@ use Rattle.std.proofs.lemmas.List.MinMax.{IsFirstBest-from_best_of}
 use Rattle.std.proofs.lemmas.List.Sums.{sum_by-cons}
 use Rattle.market_types.specs.declared.order.Side.TheVariants.{Buy, Sell}
 use Rattle.market_types.specs.Sides.{is_same_side}
+use Rattle.market_types.specs.Limits.{highest_price}
 use Rattle.reopen_cross.specs.declared.cross.Cross.{Cross}
 use Rattle.reopen_cross.specs.declared.cross.Interest.{Interest}
-use Rattle.reopen_cross.specs.Cross.{buys, sells, executed, surplus, is_better, first_beyond, highest_price, best_price, cross_at, cross_of, cross_where}
+use Rattle.reopen_cross.specs.Cross.{buys, sells, executed, surplus, is_better, first_beyond, best_price, cross_at, cross_of, cross_where}
 use Rattle.reopen_cross.specs.Clearing.{IsClearing}
 use Rattle.reopen_cross.specs.declared.tallies.Tally.{Tally}
 use Rattle.reopen_cross.specs.Tallies.{tally_of}

@@ -3,8 +3,8 @@ use Rattle.std.proofs.Common.{◌≤◌, ◌<◌, List, [], ◌∷◌, ◌++◌,
 use Rattle.std.specs.List.{AllByRecursion}
 use Rattle.std.proofs.lemmas.List.{length_push}
 use Rattle.std.proofs.lemmas.List.Elements.{All-nil, All-push, recursion_from_All}
+use Rattle.market_types.specs.Limits.{highest_price}
 use Rattle.reopen_cross.specs.declared.cross.Interest.{Interest}
-use Rattle.reopen_cross.specs.Cross.{highest_price}
 use Rattle.reopen_cross.specs.Orderly.{AreInterests, IsRising}
 
 all-push : (P : Interest → Type 0) (w : List Interest) (o : Interest) → AllByRecursion P w → P o → AllByRecursion P (w ++ o ∷ [])

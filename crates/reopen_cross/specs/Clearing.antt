@@ -1,9 +1,10 @@
 -- What a crossing price and its certificate show.
 use Rattle.std.specs.Prelude.{◌≡◌, ◌≤◌, ◌<◌, ℕ, ◌+◌, List, sum_by}
 use Rattle.market_types.specs.declared.order.Side.TheVariants.{Buy, Sell}
+use Rattle.market_types.specs.Limits.{highest_price}
 use Rattle.reopen_cross.specs.declared.cross.Interest.{Interest}
 use Rattle.reopen_cross.specs.declared.cross.Cross.{Cross}
-use Rattle.reopen_cross.specs.Cross.{buys, sells, executed, highest_price}
+use Rattle.reopen_cross.specs.Cross.{buys, sells, executed}
 use Rattle.reopen_cross.specs.Parts.{parts_on}
 
 pub record IsClearing (list : List Interest) (c : Cross) : Type 0 where

@@ -2,13 +2,10 @@
 use Rattle.std.specs.Prelude.{ℕ, ◌+◌, ◌-◌, ◌==◌, ◌&&◌, ◌||◌, min, nat_le, nat_lt, Bool, if◌then◌else◌, List, [], ◌∷◌, Option, None, Some, filter, map, sum_by}
 use Rattle.std.specs.List.{best_of}
 use Rattle.market_types.specs.declared.order.Side.TheVariants.{Buy, Sell}
+use Rattle.market_types.specs.Limits.{highest_price}
 use Rattle.market_types.specs.Sides.{is_same_side}
 use Rattle.reopen_cross.specs.declared.cross.Interest.{Interest}
 use Rattle.reopen_cross.specs.declared.cross.Cross.{Cross}
-
--- the highest price of an order, in dollars with four implied decimals
-abbrev pub highest_price : ℕ
-highest_price = 1999999900
 
 -- the open shares of orders to buy at a price or above
 abbrev pub buys : List Interest → ℕ → ℕ

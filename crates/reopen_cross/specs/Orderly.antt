@@ -1,8 +1,8 @@
 -- Lists of interest.
 use Rattle.std.specs.Prelude.{◌≤◌, ◌<◌, List, [], ◌∷◌, All, length}
 use Rattle.std.specs.List.{AllByRecursion}
+use Rattle.market_types.specs.Limits.{highest_price}
 use Rattle.reopen_cross.specs.declared.cross.Interest.{Interest}
-use Rattle.reopen_cross.specs.Cross.{highest_price}
 
 -- each reference is below all that follow it
 abbrev pub IsRising : List Interest → Type 0

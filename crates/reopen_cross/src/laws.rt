@@ -1,9 +1,10 @@
 //! What a crossing price shows.
 
 ghost use Rattle.std.specs.Prelude.{◌≡◌, ◌≤◌, ◌<◌, ◌++◌, ◌∷◌, [], ℕ, List, All, None, Some, length};
+ghost use Rattle.market_types.specs.Limits.{highest_price};
 ghost use Rattle.reopen_cross.specs.declared.cross.Interest.{Interest};
 ghost use Rattle.reopen_cross.specs.declared.cross.Cross.{Cross};
-ghost use Rattle.reopen_cross.specs.Cross.{buys, sells, cross_of, executed, highest_price};
+ghost use Rattle.reopen_cross.specs.Cross.{buys, sells, cross_of, executed};
 ghost use Rattle.reopen_cross.specs.Orderly.{AreInterests};
 ghost use Rattle.reopen_cross.specs.Clearing.{IsClearing};
 

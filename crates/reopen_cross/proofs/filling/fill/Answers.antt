@@ -7,7 +7,7 @@ use Rattle.reopen_cross.specs.declared.cross.Interest.{Interest}
 use Rattle.reopen_cross.specs.Parts.{takes_part}
 use Rattle.reopen_cross.specs.declared.cross.Part.{Part}
 use Rattle.reopen_cross.specs.Places.{filled_along, ordinal}
-use Rattle.reopen_cross.specs.Cross.{highest_price}
+use Rattle.market_types.specs.Limits.{highest_price}
 use Rattle.reopen_cross.proofs.Filled.{all-filter, rising-filter, shorter-filter}
 use Rattle.reopen_cross.proofs.Places.{before, filled-along, not-before, sort-of}
 use Rattle.reopen_cross.proofs.filling.fill.Goals as goal
