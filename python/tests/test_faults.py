@@ -164,6 +164,21 @@ def test_two_branches_of_one_name(small):
     assert caught.value.offset == 11 + len(branch) and "second branch is called 'root'" in caught.value.cause
 
 
+def test_two_stocks_of_one_symbol(market, tmp_path):
+    data = market.bundle.read_bytes()
+    at, places = 0, []
+    while len(places) < plain.number(data, 7, 2):
+        if data[at + 2:at + 3] == b"R":
+            places.append(at)
+        at += 2 + plain.number(data, at, 2)
+    for place in places[1:]:
+        path = tmp_path / "twice"
+        path.write_bytes(data[:place + 13] + data[places[0] + 13:places[0] + 21] + data[place + 21:])
+        with pytest.raises(biqsolur.BundleError, match="a second stock is called") as caught:
+            biqsolur.read(path)
+        assert caught.value.offset == place
+
+
 def test_a_feed_that_takes_what_is_not_there(program, tmp_path):
     """A bundle by its frames, whose feed takes more shares than rest: the book says where."""
     import subprocess
