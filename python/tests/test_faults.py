@@ -96,7 +96,7 @@ def test_walkers_find_what_one_walker_finds(market, many_walkers):
     data = numpy.frombuffer(market.bundle.read_bytes(), numpy.uint8)
     damaged = data.copy()
     damaged[len(data) // 2:len(data) // 2 + 300] = 1
-    for part in (data, data[:-1], data[:-2], data[:-50], damaged):
+    for part in (data, *(data[:-cut] for cut in range(1, 8)), data[:-50], damaged):
         assert (frames.find_offsets(part) == frames.walk_alone(part)).all()
 
 
@@ -257,6 +257,11 @@ def test_times_on_request(market):
     events = biqsolur.timedeltas(biqsolur.read(market.bundle).branches["root"].events)
     assert str(events.time.dtype) == str(events.busy_until.dtype) == "timedelta64[ns]"
     assert events.time.astype("int64").tolist() == biqsolur.read(market.bundle).branches["root"].events.time.tolist()
+    root = biqsolur.read(market.bundle).branches["root"]
+    for frame, names in [(root.replies, ["time", "handled"]), (root.closing.agents, ["own_time"]), (root.book(1), ["time"])]:
+        changed = biqsolur.timedeltas(frame)
+        assert [name for name in changed if changed[name].dtype == "timedelta64[ns]"] == names
+        assert all(changed[name].astype("int64").tolist() == frame[name].tolist() for name in names)
 
 
 def test_the_parts_of_a_bundle_cover_its_frames(market):
