@@ -3,7 +3,8 @@
 The configuration (YAML, as Snakemake reads it):
 
     study: examples/tick_size.toml      # the base study; its own key is not used
-    keys: 30                            # the keys 1 to 30, or a list of numbers and of texts of 64 hexadecimal digits
+    keys: 30                            # the keys 1 to 30, or a list of numbers and of texts of 64 hexadecimal digits,
+                                        # in quotes: YAML reads 0010 without them as the number 8
     grid:                               # each path of the study, and the values that it takes; all combinations are run
       branch.wide.edit.0.bands: [[[0, 200]], [[0, 500]], [[0, 1000]]]
       agent.noise.size: [50, 100]
@@ -106,6 +107,7 @@ def changed(study: dict, values: dict, key: str) -> dict:
     """The study with these values at their paths and with this key."""
     result = copy.deepcopy(study)
     result["key"] = key
+    changed_places = []
     for path, value in values.items():
         *parts, last = path.split(".")
         holder = result
@@ -114,13 +116,19 @@ def changed(study: dict, values: dict, key: str) -> dict:
             if isinstance(holder, dict) and place not in holder:
                 raise PlanError(f"grid: {path}: the study has no {part!r} there")
             holder = holder[place]
-        holder[step(holder, last, path)] = value
+        place = step(holder, last, path)
+        if any(holder is other and place == there for other, there in changed_places):
+            raise PlanError(f"grid: {path}: a path before it leads to the same place")
+        changed_places.append((holder, place))
+        holder[place] = copy.deepcopy(value)    # a later path may lead into it
     return result
 
 
 def points_of(grid: dict) -> list[dict]:
     """All combinations of the grid's values; the last path changes fastest. Without a grid there is one point."""
     for path, values in grid.items():
+        if path == "key":
+            raise PlanError("grid: key: the keys of a sweep stand in `keys`")
         if not isinstance(values, list) or not values:
             raise PlanError(f"grid: {path}: a list of values is wanted")
         spelled = [json.dumps(value, sort_keys=True) for value in values]

@@ -31,9 +31,14 @@ REFUSED = 5
 REFUSAL = re.compile(r"study refused: rule (\d+), place (\d+)")
 
 
+def column_of(path: str) -> str:
+    """The column of a path of the grid: as it is called, with `study.` before it where another column is called so."""
+    return f"study.{path}" if path in ("point", *OWN_COLUMNS, *TABLE_COLUMNS) else path
+
+
 def columns(paths) -> list[str]:
     """The columns of a sweep over these paths."""
-    return ["point", *paths, *OWN_COLUMNS, *TABLE_COLUMNS]
+    return ["point", *map(column_of, paths), *OWN_COLUMNS, *TABLE_COLUMNS]
 
 
 def cell(value) -> str:
@@ -43,7 +48,8 @@ def cell(value) -> str:
 
 def rows_of(point: int, values: dict, key: str, status: int, written: str, note: str) -> list[dict]:
     """The rows of one run."""
-    start = {"point": point, **{path: cell(value) for path, value in values.items()}, "key": key, "status": status}
+    of_grid = {column_of(path): cell(value) for path, value in values.items()}
+    start = {"point": point, **of_grid, "key": key, "status": status}
     if status == REFUSED:
         rule, place = REFUSAL.search(note).groups()
         return [{**start, "rule": rule, "place": place}]

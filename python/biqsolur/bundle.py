@@ -223,8 +223,13 @@ def read_symbols(frames: Frames, parts: list[Part], stocks: int) -> list[str]:
     """The symbols of the stocks, as the opening of the first branch has them."""
     if not parts:
         return [str(stock) for stock in range(stocks)]
-    directory = frames.records(parts[0].branch + 2 + numpy.arange(stocks), layouts.FEED_DIRECTORY)
-    return [columns.symbol_text(int(symbol)) for symbol in directory["symbol"]]
+    first = parts[0].branch + 2
+    directory = frames.records(first + numpy.arange(stocks), layouts.FEED_DIRECTORY)
+    symbols = [columns.symbol_text(int(symbol)) for symbol in directory["symbol"]]
+    for stock, symbol in enumerate(symbols):
+        if symbol in symbols[:stock]:
+            raise BundleError(frames.path, frames.offset(first + stock), f"a second stock is called {symbol!r}")
+    return symbols
 
 
 def branch_name(frames: Frames, index: int) -> str:

@@ -139,7 +139,7 @@ class Generator:
                 "name": f"{self.random.choice(['b', '-', '_', 'wide'])}{place}",
                 "parent": parent["name"] if parent else "root",
                 "at": self.random.choice([least, self.random.randint(least, self.events), min(least + 40, self.events)]),
-                "edit": [self.edit() for _ in range(self.random.choice([0, 1, 3, 8]))],
+                "edit": [self.edit() for _ in range(self.random.choice([0, 1, 3, 8]))] + self.part_cancel(place),
             })
         return branches
 
@@ -159,6 +159,18 @@ class Generator:
         if kind == "series":
             return {"kind": kind, "stock": choose(self.symbols), "offset": between(-20, 20) * self.tick}
         return {"kind": kind, "agent": trader, "after": between(0, 3 * self.pace), "message": self.message(trader)}
+
+    def part_cancel(self, place):
+        """An order at the market or far below it, and a cancel that leaves a part of it."""
+        choose = self.random.choice
+        trader, token = self.random.randint(1, len(self.traders)), (b"PART%d" % place).ljust(14)
+        step = 15 * self.tick               # a multiple of each tick that holds below the market
+        price = step * choose([1, max(1, self.price // step)])
+        order = (b"O" + token + choose([b"B", b"B", b"S"]) + (900).to_bytes(4, "big") + choose(self.symbols).encode().ljust(8)
+                 + price.to_bytes(4, "big") + (99_999).to_bytes(4, "big") + b"ABIDYPN" + bytes(4) + b"NN")
+        cancel = b"X" + token + choose([400, 899]).to_bytes(4, "big")
+        return [{"kind": "inject", "agent": trader, "after": after, "message": message.hex()}
+                for after, message in ((0, order), (choose([0, self.pace // 2, 3 * self.pace]), cancel))]
 
     def message(self, trader):
         """An order or a cancel, some of which the exchange ignores or rejects."""

@@ -8,7 +8,8 @@ from collections import Counter
 import numpy
 import plain
 import pytest
-from conftest import ROOT
+import studies
+from conftest import ROOT, SEEDS
 
 import biqsolur
 
@@ -95,6 +96,24 @@ def test_edits_are_those_of_the_study(market, bundle):
         found = rows(branch.edits, ["event", "branch", "index", "kind"])
         assert [edit[1:] for edit in found] == [edit[1:] for edit in expected]
         assert all(event <= edit[0] for (event, *_), edit in zip(found, expected))
+
+
+def test_edits_are_those_of_the_plain_reader(bundle, plain_branches):
+    names = list(bundle.branches)
+    for branch, told in pairs(bundle, plain_branches):
+        edits = [frame for frame, _, _ in told.entries if frame[:1] == b"d"]
+        assert rows(branch.edits, ["event", "time", "branch", "index", "letter"]) == [
+            (plain.number(d, 1, 4), plain.number(d, 5, 8), names[plain.number(d, 13, 2)], plain.number(d, 15, 2), chr(d[17]))
+            for d in edits]
+
+
+def test_trades_are_the_matches_of_the_feed(bundle, plain_branches):
+    for branch, told in pairs(bundle, plain_branches):
+        matches = [(frame, message) for frame, _, behind in told.entries for message in behind if message[:1] == b"E"]
+        columns = ["event", "time", "stock", "reference", "shares", "match", "aggressor"]
+        assert rows(branch.trades, columns) == [
+            (plain.number(e, 1, 4), plain.number(m, 5, 6), plain.number(m, 1, 2) - 1, plain.number(m, 11, 8),
+             plain.number(m, 19, 4), plain.number(m, 23, 8), plain.number(e, 21, 2)) for e, m in matches]
 
 
 def test_closing_is_that_of_the_plain_reader(bundle, plain_branches):
@@ -264,6 +283,30 @@ def test_table_counts_what_the_frames_have(market, bundle, tmp_path):
         assert row.spread_sum == (quoted.ask - quoted.bid).sum()
         assert row.range == (taken.price.max() - taken.price.min() if len(taken) else 0)
         assert row.fees == branch.events.fee.sum() == sum(branch.closing.stocks.fees) == branch.trades.fees.sum()
+
+
+def test_the_studies_have_all_that_is_compared(program, tmp_path):
+    """The tests above say nothing of what no study has."""
+    feed, edits, put_back, messages = set(), set(), set(), set()
+    for seed in SEEDS:
+        study, series = studies.make_study(seed)
+        (tmp_path / "study.toml").write_text(studies.toml(study))
+        if series is not None:
+            (tmp_path / study["series"]).write_text(series)
+        data = subprocess.run([program, "run", "study.toml"], cwd=tmp_path, capture_output=True, check=True).stdout
+        for payload in plain.split_frames(data):
+            if payload[:1].isupper():
+                feed.add(payload[:1])
+            elif payload[:1] == b"d":
+                edits.add(payload[17:18])
+            elif payload[:1] == b"e" and payload[25:26] == b"P":
+                put_back.add(payload[42:43])
+            elif payload[:1] == b"e":
+                messages.add(payload[42:44])
+    assert feed == {b"S", b"R", b"H", b"A", b"E", b"X", b"D"}
+    assert edits == {b"t", b"f", b"h", b"r", b"l", b"p", b"s", b"i", b"v"}
+    assert put_back == {b"w", b"i", b"o", b"a", b"q"}
+    assert messages >= {b"w", b"iO", b"iX", b"oA", b"oC", b"oE", b"oJ"}
 
 
 def test_a_difference_of_a_dated_change_alone(program, tmp_path):

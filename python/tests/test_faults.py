@@ -96,7 +96,7 @@ def test_walkers_find_what_one_walker_finds(market, many_walkers):
     data = numpy.frombuffer(market.bundle.read_bytes(), numpy.uint8)
     damaged = data.copy()
     damaged[len(data) // 2:len(data) // 2 + 300] = 1
-    for part in (data, data[:-1], data[:-2], data[:-50], damaged):
+    for part in (data, *(data[:-cut] for cut in range(1, 8)), data[:-50], damaged):
         assert (frames.find_offsets(part) == frames.walk_alone(part)).all()
 
 
@@ -162,6 +162,21 @@ def test_two_branches_of_one_name(small):
     with pytest.raises(biqsolur.BundleError) as caught:
         biqsolur.read(path)
     assert caught.value.offset == 11 + len(branch) and "second branch is called 'root'" in caught.value.cause
+
+
+def test_two_stocks_of_one_symbol(market, tmp_path):
+    data = market.bundle.read_bytes()
+    at, places = 0, []
+    while len(places) < plain.number(data, 7, 2):
+        if data[at + 2:at + 3] == b"R":
+            places.append(at)
+        at += 2 + plain.number(data, at, 2)
+    for place in places[1:]:
+        path = tmp_path / "twice"
+        path.write_bytes(data[:place + 13] + data[places[0] + 13:places[0] + 21] + data[place + 21:])
+        with pytest.raises(biqsolur.BundleError, match="a second stock is called") as caught:
+            biqsolur.read(path)
+        assert caught.value.offset == place
 
 
 def test_a_feed_that_takes_what_is_not_there(program, tmp_path):
@@ -242,6 +257,11 @@ def test_times_on_request(market):
     events = biqsolur.timedeltas(biqsolur.read(market.bundle).branches["root"].events)
     assert str(events.time.dtype) == str(events.busy_until.dtype) == "timedelta64[ns]"
     assert events.time.astype("int64").tolist() == biqsolur.read(market.bundle).branches["root"].events.time.tolist()
+    root = biqsolur.read(market.bundle).branches["root"]
+    for frame, names in [(root.replies, ["time", "handled"]), (root.closing.agents, ["own_time"]), (root.book(1), ["time"])]:
+        changed = biqsolur.timedeltas(frame)
+        assert [name for name in changed if changed[name].dtype == "timedelta64[ns]"] == names
+        assert all(changed[name].astype("int64").tolist() == frame[name].tolist() for name in names)
 
 
 def test_the_parts_of_a_bundle_cover_its_frames(market):

@@ -93,6 +93,41 @@ def test_lobster_messages_replay_to_the_book(bundle, tmp_path):
                 assert list(map(int, line)) == expected
 
 
+def test_hidden_executions(market, bundle, tmp_path):
+    """The program rests no hidden order so far, so Trades are put among the feed: they change no book, and are rows of
+    type 5 without an order."""
+    payloads, sides, own = [], {}, []
+    for payload in plain.split_frames(market.bundle.read_bytes()):
+        payloads.append(payload)
+        if payload[:1] == b"A":
+            sides[payload[11:19]] = payload[19:36]
+        if payload[:1] == b"E":
+            own.append(10**6 + len(own))
+            payloads.append(b"P" + payload[1:11] + own[-1].to_bytes(8, "big") + sides[payload[11:19]] + own[-1].to_bytes(8, "big"))
+    path = tmp_path / "hidden.bundle"
+    path.write_bytes(b"".join(len(payload).to_bytes(2, "big") + payload for payload in payloads))
+    for branch, shown in zip(biqsolur.read(path).branches.values(), bundle.branches.values()):
+        feed, trades = branch.feed[branch.feed.kind == "P"], branch.trades[branch.trades.reference >= 10**6]
+        assert len(trades) == len(feed) == len(shown.trades)
+        columns = ["event", "time", "stock", "reference", "price", "shares", "match"]
+        assert trades[columns].values.tolist() == feed[columns].values.tolist()
+        assert [{"B": "S", "S": "B"}[side] for side in trades.side] == feed.side.tolist()
+        assert set(trades.resting) <= {-1} and trades.aggressor.tolist() == shown.trades.aggressor.tolist()
+        for one, name in ((branch, "with"), (shown, "without")):
+            biqsolur.to_lobster(tmp_path / f"{name}{one.number}", one, LEVELS)
+        for stock, symbol in enumerate(bundle.symbols):
+            name = lobster_name(symbol, stock)
+            (messages, old), (books, old_books) = ([table_of(tmp_path / f"{which}{branch.number}" / f"{name}_{kind}_{LEVELS}.csv")
+                                                    for which in ("with", "without")] for kind in ("message", "orderbook"))
+            hidden = [place for place, message in enumerate(messages) if message[1] == "5"]
+            assert [message for message in messages if message[1] != "5"] == old
+            assert [books[place] for place in range(len(books)) if place not in set(hidden)] == old_books
+            assert all(books[place] == books[place - 1] for place in hidden)
+            assert [messages[place][2:] for place in hidden] == [
+                ["0", str(row.shares), str(row.price), {"B": "1", "S": "-1"}[row.side]]
+                for row in feed[feed.stock == stock].itertuples()]
+
+
 def test_csv_files_have_each_frame(bundle, tmp_path):
     folder = tmp_path / "out"
     bundle.to_csv(folder)
@@ -145,10 +180,17 @@ def test_rewinds_are_those_of_the_plain_reader(market, bundle, tmp_path):
         assert list(zip(*(waiting[column].tolist() for column in columns))) == [
             (plain.number(w, 1, 8), plain.number(w, 9, 8), plain.number(w, 17, 2), plain.number(w, 19, 2))
             for w in of_kind[b"w"]]
-        tokens = [plain.text(w[23:37]) for w in of_kind[b"w"] if w[21:22] == b"i"]
-        assert rewind.tokens.texts(state.waiting_orders.token) == tokens
-        assert len(state.waiting_replies) == (waiting.kind == "reply").sum()
-        assert len(state.waiting_quotes) == (waiting.kind == "quote").sum()
+        branch = bundle.branches[state.branch]
+        assert (state.number, state.parent_number) == (branch.number, branch.parent_number if branch.parent else None)
+        # A waiting message as an event's frame: the same fields of the message in other places.
+        events = [b"e" + bytes(4) + w[1:21] + bytes(17) + w[21:] for w in of_kind[b"w"]]
+        for frame, body, row in [(state.waiting_orders, b"i", plain.order_row), (state.waiting_replies, b"o", plain.reply_row),
+                                 (state.waiting_quotes, b"q", plain.quote_row)]:
+            if "token" in frame:
+                frame = frame.assign(token=rewind.tokens.texts(frame.token))
+            names = [name for name in frame if not name.endswith("_dollars") and (name != "symbol" or body != b"q")]
+            found = list(zip(*(frame[name].tolist() for name in names)))
+            assert found == [row(event)[1:] for event in events if event[42:43] == body]
     assert payloads == [b"z" + len(arguments).to_bytes(2, "big")]
 
 

@@ -112,6 +112,25 @@ def test_the_accounts_are_the_closings(made):
             assert int(shares) == agent.position_ABM
 
 
+def test_the_pictures_end_as_the_frames_do(made):
+    """The last point of each picture is the last book, all trades and all fees."""
+    folder, _ = made
+    bundle = biqsolur.read(folder / "halt.bundle")
+    page = report_data.page_data(bundle, report_data.bundle_data(bundle))
+    assert len(page["branches"]) == len(bundle.branches)
+    for data, branch in zip(page["branches"], bundle.branches.values()):
+        (series,) = data["stocks"]
+        last = branch.book(report_series.LEVELS).iloc[-1]
+        for side, columns in zip(("bid", "ask"), series["depth"][1:]):
+            shares = [last[f"{side}_shares_{level}"] for level in range(1, report_series.LEVELS + 1)]
+            assert [column[-1] for column in columns] == shares
+        both = last.bid_1 > 0 and last.ask_1 > 0
+        assert series["mid"][1][-1] == (last.bid_1 + last.ask_1 if both else None)
+        assert series["spread"][1][-1] == (last.ask_1 - last.bid_1 if both else None)
+        assert series["volume"][1][-1] == branch.trades.shares.sum() > 0
+        assert series["fees"][1][-1] == branch.trades.fees.sum() != 0
+
+
 def test_nothing_outside_is_referred_to(made):
     page = (made[0] / "halt.html").read_text()
     assert all(value.startswith("#") for value in tables_of(page).references)

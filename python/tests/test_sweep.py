@@ -24,6 +24,7 @@ HOME = pathlib.Path(__file__).resolve().parents[2]
 SWEEP = HOME / "sweep"
 sys.path.insert(0, str(SWEEP))
 
+import gather  # noqa: E402
 import plan  # noqa: E402
 import student  # noqa: E402
 import summary  # noqa: E402
@@ -226,6 +227,14 @@ def test_the_summary_by_hand():
     assert math.isclose(2 - row["low"], row["high"] - 2, rel_tol=1e-12)
 
 
+def test_pairs_are_of_one_key():
+    """In whatever order the rows of the parent and of the branch stand."""
+    rows = [row for row in sample_rows(3) if row["point"] == "0"]
+    roots = [row for row in rows if row["branch"] == "root"]
+    others = [row for row in rows if row["branch"] != "root"]
+    assert summary.summary_rows([*reversed(roots), *others], ["size"]) == summary.summary_rows([*roots, *others], ["size"])
+
+
 def test_one_key_has_no_interval():
     rows = [row for row in sample_rows(1) if row["key"] == "0" * 64]
     for row in summary.summary_rows(rows, ["size"]):
@@ -274,8 +283,10 @@ def test_odd_values_are_written_as_they_are():
     ({"grid": {"agent.noise.size": [1, 1]}}, "twice"),
     ({"grid": {"agent.nose.size": [1]}}, "no entries are 'nose'; a number from 0 to 1 is one"),
     ({"grid": {"agent.2.size": [1]}}, "no entries are '2'"),
+    ({"grid": {"agent.noise.size": [1], "agent.1.size": [2]}}, "agent.1.size: a path before it leads to the same place"),
     ({"grid": {"exchnge.delay": [1]}}, "the study has no 'exchnge' there"),
     ({"grid": {"key.x": [1]}}, "nothing is below"),
+    ({"grid": {"key": ["0" * 64]}}, "the keys of a sweep stand in `keys`"),
     ({"reports": "some"}, "reports"),
     ({"studies": "x"}, "no such setting: studies"),
     ({"study": "nowhere.toml"}, "can't be read"),
@@ -287,6 +298,22 @@ def test_a_configuration_that_is_none(changes, said):
     assert said in str(fault.value)
 
 
+@needs_program
+def test_a_path_that_is_called_as_a_column(tmp_path):
+    """What the grid says of `events` and how many events a run had are two columns, and a summary's rows keep the first."""
+    made = []
+    for point, events in enumerate((6000, 0, 7000)):
+        words = ["--program", PROGRAM, "--study", str(STUDY), "--point", str(point), "--key", "0" * 64, "--set",
+                 json.dumps({"events": events}), "--to", str(tmp_path / "study.toml"), "--output", str(tmp_path / f"{point}.csv")]
+        subprocess.run([sys.executable, str(SWEEP / "run_point.py"), "table", *words], check=True)
+        made += rows_of(tmp_path / f"{point}.csv")
+    assert {(row["study.events"], row["events"]) for row in made} == {("6000", "6000"), ("0", ""), ("7000", "7000")}
+    gather.gather([tmp_path / f"{point}.csv" for point in range(3)], tmp_path / "points.csv")
+    summary.summarise(tmp_path / "points.csv", tmp_path / "summary.csv")
+    said = {(row["point"], row["study.events"], row["keys"], row["refused"]) for row in rows_of(tmp_path / "summary.csv")}
+    assert said == {("0", "6000", "1", "0"), ("1", "0", "0", "1"), ("2", "7000", "1", "0")}
+
+
 def test_a_path_by_name_and_by_number():
     study = tomllib.loads(STUDY.read_text())
     values = {"branch.wide.edit.0.bands": [[0, 7]], "agent.1.size": 9, "stock.ABM.take": 5, "stride": 100}
@@ -294,6 +321,8 @@ def test_a_path_by_name_and_by_number():
     assert made["branch"][0]["edit"][0]["bands"] == [[0, 7]] and made["agent"][1]["size"] == 9
     assert made["stock"][0]["take"] == 5 and made["stride"] == 100 and made["key"] == "0" * 64
     assert study["agent"][1]["size"] == 100 and "stride" not in study
+    values = {"exchange": {"group": 0, "delay": 1}, "exchange.delay": 2}
+    assert plan.changed(study, values, "0" * 64)["exchange"]["delay"] == 2 and values["exchange"]["delay"] == 1
 
 
 @needs_snakemake
