@@ -105,7 +105,8 @@ def report(words) -> None:
             sys.exit(made.returncode)
         os.replace(page, words.output)
     finally:
-        os.remove(bundle)
+        if os.path.exists(bundle):
+            os.remove(bundle)
 
 
 def main() -> None:

@@ -73,8 +73,9 @@ class Branch:
     @cached_property
     def replies(self) -> pandas.DataFrame:
         """A row a reply that was delivered: event, time (ns; when the agent heard it), agent, kind ("accepted",
-        "executed", "canceled", "rejected"), handled (the exchange's time, ns), token, side, shares, symbol, price,
-        price_dollars, reference, match, flag ("A" added, "R" removed liquidity), reason."""
+        "executed", "canceled", "rejected"), handled (the exchange's time, ns), token, side, shares (of an
+        execution those that traded, of a canceled order those that went), symbol, price, price_dollars, reference,
+        match, flag ("A" added, "R" removed liquidity), reason."""
         return messages.replies_frame(self._source, self._event_frames(put_back=False))
 
     @cached_property
@@ -87,7 +88,7 @@ class Branch:
     def feed(self) -> pandas.DataFrame:
         """A row a feed message, in order: event (the one that it came with; 0 at the opening, of an edit the number
         of events before it), time (ns), source ("opening", "event", "change", "edit", "close"), kind (ITCH's letter:
-        S R H A E X D P), stock, symbol, reference, side, shares, price (of A and P), price_dollars, match,
+        S R H A E X D P Q), stock, symbol, reference, side, shares, price (of A, P and Q), price_dollars, match,
         state (of H; of S its code)."""
         return feed.feed_frame(self.bundle.frames, self.part, self.symbols)
 

@@ -92,6 +92,18 @@ def message_columns(source: Source, indexes: numpy.ndarray, agent: str) -> dict[
     return {**first, "time": columns.whole(head["time"]), "agent": columns.small(head[agent])}
 
 
+def named_order_columns(source: Source, table: Table) -> dict:
+    """The columns of the order that a message names."""
+    return {
+        "token": table.columns["token"],
+        "side": columns.words(table.columns["side"], columns.SIDES),
+        "shares": table.columns["shares"],
+        "symbol": columns.symbols_of(table.columns["symbol"], source.symbols),
+        "price": table.columns["price"],
+        "price_dollars": columns.dollars(table.columns["price"]),
+    }
+
+
 def orders_frame(source: Source, indexes: numpy.ndarray) -> pandas.DataFrame:
     """A row an order message, of the frames that have one."""
     indexes = source.with_bodies(indexes, list(ORDER_SIZES))
@@ -104,12 +116,7 @@ def orders_frame(source: Source, indexes: numpy.ndarray) -> pandas.DataFrame:
     return pandas.DataFrame({
         **message_columns(source, indexes, "sender"),
         "kind": table.kinds(ORDER_SIZES),
-        "token": table.columns["token"],
-        "side": columns.words(table.columns["side"], columns.SIDES),
-        "shares": table.columns["shares"],
-        "symbol": columns.symbols_of(table.columns["symbol"], source.symbols),
-        "price": table.columns["price"],
-        "price_dollars": columns.dollars(table.columns["price"]),
+        **named_order_columns(source, table),
         "time_in_force": table.columns["time_in_force"],
     }, copy=False)
 
@@ -128,12 +135,7 @@ def replies_frame(source: Source, indexes: numpy.ndarray) -> pandas.DataFrame:
         **message_columns(source, indexes, "receiver"),
         "kind": table.kinds(REPLY_SIZES),
         "handled": columns.whole(table.columns["handled"]),
-        "token": table.columns["token"],
-        "side": columns.words(table.columns["side"], columns.SIDES),
-        "shares": table.columns["shares"],
-        "symbol": columns.symbols_of(table.columns["symbol"], source.symbols),
-        "price": table.columns["price"],
-        "price_dollars": columns.dollars(table.columns["price"]),
+        **named_order_columns(source, table),
         "reference": columns.whole(table.columns["reference"]),
         "match": columns.whole(table.columns["match"]),
         "flag": columns.letters(table.columns["flag"], "AR"),
