@@ -28,7 +28,7 @@ pub(crate) fn opened(rt: &impl Abort, alloc: Global) -> Exchange
         ticks,
         fees: FeeTable { add: -20, take: 30 },
     }];
-    let Ok(exchange) = Exchange::open(alloc, &rules, &[0, 0, 0]) else {
+    let Ok(exchange) = Exchange::open(alloc, &rules, &[0, 0, 0], false) else {
         panic!(rt; "no exchange");
     };
     exchange

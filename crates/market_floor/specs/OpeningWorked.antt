@@ -44,6 +44,7 @@ market_of close limit delay traders = record {
   stocks = abm ∷ [];
   series = ten_dollars close ∷ [];
   dated = [];
+  hidden = false;
   traders = traders;
 }
 
