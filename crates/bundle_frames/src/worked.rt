@@ -1,6 +1,6 @@
 //! Frames and their layouts on worked examples.
 
-ghost use Rattle.std.specs.Prelude.{◌≡◌, ◌++◌, [], ◌∷◌, codes};
+ghost use Rattle.std.specs.Prelude.{◌≡◌, ◌++◌, [], ◌∷◌, codes, false};
 ghost use Rattle.market_types.specs.declared.message.Body.TheVariants as body;
 ghost use Rattle.market_types.specs.declared.order.Inbound.TheVariants as inbound;
 ghost use Rattle.market_types.specs.declared.reply.Reply.TheVariants as reply;
