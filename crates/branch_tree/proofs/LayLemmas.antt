@@ -5,11 +5,13 @@ use Rattle.std.proofs.lemmas.Bool.{cases_lt, ne_eqb}
 use Rattle.std.proofs.lemmas.List.{get_or_append_left, get_or_push, at_drop_more, take_more, get_or_default}
 use Rattle.branch_tree.specs.declared.branch.Branch.{Branch}
 use Rattle.branch_tree.specs.declared.segment.Segment.{Segment}
+use Rattle.branch_tree.specs.declared.stop.Stop.{Stop}
+use Rattle.branch_tree.specs.declared.stop.Stop.TheVariants.{At}
 use Rattle.branch_tree.specs.Plan.{no_branch, parent_at, stop_at}
-use Rattle.branch_tree.specs.Tree.{same_name, repeated_from}
+use Rattle.branch_tree.specs.Tree.{same_name, repeated_from, mixes, mixed_from}
 use Rattle.branch_tree.specs.Planned.{IsTree}
 use Rattle.branch_tree.specs.Segments.{cuts_of, count_before, place_among, origin_of, parts, segments_before, counted, numbers_of}
-use Rattle.branch_tree.proofs.CutLemmas.{place-at, cuts-have}
+use Rattle.branch_tree.proofs.CutLemmas.{cuts-place}
 
 -- one item more of a list that a function gives
 pub each_push : {X : Type 0} (f : ℕ → X) (xs : List X) (d x : X) (n : ℕ) → length xs ≡ n → ((k : ℕ) → k < n → get_or xs k d ≡ f k) → x ≡ f n → (k : ℕ) → k < n + 1 → get_or (xs ++ x ∷ []) k d ≡ f k
@@ -41,6 +43,29 @@ pub repeated-next : (bs before : List Branch) (i : ℕ) (b : Branch) → i < len
     → repeated_from (take i bs) i (drop i bs) ≡ repeated_from (take (i + 1) bs) (i + 1) (drop (i + 1) bs)
 repeated-next bs before i b l p at h = repeated-step bs i l ∙ rw (named_by bs before i b false l p at h) refl
 
+mixed-step : (bs : List Branch) (k i : ℕ) → i < length bs → mixed_from (take i bs) k (drop i bs)
+    ≡ cond (list_any (λ (a : Branch). mixes a (get_or bs i no_branch)) (take i bs)) (Some k) (mixed_from (take (i + 1) bs) (k + 1) (drop (i + 1) bs))
+mixed-step bs k i l =
+    let b = get_or bs i no_branch in
+    at_drop_more (mixed_from (take i bs) k) bs i no_branch l
+    ∙ ap (λ (ts : List Branch). cond (list_any (λ (a : Branch). mixes a b) (take i bs)) (Some k) (mixed_from ts (k + 1) (drop (i + 1) bs))) (sym (take_more bs i no_branch l))
+
+mixed_by : (bs before : List Branch) (i : ℕ) (b : Branch) (t : Bool) → i < length bs → before ≡ take i bs → b ≡ get_or bs i b → t ≡ list_any (λ (a : Branch). mixes a b) before
+    → list_any (λ (a : Branch). mixes a (get_or bs i no_branch)) (take i bs) ≡ t
+mixed_by bs before i b t l p at h =
+    ap (λ (x : Branch). list_any (λ (a : Branch). mixes a x) (take i bs)) (sym (at ∙ get_or_default bs i b no_branch l))
+    ∙ ap (λ (xs : List Branch). list_any (λ (a : Branch). mixes a b) xs) (sym p) ∙ sym h
+
+-- a branch leaves its parent at another kind of stop than one before it
+pub mixed-here : (bs before : List Branch) (k i : ℕ) (b : Branch) → i < length bs → before ≡ take i bs → b ≡ get_or bs i b → true ≡ list_any (λ (a : Branch). mixes a b) before
+    → mixed_from (take i bs) k (drop i bs) ≡ Some k
+mixed-here bs before k i b l p at h = mixed-step bs k i l ∙ rw (mixed_by bs before i b true l p at h) refl
+
+-- and where it doesn't
+pub mixed-next : (bs before : List Branch) (k i : ℕ) (b : Branch) → i < length bs → before ≡ take i bs → b ≡ get_or bs i b → false ≡ list_any (λ (a : Branch). mixes a b) before
+    → mixed_from (take i bs) k (drop i bs) ≡ mixed_from (take (i + 1) bs) (k + 1) (drop (i + 1) bs)
+mixed-next bs before k i b l p at h = mixed-step bs k i l ∙ rw (mixed_by bs before i b false l p at h) refl
+
 pub length-counted : (k n : ℕ) → length (counted k n) ≡ n
 length-counted k zero = refl
 length-counted k (suc n) = omega (arith, length-counted (k + 1) n)
@@ -64,18 +89,18 @@ pub fork-number : (bs : List Branch) (limit b place : ℕ) → IsTree bs limit �
     → ◌≡◌ {A = Option ℕ} (Some (get_or (numbers_of (record { branches = bs; limit = limit }) (parent_at bs b)) place 0)) (origin_of bs b)
 fork-number bs limit b place t pos l e =
     let q = parent_at bs b in
-    let there = place-at (stop_at bs b) (cuts_of bs q) 0 (cuts-have bs b pos l) in
+    let there = cuts-place bs limit b (At 0) t pos l in
     rw (ne_eqb b 0 (omega arith)) (ap (λ (n : ℕ). Some n)
     (ap (λ (i : ℕ). get_or (counted (count_before bs q) (length (cuts_of bs q) + 1)) i 0) e ∙ counted-at (count_before bs q) (length (cuts_of bs q) + 1) (place_among (stop_at bs b) (cuts_of bs q)) 0 (omega (arith, there.0))))
 
 -- one branch's segments more
-pub segments-more : (bs : List Branch) (limit b n : ℕ) (xs : List Segment) (parent : Option ℕ) (stop : ℕ) (cuts : List ℕ)
+pub segments-more : (bs : List Branch) (limit b n : ℕ) (xs : List Segment) (parent : Option ℕ) (stop : Stop) (cuts : List Stop)
     → xs ≡ segments_before bs limit b → n ≡ count_before bs b → parent ≡ origin_of bs b → stop ≡ stop_at bs b → cuts ≡ cuts_of bs b
     → xs ++ parts limit b n parent stop cuts ≡ segments_before bs limit (b + 1)
 segments-more bs limit b n xs parent stop cuts ex en ep es ec =
     ap (λ (ys : List Segment). ys ++ parts limit b n parent stop cuts) ex
     ∙ ap (λ (m : ℕ). segments_before bs limit b ++ parts limit b m parent stop cuts) en
     ∙ ap (λ (o : Option ℕ). segments_before bs limit b ++ parts limit b (count_before bs b) o stop cuts) ep
-    ∙ ap (λ (s : ℕ). segments_before bs limit b ++ parts limit b (count_before bs b) (origin_of bs b) s cuts) es
-    ∙ ap (λ (cs : List ℕ). segments_before bs limit b ++ parts limit b (count_before bs b) (origin_of bs b) (stop_at bs b) cs) ec
+    ∙ ap (λ (s : Stop). segments_before bs limit b ++ parts limit b (count_before bs b) (origin_of bs b) s cuts) es
+    ∙ ap (λ (cs : List Stop). segments_before bs limit b ++ parts limit b (count_before bs b) (origin_of bs b) (stop_at bs b) cs) ec
     ∙ sym (ap (λ (m : ℕ). segments_before bs limit m) (add-one b))

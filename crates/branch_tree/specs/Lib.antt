@@ -1,4 +1,5 @@
 pub mod Names
+pub mod Stops
 pub mod Plan
 pub mod Tree
 pub mod Paths

@@ -1,6 +1,8 @@
 -- The branches of a study as plain data.
 use Rattle.std.specs.Prelude.{ℕ, List, [], slice_index_or}
 use Rattle.branch_tree.specs.declared.branch.Branch.{Branch}
+use Rattle.branch_tree.specs.declared.stop.Stop.{Stop}
+use Rattle.branch_tree.specs.declared.stop.Stop.TheVariants.{At}
 
 -- The branches, the root first, and the most events of a run.
 pub record Plan : Type 0 where
@@ -9,7 +11,7 @@ pub record Plan : Type 0 where
 
 -- the data of no branch
 abbrev pub no_branch : Branch
-no_branch = record { name = []; parent = 0; stop = 0; edits = [] }
+no_branch = record { name = []; parent = 0; stop = At 0; edits = [] }
 
 -- a branch by its number
 abbrev pub branch_at : List Branch → ℕ → Branch
@@ -19,6 +21,6 @@ branch_at branches b = slice_index_or branches b no_branch
 abbrev pub parent_at : List Branch → ℕ → ℕ
 parent_at branches b = (branch_at branches b).parent
 
--- the event number at which a branch leaves it
-abbrev pub stop_at : List Branch → ℕ → ℕ
+-- the stop at which a branch leaves it
+abbrev pub stop_at : List Branch → ℕ → Stop
 stop_at branches b = (branch_at branches b).stop

@@ -2,21 +2,25 @@
 use Rattle.std.specs.Prelude.{ℕ, ◌+◌, ◌==◌, Bool, false, nat_lt, if◌then◌else◌, List, [], ◌∷◌, ◌++◌, Option, Some, None, length, slice_index_or, suc, zero}
 use Rattle.branch_tree.specs.declared.branch.Branch.{Branch}
 use Rattle.branch_tree.specs.declared.segment.Segment.{Segment}
+use Rattle.branch_tree.specs.declared.stop.Stop.{Stop}
+use Rattle.branch_tree.specs.declared.stop.Stop.TheVariants.{At}
+use Rattle.branch_tree.specs.Stops.{number_of}
 use Rattle.branch_tree.specs.Plan.{Plan, parent_at, stop_at}
 
--- a stop joins stops that rise, and stands there once
-abbrev pub joined_stop : ℕ → List ℕ → List ℕ
+-- a stop joins stops of its kind that rise, and stands there once
+abbrev pub joined_stop : Stop → List Stop → List Stop
 joined_stop x [] = x ∷ []
 joined_stop x (y ∷ ys) =
-    if nat_lt x y then x ∷ (y ∷ ys) else (if x == y then y ∷ ys else y ∷ joined_stop x ys)
+    if nat_lt (number_of x) (number_of y) then x ∷ (y ∷ ys)
+    else (if number_of x == number_of y then y ∷ ys else y ∷ joined_stop x ys)
 
 -- the distinct stops at which branches of a list leave a branch, rising
-abbrev pub stops_among : ℕ → List Branch → List ℕ
+abbrev pub stops_among : ℕ → List Branch → List Stop
 stops_among b [] = []
 stops_among b (c ∷ cs) = if c.parent == b then joined_stop c.stop (stops_among b cs) else stops_among b cs
 
 -- the distinct stops at which its children leave a branch, rising; the root is no child
-abbrev pub cuts_of : List Branch → ℕ → List ℕ
+abbrev pub cuts_of : List Branch → ℕ → List Stop
 cuts_of [] b = []
 cuts_of (root ∷ bs) b = stops_among b bs
 
@@ -29,10 +33,10 @@ count_before branches (suc b) = count_before branches b + (length (cuts_of branc
 abbrev pub last_of : List Branch → ℕ → ℕ
 last_of branches b = count_before branches b + length (cuts_of branches b)
 
--- how many of these stops come before a stop
-abbrev pub place_among : ℕ → List ℕ → ℕ
+-- how many of these stops come before a stop of their kind
+abbrev pub place_among : Stop → List Stop → ℕ
 place_among x [] = 0
-place_among x (y ∷ ys) = if x == y then 0 else place_among x ys + 1
+place_among x (y ∷ ys) = if number_of x == number_of y then 0 else place_among x ys + 1
 
 -- the segment from whose end a branch goes on: that of its parent which ends at the stop and isn't the parent's last
 abbrev pub fork_of : List Branch → ℕ → ℕ
@@ -45,9 +49,9 @@ origin_of branches b = if b == 0 then None else Some (fork_of branches b)
 
 -- A branch's segments from this number and this start on, cut at these stops: each but the first goes on from the one
 -- before it, and the last runs to the limit of events.
-abbrev pub parts : ℕ → ℕ → ℕ → Option ℕ → ℕ → List ℕ → List Segment
+abbrev pub parts : ℕ → ℕ → ℕ → Option ℕ → Stop → List Stop → List Segment
 parts limit branch number parent start [] =
-    record { branch = branch; start = start; stop = limit; parent = parent } ∷ []
+    record { branch = branch; start = start; stop = At limit; parent = parent } ∷ []
 parts limit branch number parent start (cut ∷ cuts) =
     record { branch = branch; start = start; stop = cut; parent = parent }
     ∷ parts limit branch (number + 1) (Some number) cut cuts
@@ -68,7 +72,7 @@ segments_in p = segments_before p.branches p.limit (length p.branches)
 
 -- no segment
 abbrev pub no_segment : Segment
-no_segment = record { branch = 0; start = 0; stop = 0; parent = None }
+no_segment = record { branch = 0; start = At 0; stop = At 0; parent = None }
 
 -- a segment by its number
 abbrev pub segment_at : Plan → ℕ → Segment

@@ -3,19 +3,20 @@
 ghost use Rattle.std.specs.Prelude.{◌≡◌, IfOk};
 
 use crate::name::Name;
+use crate::stop::Stop;
 use market_rules::Edit;
 use market_types::{Memory, Sequence};
 use std::alloc::Global;
 
-/// A run that leaves another at an event number and goes on with edits.
+/// A run that leaves another at an event number or at a time and goes on with edits.
 #[derive(Drop)]
 pub struct Branch {
     /// Its name.
     pub name: Name,
     /// The number of the branch that it leaves; 0 for the root itself.
     pub parent: u16,
-    /// The event number at which it leaves.
-    pub stop: u32,
+    /// Where it leaves.
+    pub stop: Stop,
     /// What it changes there, in order.
     pub edits: Sequence<Edit>,
 }

@@ -9,10 +9,10 @@ pub enum PlanError {
     /// This branch's parent isn't an earlier branch.
     #[error("branch {0} does not come after its parent")]
     ParentNotBefore(usize),
-    /// This branch's stop is less than its parent's, or greater than the study's limit of events.
+    /// This branch's stop is an event number above the study's limit, or less than its parent's of the same kind.
     #[error("branch {0} leaves its parent out of range")]
     StopOutOfRange(usize),
-    /// More than 128 branches.
+    /// More than 256 branches.
     #[error("{0} branches are too many")]
     TooManyBranches(usize),
     /// This branch has the name of an earlier one.
@@ -24,4 +24,7 @@ pub enum PlanError {
     /// Want of memory.
     #[error("out of memory")]
     Memory,
+    /// This branch's stop isn't of the kind of an earlier branch's with the same parent.
+    #[error("branch {0} does not leave its parent as an earlier branch does")]
+    StopsMixed(usize),
 }

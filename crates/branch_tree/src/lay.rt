@@ -9,6 +9,7 @@ use crate::branch::Branch;
 use crate::cuts::{cuts, place_of};
 use crate::lists::{add, count_from};
 use crate::segment::Segment;
+use crate::stop::Stop;
 use market_types::{Memory, Sequence};
 use std::alloc::Global;
 
@@ -18,8 +19,8 @@ fn add_parts(
     limit: u32,
     branch: u16,
     origin: Option<u32>,
-    from: u32,
-    cuts: &[u32],
+    from: Stop,
+    cuts: &[Stop],
 ) -> Result<(), Memory>
     requires { length segments.old.items + (length cuts.now + 1) < 2 ^ 32 }
     ensures { OnOk result (segments.new.items ≡ segments.old.items ++ parts limit branch (length segments.old.items) origin from cuts.now) }
@@ -46,7 +47,7 @@ fn add_parts(
         Segment {
             branch,
             start,
-            stop: limit,
+            stop: Stop::At(limit),
             parent,
         },
     )
@@ -86,7 +87,7 @@ pub struct Laid {
 /// The segments of all branches.
 pub fn all_segments(alloc: Global, branches: &[Branch], limit: u32) -> Result<Laid, Memory>
     requires tree { IsTree branches.now limit }
-    requires few { length branches.now ≤ 128 }
+    requires few { length branches.now ≤ 256 }
     ensures segments { IfOk result (λ l. l.segments.items ≡ segments_in (record { branches = branches.now; limit = limit })) }
     ensures short { IfOk result (λ l. length l.segments.items < 2 ^ 32) }
     ensures count { IfOk result (λ l. length l.numbers.items ≡ length branches.now) }

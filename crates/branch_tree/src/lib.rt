@@ -12,6 +12,7 @@ mod name;
 mod paths;
 mod refusals;
 mod segment;
+mod stop;
 pub mod worked;
 
 pub use branch::Branch;
@@ -19,3 +20,4 @@ pub use branch_plan::{BranchPlan, plan};
 pub use error::PlanError;
 pub use name::Name;
 pub use segment::Segment;
+pub use stop::Stop;

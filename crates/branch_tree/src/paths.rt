@@ -41,7 +41,7 @@ pub fn all_paths(
     limit: u32,
 ) -> Result<Vec<Sequence<u16>>, Memory>
     requires tree { IsTree branches.now limit }
-    requires few { length branches.now ≤ 128 }
+    requires few { length branches.now ≤ 256 }
     ensures count { IfOk result (λ v. length v.items ≡ length branches.now) }
     ensures paths { IfOk result (λ v. (b : ℕ) → b < length branches.now → slice_index_or v.items b [] ≡ path_of branches.now b) }
 {

@@ -1,13 +1,14 @@
 //! Why branches are no tree.
 
-ghost use Rattle.std.specs.Prelude.{◌≡◌, ◌<◌, ◌≤◌, ◌*◌, length, None};
+ghost use Rattle.std.specs.Prelude.{◌≡◌, ◌<◌, ◌≤◌, ◌*◌, [], length, None};
 ghost use Rattle.std.specs.List.{list_any};
 ghost use Rattle.branch_tree.specs.declared.branch.Branch.{Branch};
 ghost use Rattle.branch_tree.specs.Plan.{stop_at};
-ghost use Rattle.branch_tree.specs.Tree.{late_parent, is_in_range, out_of_range, same_name, repeated_name, too_many, too_much, plan_refusal};
+ghost use Rattle.branch_tree.specs.Tree.{late_parent, is_in_range, out_of_range, same_name, repeated_name, mixes, mixed_from, mixed_stop, too_many, too_much, plan_refusal};
 
 use crate::branch::Branch;
 use crate::error::PlanError;
+use crate::stop::Stop;
 
 // The first branch after the root whose parent isn't an earlier branch.
 fn place_of_late(branches: &[Branch]) -> Option<usize>
@@ -22,21 +23,22 @@ fn place_of_late(branches: &[Branch]) -> Option<usize>
     None
 }
 
-// The event number at which a branch leaves its parent; 0 where there is no such branch.
-fn stop_of(branches: &[Branch], branch: u16) -> u32
+// The stop at which a branch leaves its parent; event number 0 where there is no such branch.
+fn stop_of(branches: &[Branch], branch: u16) -> Stop
     ensures { result ≡ stop_at branches.now branch }
 {
     match branches.get(usize::from(branch)) {
         Some(b) => b.stop,
-        None => 0,
+        None => Stop::At(0),
     }
 }
 
-// Whether a branch leaves its parent no earlier than the parent left its own, and within the limit of events.
+// Whether a branch leaves its parent within the limit of events, and at no lesser stop than the parent's own of the same
+// kind.
 fn within(branches: &[Branch], limit: u32, b: &Branch) -> bool
     ensures { result ≡ is_in_range limit branches.now b.now }
 {
-    b.stop <= limit && stop_of(branches, b.parent) <= b.stop
+    b.stop.is_within(limit) && b.stop.is_from(stop_of(branches, b.parent))
 }
 
 // The first branch with a stop out of range.
@@ -82,11 +84,53 @@ fn place_of_repeated(branches: &[Branch]) -> Option<usize>
     None
 }
 
-// More than 128 branches.
+// Whether two branches leave one parent at stops of two kinds.
+fn differ(a: &Branch, b: &Branch) -> bool
+    ensures { result ≡ mixes a.now b.now }
+{
+    a.parent == b.parent && !a.stop.is_like(b.stop)
+}
+
+// Whether one of these branches leaves the parent of a branch at a stop of another kind.
+fn is_mixed(before: &[Branch], b: &Branch) -> bool
+    ensures { result ≡ list_any (λ (a : Branch). mixes a b.now) before.now }
+{
+    for a in before {
+        if differ(a, b) {
+            return true;
+        }
+    }
+    false
+}
+
+// The first branch of these, the first of which is branch 1, whose kind of stop isn't that of one before it with the same
+// parent.
+fn place_among_children(children: &[Branch]) -> Option<usize>
+    ensures { result ≡ mixed_from [] 1 children.now }
+{
+    for i in 0..children.len() {
+        if is_mixed(&children[..i], &children[i]) {
+            return Some(i + 1);
+        }
+    }
+    None
+}
+
+// The first branch whose kind of stop isn't that of an earlier branch with the same parent.
+fn place_of_mixed(branches: &[Branch]) -> Option<usize>
+    ensures { result ≡ mixed_stop branches.now }
+{
+    match branches {
+        [] => None,
+        [_, children @ ..] => place_among_children(children),
+    }
+}
+
+// More than 256 branches.
 fn many(count: usize) -> Option<PlanError>
     ensures { result ≡ too_many count }
 {
-    if count > 128 {
+    if count > 256 {
         Some(PlanError::TooManyBranches(count))
     } else {
         None
@@ -95,7 +139,7 @@ fn many(count: usize) -> Option<PlanError>
 
 // More than 4,000,000 events of all branches.
 fn much(count: usize, limit: u32) -> Option<PlanError>
-    requires { count ≤ 128 }
+    requires { count ≤ 256 }
     ensures { result ≡ too_much count limit }
 {
     if count as u64 * u64::from(limit) > 4_000_000 {
@@ -122,5 +166,11 @@ pub fn refusal_of(branches: &[Branch], limit: u32) -> Option<PlanError>
     if let Some(place) = place_of_repeated(branches) {
         return Some(PlanError::NameTwice(place));
     }
-    much(branches.len(), limit)
+    if let Some(error) = much(branches.len(), limit) {
+        return Some(error);
+    }
+    if let Some(place) = place_of_mixed(branches) {
+        return Some(PlanError::StopsMixed(place));
+    }
+    None
 }

@@ -58,7 +58,7 @@ kept-more f c n xs x h e =
 pub run-ends : (c : CourseTold) (s : ℕ) (r : Run) → IsCourse c → s < length (segments_in c.plan) → r ≡ segment_run c.opening c.plan (segment_at c.plan s)
     → r.state ≡ (segment_end c.opening c.plan (segment_at c.plan s)).state
 run-ends c s r h l e =
-    ap (λ (q : Run). q.state) e ∙ sym (ap (λ (q : Run). q.state) (segment-copy c.opening c.plan s (course-tree c h) l))
+    ap (λ (q : Run). q.state) e ∙ sym (ap (λ (q : Run). q.state) (segment-copy c.opening c.plan s (course-tree c h) h.limit l))
 
 pub ran-ends : (c : CourseTold) (k : Keep) (s : ℕ) (x : RanTold) → IsCourse c → s < length (segments_in c.plan) → x ≡ ran_as k (segment_run c.opening c.plan (segment_at c.plan s))
     → x.state ≡ (segment_end c.opening c.plan (segment_at c.plan s)).state
@@ -82,7 +82,7 @@ outcome-is c k s x a m t u h l e number kept events closing =
 
 -- a segment has no more events of its own than a study may have
 pub own-bound : (c : CourseTold) (s : ℕ) → IsCourse c → s < length (segments_in c.plan) → own_count c.opening c.plan (segment_at c.plan s) ≤ 1000000
-own-bound c s h l = omega (arith, segment-within c.opening c.plan s (course-tree c h) l, h.limit, h.opening.limit)
+own-bound c s h l = omega (arith, segment-within c.opening c.plan s (course-tree c h) h.limit l, h.opening.limit)
 
 own-bound_before : (c : CourseTold) (n : ℕ) → IsCourse c → n ≤ length (segments_in c.plan) → own_before c.opening c.plan n ≤ n * 1000000
 own-bound_before c zero h l = omega arith

@@ -5,12 +5,12 @@ use Rattle.std.proofs.lemmas.List.{get_or_append_left, get_or_push, length_push,
 use Rattle.branch_tree.specs.declared.segment.Segment.{Segment}
 use Rattle.branch_tree.specs.Plan.{Plan}
 use Rattle.branch_tree.specs.Segments.{counted, numbers_of, cuts_of, count_before, last_of, segments_in, segment_at}
-use Rattle.branch_tree.proofs.PartLemmas.{rises-at}
-use Rattle.kernel_core.specs.Until.{Run}
-use Rattle.kernel_copy.specs.Segmentwise.{segment_end, after}
+use Rattle.kernel_copy.specs.Segmentwise.{segment_end, fork_number, after}
 use Rattle.kernel_copy.specs.Courses.{CourseTold, CheckpointTold, IsCourse, IsKeyOf, GoesOnFrom, end_of_segment, kept_of, kept_before}
 use Rattle.kernel_copy.proofs.Trees.{course-tree}
-use Rattle.kernel_copy.proofs.Walks.{planned-at, has_parent, segment-ends}
+use Rattle.branch_tree.specs.Stops.{IsWithin}
+use Rattle.kernel_copy.proofs.Afters.{after-end}
+use Rattle.kernel_copy.proofs.Walks.{planned-at, has_parent}
 
 length-counted : (k n : ℕ) → length (counted k n) ≡ n
 length-counted k zero = refl
@@ -47,12 +47,12 @@ kept-at c (suc n) q h = elim (cases_lt q n) [
 pub kept-end : (c : CourseTold) (n q : ℕ) → q < n → q < last_of c.plan.branches (segment_at c.plan q).branch → get_or (kept_before c n) q None ≡ Some (end_of_segment c q)
 kept-end c n q l u = kept-at c n q l ∙ rw (lt-ltb q (last_of c.plan.branches (segment_at c.plan q).branch) u) refl
 
--- a segment's end is the course's state at its stop
-pub end-key : (c : CourseTold) (s : ℕ) → IsCourse c → s < length (segments_in c.plan) → IsKeyOf c (record { segment = s; event = (segment_at c.plan s).stop })
-end-key c s h l = record { segment = l; from = rises-at c.plan s (course-tree c h) l; to = omega arith }
+-- a segment's end is the course's state at its key
+pub end-key : (c : CourseTold) (s : ℕ) → s < length (segments_in c.plan) → IsKeyOf c (record { segment = s; event = fork_number (segment_at c.plan s).stop })
+end-key c s l = record { segment = l; event = inl refl }
 
-pub end-state : (c : CourseTold) (s : ℕ) → IsCourse c → s < length (segments_in c.plan) → (segment_end c.opening c.plan (segment_at c.plan s)).state ≡ after c.opening c.plan (segment_at c.plan s) (segment_at c.plan s).stop
-end-state c s h l = ap (λ (r : Run). r.state) (segment-ends c.opening c.plan s (course-tree c h) l)
+pub end-state : (c : CourseTold) (s : ℕ) → (segment_end c.opening c.plan (segment_at c.plan s)).state ≡ after c.opening c.plan (segment_at c.plan s) (fork_number (segment_at c.plan s).stop)
+end-state c s = sym (after-end c.opening c.plan (segment_at c.plan s))
 
 -- what was kept of a segment that isn't its branch's last, read from the list of what was kept
 pub kept-read : {X : Type 0} (f : X → Option CheckpointTold) (xs : List X) (c : CourseTold) (n s : ℕ) (x : X) → map f xs ≡ kept_before c n → s < length xs → s < n
@@ -62,10 +62,10 @@ kept-read f xs c n s x h within below u at =
 
 -- what a course knows of its segments
 pub segment-facts : (k : CourseTold) (s : ℕ) (g : Segment) → IsCourse k → s < length (segments_in k.plan) → g ≡ segment_at k.plan s
-    → (g.branch < length k.plan.branches) × (g.stop ≤ k.opening.limit) × ((q : ℕ) → g.parent ≡ Some q → GoesOnFrom k.plan s q)
+    → (g.branch < length k.plan.branches) × IsWithin k.opening.limit g.stop × ((q : ℕ) → g.parent ≡ Some q → GoesOnFrom k.plan s q)
 segment-facts k s g h l e =
     let p = planned-at k.plan s (course-tree k h) l in (
       subst (λ (x : Segment). x.branch < length k.plan.branches) (sym e) p.branch,
-      subst (λ (x : Segment). x.stop ≤ k.opening.limit) (sym e) (omega (arith, p.within, h.limit)),
+      subst (λ (x : Segment). IsWithin k.opening.limit x.stop) (sym e) (subst (λ (n : ℕ). IsWithin n (segment_at k.plan s).stop) h.limit p.within),
       λ q is. let n = has_parent k.plan s q (course-tree k h) l (sym (ap (λ (x : Segment). x.parent) e) ∙ is) in record { earlier = n.earlier; unfinished = n.unfinished },
     )

@@ -4,7 +4,9 @@ pub mod Floors
 pub mod States
 pub mod Changes
 pub mod Opened
+pub mod Halts
 pub mod Walks
+pub mod Afters
 pub mod Chains
 pub mod Keeping
 pub mod Pieces

@@ -11,6 +11,8 @@ use Rattle.market_rules.specs.EditRanges.{is_near_zero}
 use Rattle.exchange_agent.specs.Sound.{IsWithin}
 use Rattle.exchange_agent.proofs.Withins.{within-more}
 use Rattle.branch_tree.specs.declared.branch.Branch.{Branch}
+use Rattle.branch_tree.specs.declared.stop.Stop.{Stop}
+use Rattle.branch_tree.specs.declared.stop.Stop.TheVariants.{At, When}
 use Rattle.branch_tree.specs.Paths.{path_of, path_within}
 use Rattle.branch_tree.specs.Plan.{no_branch, branch_at, parent_at, stop_at}
 use Rattle.branch_tree.specs.Segments.{segments_in, segment_at}
@@ -22,6 +24,8 @@ use Rattle.kernel_core.specs.Until.{Run, advanced, advanced_by, until}
 use Rattle.kernel_core.specs.Edited.{IsEditOf, edited_from, edited_one, mark_of}
 use Rattle.kernel_core.proofs.Runs.{advanced_ended, advanced_going}
 use Rattle.kernel_core.proofs.Stops.{end_cases, next-message}
+use Rattle.kernel_core.proofs.Times.{time-some}
+use Rattle.kernel_copy.specs.UntilStop.{until_stop}
 use Rattle.kernel_copy.specs.Full.{opening_run, edited_by, forked, forks_of, begun, full_along, full}
 use Rattle.kernel_copy.specs.Segmentwise.{parent_end, segment_end, segment_entries}
 use Rattle.kernel_copy.specs.Reached.{IsReached, IsReachedFloor}
@@ -75,6 +79,12 @@ advanced_by-reached laws (suc n) o e r h = advanced_by-reached laws n o e (advan
 until-reached : ShortLaws → (o : Opening) (n e : ℕ) (r : Run) → IsReachedRun o e r → IsReachedRun o e (until o n r)
 until-reached laws o n e r h = advanced_by-reached laws (n - r.state.events) o e r h
 
+stop-reached : ShortLaws → (o : Opening) (s : Stop) (e : ℕ) (r : Run) → IsReachedRun o e r → IsReachedRun o e (until_stop o s r)
+stop-reached laws o (At n) e r h = until-reached laws o n e r h
+stop-reached laws o (When w) e r h =
+    let p = time-some (o.limit - r.state.events) o w r in
+    subst (λ (q : Run). IsReachedRun o e q) (sym p.1) (advanced_by-reached laws p.0 o e r h)
+
 -- an edit of a course can be made in each of its states
 pub edit-of : (o : Opening) (e : ℕ) (s : State) (x : Edit) → IsReached o e s → IsEditOf (opened o) x → IsEditOf s x
 edit-of o e s x h i = edit-possible o e s (opened o) x refl (opened-stocks o) (opened-traders o) refl h i
@@ -114,15 +124,15 @@ by-reached o e bs b r k h =
 forked-reached : ShortLaws → (o : Opening) (e : ℕ) (bs : List Branch) (cs : List ℕ) (r : Run) → All (λ (x : Branch). AreEdits o x.edits) bs → IsReachedRun o e r → IsReachedRun o (e + 16 * length cs) (forked o bs cs r)
 forked-reached laws o e bs [] r k h = run-more o e (e + 16 * 0) r (omega arith) h
 forked-reached laws o e bs (c ∷ cs) r k h =
-    let t = until o (stop_at bs c) r in
-    let next = forked-reached laws o (e + 16) bs cs (edited_by bs c t) k (by-reached o e bs c t k (until-reached laws o (stop_at bs c) e r h)) in
+    let t = until_stop o (stop_at bs c) r in
+    let next = forked-reached laws o (e + 16) bs cs (edited_by bs c t) k (by-reached o e bs c t k (stop-reached laws o (stop_at bs c) e r h)) in
     run-more o (e + 16 + 16 * length cs) (e + 16 * length (c ∷ cs)) _ (omega arith) next
 
 along-reached : ShortLaws → (o : Opening) (e n : ℕ) (bs : List Branch) (cs : List ℕ) (r : Run) → All (λ (x : Branch). AreEdits o x.edits) bs → IsReachedRun o e r → IsReachedRun o (e + 16 * length cs) (full_along o bs n cs r)
 along-reached laws o e n bs [] r k h = run-more o e (e + 16 * 0) (until o n r) (omega arith) (until-reached laws o n e r h)
 along-reached laws o e n bs (c ∷ cs) r k h =
-    let t = until o (stop_at bs c) r in
-    let next = along-reached laws o (e + 16) n bs cs (edited_by bs c t) k (by-reached o e bs c t k (until-reached laws o (stop_at bs c) e r h)) in
+    let t = until_stop o (stop_at bs c) r in
+    let next = along-reached laws o (e + 16) n bs cs (edited_by bs c t) k (by-reached o e bs c t k (stop-reached laws o (stop_at bs c) e r h)) in
     let more = run-more o (e + 16 + 16 * length cs) (e + 16 * length (c ∷ cs)) _ (omega arith) next in
     let stays = run-more o e (e + 16 * length (c ∷ cs)) (until o n r) (omega arith) (until-reached laws o n e r h) in
     elim (nat_le t.state.events n) as (λ b. IsReachedRun o (e + 16 * length (c ∷ cs)) (if b then full_along o bs n cs (edited_by bs c t) else until o n r)) [ true ↦ more | false ↦ stays ]
@@ -138,31 +148,31 @@ forks-length : (bs : List Branch) (b : ℕ) → length (forks_of bs b) ≤ b
 forks-length bs b = omega (arith, length-drop 1 (path_of bs b), path-length b bs b)
 
 -- the most edits on the way to a branch
-few-forks : (c : CourseTold) (b : ℕ) → IsCourse c → b < length c.plan.branches → 16 * length (forks_of c.plan.branches b) ≤ 2032
+few-forks : (c : CourseTold) (b : ℕ) → IsCourse c → b < length c.plan.branches → 16 * length (forks_of c.plan.branches b) ≤ 4080
 few-forks c b h l = omega (arith, forks-length c.plan.branches b, course-few c h)
 
 opening-reached : (c : CourseTold) → IsCourse c → IsReachedRun c.opening 0 (opening_run c.opening)
 opening-reached c h = record { state = opened-reached c.opening h.opening; timely = All-nil IsTimely }
 
-begun-reached : ShortLaws → (c : CourseTold) (b : ℕ) → IsCourse c → b < length c.plan.branches → IsReachedRun c.opening 2032 (begun c.opening c.plan b)
+begun-reached : ShortLaws → (c : CourseTold) (b : ℕ) → IsCourse c → b < length c.plan.branches → IsReachedRun c.opening 4080 (begun c.opening c.plan b)
 unfolding begun
 begun-reached laws c b h l =
     let cs = forks_of c.plan.branches b in
-    run-more c.opening (0 + 16 * length cs) 2032 _ (omega (arith, few-forks c b h l)) (forked-reached laws c.opening 0 c.plan.branches cs (opening_run c.opening) h.edits (opening-reached c h))
+    run-more c.opening (0 + 16 * length cs) 4080 _ (omega (arith, few-forks c b h l)) (forked-reached laws c.opening 0 c.plan.branches cs (opening_run c.opening) h.edits (opening-reached c h))
 
 -- each state of a full run
-pub full-reached : ShortLaws → (c : CourseTold) (b e : ℕ) → IsCourse c → b < length c.plan.branches → IsReachedRun c.opening 2032 (full c.opening c.plan b e)
+pub full-reached : ShortLaws → (c : CourseTold) (b e : ℕ) → IsCourse c → b < length c.plan.branches → IsReachedRun c.opening 4080 (full c.opening c.plan b e)
 unfolding full
 full-reached laws c b e h l =
     let cs = forks_of c.plan.branches b in
-    run-more c.opening (0 + 16 * length cs) 2032 _ (omega (arith, few-forks c b h l)) (along-reached laws c.opening 0 e c.plan.branches cs (opening_run c.opening) h.edits (opening-reached c h))
+    run-more c.opening (0 + 16 * length cs) 4080 _ (omega (arith, few-forks c b h l)) (along-reached laws c.opening 0 e c.plan.branches cs (opening_run c.opening) h.edits (opening-reached c h))
 
 -- each segment's end
-pub end-reached : ShortLaws → (c : CourseTold) (s : ℕ) → IsCourse c → s < length (segments_in c.plan) → IsReachedRun c.opening 2032 (segment_end c.opening c.plan (segment_at c.plan s))
+pub end-reached : ShortLaws → (c : CourseTold) (s : ℕ) → IsCourse c → s < length (segments_in c.plan) → IsReachedRun c.opening 4080 (segment_end c.opening c.plan (segment_at c.plan s))
 unfolding segment_end
 end-reached laws c s h l =
     let g = segment_at c.plan s in
-    until-reached laws c.opening g.stop 2032 (begun c.opening c.plan g.branch) (begun-reached laws c g.branch h (planned-at c.plan s (course-tree c h) l).branch)
+    stop-reached laws c.opening g.stop 4080 (begun c.opening c.plan g.branch) (begun-reached laws c g.branch h (planned-at c.plan s (course-tree c h) l).branch)
 
 rest-timely : (xs ys : List EntryTold) → All IsTimely (xs ++ ys) → All IsTimely ys
 rest-timely [] ys h = h
@@ -172,7 +182,7 @@ rest-timely (x ∷ xs) ys h = rest-timely xs ys (All-tail IsTimely x (xs ++ ys) 
 pub entries-timely : ShortLaws → (c : CourseTold) (s : ℕ) → IsCourse c → s < length (segments_in c.plan) → All IsTimely (segment_entries c.opening c.plan (segment_at c.plan s))
 entries-timely laws c s h l =
     let g = segment_at c.plan s in
-    let whole = subst (λ (r : Run). All IsTimely r.entries) (segment-copy c.opening c.plan s (course-tree c h) l) (end-reached laws c s h l).timely in
+    let whole = subst (λ (r : Run). All IsTimely r.entries) (segment-copy c.opening c.plan s (course-tree c h) h.limit l) (end-reached laws c s h l).timely in
     rest-timely (parent_end c.opening c.plan g.parent).entries (segment_entries c.opening c.plan g) whole
 
 -- What the kernel asks for where it makes an edit.

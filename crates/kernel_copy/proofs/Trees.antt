@@ -9,5 +9,5 @@ pub course-tree : (c : CourseTold) → IsCourse c → IsTree c.plan.branches c.p
 course-tree c h = tree_from c.plan.branches c.plan.limit h.rooted h.accepted
 
 -- they are few
-pub course-few : (c : CourseTold) → IsCourse c → length c.plan.branches ≤ 128
+pub course-few : (c : CourseTold) → IsCourse c → length c.plan.branches ≤ 256
 course-few c h = few_from c.plan.branches c.plan.limit h.accepted

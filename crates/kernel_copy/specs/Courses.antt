@@ -1,7 +1,8 @@
 -- Courses, and the checkpoints of their states.
-use Rattle.std.specs.Prelude.{◌≡◌, ◌<◌, ◌≤◌, ℕ, nat_lt, if◌then◌else◌, List, [], ◌∷◌, ◌++◌, Option, None, Some, length, All, suc, zero}
+use Rattle.std.specs.Prelude.{◌≡◌, ◌<◌, ◌≤◌, ◌⊎◌, ℕ, true, nat_lt, if◌then◌else◌, List, [], ◌∷◌, ◌++◌, Option, None, Some, length, All, suc, zero}
 use Rattle.market_rules.specs.declared.edit.Edit.{Edit}
 use Rattle.branch_tree.specs.declared.branch.Branch.{Branch}
+use Rattle.branch_tree.specs.declared.segment.Segment.{Segment}
 use Rattle.branch_tree.specs.Plan.{Plan}
 use Rattle.branch_tree.specs.Tree.{IsRooted, plan_refusal}
 use Rattle.branch_tree.specs.Segments.{segments_in, segment_at, last_of}
@@ -11,7 +12,7 @@ use Rattle.kernel_core.specs.Open.{opened}
 use Rattle.kernel_core.specs.Edited.{IsEditOf}
 use Rattle.kernel_core.specs.State.{State}
 use Rattle.shelf_core.specs.declared.plan.Key.{Key}
-use Rattle.kernel_copy.specs.Segmentwise.{segment_end, after}
+use Rattle.kernel_copy.specs.Segmentwise.{segment_end, from_count, fork_number, is_past, after}
 
 -- A study's opening and plan as plain data.
 pub record CourseTold : Type 0 where
@@ -38,13 +39,21 @@ pub record GoesOnFrom (p : Plan) (s q : ℕ) : Type 0 where
   pub earlier : q < s
   pub unfinished : q < last_of p.branches (segment_at p q).branch
 
--- a key of a course: a segment, and an event number from its start to its stop
+-- A segment's run stands at this event number: those before its own events, or one of them.
+pub record StandsAt (o : Opening) (p : Plan) (g : Segment) (e : ℕ) : Type 0 where
+  pub from : from_count o p g ≤ e
+  pub to : e ≤ (segment_end o p g).state.events
+
+-- The number of a segment's state: that of its end's key, one at which its run stands, or one past its end up to its stop.
+abbrev pub IsNumberOf : Opening → Plan → Segment → ℕ → Type 0
+IsNumberOf o p g e = (e ≡ fork_number g.stop) ⊎ (StandsAt o p g e ⊎ (is_past (segment_end o p g).state.events g.stop e ≡ true))
+
+-- a key of a course: a segment, and the number of one of its states
 pub record IsKeyOf (c : CourseTold) (k : Key) : Type 0 where
   pub segment : k.segment < length (segments_in c.plan)
-  pub from : (segment_at c.plan k.segment).start ≤ k.event
-  pub to : k.event ≤ (segment_at c.plan k.segment).stop
+  pub event : IsNumberOf c.opening c.plan (segment_at c.plan k.segment) k.event
 
--- the course's state at a key: the full run of the segment's branch up to so many events
+-- the course's state at a key: the segment's after so many events
 abbrev pub state_at : CourseTold → Key → State
 state_at c k = after c.opening c.plan (segment_at c.plan k.segment) k.event
 
@@ -63,7 +72,7 @@ pub record IsCheckpoint (c : CheckpointTold) : Type 0 where
 abbrev pub end_of_segment : CourseTold → ℕ → CheckpointTold
 end_of_segment c s = record {
   course = c;
-  key = record { segment = s; event = (segment_at c.plan s).stop };
+  key = record { segment = s; event = fork_number (segment_at c.plan s).stop };
   state = (segment_end c.opening c.plan (segment_at c.plan s)).state;
 }
 

@@ -1,4 +1,5 @@
 pub mod Closing
+pub mod UntilStop
 pub mod Full
 pub mod Segmentwise
 pub mod Reached

@@ -1,12 +1,15 @@
 -- Runs of segments.
-use Rattle.std.specs.Prelude.{ℕ, ◌-◌, ◌==◌, if◌then◌else◌, List, [], ◌∷◌, ◌++◌, Option, None, Some, option_map, unwrap_or, sum_by, take, suc, zero}
+use Rattle.std.specs.Prelude.{ℕ, ◌-◌, ◌==◌, Bool, false, ◌&&◌, ◌||◌, nat_lt, nat_le, if◌then◌else◌, List, [], ◌∷◌, ◌++◌, Option, None, Some, option_map, unwrap_or, sum_by, take, suc, zero}
 use Rattle.market_types.specs.Told.{EntryTold}
 use Rattle.branch_tree.specs.declared.segment.Segment.{Segment}
+use Rattle.branch_tree.specs.declared.stop.Stop.{Stop}
+use Rattle.branch_tree.specs.declared.stop.Stop.TheVariants.{At, When}
 use Rattle.branch_tree.specs.Plan.{Plan}
 use Rattle.branch_tree.specs.Segments.{segments_in, segment_at, last_of}
 use Rattle.market_floor.specs.declared.opening.Opening.{Opening}
 use Rattle.kernel_core.specs.State.{State}
-use Rattle.kernel_core.specs.Until.{Run, until}
+use Rattle.kernel_core.specs.Until.{Run}
+use Rattle.kernel_copy.specs.UntilStop.{until_stop}
 use Rattle.kernel_copy.specs.Full.{opening_run, edited_by, reach, full}
 
 -- the end of a segment: its branch's run at the segment's stop, before any child's edits
@@ -36,7 +39,7 @@ started_at o p g = started_from o p g.branch g.parent
 
 -- a segment's own run
 abbrev pub segment_run : Opening → Plan → Segment → Run
-segment_run o p g = until o g.stop (started_at o p g)
+segment_run o p g = until_stop o g.stop (started_at o p g)
 
 -- a segment's entries: its branch's edits where it is the branch's first, and then its own events
 abbrev pub segment_entries : Opening → Plan → Segment → List EntryTold
@@ -50,9 +53,23 @@ from_count o p g = (parent_end o p g.parent).state.events
 abbrev pub own_count : Opening → Plan → Segment → ℕ
 own_count o p g = (segment_end o p g).state.events - from_count o p g
 
--- a segment's state after e events, from its start to its stop
+-- the number in the key of a segment's end
+abbrev pub fork_number : Stop → ℕ
+fork_number (At n) = n
+fork_number (When w) = 16777215
+
+-- a number after an end with so many events, up to the stop where that is an event number
+abbrev pub is_past : ℕ → Stop → ℕ → Bool
+is_past events (At n) e = nat_lt events e && nat_le e n
+is_past events (When w) e = false
+
+-- A segment's state after e events, from those before its own to those of its end: its branch's full run up to them. For the
+-- number of its end's key, and for each number past the end's events up to its stop, it is the end's.
 abbrev pub after : Opening → Plan → Segment → ℕ → State
-after o p g e = (full o p g.branch e).state
+after o p g e =
+    if e == fork_number g.stop || is_past (segment_end o p g).state.events g.stop e
+    then (segment_end o p g).state
+    else (full o p g.branch e).state
 
 -- at most so many segments from which a segment goes on, the farthest first, and itself
 abbrev pub chain_within : ℕ → Plan → ℕ → List ℕ

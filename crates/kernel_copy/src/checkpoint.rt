@@ -78,7 +78,7 @@ impl Checkpoint {
         &self.course
     }
 
-    /// How many events the state has: fewer than its key's number says where its run ended before.
+    /// How many events the state has: its key's number, or fewer where its run ended before or stopped at a time.
     pub fn events(&self) -> u32
         ensures value { result ≡ self.now.state.events }
         ensures state { result ≡ (state_at self.now.course self.now.key).events }

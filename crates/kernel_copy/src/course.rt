@@ -2,6 +2,7 @@
 
 ghost use Rattle.std.specs.Prelude.{◌≡◌, ◌<◌, ◌≤◌, ℕ, Some, length, All};
 ghost use Rattle.branch_tree.specs.Plan.{branch_at};
+ghost use Rattle.branch_tree.specs.Stops.{IsWithin};
 ghost use Rattle.branch_tree.specs.Segments.{last_of, segments_in, segment_at};
 ghost use Rattle.market_floor.specs.Opening.{IsOpening};
 ghost use Rattle.kernel_core.specs.Edited.{IsEditOf};
@@ -65,7 +66,7 @@ impl Course {
         ensures value { result ≡ segment_at self.now.plan segment }
         ensures course { IsCourse self.now }
         ensures branch { result.branch < length self.now.plan.branches }
-        ensures within { result.stop ≤ self.now.opening.limit }
+        ensures within { IsWithin self.now.opening.limit result.stop }
         ensures parent { (q : ℕ) → result.parent ≡ Some q → GoesOnFrom self.now.plan segment q }
     {
         self.plan().segments()[segment as usize]

@@ -3,11 +3,13 @@
 ghost use Rattle.std.specs.Prelude.{◌≡◌, ◌<◌, ◌≤◌, ℕ, ◌+◌, ◌^◌, None, Some, All, length, sum_by};
 ghost use Rattle.std.specs.List.{flat_map};
 ghost use Rattle.market_types.specs.Timely.{IsTimely};
+ghost use Rattle.branch_tree.specs.declared.stop.Stop.TheVariants.{At};
 ghost use Rattle.branch_tree.specs.Plan.{branch_at};
 ghost use Rattle.branch_tree.specs.Segments.{segments_in, segment_at, last_of};
 ghost use Rattle.kernel_core.specs.Edited.{edited};
 ghost use Rattle.kernel_core.specs.Until.{behind, until};
 ghost use Rattle.kernel_copy.specs.Courses.{CourseTold, IsCourse};
+ghost use Rattle.kernel_copy.specs.UntilStop.{until_stop};
 ghost use Rattle.kernel_copy.specs.Full.{opening_run, full, full_run};
 ghost use Rattle.kernel_copy.specs.Reached.{IsReached};
 ghost use Rattle.kernel_copy.specs.Segmentwise.{segment_end, segment_run, segment_entries, started_at, parent_end, from_count, own_count, distinct, chain_of};
@@ -23,9 +25,9 @@ use std::sync::Arc;
 /// For every tree of branches, also where a state is ended before a stop.
 pub fn branches_by_segments(o: &Opening, plan: &BranchPlan)
     requires { plan.now.limit ≡ o.now.limit }
-    ensures first { (s : ℕ) → s < length (segments_in plan.now) → (segment_at plan.now s).parent ≡ None → segment_end o.now plan.now (segment_at plan.now s) ≡ until o.now (segment_at plan.now s).stop (opening_run o.now) }
-    ensures next { (s q : ℕ) → s < length (segments_in plan.now) → (segment_at plan.now s).parent ≡ Some q → (segment_at plan.now q).branch ≡ (segment_at plan.now s).branch → segment_end o.now plan.now (segment_at plan.now s) ≡ until o.now (segment_at plan.now s).stop (segment_end o.now plan.now (segment_at plan.now q)) }
-    ensures fork { (s q : ℕ) → s < length (segments_in plan.now) → (segment_at plan.now s).parent ≡ Some q → (segment_at plan.now q).branch < (segment_at plan.now s).branch → segment_end o.now plan.now (segment_at plan.now s) ≡ until o.now (segment_at plan.now s).stop (edited (segment_at plan.now s).branch (branch_at plan.now.branches (segment_at plan.now s).branch).edits (segment_end o.now plan.now (segment_at plan.now q))) }
+    ensures first { (s : ℕ) → s < length (segments_in plan.now) → (segment_at plan.now s).parent ≡ None → segment_end o.now plan.now (segment_at plan.now s) ≡ until_stop o.now (segment_at plan.now s).stop (opening_run o.now) }
+    ensures next { (s q : ℕ) → s < length (segments_in plan.now) → (segment_at plan.now s).parent ≡ Some q → (segment_at plan.now q).branch ≡ (segment_at plan.now s).branch → segment_end o.now plan.now (segment_at plan.now s) ≡ until_stop o.now (segment_at plan.now s).stop (segment_end o.now plan.now (segment_at plan.now q)) }
+    ensures fork { (s q : ℕ) → s < length (segments_in plan.now) → (segment_at plan.now s).parent ≡ Some q → (segment_at plan.now q).branch < (segment_at plan.now s).branch → segment_end o.now plan.now (segment_at plan.now s) ≡ until_stop o.now (segment_at plan.now s).stop (edited (segment_at plan.now s).branch (branch_at plan.now.branches (segment_at plan.now s).branch).edits (segment_end o.now plan.now (segment_at plan.now q))) }
     ensures copy { (s : ℕ) → s < length (segments_in plan.now) → segment_end o.now plan.now (segment_at plan.now s) ≡ behind (parent_end o.now plan.now (segment_at plan.now s).parent).entries (segment_run o.now plan.now (segment_at plan.now s)) }
     ensures last { (b : ℕ) → b < length plan.now.branches → full_run o.now plan.now b ≡ segment_end o.now plan.now (segment_at plan.now (last_of plan.now.branches b)) }
     ensures entries { (b : ℕ) → b < length plan.now.branches → (full_run o.now plan.now b).entries ≡ flat_map (λ (s : ℕ). segment_entries o.now plan.now (segment_at plan.now s)) (chain_of plan.now b) }
@@ -33,18 +35,19 @@ pub fn branches_by_segments(o: &Opening, plan: &BranchPlan)
     ensures counts { (b : ℕ) → b < length plan.now.branches → (full_run o.now plan.now b).state.events ≡ sum_by (λ (s : ℕ). own_count o.now plan.now (segment_at plan.now s)) (chain_of plan.now b) }
     ensures after { (s e : ℕ) → s < length (segments_in plan.now) → from_count o.now plan.now (segment_at plan.now s) ≤ e → full o.now plan.now (segment_at plan.now s).branch e ≡ behind (parent_end o.now plan.now (segment_at plan.now s).parent).entries (until o.now e (started_at o.now plan.now (segment_at plan.now s))) }
     ensures before { (s q e : ℕ) → s < length (segments_in plan.now) → (segment_at plan.now s).parent ≡ Some q → (segment_at plan.now q).branch < (segment_at plan.now s).branch → e < (segment_end o.now plan.now (segment_at plan.now q)).state.events → full o.now plan.now (segment_at plan.now s).branch e ≡ full o.now plan.now (segment_at plan.now q).branch e }
-    ensures starts { (s : ℕ) → s < length (segments_in plan.now) → from_count o.now plan.now (segment_at plan.now s) ≤ (segment_at plan.now s).start }
-    ensures ends { (s : ℕ) → s < length (segments_in plan.now) → segment_end o.now plan.now (segment_at plan.now s) ≡ full o.now plan.now (segment_at plan.now s).branch (segment_at plan.now s).stop }
+    ensures ends { (s : ℕ) → s < length (segments_in plan.now) → segment_end o.now plan.now (segment_at plan.now s) ≡ full o.now plan.now (segment_at plan.now s).branch (segment_end o.now plan.now (segment_at plan.now s)).state.events }
+    ensures stays { (s n e : ℕ) → s < length (segments_in plan.now) → (segment_at plan.now s).stop ≡ At n → (segment_end o.now plan.now (segment_at plan.now s)).state.events ≤ e → e ≤ n → full o.now plan.now (segment_at plan.now s).branch e ≡ segment_end o.now plan.now (segment_at plan.now s) }
+    ensures within { (s : ℕ) → s < length (segments_in plan.now) → (segment_end o.now plan.now (segment_at plan.now s)).state.events ≤ o.now.limit }
 {
     let _ = plan.branches();
 }
 
-/// Each state of a course is one in which its branches' edits can be made, after at most 127 times 16 of them, and the times of
+/// Each state of a course is one in which its branches' edits can be made, after at most 255 times 16 of them, and the times of
 /// all feeds are below 2 ^ 48.
 pub fn courses_stay_in_range()
-    ensures states { (c : CourseTold) (b e : ℕ) → IsCourse c → b < length c.plan.branches → IsReached c.opening 2032 (full c.opening c.plan b e).state }
+    ensures states { (c : CourseTold) (b e : ℕ) → IsCourse c → b < length c.plan.branches → IsReached c.opening 4080 (full c.opening c.plan b e).state }
     ensures entries { (c : CourseTold) (b e : ℕ) → IsCourse c → b < length c.plan.branches → All IsTimely (full c.opening c.plan b e).entries }
-    ensures ends { (c : CourseTold) (s : ℕ) → IsCourse c → s < length (segments_in c.plan) → IsReached c.opening 2032 (segment_end c.opening c.plan (segment_at c.plan s)).state }
+    ensures ends { (c : CourseTold) (s : ℕ) → IsCourse c → s < length (segments_in c.plan) → IsReached c.opening 4080 (segment_end c.opening c.plan (segment_at c.plan s)).state }
     ensures segments { (c : CourseTold) (s : ℕ) → IsCourse c → s < length (segments_in c.plan) → All IsTimely (segment_entries c.opening c.plan (segment_at c.plan s)) }
 {
     books_stay_short();

@@ -6,7 +6,7 @@ ghost use Rattle.branch_tree.specs.Segments.{segments_in, segment_at, last_of};
 ghost use Rattle.kernel_core.specs.Edited.{IsEditOf, edited_from};
 ghost use Rattle.kernel_core.specs.Open.{opened};
 ghost use Rattle.kernel_core.specs.Step.{Fits};
-ghost use Rattle.kernel_core.specs.Until.{until};
+ghost use Rattle.kernel_core.specs.Until.{advanced_by, until};
 ghost use Rattle.market_types.specs.Timely.{IsTimely};
 ghost use Rattle.kernel_copy.specs.Closing.{closing_at};
 ghost use Rattle.kernel_copy.specs.Courses.{kept_of, kept_before};
@@ -14,14 +14,16 @@ ghost use Rattle.kernel_copy.specs.Kept.{frames, kept_told, kept_with};
 ghost use Rattle.kernel_copy.specs.Outcomes.{outcome_told, outcomes_before};
 ghost use Rattle.kernel_copy.specs.Ran.{ran_told, ran_as, ran_with};
 ghost use Rattle.kernel_copy.specs.Reached.{IsReached};
+ghost use Rattle.kernel_copy.specs.UntilStop.{until_part};
 ghost use Rattle.kernel_copy.specs.Segmentwise.{afresh, segment_end, segment_run, started_from, started_at, own_count, distinct};
 
 use crate::checkpoint::Checkpoint;
 use crate::closing_of;
 use crate::course::Course;
 use crate::kept::{Keep, Kept};
+use crate::keys::number_of_end;
 use crate::laws::courses_stay_in_range;
-use branch_tree::BranchPlan;
+use branch_tree::{BranchPlan, Stop};
 use bundle_frames::{Closing, put_all};
 use kernel_core::Kernel;
 use market_floor::Opening;
@@ -58,33 +60,67 @@ pub struct Ran {
 // memory until their frames are written.
 const PIECE: u32 = 32;
 
-// Runs a kernel on, piece by piece, and appends the frames of each piece.
+// Lets a kernel go on to a stop, and to no more than so many events.
+fn run_part<L: Ledger>(
+    alloc: Global,
+    o: &Opening,
+    stop: Stop,
+    most: u32,
+    kernel: &mut Kernel,
+    trace: &mut Trace,
+    steps: &mut Steps<L>,
+) -> Result<(), Memory>
+    requires fits { Fits o.now kernel.old }
+    requires count { steps.old + (most - kernel.old.events) < 2 ^ 64 }
+    ensures ran { OnOk result (record { state = kernel.new; entries = trace.new.list } ≡ until_part o.now stop most (record { state = kernel.old; entries = trace.old.list })) }
+    ensures made { record { state = kernel.new; entries = trace.new.list } ≡ advanced_by (kernel.new.events - kernel.old.events) o.now (record { state = kernel.old; entries = trace.old.list }) }
+    ensures ticks { steps.new + kernel.old.events ≡ steps.old + kernel.new.events }
+    ensures grows { kernel.old.events ≤ kernel.new.events }
+    ensures within { kernel.new.events ≤ (until_part o.now stop most (record { state = kernel.old; entries = trace.old.list })).state.events }
+    ensures timely { All IsTimely trace.old.list → All IsTimely trace.new.list }
+    ensures fitting { Fits o.now kernel.new }
+{
+    match stop {
+        Stop::At(events) => {
+            kernel.run_until(alloc, o, events.min(most), trace, steps)?;
+            Ok(())
+        }
+        Stop::When(time) => {
+            kernel.run_until_time(alloc, o, time, most, trace, steps)?;
+            Ok(())
+        }
+    }
+}
+
+// Runs a kernel on to a stop, and to no more than so many events, piece by piece, and appends the frames of each piece. A piece
+// that isn't filled is the last.
 fn run_in_pieces<L: Ledger>(
     alloc: Global,
     o: &Opening,
-    stop: u32,
+    stop: Stop,
+    most: u32,
     kernel: &mut Kernel,
     bytes: &mut Vec<u8>,
     steps: &mut Steps<L>,
 ) -> Result<(), Memory>
     requires fits { Fits o.now kernel.old }
-    requires count { steps.old + (stop - kernel.old.events) < 2 ^ 64 }
-    ensures state { OnOk result (kernel.new ≡ (until o.now stop (afresh kernel.old)).state) }
-    ensures kept { OnOk result (frames bytes.new.items ≡ kept_with (frames bytes.old.items) (until o.now stop (afresh kernel.old)).entries) }
+    requires count { steps.old + (most - kernel.old.events) < 2 ^ 64 }
+    ensures state { OnOk result (kernel.new ≡ (until_part o.now stop most (afresh kernel.old)).state) }
+    ensures kept { OnOk result (frames bytes.new.items ≡ kept_with (frames bytes.old.items) (until_part o.now stop most (afresh kernel.old)).entries) }
     ensures made { kernel.new ≡ (until o.now kernel.new.events (afresh kernel.old)).state }
     ensures ticks { steps.new + kernel.old.events ≡ steps.old + kernel.new.events }
     ensures grows { kernel.old.events ≤ kernel.new.events }
-    ensures within { kernel.new.events ≤ (until o.now stop (afresh kernel.old)).state.events }
+    ensures within { kernel.new.events ≤ (until_part o.now stop most (afresh kernel.old)).state.events }
     ensures fitting { Fits o.now kernel.new }
 {
-    'pieces: while kernel.events() < stop {
-        let size = PIECE.min(stop - kernel.events());
+    'pieces: while kernel.events() < most {
+        let size = PIECE.min(most - kernel.events());
         let next = kernel.events() + size;
         let mut piece = Trace::new(alloc);
         piece.reserve(size as usize)?;
-        let end = kernel.run_until(alloc, o, next, &mut piece, steps)?;
+        run_part(alloc, o, stop, next, kernel, &mut piece, steps)?;
         put_all(bytes, piece.as_slice())?;
-        if let Some(_) = end {
+        if kernel.events() < next {
             return Ok(());
         }
     }
@@ -92,33 +128,34 @@ fn run_in_pieces<L: Ledger>(
 }
 
 impl Ran {
-    /// Lets a run go on until so many events stand or the state is ended.
+    /// Lets a run go on to a stop, and to no more than so many events.
     ///
     /// # Errors
     /// Want of memory alone. The kernel is then the one after the events that were made, and what is kept is left open.
-    pub fn run_until<L: Ledger>(
+    pub fn run_to<L: Ledger>(
         &mut self,
         alloc: Global,
         o: &Opening,
-        stop: u32,
+        stop: Stop,
+        most: u32,
         steps: &mut Steps<L>,
     ) -> Result<(), Memory>
         requires fits { Fits o.now self.old.kernel }
-        requires count { steps.old + (stop - self.old.kernel.events) < 2 ^ 64 }
-        ensures ran { OnOk result (ran_told self.new ≡ ran_with (ran_told self.old) (until o.now stop (afresh self.old.kernel))) }
+        requires count { steps.old + (most - self.old.kernel.events) < 2 ^ 64 }
+        ensures ran { OnOk result (ran_told self.new ≡ ran_with (ran_told self.old) (until_part o.now stop most (afresh self.old.kernel))) }
         ensures made { self.new.kernel ≡ (until o.now self.new.kernel.events (afresh self.old.kernel)).state }
         ensures ticks { steps.new + self.old.kernel.events ≡ steps.old + self.new.kernel.events }
         ensures grows { self.old.kernel.events ≤ self.new.kernel.events }
-        ensures within { self.new.kernel.events ≤ (until o.now stop (afresh self.old.kernel)).state.events }
+        ensures within { self.new.kernel.events ≤ (until_part o.now stop most (afresh self.old.kernel)).state.events }
         ensures fitting { Fits o.now self.new.kernel }
     {
         match &mut self.kept {
             Kept::Entries(trace) => {
-                self.kernel.run_until(alloc, o, stop, trace, steps)?;
+                run_part(alloc, o, stop, most, &mut self.kernel, trace, steps)?;
                 Ok(())
             }
             Kept::Frames(bytes) => {
-                run_in_pieces(alloc, o, stop, &mut self.kernel, bytes, steps)?;
+                run_in_pieces(alloc, o, stop, most, &mut self.kernel, bytes, steps)?;
                 Ok(())
             }
         }
@@ -134,7 +171,7 @@ fn apply_all(
     kernel: &mut Kernel,
     trace: &mut Trace,
 ) -> Result<(), Memory>
-    requires reached { IsReached o.now 2032 kernel.old }
+    requires reached { IsReached o.now 4080 kernel.old }
     requires few { length edits.now ≤ 16 }
     requires edits { All (λ e. IsEditOf (opened o.now) e) edits.now }
     ensures made { OnOk result (record { state = kernel.new; entries = trace.new.list } ≡ edited_from branch 0 edits.now (record { state = kernel.old; entries = trace.old.list })) }
@@ -176,7 +213,7 @@ pub fn kept_end(
     if !goes_on(plan, segment) {
         return Ok(None);
     }
-    let event = plan.segments()[segment as usize].stop;
+    let event = number_of_end(plan.segments()[segment as usize].stop);
     let kept = Checkpoint::keep(alloc, course, Key { segment, event }, kernel)?;
     Ok(Some(kept))
 }
@@ -303,10 +340,11 @@ fn run_on<L: Ledger>(
     ensures most { steps.new ≤ steps.old + own_count course.now.opening course.now.plan (segment_at course.now.plan segment) }
 {
     courses_stay_in_range();
+    let o = course.opening();
     let stop = course.segment(segment).stop;
     let kept = Kept::of(alloc, keep, entries)?;
     let mut ran = Ran { kept, kernel };
-    ran.run_until(alloc, course.opening(), stop, steps)?;
+    ran.run_to(alloc, o, stop, o.limit, steps)?;
     Ok(ran)
 }
 

@@ -16,15 +16,15 @@ apply-requires-clause-edit c =
     let x = c.index-edits-i.result in
     let P : Edit → Type 0 = λ e. IsEditOf (opened o) e in
     let fit : P x = subst P (sym c.index-edits-i.is) (All-get_or P c.args.edits.now i x (omega (arith, c.loop-i-test.true)) c.requires.edits) in
-    edit-of o (2032 + i) c.loop-i.kernel x c.loop-i.invariant.reached fit
+    edit-of o (4080 + i) c.loop-i.kernel x c.loop-i.invariant.reached fit
 
 pub apply-requires-clause-drops : goal.apply-requires-clause-drops
 apply-requires-clause-drops c =
-    (roomy c.args.o.now (2032 + c.loop-i.i) c.loop-i.kernel (omega (arith, c.loop-i-test.true, c.requires.few)) c.loop-i.invariant.reached).drops
+    (roomy c.args.o.now (4080 + c.loop-i.i) c.loop-i.kernel (omega (arith, c.loop-i-test.true, c.requires.few)) c.loop-i.invariant.reached).drops
 
 pub apply-requires-clause-offsets : goal.apply-requires-clause-offsets
 apply-requires-clause-offsets c =
-    (roomy c.args.o.now (2032 + c.loop-i.i) c.loop-i.kernel (omega (arith, c.loop-i-test.true, c.requires.few)) c.loop-i.invariant.reached).offsets
+    (roomy c.args.o.now (4080 + c.loop-i.i) c.loop-i.kernel (omega (arith, c.loop-i-test.true, c.requires.few)) c.loop-i.invariant.reached).offsets
 
 pub loop-i-preserved : goal.loop-i-preserved
 loop-i-preserved c =
@@ -34,14 +34,14 @@ loop-i-preserved c =
     let P : Edit → Type 0 = λ e. IsEditOf (opened o) e in
     let fit : P x = subst P (sym c.index-edits-i.is) (All-get_or P c.args.edits.now i x (omega (arith, c.loop-i-test.true)) c.requires.edits) in
     let before : Run = record { state = c.loop-i.kernel; entries = c.loop-i.trace.list } in
-    let one = one-reached o (2032 + i) c.args.branch i x before fit c.loop-i.invariant.reached in
+    let one = one-reached o (4080 + i) c.args.branch i x before fit c.loop-i.invariant.reached in
     let xs = c.args.edits.now in
     let left : drop i xs ≡ x ∷ drop (i + 1) xs =
     drop_more xs i x (omega (arith, c.loop-i-test.true)) ∙ ap (λ (e : Edit). e ∷ drop (i + 1) xs) (sym c.index-edits-i.is) in
-    let more : 2032 + i + 1 ≡ 2032 + (i + 1) = omega arith in
+    let more : 4080 + i + 1 ≡ 4080 + (i + 1) = omega arith in
     record {
       rest = ap (λ (r : Run). edited_from c.args.branch (i + 1) (drop (i + 1) xs) r) c.in_ok-apply.ensures.made
           ∙ sym (ap (λ (es : List Edit). edited_from c.args.branch i es before) left) ∙ c.loop-i.invariant.rest;
-      reached = subst (λ (n : ℕ). IsReached o n c.apply.new.self) more (subst (λ (r : Run). IsReached o (2032 + i + 1) r.state) (sym c.in_ok-apply.ensures.made) one);
+      reached = subst (λ (n : ℕ). IsReached o n c.apply.new.self) more (subst (λ (r : Run). IsReached o (4080 + i + 1) r.state) (sym c.in_ok-apply.ensures.made) one);
       timely = λ h. c.apply.ensures.timely (c.loop-i.invariant.timely h);
     }

@@ -8,6 +8,6 @@ use Rattle.kernel_copy.proofs.run.apply_all.Given as goal
 abbrev pub invariant-loop-i : goal.invariant-loop-i
 invariant-loop-i l = record {
   rest : ◌≡◌ {A = Run} (edited_from l.branch l.i (drop l.i l.edits) (record { state = l.kernel; entries = l.trace.list })) (edited_from l.branch 0 l.edits (record { state = l.initial.kernel; entries = l.initial.trace.list }));
-  reached : IsReached l.o (2032 + l.i) l.kernel;
+  reached : IsReached l.o (4080 + l.i) l.kernel;
   timely : All IsTimely l.initial.trace.list → All IsTimely l.trace.list;
 }

@@ -14,5 +14,5 @@ returns-then-segment-branch-clause-fits c =
 pub apply_all-requires-clause-reached : goal.apply_all-requires-clause-reached
 apply_all-requires-clause-reached c =
     let k : CourseTold = c.args.course.now in
-    subst (λ (o : Opening). IsReached o 2032 c.args.kernel.now) (sym c.opening.ensures.value)
-    (subst (λ (s : State). IsReached k.opening 2032 s) (sym c.requires.end) (c.courses_stay_in_range.ensures.ends k c.args.parent c.segment.ensures.course c.requires.segment))
+    subst (λ (o : Opening). IsReached o 4080 c.args.kernel.now) (sym c.opening.ensures.value)
+    (subst (λ (s : State). IsReached k.opening 4080 s) (sym c.requires.end) (c.courses_stay_in_range.ensures.ends k c.args.parent c.segment.ensures.course c.requires.segment))

@@ -1,8 +1,8 @@
-use Rattle.std.proofs.Common.{◌≡◌, List, get_or, sym, ap, ◌∙◌, subst}
+use Rattle.std.proofs.Common.{◌≡◌, ℕ, List, get_or, sym, ap, ◌∙◌, subst}
 use Rattle.branch_tree.specs.declared.segment.Segment.{Segment}
 use Rattle.branch_tree.specs.Plan.{Plan}
 use Rattle.branch_tree.specs.Segments.{segments_in, segment_at, no_segment}
-use Rattle.kernel_copy.specs.Segmentwise.{after}
+use Rattle.kernel_copy.specs.Segmentwise.{fork_number, after}
 use Rattle.kernel_copy.specs.Courses.{CourseTold, IsCourse, IsKeyOf}
 use Rattle.branch_tree.specs.Planned.{IsTree}
 use Rattle.kernel_copy.proofs.Trees.{course-tree}
@@ -16,7 +16,9 @@ keep-requires-clause-key c =
     let course : IsCourse k = subst IsCourse c.deref.ensures c.plan-plan.ensures.course in
     let plan : c.plan-plan.result.now ≡ k.plan = c.plan-plan.ensures.value ∙ ap (λ (x : CourseTold). x.plan) c.deref.ensures in
     let segments : c.segments.result.now ≡ segments_in k.plan = c.segments.ensures.value ∙ ap (λ (p : Plan). segments_in p) plan in
-    subst (λ (xs : List Segment). IsKeyOf k (record { segment = s; event = (get_or xs s no_segment).stop })) (sym segments) (end-key k s course c.requires.segment)
+    let event : c.number_of_end-event.result ≡ fork_number (segment_at k.plan s).stop =
+    c.number_of_end-event.ensures ∙ ap (λ (xs : List Segment). fork_number (get_or xs s no_segment).stop) segments in
+    subst (λ (e : ℕ). IsKeyOf k (record { segment = s; event = e })) (sym event) (end-key k s c.requires.segment)
 
 pub keep-requires-clause-state : goal.keep-requires-clause-state
 keep-requires-clause-state c =
@@ -25,7 +27,9 @@ keep-requires-clause-state c =
     let course : IsCourse k = subst IsCourse c.deref.ensures c.plan-plan.ensures.course in
     let plan : c.plan-plan.result.now ≡ k.plan = c.plan-plan.ensures.value ∙ ap (λ (x : CourseTold). x.plan) c.deref.ensures in
     let segments : c.segments.result.now ≡ segments_in k.plan = c.segments.ensures.value ∙ ap (λ (p : Plan). segments_in p) plan in
-    subst (λ (xs : List Segment). c.args.kernel.now ≡ after k.opening k.plan (segment_at k.plan s) (get_or xs s no_segment).stop) (sym segments) (c.requires.state ∙ end-state k s course c.requires.segment)
+    let event : c.number_of_end-event.result ≡ fork_number (segment_at k.plan s).stop =
+    c.number_of_end-event.ensures ∙ ap (λ (xs : List Segment). fork_number (get_or xs s no_segment).stop) segments in
+    subst (λ (e : ℕ). c.args.kernel.now ≡ after k.opening k.plan (segment_at k.plan s) e) (sym event) (c.requires.state ∙ end-state k s)
 
 pub goes_on-requires-clause-tree : goal.goes_on-requires-clause-tree
 goes_on-requires-clause-tree c =

@@ -8,7 +8,7 @@ use Rattle.kernel_copy.proofs.run.run_in_pieces.Given as goal
 
 abbrev pub invariant-pieces : goal.invariant-pieces
 invariant-pieces g l = record {
-  way : IsOnItsWay l.o l.stop l.initial.kernel l.kernel (frames l.initial.bytes.items) (frames l.bytes.items);
+  way : IsOnItsWay l.o l.stop l.most l.initial.kernel l.kernel (frames l.initial.bytes.items) (frames l.bytes.items);
   made : l.kernel ≡ (until l.o l.kernel.events (afresh l.initial.kernel)).state;
   ticks : l.steps + l.initial.kernel.events ≡ l.initial.steps + l.kernel.events;
   grows : l.initial.kernel.events ≤ l.kernel.events;
@@ -16,4 +16,4 @@ invariant-pieces g l = record {
 }
 
 abbrev pub decreases-pieces : goal.decreases-pieces
-decreases-pieces g l = l.stop - l.kernel.events
+decreases-pieces g l = l.most - l.kernel.events
