@@ -196,7 +196,7 @@ arrives c s e k y more on low few is has =
     let r : Run = afresh k in
     let end : (until_stop o stop r).state.events ≡ (segment_end o c.plan (segment_at c.plan s)).state.events = ap (λ (x : State). x.events) on.ends in
     record {
-      more = has ∙ ap (λ (x : State). has_more o stop x) is ∙ part-more o stop e r few low ∙ ap (λ (n : ℕ). nat_lt e n) end;
+      further = has ∙ ap (λ (x : State). has_more o stop x) is ∙ part-more o stop e r few low ∙ ap (λ (n : ℕ). nat_lt e n) end;
       events = λ less. let before : e < (until_stop o stop r).state.events = omega (arith, end, less) in
           ap (λ (x : State). x.events) is ∙ ap (λ (q : Run). q.state.events) (part-before o stop e r low before) ∙ stop-at o stop e r low (omega (arith, before));
       state = λ less. let before : e < (until_stop o stop r).state.events = omega (arith, end, less) in
@@ -218,10 +218,10 @@ at-parent c s q e k more h l is has at =
     let o = c.opening in
     let t = course-tree c h in
     let x = (segment_end o c.plan (segment_at c.plan q)).state in
-    let less : e < x.events = ltb-true e x.events (sym at.more ∙ has) in
+    let less : e < x.events = ltb-true e x.events (sym at.further ∙ has) in
     let past : e < (segment_end o c.plan (segment_at c.plan s)).state.events = omega (arith, less, parent-events c s q is, segment-grows o c.plan s t h.limit l) in
     record {
-      more = has ∙ sym (lt-ltb e (segment_end o c.plan (segment_at c.plan s)).state.events past);
+      further = has ∙ sym (lt-ltb e (segment_end o c.plan (segment_at c.plan s)).state.events past);
       events = λ high. at.events less;
       state = λ high. elim (has_parent c.plan s q t l is).joins [
         | inl n ↦ at.state less ∙ ap (λ (b : ℕ). (full o c.plan b e).state) n.branch
@@ -235,7 +235,7 @@ at-parent c s q e k more h l is has at =
 
 -- and where the parent has no more events, its end was reached
 pub at-end : (c : CourseTold) (q e : ℕ) (k : State) (more : Bool) → more ≡ false → IsAt c q e k more → k ≡ (segment_end c.opening c.plan (segment_at c.plan q)).state
-at-end c q e k more has at = at.whole (ltb-false e (segment_end c.opening c.plan (segment_at c.plan q)).state.events (sym at.more ∙ has))
+at-end c q e k more has at = at.whole (ltb-false e (segment_end c.opening c.plan (segment_at c.plan q)).state.events (sym at.further ∙ has))
 
 -- a state of a branch's last segment is the full run's, up to the limit of events
 pub at-last : (c : CourseTold) (b e : ℕ) (k : State) (more : Bool) → IsCourse c → b < length c.plan.branches → e ≤ c.opening.limit → IsAt c (last_of c.plan.branches b) e k more

@@ -34,7 +34,7 @@ pub record IsUnderway (c : CourseTold) (s : ℕ) (k : State) : Type 0 where
 -- It is the state of a segment's branch after e events, and there are more before the segment's end; or it is the segment's
 -- end, which has no more than e.
 pub record IsAt (c : CourseTold) (s e : ℕ) (k : State) (more : Bool) : Type 0 where
-  pub more : more ≡ nat_lt e (segment_end c.opening c.plan (segment_at c.plan s)).state.events
+  pub further : more ≡ nat_lt e (segment_end c.opening c.plan (segment_at c.plan s)).state.events
   pub events : e < (segment_end c.opening c.plan (segment_at c.plan s)).state.events → k.events ≡ e
   pub state : e < (segment_end c.opening c.plan (segment_at c.plan s)).state.events → k ≡ (full c.opening c.plan (segment_at c.plan s).branch e).state
   pub whole : (segment_end c.opening c.plan (segment_at c.plan s)).state.events ≤ e → k ≡ (segment_end c.opening c.plan (segment_at c.plan s)).state

@@ -270,16 +270,19 @@ pub(crate) fn reach<L: Ledger>(
             let near_by = from_near(alloc, course, shelf, own, event, steps)?;
             Ok(near_by)
         }
-        None => match course.segment(segment).parent {
-            None => {
-                let opened = from_opening(alloc, course, segment, event, steps)?;
-                Ok(opened)
+        None => {
+            let g = course.segment(segment);
+            match g.parent {
+                None => {
+                    let opened = from_opening(alloc, course, segment, event, steps)?;
+                    Ok(opened)
+                }
+                Some(parent) => {
+                    let before = reach(alloc, course, shelf, near, parent, event, steps)?;
+                    let gone_on = onward(alloc, course, parent, segment, event, before, steps)?;
+                    Ok(gone_on)
+                }
             }
-            Some(parent) => {
-                let before = reach(alloc, course, shelf, near, parent, event, steps)?;
-                let gone_on = onward(alloc, course, parent, segment, event, before, steps)?;
-                Ok(gone_on)
-            }
-        },
+        }
     }
 }
