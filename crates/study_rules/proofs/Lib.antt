@@ -4,6 +4,10 @@ pub mod Beside
 pub mod Scopes
 pub mod Texts
 pub mod Held
+pub mod Tests
+pub mod Parents
+pub mod Stops
+pub mod Kinds
 pub mod Single
 pub mod Planned
 pub mod Orders
