@@ -6,8 +6,8 @@ pub mod Texts
 pub mod Held
 pub mod Tests
 pub mod Parents
-pub mod Stops
-pub mod Kinds
+pub mod StopRanges
+pub mod StopKinds
 pub mod Single
 pub mod Planned
 pub mod Orders

@@ -17,9 +17,9 @@ use Rattle.study_rules.specs.Branches.{root_branch, branch_of, branches_of}
 use Rattle.study_rules.proofs.Beside.{AllBeside, all-beside}
 use Rattle.study_rules.proofs.Few.{few-branches}
 use Rattle.study_rules.proofs.Held.{AreHeld, held-unless}
-use Rattle.study_rules.proofs.Kinds.{mixed-none}
+use Rattle.study_rules.proofs.StopKinds.{mixed-none}
 use Rattle.study_rules.proofs.Parents.{new-name, not-root, late-none, each-known}
-use Rattle.study_rules.proofs.Stops.{each-stop, out-none, root-in-range}
+use Rattle.study_rules.proofs.StopRanges.{each-stop, out-none, root-in-range}
 use Rattle.study_rules.proofs.Tests.{if-pass, if-fail}
 
 -- names are not repeated

@@ -11,7 +11,7 @@ use Rattle.study_rules.specs.Entries.{branch_entries, name_in, is_timed, stop_in
 use Rattle.study_rules.specs.BranchRules.{is_name, names_of, has_new_name, is_stop, has_stop, events_of}
 use Rattle.study_rules.proofs.Beside.{AllBeside, Each, all-beside}
 use Rattle.study_rules.proofs.Held.{AreHeld}
-use Rattle.study_rules.proofs.Stops.{each-stop, few-stop}
+use Rattle.study_rules.proofs.StopRanges.{each-stop, few-stop}
 
 each-at : (P : Data → Type 0) (vs : List Value) (i : ℕ) (v : Value) → i < length vs → Each P (map view vs) → P (view (get_or vs i v))
 each-at P [] i v within h = absurd (omega (arith, within))

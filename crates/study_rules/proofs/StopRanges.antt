@@ -75,13 +75,6 @@ few-if false low high events most z le h = wider z events most le h
 pub few-stop : (t : Members) (d : Data) (most : ℕ) → events_of t ≤ most → is_stop t d ≡ true → (is_timed d || is_between (pos 0) (pos most) (stop_in d)) ≡ true
 few-stop t d most le h = few-if (is_timed d) (opens_at t) (closes_at t) (events_of t) most (stop_in d) le h
 
-few-number : (z : ℤ) (most : ℕ) → is_between (pos 0) (pos most) z ≡ true → unsigned_abs z ≤ most
-few-number z most h = grind (arith, nat_tests, small z most h)
-
-pub few-events : (timed : Bool) (most : ℕ) (z : ℤ) → (timed || is_between (pos 0) (pos most) z) ≡ true → timed ≡ false → unsigned_abs z ≤ most
-few-events true most z h f = absurd (cc f)
-few-events false most z h f = few-number z most h
-
 -- the parent's stop
 
 natural-at : (t : Members) (ds : List Data) (i : ℕ) → Each (λ d. is_stop t d ≡ true) ds → int_le (pos 0) (slice_index_or (map stop_in ds) i (pos 0)) ≡ true

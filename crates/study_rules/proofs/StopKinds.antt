@@ -17,7 +17,7 @@ use Rattle.study_rules.specs.Scope.{Scope}
 use Rattle.study_rules.specs.Branches.{number_named, stop_from, branch_of}
 use Rattle.study_rules.proofs.Beside.{AllBeside, Each}
 use Rattle.study_rules.proofs.Parents.{name_at, IsKnown}
-use Rattle.study_rules.proofs.Stops.{stop-kind}
+use Rattle.study_rules.proofs.StopRanges.{stop-kind}
 use Rattle.study_rules.proofs.Tests.{if-fail, or-false, not-true}
 
 -- branches of one number have one name
