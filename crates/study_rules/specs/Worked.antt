@@ -2,6 +2,7 @@
 use Rattle.std.specs.Prelude.{List, [], ◌∷◌, Option, codes}
 use Rattle.toml.specs.Data.{Members}
 use Rattle.branch_tree.specs.declared.branch.Branch.{Branch}
+use Rattle.branch_tree.specs.declared.stop.Stop.TheVariants.{At, When}
 use Rattle.market_rules.specs.declared.edit.Edit.TheVariants.{Latency, Halt}
 use Rattle.study_market.specs.declared.early_refusal.Refusal.{Refusal}
 use Rattle.study_market.specs.FirstBroken.{first_of_rules}
@@ -15,6 +16,14 @@ branches_broken t = first_of_rules branch_rules t
 abbrev pub slow_and_halted : List Branch
 slow_and_halted =
     root_branch
-    ∷ record { name = codes "x"; parent = 0; stop = 2; edits = Latency 0 0 50 0 ∷ [] }
-    ∷ record { name = codes "y"; parent = 1; stop = 3; edits = Halt 0 ∷ [] }
+    ∷ record { name = codes "x"; parent = 0; stop = At 2; edits = Latency 0 0 50 0 ∷ [] }
+    ∷ record { name = codes "y"; parent = 1; stop = At 3; edits = Halt 0 ∷ [] }
+    ∷ []
+
+-- the same, where the first leaves the root at a time
+abbrev pub slow_from_a_time : List Branch
+slow_from_a_time =
+    root_branch
+    ∷ record { name = codes "x"; parent = 0; stop = When 1004; edits = Latency 0 0 50 0 ∷ [] }
+    ∷ record { name = codes "y"; parent = 1; stop = At 3; edits = Halt 0 ∷ [] }
     ∷ []
