@@ -1,14 +1,26 @@
--- The segment from whose end a branch goes on.
-use Rattle.std.proofs.Common.{◌≡◌, ℕ, zero, suc, ◌+◌, ◌<◌, inl, inr, List, [], ◌∷◌, ◌++◌, Option, None, Some, length, get_or, refl, sym, ap, ◌∙◌, arith, subst}
+-- Where branches leave their parents.
+use Rattle.std.proofs.Common.{◌≡◌, ℕ, zero, suc, ◌+◌, ◌-◌, ◌<◌, ◌≤◌, inl, inr, List, [], ◌∷◌, ◌++◌, Option, None, Some, length, get_or, refl, sym, ap, ◌∙◌, arith, subst}
 use Rattle.std.proofs.lemmas.Bool.{cases_lt}
 use Rattle.std.proofs.lemmas.List.{get_or_append_left, get_or-append-add}
 use Rattle.branch_tree.specs.declared.branch.Branch.{Branch}
 use Rattle.branch_tree.specs.declared.segment.Segment.{Segment}
 use Rattle.branch_tree.specs.declared.stop.Stop.{Stop}
+use Rattle.branch_tree.specs.declared.stop.Stop.TheVariants.{At, When}
+use Rattle.branch_tree.specs.Stops.{IsWithin}
 use Rattle.branch_tree.specs.Plan.{Plan, stop_at}
+use Rattle.branch_tree.specs.Planned.{IsTree}
 use Rattle.branch_tree.specs.Segments.{count_before, cuts_of, no_segment, numbers_of, origin_of, parts, segment_at, segments_before, segments_in, segments_of}
 use Rattle.branch_tree.proofs.LayLemmas.{counted-at}
 use Rattle.branch_tree.proofs.PartLemmas.{count-within, length-before}
+use Rattle.market_floor.specs.declared.opening.Opening.{Opening}
+use Rattle.kernel_core.specs.Until.{Run, advanced_by}
+use Rattle.kernel_core.proofs.Times.{time-some}
+use Rattle.kernel_copy.specs.UntilStop.{until_stop}
+use Rattle.kernel_copy.specs.Segmentwise.{parent_end}
+use Rattle.kernel_copy.specs.Courses.{CourseTold, IsCourse}
+use Rattle.kernel_copy.proofs.Trees.{course-tree}
+use Rattle.kernel_copy.proofs.Walks.{segment-grows, segment-within}
+use Rattle.trace_bundle.specs.Bundle.{stop_written, written_stop}
 
 first-part : (limit b number : ℕ) (parent : Option ℕ) (start : Stop) (cuts : List Stop) → (get_or (parts limit b number parent start cuts) 0 no_segment).parent ≡ parent
 first-part limit b number parent start [] = refl
@@ -46,3 +58,28 @@ first-exists p b l =
 pub first-number : (p : Plan) (b d : ℕ) → get_or (numbers_of p b) 0 d ≡ count_before p.branches b
 first-number p b d =
     omega (arith, counted-at (count_before p.branches b) (length (cuts_of p.branches b) + 1) 0 d (omega arith))
+
+-- a run to a stop is one of so many events more
+pub stop-some : (o : Opening) (s : Stop) (r : Run) → (k : ℕ) × (until_stop o s r ≡ advanced_by k o r)
+stop-some o (At n) r = (n - r.state.events, refl)
+stop-some o (When w) r = time-some (o.limit - r.state.events) o w r
+
+-- what a branch goes on from stands within the limit of events
+pub origin-within : (o : Opening) (p : Plan) (b : ℕ) → IsTree p.branches p.limit → p.limit ≡ o.limit → b < length p.branches → (parent_end o p (origin_of p.branches b)).state.events ≤ o.limit
+origin-within o p b t lim l =
+    let s = count_before p.branches b in
+    let there = first-exists p b l in
+    let same = ap (λ (x : Option ℕ). (parent_end o p x).state.events) (first-parent p b l) in
+    omega (arith, same, segment-grows o p s t lim there, segment-within o p s t lim there)
+
+within-written : (limit events : ℕ) (s : Stop) → IsWithin limit s → events ≤ limit → written_stop events s ≤ limit
+within-written limit events (At n) w h = w
+within-written limit events (When t) w h = h
+
+-- and so does its stop as it is written
+pub stop-within : (c : CourseTold) (b : ℕ) → IsCourse c → b < length c.plan.branches → stop_written c b ≤ c.opening.limit
+stop-within c b is l =
+    let t = course-tree c is in
+    let s = stop_at c.plan.branches b in
+    let events = (parent_end c.opening c.plan (origin_of c.plan.branches b)).state.events in
+    within-written c.opening.limit events s (subst (λ (n : ℕ). IsWithin n s) is.limit (t.limits b l)) (origin-within c.opening c.plan b t is.limit l)
