@@ -57,7 +57,7 @@ first-exists p b l =
 -- it has the first of the branch's numbers
 pub first-number : (p : Plan) (b d : ℕ) → get_or (numbers_of p b) 0 d ≡ count_before p.branches b
 first-number p b d =
-    omega (arith, counted-at (count_before p.branches b) (length (cuts_of p.branches b) + 1) 0 d (omega arith))
+    counted-at (count_before p.branches b) (length (cuts_of p.branches b) + 1) 0 d (omega arith) ∙ omega arith
 
 -- a run to a stop is one of so many events more
 pub stop-some : (o : Opening) (s : Stop) (r : Run) → (k : ℕ) × (until_stop o s r ≡ advanced_by k o r)

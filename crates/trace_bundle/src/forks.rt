@@ -16,8 +16,8 @@ fn origin(course: &Course, branch: u16) -> Option<u32>
     ensures value { result ≡ origin_of course.now.plan.branches branch }
     ensures exists { (q : ℕ) → result ≡ Some q → q < length (segments_in course.now.plan) }
 {
-    let first = course.plan().segments_of(branch)[0];
-    course.segment(first).parent
+    let numbers = course.plan().segments_of(branch);
+    course.segment(numbers[0]).parent
 }
 
 // How many events the state has in which a branch leaves its parent.

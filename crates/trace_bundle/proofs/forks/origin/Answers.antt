@@ -10,14 +10,14 @@ pub segment-requires : goal.segment-requires
 segment-requires c =
     let k : CourseTold = c.args.course.now in
     let b = c.args.branch in
-    let number = ap (λ (ns : List ℕ). get_or ns 0 0) (c.segments_of.ensures ∙ ap (λ (p : Plan). numbers_of p b) c.plan.ensures.value) ∙ first-number k.plan b 0 in
+    let number = ap (λ (ns : List ℕ). get_or ns 0 0) (c.segments_of-numbers.ensures ∙ ap (λ (p : Plan). numbers_of p b) c.plan.ensures.value) ∙ first-number k.plan b 0 in
     subst (λ (n : ℕ). n < length (segments_in k.plan)) (sym number) (first-exists k.plan b c.requires)
 
 pub returns-clause-value : goal.returns-clause-value
 returns-clause-value c =
     let k : CourseTold = c.args.course.now in
     let b = c.args.branch in
-    let number = ap (λ (ns : List ℕ). get_or ns 0 0) (c.segments_of.ensures ∙ ap (λ (p : Plan). numbers_of p b) c.plan.ensures.value) ∙ first-number k.plan b 0 in
+    let number = ap (λ (ns : List ℕ). get_or ns 0 0) (c.segments_of-numbers.ensures ∙ ap (λ (p : Plan). numbers_of p b) c.plan.ensures.value) ∙ first-number k.plan b 0 in
     ap (λ (g : Segment). g.parent) c.segment.ensures.value
     ∙ ap (λ (n : ℕ). (segment_at k.plan n).parent) number
     ∙ first-parent k.plan b c.requires
@@ -26,6 +26,6 @@ pub returns-clause-exists : goal.returns-clause-exists
 returns-clause-exists c q is =
     let k : CourseTold = c.args.course.now in
     let b = c.args.branch in
-    let number = ap (λ (ns : List ℕ). get_or ns 0 0) (c.segments_of.ensures ∙ ap (λ (p : Plan). numbers_of p b) c.plan.ensures.value) ∙ first-number k.plan b 0 in
+    let number = ap (λ (ns : List ℕ). get_or ns 0 0) (c.segments_of-numbers.ensures ∙ ap (λ (p : Plan). numbers_of p b) c.plan.ensures.value) ∙ first-number k.plan b 0 in
     let earlier = (c.segment.ensures.parent q is).earlier in
     omega (arith, earlier, number, first-exists k.plan b c.requires)
