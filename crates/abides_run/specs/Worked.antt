@@ -3,31 +3,49 @@ use Rattle.std.specs.Prelude.{ℕ, List, [], ◌∷◌, ◌++◌, replicate, cod
 use Rattle.market_floor.specs.OpeningWorked.{market, watcher}
 use Rattle.market_rules.specs.declared.edit.Edit.TheVariants.{Latency}
 use Rattle.branch_tree.specs.declared.branch.Branch.{Branch}
+use Rattle.branch_tree.specs.declared.stop.Stop.{Stop}
+use Rattle.branch_tree.specs.declared.stop.Stop.TheVariants.{At, When}
 use Rattle.kernel_copy.specs.Courses.{CourseTold}
 use Rattle.study_rules.specs.Accepted.{StudyTold}
 use Rattle.command_words.specs.declared.mark.Mark.{Mark}
 
 abbrev pub root : Branch
-root = record { name = codes "root"; parent = 0; stop = 0; edits = [] }
+root = record { name = codes "root"; parent = 0; stop = At 0; edits = [] }
 
 abbrev pub empty_course : CourseTold
 empty_course = record { opening = market 1000 0 (watcher 2000 ∷ []); plan = record { branches = root ∷ []; limit = 100 } }
 
--- Two watchers, and three branches that leave the root after two events: in one messages are under way for 50 nanoseconds, in
--- one for 7, and in the last nothing is changed.
-abbrev pub three_branches : CourseTold
-three_branches = record {
+-- two watchers wake at 1000 and ask for quotes, which the exchange hears at 1005; their quotes come at 1010
+abbrev pub two_watchers : List Branch → CourseTold
+two_watchers branches = record {
   opening = market 2000 0 (watcher 1000 ∷ watcher 1000 ∷ []);
-  plan = record {
-    branches =
-        root
-        ∷ record { name = codes "x"; parent = 0; stop = 2; edits = Latency 0 0 50 0 ∷ [] }
-        ∷ record { name = codes "y"; parent = 0; stop = 2; edits = Latency 0 0 7 0 ∷ [] }
-        ∷ record { name = codes "z"; parent = 0; stop = 2; edits = [] }
-        ∷ [];
-    limit = 100;
-  };
+  plan = record { branches = root ∷ branches; limit = 100 };
 }
+
+-- A branch after which messages are under way for so many nanoseconds.
+abbrev pub slower : List ℕ → Stop → ℕ → Branch
+slower name stop base = record { name = name; parent = 0; stop = stop; edits = Latency 0 0 base 0 ∷ [] }
+
+-- A branch that changes nothing.
+abbrev pub unchanged : List ℕ → ℕ → Stop → Branch
+unchanged name parent stop = record { name = name; parent = parent; stop = stop; edits = [] }
+
+-- Three branches that leave the root at a stop: in one messages are under way for 50 nanoseconds, in one for 7, and in the last
+-- nothing is changed.
+abbrev pub three_branches_at : Stop → CourseTold
+three_branches_at stop = two_watchers (slower (codes "x") stop 50 ∷ slower (codes "y") stop 7 ∷ unchanged (codes "z") 0 stop ∷ [])
+
+-- they leave after two events
+abbrev pub three_branches : CourseTold
+three_branches = three_branches_at (At 2)
+
+-- one branch, and messages under way for 50 nanoseconds once 1005 is over
+abbrev pub slower_at_a_time : CourseTold
+slower_at_a_time = two_watchers (slower (codes "x") (When 1005) 50 ∷ [])
+
+-- A branch that leaves the root at a time, when two events stand, and one that leaves it after one event: there it begins.
+abbrev pub late_parent : CourseTold
+late_parent = two_watchers (unchanged (codes "x") 0 (When 1004) ∷ unchanged (codes "w") 1 (At 1) ∷ [])
 
 abbrev pub three_branches_study : StudyTold
 three_branches_study = record { course = three_branches; stride = 10000 }

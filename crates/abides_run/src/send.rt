@@ -43,16 +43,18 @@ fn send_header<O: Sink>(alloc: Global, course: &Course, out: &mut O) -> Result<(
 }
 
 // Sends what stands in the trace of a branch before the entries.
-fn send_opening<O: Sink>(
+fn send_opening<O: Sink, W: Ran>(
     alloc: Global,
     course: &Course,
+    ran: &W,
     branch: u16,
     out: &mut O,
 ) -> Result<(), Status>
-    requires { branch < length course.now.plan.branches }
+    requires branch { branch < length course.now.plan.branches }
+    requires ran { IsRunOf course.now (W.count ran.now) (W.kept_of ran.now) (W.closing_of ran.now) }
     ensures { Sent (opening_of_trace course.now branch) (O.faults out.old) (O.faults out.new) (O.taken out.old) (O.taken out.new) result }
 {
-    match opening_bytes(alloc, course, branch) {
+    match opening_bytes(alloc, course, ran, branch) {
         Ok(bytes) => send(out, &bytes),
         Err(Memory) => Err(Status::Memory),
     }
@@ -128,7 +130,7 @@ fn send_branch<O: Sink, W: Ran>(
 {
     let _ = course.opening();
     let last = course.last_segment(branch);
-    send_opening(alloc, course, branch, out)?;
+    send_opening(alloc, course, ran, branch, out)?;
     send_entries(alloc, course, ran, last, out)?;
     send_ending(alloc, course, ran, branch, out)
 }

@@ -3,7 +3,8 @@
 ghost use Rattle.std.specs.Prelude.{◌≡◌, ◌∷◌, [], ℕ, Some, None, codes, length};
 ghost use Rattle.outside.specs.Files.{absent, too_long};
 ghost use Rattle.abides_run.specs.Output.{counts_line, study_bundle, study_events};
-ghost use Rattle.abides_run.specs.Worked.{empty_course, empty_run, mark_at, three_branches, three_branches_study, study_with_series};
+ghost use Rattle.branch_tree.specs.declared.stop.Stop.TheVariants.{When};
+ghost use Rattle.abides_run.specs.Worked.{empty_course, empty_run, late_parent, mark_at, slower_at_a_time, three_branches, three_branches_at, three_branches_study, study_with_series};
 ghost use Rattle.abides_run.specs.Rewinds.{lasts_of};
 ghost use Rattle.abides_run.specs.Words.{asked_of};
 ghost use Rattle.abides_run.specs.Verdict.{verdict, usage, no_file, file_too_long, refused, no_branch, no_event, accepted, verdict_on_study, verdict_on_task};
@@ -27,6 +28,16 @@ pub fn empty_bundle()
 pub fn shared_events_are_counted_once()
     ensures events { study_events three_branches ≡ 18 }
     ensures counts { counts_line three_branches ≡ codes "accepted: agents 3, stocks 1, branches 4, segments 5\n" }
+{}
+
+/// Branches that leave at a time. At 1004 two events of the root stand, so three branches that leave it then are as if they
+/// left after two events. At 1005 four stand, so two of the root and two of the branch follow. A branch that leaves after one
+/// event a parent that has two when it begins goes on from there: of the parent's own events none comes before it.
+pub fn events_of_branches_by_time()
+    ensures three { study_events (three_branches_at (When 1004)) ≡ 18 }
+    ensures one { study_events slower_at_a_time ≡ 8 }
+    ensures past { study_events late_parent ≡ 14 }
+    ensures lasts { lasts_of late_parent ≡ 6 ∷ 6 ∷ 6 ∷ [] }
 {}
 
 /// The words `run s`, `check s`, `table s` and `rewind s root:1` ask for the study `s`, and `big 7` for the large study of the

@@ -2,10 +2,7 @@ use Rattle.std.proofs.Common.{◌≡◌, ◌<◌, ◌≤◌, ◌∙◌, ℕ, Lis
 use Rattle.kernel_copy.specs.Outcomes.{outcome_told, outcomes_before}
 use Rattle.kernel_copy.specs.declared.kept.Keep.TheVariants as keep
 use Rattle.branch_tree.specs.Segments.{segments_in}
-use Rattle.branch_workers.proofs.Forks.{segments_few}
 use Rattle.kernel_copy.specs.Courses.{CourseTold}
-use Rattle.kernel_copy.proofs.Adding.{distinct-bound}
-use Rattle.kernel_copy.proofs.Trees.{course-few}
 use Rattle.rewind_desk.specs.Targets.{past_of}
 use Rattle.study_rules.specs.Accepted.{study_told}
 use Rattle.abides_run.specs.Output.{study_events}
@@ -73,8 +70,7 @@ send_rewinds-requires-clause-count g c =
     let k : CourseTold = c.args.study.now.course.value in
     let ts = c.args.targets.now in
     let within = targets-within k.plan.branches c.args.marks.now ts c.requires.marks.each c.requires.targets in
-    let few : length (segments_in k.plan) ≤ 256 = segments_few k.plan (course-few k c.requires.course) in
-    omega (arith, few-steps c.in-Ok.worked.shelf (length k.plan.branches) ts within.1 (omega (arith, within.0, c.requires.marks.few)), distinct-bound k c.requires.course (omega (arith, few)), c.in-Ok.ensures.rose, c.requires.steps)
+    omega (arith, few-steps c.in-Ok.worked.shelf (length k.plan.branches) ts within.1 (omega (arith, within.0, c.requires.marks.few)), c.segments_have_few_events.ensures.all, c.in-Ok.ensures.rose, c.requires.steps)
 
 pub returns-in-Ok-send_rewinds : goal.returns-in-Ok-send_rewinds
 unfolding study_events
