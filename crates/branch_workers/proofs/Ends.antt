@@ -6,7 +6,7 @@ use Rattle.shelf_core.specs.Plan.{place_of, is_sole}
 use Rattle.shelf_core.specs.declared.plan.Key.{Key}
 use Rattle.checkpoint_shelf.specs.Told.{ShelfTold}
 use Rattle.kernel_copy.specs.Segmentwise.{segment_end, fork_number}
-use Rattle.kernel_copy.specs.Courses.{CourseTold, CheckpointTold, IsCourse, state_at, end_of_segment, kept_of}
+use Rattle.kernel_copy.specs.Courses.{CourseTold, CheckpointTold, state_at, end_of_segment, kept_of}
 use Rattle.kernel_copy.proofs.Keeping.{end-state}
 use Rattle.branch_workers.specs.Layout.{end_key, key_at}
 use Rattle.branch_workers.specs.Runs.{HasForks}

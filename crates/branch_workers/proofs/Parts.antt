@@ -1,5 +1,5 @@
 -- Runs towards a stop that have so many events.
-use Rattle.std.proofs.Common.{◌≡◌, ℕ, ◌<◌, ◌≤◌, min, inl, inr, refl, sym, ap, ◌∙◌, arith}
+use Rattle.std.proofs.Common.{◌≡◌, ℕ, ◌<◌, ◌≤◌, min, inl, inr, sym, ap, ◌∙◌, arith}
 use Rattle.std.proofs.lemmas.Bool.{cases_lt}
 use Rattle.branch_tree.specs.declared.stop.Stop.{Stop}
 use Rattle.branch_tree.specs.declared.stop.Stop.TheVariants.{At, When}

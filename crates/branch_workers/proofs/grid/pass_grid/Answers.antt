@@ -63,7 +63,7 @@ pass-requires-clause-within g c =
     let k : CourseTold = c.args.course.now.value in
     let s = c.args.segment in
     let course : IsCourse k = subst IsCourse c.deref.ensures c.segment-g.ensures.course in
-    let most = ap (λ (o : Opening). o.limit) c.opening-limit.ensures.value ∙ ap (λ (x : CourseTold). x.opening.limit) c.deref-2.ensures in
+    let most = ap (λ (o : Opening). o.limit) c.opening.ensures.value ∙ ap (λ (x : CourseTold). x.opening.limit) c.deref-2.ensures in
     let stop = c.stop_number-stop.ensures
     ∙ ap (λ (m : ℕ). stop_number m c.segment-g.result.stop) most
     ∙ ap (λ (x : Segment). stop_number k.opening.limit x.stop) (c.segment-g.ensures.value ∙ ap (λ (x : CourseTold). segment_at x.plan s) c.deref.ensures) in
@@ -82,7 +82,7 @@ loop-event-preserved g c =
     let n = c.loop-event.event in
     let v = c.loop-event.invariant in
     let course : IsCourse k = subst IsCourse c.deref.ensures c.segment-g.ensures.course in
-    let most = ap (λ (o : Opening). o.limit) c.opening-limit.ensures.value ∙ ap (λ (x : CourseTold). x.opening.limit) c.deref-2.ensures in
+    let most = ap (λ (o : Opening). o.limit) c.opening.ensures.value ∙ ap (λ (x : CourseTold). x.opening.limit) c.deref-2.ensures in
     let stop = c.stop_number-stop.ensures
     ∙ ap (λ (m : ℕ). stop_number m c.segment-g.result.stop) most
     ∙ ap (λ (x : Segment). stop_number k.opening.limit x.stop) (c.segment-g.ensures.value ∙ ap (λ (x : CourseTold). segment_at x.plan s) c.deref.ensures) in
@@ -119,7 +119,7 @@ returns-clause-known g c =
     let k : CourseTold = c.args.course.now.value in
     let s = c.args.segment in
     let course : IsCourse k = subst IsCourse c.deref.ensures c.segment-g.ensures.course in
-    let most = ap (λ (o : Opening). o.limit) c.opening-limit.ensures.value ∙ ap (λ (x : CourseTold). x.opening.limit) c.deref-2.ensures in
+    let most = ap (λ (o : Opening). o.limit) c.opening.ensures.value ∙ ap (λ (x : CourseTold). x.opening.limit) c.deref-2.ensures in
     let stop = c.stop_number-stop.ensures
     ∙ ap (λ (m : ℕ). stop_number m c.segment-g.result.stop) most
     ∙ ap (λ (x : Segment). stop_number k.opening.limit x.stop) (c.segment-g.ensures.value ∙ ap (λ (x : CourseTold). segment_at x.plan s) c.deref.ensures) in

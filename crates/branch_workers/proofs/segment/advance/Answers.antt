@@ -34,14 +34,14 @@ pass_grid-requires-clause-begins g c =
 
 pub run_to-requires-clause-most : goal.run_to-requires-clause-most
 run_to-requires-clause-most g c =
-    let most = ap (λ (o : Opening). o.limit) c.opening-most.ensures.value ∙ ap (λ (x : CourseTold). x.opening.limit) c.deref.ensures in
+    let most = ap (λ (o : Opening). o.limit) c.opening.ensures.value ∙ ap (λ (x : CourseTold). x.opening.limit) c.deref.ensures in
     let limit = ap (λ (x : CourseTold). x.opening.limit) c.deref-3.ensures in omega arith
 
 pub run_to-requires-clause-underway : goal.run_to-requires-clause-underway
 run_to-requires-clause-underway g c =
     let k : CourseTold = c.args.course.now.value in
-    let most = ap (λ (o : Opening). o.limit) c.opening-most.ensures.value ∙ ap (λ (x : CourseTold). x.opening.limit) c.deref.ensures in
-    subst (λ (x : CourseTold). IsUnderway x c.args.keep c.args.segment c.opening-most.result.now.limit (ran_told c.pass_grid.new.ran)) (sym c.deref-3.ensures)
+    let most = ap (λ (o : Opening). o.limit) c.opening.ensures.value ∙ ap (λ (x : CourseTold). x.opening.limit) c.deref.ensures in
+    subst (λ (x : CourseTold). IsUnderway x c.args.keep c.args.segment c.opening.result.now.limit (ran_told c.pass_grid.new.ran)) (sym c.deref-3.ensures)
     (subst (λ (m : ℕ). IsUnderway k c.args.keep c.args.segment m (ran_told c.pass_grid.new.ran)) (sym most) c.in_ok-pass_grid.ensures.underway)
 
 pub returns-in_err-pass_grid-clause-most : goal.returns-in_err-pass_grid-clause-most
@@ -70,10 +70,10 @@ returns-clause-ran g c =
     let k : CourseTold = c.args.course.now.value in
     let s = c.args.segment in
     let course : IsCourse k = subst IsCourse c.deref-2.ensures c.begun.ensures.course in
-    let most = ap (λ (o : Opening). o.limit) c.opening-most.ensures.value ∙ ap (λ (x : CourseTold). x.opening.limit) c.deref.ensures in
+    let most = ap (λ (o : Opening). o.limit) c.opening.ensures.value ∙ ap (λ (x : CourseTold). x.opening.limit) c.deref.ensures in
     let whole : ran_told c.run_to.new.ran ≡ ran_as c.args.keep (segment_run k.opening k.plan (segment_at k.plan s)) =
     c.in_ok-run_to.ensures.ran
-    ∙ ap (λ (x : CourseTold). ran_as c.args.keep (until_part x.opening (segment_at x.plan s).stop c.opening-most.result.now.limit (started_at x.opening x.plan (segment_at x.plan s)))) c.deref-3.ensures
+    ∙ ap (λ (x : CourseTold). ran_as c.args.keep (until_part x.opening (segment_at x.plan s).stop c.opening.result.now.limit (started_at x.opening x.plan (segment_at x.plan s)))) c.deref-3.ensures
     ∙ ap (λ (m : ℕ). ran_as c.args.keep (until_part k.opening (segment_at k.plan s).stop m (started_at k.opening k.plan (segment_at k.plan s)))) most
     ∙ ap (λ (r : Run). ran_as c.args.keep r) (runs_whole k s course c.requires.segment) in
     whole
@@ -85,10 +85,10 @@ returns-clause-rose g c =
     let is = c.in_ok-kernel.ensures.state ∙ ap (λ (x : CourseTold). started_at x.opening x.plan (segment_at x.plan s)) c.deref-2.ensures in
     let first = ap (λ (r : Run). r.state.events) is in
     let course : IsCourse k = subst IsCourse c.deref-2.ensures c.begun.ensures.course in
-    let most = ap (λ (o : Opening). o.limit) c.opening-most.ensures.value ∙ ap (λ (x : CourseTold). x.opening.limit) c.deref.ensures in
+    let most = ap (λ (o : Opening). o.limit) c.opening.ensures.value ∙ ap (λ (x : CourseTold). x.opening.limit) c.deref.ensures in
     let whole : ran_told c.run_to.new.ran ≡ ran_as c.args.keep (segment_run k.opening k.plan (segment_at k.plan s)) =
     c.in_ok-run_to.ensures.ran
-    ∙ ap (λ (x : CourseTold). ran_as c.args.keep (until_part x.opening (segment_at x.plan s).stop c.opening-most.result.now.limit (started_at x.opening x.plan (segment_at x.plan s)))) c.deref-3.ensures
+    ∙ ap (λ (x : CourseTold). ran_as c.args.keep (until_part x.opening (segment_at x.plan s).stop c.opening.result.now.limit (started_at x.opening x.plan (segment_at x.plan s)))) c.deref-3.ensures
     ∙ ap (λ (m : ℕ). ran_as c.args.keep (until_part k.opening (segment_at k.plan s).stop m (started_at k.opening k.plan (segment_at k.plan s)))) most
     ∙ ap (λ (r : Run). ran_as c.args.keep r) (runs_whole k s course c.requires.segment) in
     let last = ap (λ (x : RanTold). x.state.events) whole in
