@@ -49,7 +49,7 @@ use Rattle.kernel_core.specs.Step.{Happened, end_of, event_back, event_delivered
 use Rattle.kernel_core.specs.Until.{Run, with_event, advanced, advanced_by, until}
 use Rattle.kernel_core.specs.Edited.{edited_one, edited_from, mark_of}
 use Rattle.kernel_copy.specs.UntilStop.{until_stop}
-use Rattle.trace_bundle.proofs.Forks.{stop-some}
+use Rattle.trace_bundle.proofs.Origins.{stop-some}
 use Rattle.kernel_copy.specs.Full.{opening_run, edited_by, forks_of, full_along, full}
 use Rattle.bundle_reader.specs.Order.{is_trading, is_of_orders}
 use Rattle.bundle_reader.specs.Bundle.{HasFeed, is_own}

@@ -49,7 +49,7 @@ use Rattle.kernel_copy.specs.UntilStop.{until_stop}
 use Rattle.kernel_copy.specs.Full.{opening_run, edited_by, forks_of, full_along, full}
 use Rattle.kernel_copy.proofs.Opened.{opened-stocks}
 use Rattle.kernel_copy.proofs.Trees.{course-few, course-tree}
-use Rattle.trace_bundle.proofs.Forks.{stop-some}
+use Rattle.trace_bundle.proofs.Origins.{stop-some}
 use Rattle.round_trip.proofs.Adds.{HasFeedTexts, reaction-texts, text-at}
 use Rattle.round_trip.proofs.Around.{byte-in, four, six, two}
 use Rattle.round_trip.proofs.Symbols.{change-symbols, edit-symbols, event-symbols, opened-symbols, opening_symbols, ruled-symbols, symbols}

@@ -24,7 +24,7 @@ use Rattle.kernel_core.specs.State.{State}
 use Rattle.kernel_core.specs.Step.{Happened, end_of, event_back, event_delivered, event_of, in_force}
 use Rattle.kernel_core.specs.Until.{Run, advanced, advanced_by, until, with_event}
 use Rattle.kernel_copy.specs.UntilStop.{until_stop}
-use Rattle.trace_bundle.proofs.Forks.{stop-some}
+use Rattle.trace_bundle.proofs.Origins.{stop-some}
 use Rattle.round_trip.specs.Fields.{HasBodyTexts, HasEventTexts}
 use Rattle.round_trip.specs.Spelled.{HasMessageTexts}
 use Rattle.round_trip.proofs.Reactions.{HasNames, HasPostingTexts, IsSpelledFloor, edit-spelled, reaction-spelled, ruled-spelled}

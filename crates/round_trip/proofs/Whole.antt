@@ -16,7 +16,7 @@ use Rattle.kernel_copy.proofs.Opened.{few-traders}
 use Rattle.kernel_copy.proofs.Trees.{course-few, course-tree}
 use Rattle.trace_bundle.specs.Bundle.{parent_written, stop_written}
 use Rattle.trace_bundle.specs.Feed.{opening_feed, system_event}
-use Rattle.trace_bundle.proofs.Forks.{stop-within}
+use Rattle.trace_bundle.proofs.Origins.{stop-within}
 use Rattle.bundle_reader.specs.Frames.{HasRanges, payload}
 use Rattle.bundle_reader.specs.declared.frame.Frame.{Frame}
 use Rattle.bundle_reader.specs.declared.frame.Frame.TheVariants as frame

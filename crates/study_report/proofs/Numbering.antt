@@ -17,7 +17,7 @@ use Rattle.kernel_core.specs.Edited.{edited_one, edited_from}
 use Rattle.kernel_core.proofs.Runs.{event-number, event-events}
 use Rattle.kernel_copy.specs.UntilStop.{until_stop}
 use Rattle.kernel_copy.specs.Full.{opening_run, edited_by, forks_of, full_along, full}
-use Rattle.trace_bundle.proofs.Forks.{stop-some}
+use Rattle.trace_bundle.proofs.Origins.{stop-some}
 use Rattle.study_report.specs.Difference.{events_in, AreNumbered}
 use Rattle.study_report.proofs.ReportParts.{events_in-append}
 

@@ -1,5 +1,5 @@
 pub mod Feeds
-pub mod Forks
+pub mod Origins
 pub mod Entries
 pub mod Kept
 pub mod Held

@@ -1,4 +1,4 @@
-use Rattle.std.proofs.Common.{◌≡◌, ℕ, Option, sym, ap, ◌∙◌}
+use Rattle.std.proofs.Common.{ℕ, Option, sym, ap, ◌∙◌}
 use Rattle.bundle_frames.specs.declared.closing.Closing.{Closing}
 use Rattle.kernel_copy.specs.Courses.{CourseTold}
 use Rattle.kernel_copy.specs.Segmentwise.{parent_end}
@@ -13,5 +13,5 @@ pub returns-in-Some : goal.returns-in-Some
 returns-in-Some g c =
     let k : CourseTold = c.args.course.now in
     let s = c.in-Some.segment in
-    ap (λ (x : Closing). x.counts.events) (c.closing-in-Some.ensures ∙ c.requires.ran.closing s (c.origin.ensures.exists s c.in-Some.is))
+    ap (λ (x : Closing). x.counts.events) (c.closing.ensures ∙ c.requires.ran.closing s (c.origin.ensures.exists s c.in-Some.is))
     ∙ ap (λ (x : Option ℕ). (parent_end k.opening k.plan x).state.events) (sym c.in-Some.is ∙ c.origin.ensures.value)

@@ -1,9 +1,9 @@
-use Rattle.std.proofs.Common.{◌≡◌, ◌<◌, ℕ, List, Option, length, get_or, sym, ap, ◌∙◌, subst, arith}
+use Rattle.std.proofs.Common.{◌<◌, ℕ, List, length, get_or, sym, ap, ◌∙◌, subst, arith}
 use Rattle.branch_tree.specs.declared.segment.Segment.{Segment}
 use Rattle.branch_tree.specs.Plan.{Plan}
-use Rattle.branch_tree.specs.Segments.{count_before, numbers_of, origin_of, segment_at, segments_in}
+use Rattle.branch_tree.specs.Segments.{numbers_of, segment_at, segments_in}
 use Rattle.kernel_copy.specs.Courses.{CourseTold}
-use Rattle.trace_bundle.proofs.Forks.{first-exists, first-number, first-parent}
+use Rattle.trace_bundle.proofs.Origins.{first-exists, first-number, first-parent}
 use Rattle.trace_bundle.proofs.forks.origin.Goals as goal
 
 pub segment-requires : goal.segment-requires
