@@ -15,3 +15,4 @@ pub mod Fits
 pub mod Making
 pub mod Accepting
 pub mod Editing
+pub mod FirstVersion

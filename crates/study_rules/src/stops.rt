@@ -111,9 +111,7 @@ fn has_kind(branches: &[Value], count: usize, branch: &Value) -> bool
 fn has_stop(table: &Table, branches: &[Value], count: usize, branch: &Value) -> bool
     ensures { result ≡ stop_among (table_view table.now) (map view branches.now) (map view (take count branches.now)) (view branch.now) }
 {
-    is_stop(table, branch)
-        && is_from_parent(branches, branch)
-        && has_kind(branches, count, branch)
+    is_stop(table, branch) && is_from_parent(branches, branch) && has_kind(branches, count, branch)
 }
 
 // The place of the first branch that hasn't, beside those before it.

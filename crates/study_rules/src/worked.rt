@@ -1,9 +1,9 @@
 //! What the definitions give on worked studies.
 
-ghost use Rattle.std.specs.Prelude.{◌≡◌, Some, None, codes, option_map, option_and_then};
+ghost use Rattle.std.specs.Prelude.{◌≡◌, true, false, Some, None, codes, option_map, option_and_then};
 ghost use Rattle.toml.specs.Parse.{parse_document};
 ghost use Rattle.study_rules.specs.Branches.{branches_of};
-ghost use Rattle.study_rules.specs.Worked.{branches_broken, slow_and_halted, slow_from_a_time};
+ghost use Rattle.study_rules.specs.Worked.{branches_broken, slow_and_halted, slow_from_a_time, place_of_too_many};
 
 /// A study of two watchers with two branches, which is accepted, and what it breaks with one change.
 pub fn studies()
@@ -48,4 +48,12 @@ pub fn timed_studies()
 /// The branches of the study whose first branch leaves the root at a time, and whose second leaves the first at an event number.
 pub fn timed_branches()
     ensures { option_map branches_of (parse_document (codes "version = 2\nkey = \"0000000000000000000000000000000000000000000000000000000000000000\"\nopen = 1000\nclose = 2000\nevents = 100\nexchange = { group = 0, delay = 0 }\nlatency = { base = [[5]], jitter = [[0]] }\n[[stock]]\nsymbol = \"ABM\"\nbands = [[0, 100]]\nadd = -20\ntake = 30\nseries = \"rule\"\nstart = 100000\nmean = 100000\npull = 0\nshock = 0\nevery = 1000000\n[[agent]]\nkind = \"watcher\"\ngroup = 0\nstock = \"ABM\"\nfirst = 1000\nevery = 1000000\ncount = 2\n[[branch]]\nname = \"x\"\nparent = \"root\"\nwhen = 1004\nedit = [{ kind = \"latency\", from = 0, to = 0, base = 50, jitter = 0 }]\n[[branch]]\nname = \"y\"\nparent = \"x\"\nat = 3\nedit = [{ kind = \"halt\", stock = \"ABM\" }]\n")) ≡ Some slow_from_a_time }
+{}
+
+/// The most branches beside the root in each version, and one more.
+pub fn most_branches()
+    ensures version_1 { place_of_too_many false 127 ≡ None }
+    ensures one_more_in_version_1 { place_of_too_many false 128 ≡ Some 127 }
+    ensures version_2 { place_of_too_many true 255 ≡ None }
+    ensures one_more_in_version_2 { place_of_too_many true 256 ≡ Some 255 }
 {}
