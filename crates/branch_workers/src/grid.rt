@@ -188,7 +188,8 @@ pub(crate) fn pass_grid<L: Ledger>(
     let g = course.segment(segment);
     let limit = course.opening().limit;
     let start = start_number(g.start);
-    let first = start.max(ran.kernel.events());
+    let from = ran.kernel.events();
+    let first = start.max(from);
     let stop = stop_number(limit, g.stop);
     for event in first + 1..stop {
         let key = Key { segment, event };
