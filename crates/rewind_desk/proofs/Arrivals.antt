@@ -12,7 +12,7 @@ use Rattle.kernel_core.specs.Until.{Run, until}
 use Rattle.kernel_core.proofs.Stops.{until-again, until-grows}
 use Rattle.kernel_copy.specs.Courses.{CourseTold, IsCourse, IsKeyOf, state_at}
 use Rattle.kernel_copy.specs.UntilStop.{until_stop, until_part}
-use Rattle.kernel_copy.specs.Full.{opening_run, begun, reach, full}
+use Rattle.kernel_copy.specs.Full.{begun, reach, full}
 use Rattle.kernel_copy.specs.Segmentwise.{after, afresh, from_count, parent_end, segment_end, started_at, started_from}
 use Rattle.kernel_copy.proofs.Afters.{after-end, after-full, after-past}
 use Rattle.kernel_copy.proofs.Trees.{course-tree}

@@ -1,7 +1,6 @@
 use Rattle.std.proofs.Common.{◌≡◌, ◌≤◌, ℕ, IfSome, sym, ap, ◌∙◌, arith, subst}
 use Rattle.std.specs.Prelude.{min}
 use Rattle.branch_tree.specs.Segments.{segment_at}
-use Rattle.branch_tree.proofs.PartLemmas.{last-at}
 use Rattle.market_floor.specs.declared.opening.Opening.{Opening}
 use Rattle.kernel_copy.specs.Courses.{CourseTold}
 use Rattle.kernel_copy.specs.Segmentwise.{segment_end}

@@ -1,7 +1,5 @@
-use Rattle.std.proofs.Common.{◌≡◌, Some, ap, ◌∙◌, arith}
+use Rattle.std.proofs.Common.{Some, ap, ◌∙◌, arith}
 use Rattle.branch_tree.specs.declared.segment.Segment.{Segment}
-use Rattle.branch_tree.specs.Segments.{segment_at}
-use Rattle.kernel_core.specs.Until.{Run}
 use Rattle.kernel_copy.specs.Courses.{CourseTold}
 use Rattle.kernel_copy.specs.Segmentwise.{started_from}
 use Rattle.rewind_desk.proofs.Arrivals.{from-parent, go-events}

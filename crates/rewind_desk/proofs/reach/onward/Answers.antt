@@ -1,4 +1,4 @@
-use Rattle.std.proofs.Common.{◌≡◌, ap, arith}
+use Rattle.std.proofs.Common.{arith}
 use Rattle.kernel_copy.specs.Courses.{CourseTold}
 use Rattle.rewind_desk.proofs.Arrivals.{at-end, at-parent, at-within}
 use Rattle.rewind_desk.proofs.reach.onward.Goals as goal
