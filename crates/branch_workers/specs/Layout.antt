@@ -34,7 +34,7 @@ multiples_from stride s e zero = []
 multiples_from stride s e (suc n) =
     if e % stride == 0 then key_at s e ∷ multiples_from stride s (e + 1) n else multiples_from stride s (e + 1) n
 
--- the event number above which the grid of a segment with this start lies: any, where it starts at a time
+-- the event number above which the grid of a segment with this start lies: 0, where it starts at a time
 abbrev pub start_number : Stop → ℕ
 start_number (At n) = n
 start_number (When w) = 0
