@@ -1,16 +1,16 @@
 -- The segments of a tree of branches.
-use Rattle.std.proofs.Common.{◌≡◌, ℕ, ◌+◌, ◌<◌, ◌≤◌, ◌⊎◌, inl, inr, true, false, cond, eqb, Bool, List, [], ◌∷◌, ◌++◌, Option, Some, None, length, get_or, refl, sym, ap, ◌∙◌, arith, suc, zero, subst, length-append, append_assoc}
+use Rattle.std.proofs.Common.{◌≡◌, ℕ, ◌+◌, ◌<◌, ◌≤◌, ◌⊎◌, inl, inr, Bool, List, [], ◌∷◌, ◌++◌, Option, Some, None, length, get_or, refl, sym, ap, ◌∙◌, arith, suc, zero, subst, length-append, append_assoc}
 use Rattle.std.proofs.lemmas.Bool.{cases_lt, cases_eq, eq-eqb, ne_eqb}
 use Rattle.std.proofs.lemmas.List.{get_or_append_left, get_or-append-add, get_or_push, length_push, get_or_past}
 use Rattle.branch_tree.specs.declared.branch.Branch.{Branch}
 use Rattle.branch_tree.specs.declared.segment.Segment.{Segment}
 use Rattle.branch_tree.specs.declared.stop.Stop.{Stop}
-use Rattle.branch_tree.specs.declared.stop.Stop.TheVariants.{At, When}
+use Rattle.branch_tree.specs.declared.stop.Stop.TheVariants.{At}
 use Rattle.branch_tree.specs.Plan.{Plan, parent_at, stop_at}
-use Rattle.branch_tree.specs.Stops.{IsWithin, ComesAfter}
+use Rattle.branch_tree.specs.Stops.{IsWithin}
 use Rattle.branch_tree.specs.Segments.{cuts_of, count_before, last_of, place_among, fork_of, origin_of, parts, segments_of, segments_before, segments_in, segment_at, no_segment}
-use Rattle.branch_tree.specs.Planned.{IsTree, IsNext, IsFork, HasParent, ParentIs, IsPlanned, ArePlanned}
-use Rattle.branch_tree.proofs.CutLemmas.{Rises, Sorted, Alike, AreCuts, cuts-are, cuts-place}
+use Rattle.branch_tree.specs.Planned.{IsTree, IsNext, IsFork, ParentIs, IsPlanned, ArePlanned}
+use Rattle.branch_tree.proofs.CutLemmas.{Rises, Sorted, Alike, cuts-are, cuts-place}
 
 length-parts : (limit branch number : ℕ) (parent : Option ℕ) (start : Stop) (cuts : List Stop) → length (parts limit branch number parent start cuts) ≡ length cuts + 1
 length-parts limit branch number parent start [] = refl
@@ -48,16 +48,16 @@ before-at bs limit p (suc b) i l h =
     let ys = segments_of bs limit b in
     elim (cases_lt p b) [
       | inl less ↦
-        let w = count-within bs p b i less h in
-        subst (λ (g : Segment). IsPart p (get_or (cuts_of bs p) i (At limit)) g) (sym (get_or_append_left xs ys no_segment (count_before bs p + i) (omega (arith, length-before bs limit b)))) (before-at bs limit p b i less h)
+          let w = count-within bs p b i less h in
+          subst (λ (g : Segment). IsPart p (get_or (cuts_of bs p) i (At limit)) g) (sym (get_or_append_left xs ys no_segment (count_before bs p + i) (omega (arith, length-before bs limit b)))) (before-at bs limit p b i less h)
       | inr more ↦
-        let same : b ≡ p = omega arith in
-        let here = part-at limit b (count_before bs b) (origin_of bs b) (stop_at bs b) (cuts_of bs b) in
-        let at : (j : ℕ) → j ≤ length (cuts_of bs b) → IsPart b (get_or (cuts_of bs b) j (At limit)) (get_or (xs ++ ys) (count_before bs b + j) no_segment) = λ j k.
-        subst (λ (n : ℕ). IsPart b (get_or (cuts_of bs b) j (At limit)) (get_or (xs ++ ys) (n + j) no_segment)) (length-before bs limit b)
-        (subst (λ (g : Segment). IsPart b (get_or (cuts_of bs b) j (At limit)) g) (sym (get_or-append-add xs ys j no_segment)) (here j k)) in
-        let P : ℕ → Type 0 = λ q. (j : ℕ) → j ≤ length (cuts_of bs q) → IsPart q (get_or (cuts_of bs q) j (At limit)) (get_or (xs ++ ys) (count_before bs q + j) no_segment) in
-        (subst P same at) i h
+          let same : b ≡ p = omega arith in
+          let here = part-at limit b (count_before bs b) (origin_of bs b) (stop_at bs b) (cuts_of bs b) in
+          let at : (j : ℕ) → j ≤ length (cuts_of bs b) → IsPart b (get_or (cuts_of bs b) j (At limit)) (get_or (xs ++ ys) (count_before bs b + j) no_segment) = λ j k.
+          subst (λ (n : ℕ). IsPart b (get_or (cuts_of bs b) j (At limit)) (get_or (xs ++ ys) (n + j) no_segment)) (length-before bs limit b)
+          (subst (λ (g : Segment). IsPart b (get_or (cuts_of bs b) j (At limit)) g) (sym (get_or-append-add xs ys j no_segment)) (here j k)) in
+          let P : ℕ → Type 0 = λ q. (j : ℕ) → j ≤ length (cuts_of bs q) → IsPart q (get_or (cuts_of bs q) j (At limit)) (get_or (xs ++ ys) (count_before bs q + j) no_segment) in
+          (subst P same at) i h
     ]
 
 -- a segment's parent is the same among more segments
@@ -83,10 +83,10 @@ grown : (bs : List Branch) (limit : ℕ) (xs : List Segment) (g : Segment) → A
 grown bs limit xs g all h = record {
   each = λ s l. elim (cases_lt s (length xs)) [
     | inl less ↦ subst (λ (x : Segment). IsPlanned bs limit (xs ++ g ∷ []) s x) (sym (get_or_append_left xs (g ∷ []) no_segment s less))
-      (planned-more bs limit xs (g ∷ []) s (get_or xs s no_segment) (omega arith) (all.each s less))
+        (planned-more bs limit xs (g ∷ []) s (get_or xs s no_segment) (omega arith) (all.each s less))
     | inr more ↦ let same : length xs ≡ s = omega (arith, length_push xs g) in
-      subst (λ (x : Segment). IsPlanned bs limit (xs ++ g ∷ []) s x) (sym (get_or_push xs g no_segment s same))
-      (subst (λ (n : ℕ). IsPlanned bs limit (xs ++ g ∷ []) n g) same (planned-more bs limit xs (g ∷ []) (length xs) g (omega arith) h))
+        subst (λ (x : Segment). IsPlanned bs limit (xs ++ g ∷ []) s x) (sym (get_or_push xs g no_segment s same))
+        (subst (λ (n : ℕ). IsPlanned bs limit (xs ++ g ∷ []) n g) same (planned-more bs limit xs (g ∷ []) (length xs) g (omega arith) h))
   ];
 }
 
@@ -147,15 +147,15 @@ origin-is : (bs : List Branch) (limit b : ℕ) (to : Stop) → IsTree bs limit �
 origin-is bs limit b to t l = elim (cases_eq b 0) [
   | inl e ↦ rw (eq-eqb b 0 e) e
   | inr n ↦ rw (ne_eqb b 0 n) (
-    let p = parent_at bs b in
-    let less = t.parents b (omega arith) l in
-    let place = cuts-place bs limit b (At limit) t (omega arith) l in
-    let at = before-at bs limit p b (place_among (stop_at bs b) (cuts_of bs p)) less (omega (arith, place.0)) in
-    record {
-      earlier = count-within bs p b (place_among (stop_at bs b) (cuts_of bs p)) less (omega (arith, place.0));
-      unfinished = subst (λ (q : ℕ). fork_of bs b < last_of bs q) (sym at.branch) (omega (arith, place.0));
-      joins = inr (record { later = omega arith; parent = at.branch; start = refl; meets = at.stop ∙ place.1 });
-    })
+      let p = parent_at bs b in
+      let less = t.parents b (omega arith) l in
+      let place = cuts-place bs limit b (At limit) t (omega arith) l in
+      let at = before-at bs limit p b (place_among (stop_at bs b) (cuts_of bs p)) less (omega (arith, place.0)) in
+      record {
+        earlier = count-within bs p b (place_among (stop_at bs b) (cuts_of bs p)) less (omega (arith, place.0));
+        unfinished = subst (λ (q : ℕ). fork_of bs b < last_of bs q) (sym at.branch) (omega (arith, place.0));
+        joins = inr (record { later = omega arith; parent = at.branch; start = refl; meets = at.stop ∙ place.1 });
+      })
 ]
 
 before-first : (bs : List Branch) (limit b : ℕ) (cuts : List Stop) → IsTree bs limit → b < length bs → Before bs limit (segments_before bs limit b) (count_before bs b) b (stop_at bs b) cuts (origin_of bs b)
@@ -175,6 +175,7 @@ planned p t = planned-before p.branches p.limit (length p.branches) t (omega ari
 pub last-at : (p : Plan) (b : ℕ) → b < length p.branches → (last_of p.branches b < length (segments_in p)) × IsPart b (At p.limit) (segment_at p (last_of p.branches b))
 last-at p b l =
     let cuts = cuts_of p.branches b in
-    let at = before-at p.branches p.limit b (length p.branches) (length cuts) l (omega arith) in
-    (omega (arith, count-within p.branches b (length p.branches) (length cuts) l (omega arith), length-before p.branches p.limit (length p.branches)),
-    subst (λ (n : Stop). IsPart b n (segment_at p (last_of p.branches b))) (get_or_past cuts (length cuts) (At p.limit) (omega arith)) at)
+    let at = before-at p.branches p.limit b (length p.branches) (length cuts) l (omega arith) in (
+      omega (arith, count-within p.branches b (length p.branches) (length cuts) l (omega arith), length-before p.branches p.limit (length p.branches)),
+      subst (λ (n : Stop). IsPart b n (segment_at p (last_of p.branches b))) (get_or_past cuts (length cuts) (At p.limit) (omega arith)) at,
+    )

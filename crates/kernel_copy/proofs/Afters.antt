@@ -1,5 +1,5 @@
 -- States of a segment.
-use Rattle.std.proofs.Common.{◌≡◌, ℕ, ◌<◌, ◌≤◌, inl, inr, true, false, leb, ltb, length, refl, sym, ap, ◌∙◌, arith, subst}
+use Rattle.std.proofs.Common.{◌≡◌, ℕ, ◌<◌, ◌≤◌, inl, inr, true, false, length, refl, sym, ap, arith}
 use Rattle.std.proofs.lemmas.Bool.{cases_eq, eq-eqb, ne_eqb, le-ltb}
 use Rattle.branch_tree.specs.declared.segment.Segment.{Segment}
 use Rattle.branch_tree.specs.declared.stop.Stop.{Stop}
@@ -9,7 +9,6 @@ use Rattle.branch_tree.specs.Planned.{IsTree}
 use Rattle.branch_tree.specs.Segments.{segments_in, segment_at}
 use Rattle.market_floor.specs.declared.opening.Opening.{Opening}
 use Rattle.kernel_core.specs.Until.{Run}
-use Rattle.kernel_core.specs.State.{State}
 use Rattle.kernel_copy.specs.Full.{full}
 use Rattle.kernel_copy.specs.Segmentwise.{segment_end, from_count, fork_number, is_past, after}
 use Rattle.kernel_copy.proofs.Walks.{segment-within, segment-stays, segment-until}

@@ -1,19 +1,17 @@
 -- Entries and events along a branch's chain of segments.
-use Rattle.std.proofs.Common.{◌≡◌, ℕ, ◌+◌, ◌-◌, ◌<◌, ◌≤◌, ◌⊎◌, inl, inr, List, [], ◌∷◌, ◌++◌, Option, Some, None, option_map, unwrap_or, sum_by, length, append-nil, refl, sym, ap, ◌∙◌, arith, suc, zero, subst}
+use Rattle.std.proofs.Common.{◌≡◌, ℕ, ◌<◌, ◌≤◌, ◌⊎◌, inl, inr, List, [], ◌∷◌, ◌++◌, Option, Some, None, option_map, unwrap_or, sum_by, length, append-nil, refl, sym, ap, ◌∙◌, arith, suc, zero, subst}
 use Rattle.std.specs.List.{flat_map}
 use Rattle.std.proofs.lemmas.List.{flat_map_more}
 use Rattle.std.proofs.lemmas.List.Sums.{sum_by-append}
-use Rattle.branch_tree.specs.declared.branch.Branch.{Branch}
-use Rattle.branch_tree.specs.declared.segment.Segment.{Segment}
 use Rattle.branch_tree.specs.Plan.{Plan}
 use Rattle.branch_tree.specs.Segments.{segments_in, segment_at, last_of}
-use Rattle.branch_tree.specs.Planned.{IsTree, HasParent, ParentIs}
+use Rattle.branch_tree.specs.Planned.{IsTree}
 use Rattle.branch_tree.proofs.PartLemmas.{last-at}
 use Rattle.market_types.specs.Told.{EntryTold}
 use Rattle.market_floor.specs.declared.opening.Opening.{Opening}
 use Rattle.kernel_core.specs.Until.{Run}
 use Rattle.kernel_copy.specs.Full.{opening_run, full}
-use Rattle.kernel_copy.specs.Segmentwise.{segment_end, parent_end, segment_run, segment_entries, from_count, own_count, chain_within, chain_to, chain_of}
+use Rattle.kernel_copy.specs.Segmentwise.{segment_end, parent_end, segment_entries, from_count, own_count, chain_within, chain_to, chain_of}
 use Rattle.kernel_copy.proofs.Walks.{has_parent, segment-copy, segment-grows, full-last}
 
 -- These segments' entries and events are those up to a segment's end.
@@ -59,14 +57,14 @@ chain-is zero o p s t lim l h = elim (option_cases (segment_at p s).parent) [
 ]
 chain-is (suc n) o p s t lim l h = elim (option_cases (segment_at p s).parent) [
   | inl none ↦
-    let same : chain_within (suc n) p s ≡ s ∷ [] = ap (λ (x : Option ℕ). unwrap_or (option_map (λ (q : ℕ). chain_within n p q) x) [] ++ s ∷ []) none in
-    subst (λ (xs : List ℕ). IsChain o p s xs) (sym same) (chain-first o p s t lim l none)
+      let same : chain_within (suc n) p s ≡ s ∷ [] = ap (λ (x : Option ℕ). unwrap_or (option_map (λ (q : ℕ). chain_within n p q) x) [] ++ s ∷ []) none in
+      subst (λ (xs : List ℕ). IsChain o p s xs) (sym same) (chain-first o p s t lim l none)
   | inr some ↦
-    let q = some.0 in
-    let k = has_parent p s q t l some.1 in
-    let same : chain_within (suc n) p s ≡ chain_within n p q ++ s ∷ [] = ap (λ (x : Option ℕ). unwrap_or (option_map (λ (q : ℕ). chain_within n p q) x) [] ++ s ∷ []) some.1 in
-    subst (λ (xs : List ℕ). IsChain o p s xs) (sym same)
-    (chain-more o p s q (chain_within n p q) t lim l some.1 (chain-is n o p q t lim (omega (arith, k.earlier)) (omega (arith, k.earlier))))
+      let q = some.0 in
+      let k = has_parent p s q t l some.1 in
+      let same : chain_within (suc n) p s ≡ chain_within n p q ++ s ∷ [] = ap (λ (x : Option ℕ). unwrap_or (option_map (λ (q : ℕ). chain_within n p q) x) [] ++ s ∷ []) some.1 in
+      subst (λ (xs : List ℕ). IsChain o p s xs) (sym same)
+      (chain-more o p s q (chain_within n p q) t lim l some.1 (chain-is n o p q t lim (omega (arith, k.earlier)) (omega (arith, k.earlier))))
 ]
 
 -- the entries and events up to a segment's end are those of its chain

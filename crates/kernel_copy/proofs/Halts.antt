@@ -1,16 +1,14 @@
 -- Runs that stop and go on, by event number or by time.
-use Rattle.std.proofs.Common.{◌≡◌, ℕ, ◌≤◌, min, List, refl, sym, ap, ◌∙◌, arith, subst}
+use Rattle.std.proofs.Common.{◌≡◌, ℕ, ◌<◌, ◌≤◌, inl, inr, min, List, refl, sym, ap, ◌∙◌, arith, subst}
+use Rattle.std.proofs.lemmas.Bool.{cases_lt}
 use Rattle.branch_tree.specs.declared.stop.Stop.{Stop}
 use Rattle.branch_tree.specs.declared.stop.Stop.TheVariants.{At, When}
 use Rattle.branch_tree.specs.Stops.{IsWithin, ComesAfter}
 use Rattle.market_types.specs.Told.{EntryTold}
 use Rattle.market_floor.specs.declared.opening.Opening.{Opening}
 use Rattle.kernel_core.specs.Until.{Run, until, behind}
-use Rattle.kernel_core.specs.Due.{until_time}
 use Rattle.kernel_core.proofs.Stops.{until-grows, until-within, until-past, until-again, until-until, until-behind}
 use Rattle.kernel_core.proofs.Times.{time-grows, time-within, time-again, time-time, time-on, time-short, time-over, time-behind, until-short}
-use Rattle.std.proofs.lemmas.Bool.{cases_lt}
-use Rattle.std.proofs.Common.{inl, inr, ◌<◌}
 use Rattle.kernel_copy.specs.UntilStop.{until_stop, until_part}
 
 pub stop-grows : (o : Opening) (s : Stop) (r : Run) → r.state.events ≤ (until_stop o s r).state.events

@@ -1,5 +1,5 @@
 -- Runs that go on piece by piece, and what is kept of them.
-use Rattle.std.proofs.Common.{◌≡◌, ℕ, ◌-◌, ◌<◌, ◌≤◌, ◌+◌, List, [], ◌∷◌, ◌++◌, All, Some, map, refl, sym, ap, ◌∙◌, subst, append_assoc, append-nil, length-append, arith}
+use Rattle.std.proofs.Common.{◌≡◌, ℕ, ◌<◌, ◌≤◌, List, [], ◌∷◌, ◌++◌, All, map, refl, sym, ap, ◌∙◌, subst, append_assoc, append-nil, length-append, arith}
 use Rattle.std.specs.List.{flat_map}
 use Rattle.std.proofs.lemmas.Grind.{flat_map-append}
 use Rattle.std.proofs.lemmas.List.{get_or-map, get_or_append_left, length-map}
@@ -11,7 +11,7 @@ use Rattle.market_floor.specs.declared.opening.Opening.{Opening}
 use Rattle.bundle_frames.specs.Frames.{entry_frames}
 use Rattle.kernel_core.specs.State.{State}
 use Rattle.kernel_core.specs.Until.{Run, behind, until}
-use Rattle.kernel_core.proofs.Stops.{until-grows, until-past, until-until, until-behind}
+use Rattle.kernel_core.proofs.Stops.{until-past, until-until, until-behind}
 use Rattle.branch_tree.specs.declared.stop.Stop.{Stop}
 use Rattle.kernel_copy.specs.Segmentwise.{afresh}
 use Rattle.kernel_copy.specs.UntilStop.{until_stop, until_part}

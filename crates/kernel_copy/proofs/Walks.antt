@@ -1,17 +1,15 @@
 -- Runs along a branch's path.
-use Rattle.std.proofs.Common.{◌≡◌, ℕ, ◌+◌, ◌-◌, ◌<◌, ◌≤◌, ◌⊎◌, inl, inr, true, false, cond, leb, eqb, List, [], ◌∷◌, ◌++◌, Option, Some, None, length, drop, get_or, append-nil, refl, sym, ap, ◌∙◌, arith, suc, zero, subst}
+use Rattle.std.proofs.Common.{◌≡◌, ℕ, ◌+◌, ◌<◌, ◌≤◌, inl, inr, List, [], ◌∷◌, ◌++◌, Option, Some, None, length, append-nil, refl, sym, ap, ◌∙◌, arith, suc, zero, subst}
 use Rattle.std.proofs.lemmas.Bool.{cases_eq, cases_lt, eq-eqb, ne_eqb, le-leb, lt-leb}
 use Rattle.branch_tree.specs.declared.branch.Branch.{Branch}
 use Rattle.branch_tree.specs.declared.segment.Segment.{Segment}
 use Rattle.branch_tree.specs.Plan.{Plan, branch_at, parent_at, stop_at}
-use Rattle.branch_tree.specs.Paths.{path_of}
-use Rattle.branch_tree.specs.Segments.{segments_in, segment_at, no_segment, last_of}
-use Rattle.branch_tree.specs.Planned.{IsTree, IsNext, IsFork, HasParent, ParentIs, IsPlanned, ArePlanned}
-use Rattle.branch_tree.proofs.PathLemmas.{path-root, rest-more}
-use Rattle.branch_tree.proofs.PartLemmas.{IsPart, last-at, planned}
+use Rattle.branch_tree.specs.Segments.{segments_in, segment_at, last_of}
+use Rattle.branch_tree.specs.Planned.{IsTree, IsNext, IsFork, HasParent, ParentIs, IsPlanned}
+use Rattle.branch_tree.proofs.PathLemmas.{rest-more}
+use Rattle.branch_tree.proofs.PartLemmas.{last-at, planned}
 use Rattle.market_types.specs.Told.{EntryTold}
 use Rattle.market_floor.specs.declared.opening.Opening.{Opening}
-use Rattle.kernel_core.specs.State.{State}
 use Rattle.kernel_core.specs.Until.{Run, until, behind}
 use Rattle.kernel_core.proofs.EditRuns.{edited-events, edited-behind}
 use Rattle.kernel_core.proofs.Stops.{until-behind, until-again, until-within}
@@ -19,7 +17,7 @@ use Rattle.kernel_core.proofs.Times.{until-stays}
 use Rattle.kernel_copy.proofs.Halts.{stop-grows, stop-within, stop-again, stop-after, stop-behind, stop-own}
 use Rattle.kernel_copy.specs.UntilStop.{until_stop}
 use Rattle.branch_tree.specs.declared.stop.Stop.{Stop}
-use Rattle.branch_tree.specs.declared.stop.Stop.TheVariants.{At, When}
+use Rattle.branch_tree.specs.declared.stop.Stop.TheVariants.{At}
 use Rattle.branch_tree.specs.Stops.{IsWithin, ComesAfter}
 use Rattle.kernel_copy.specs.Full.{opening_run, edited_by, forked, forks_of, begun, reach, full_along, full}
 use Rattle.kernel_copy.specs.Segmentwise.{segment_end, parent_end, afresh, started_from, started_at, segment_run, from_count, own_count}
@@ -50,14 +48,14 @@ begun-within zero o p b t lim l h =
 begun-within (suc n) o p b t lim l h = elim (cases_eq b 0) [
   | inl e ↦ subst (λ (c : ℕ). (begun o p c).state.events ≤ o.limit) (sym e) (omega (arith, ap (λ (r : Run). r.state.events) (begun-root o p)))
   | inr other ↦
-    let bs = p.branches in
-    let q = parent_at bs b in
-    let pos : 0 < b = omega arith in
-    let less = t.parents b pos l in
-    let at = begun-within n o p q t lim (omega arith) (omega arith) in
-    let to = stop-within o (stop_at bs b) (begun o p q) (subst (λ (m : ℕ). IsWithin m (stop_at bs b)) lim (t.limits b l)) at in
-    let same = ap (λ (r : Run). r.state.events) (begun-more o p b t pos l) ∙ edited-events b (branch_at bs b).edits (reach o p q (stop_at bs b)) in
-    omega arith
+      let bs = p.branches in
+      let q = parent_at bs b in
+      let pos : 0 < b = omega arith in
+      let less = t.parents b pos l in
+      let at = begun-within n o p q t lim (omega arith) (omega arith) in
+      let to = stop-within o (stop_at bs b) (begun o p q) (subst (λ (m : ℕ). IsWithin m (stop_at bs b)) lim (t.limits b l)) at in
+      let same = ap (λ (r : Run). r.state.events) (begun-more o p b t pos l) ∙ edited-events b (branch_at bs b).edits (reach o p q (stop_at bs b)) in
+      omega arith
 ]
 
 forked-grows : (o : Opening) (bs : List Branch) (xs : List ℕ) (r : Run) → r.state.events ≤ (forked o bs xs r).state.events
@@ -242,8 +240,8 @@ segment-next o p s q t lim l is same =
     let k = has_parent p s q t l is in
     elim k.joins [
       | inl n ↦ end-is o p g g.branch g.stop refl refl
-        ∙ sym (stop-after o g.start g.stop (begun o p g.branch) (subst (λ (m : ℕ). ComesAfter m g.start g.stop) lim n.rises) (begun-within g.branch o p g.branch t lim h.branch (omega arith)))
-        ∙ ap (λ (r : Run). until_stop o g.stop r) (sym (end-is o p x g.branch g.start n.branch n.meets))
+          ∙ sym (stop-after o g.start g.stop (begun o p g.branch) (subst (λ (m : ℕ). ComesAfter m g.start g.stop) lim n.rises) (begun-within g.branch o p g.branch t lim h.branch (omega arith)))
+          ∙ ap (λ (r : Run). until_stop o g.stop r) (sym (end-is o p x g.branch g.start n.branch n.meets))
       | inr n ↦ let less = t.parents g.branch n.later h.branch in absurd (omega (arith, n.parent))
     ]
 
@@ -258,8 +256,8 @@ segment-fork o p s q t lim l is less =
     elim k.joins [
       | inl n ↦ absurd (omega (arith, n.branch))
       | inr n ↦ end-is o p g g.branch g.stop refl refl
-        ∙ ap (λ (r : Run). until_stop o g.stop r) (begun-more o p g.branch t n.later h.branch
-        ∙ ap (λ (r : Run). edited_by bs g.branch r) (sym (end-is o p x (parent_at bs g.branch) (stop_at bs g.branch) n.parent n.meets)))
+          ∙ ap (λ (r : Run). until_stop o g.stop r) (begun-more o p g.branch t n.later h.branch
+          ∙ ap (λ (r : Run). edited_by bs g.branch r) (sym (end-is o p x (parent_at bs g.branch) (stop_at bs g.branch) n.parent n.meets)))
     ]
 
 -- a branch's full run is the end of its last segment

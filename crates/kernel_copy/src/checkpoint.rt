@@ -63,7 +63,7 @@ impl Checkpoint {
         }
     }
 
-    /// The segment and the number of events.
+    /// The segment, and the number of one of its states.
     pub fn key(&self) -> Key
         ensures value { result ≡ self.now.key }
         ensures key { IsKeyOf self.now.course result }

@@ -5,7 +5,7 @@ ghost use Rattle.kernel_copy.specs.Segmentwise.{fork_number};
 
 use branch_tree::Stop;
 
-/// The number in the key of the end of a segment that stops at a time.
+/// The number in the key of the end of a segment that stops at a time. No run has so many events.
 pub const END_AT_A_TIME: u32 = 16_777_215;
 
 /// The number in the key of the end of a segment with this stop.

@@ -15,6 +15,7 @@ mod run;
 mod state;
 mod waiting;
 pub mod worked_closing;
+pub mod worked_keys;
 pub mod worked_states;
 
 pub use checkpoint::Checkpoint;

@@ -1,4 +1,4 @@
-use Rattle.std.proofs.Common.{◌<◌, arith}
+use Rattle.std.proofs.Common.{arith}
 use Rattle.kernel_copy.proofs.run.run_segment.Goals as goal
 
 pub run_on-ran-requires-clause-count : goal.run_on-ran-requires-clause-count
