@@ -1,3 +1,6 @@
+ghost use Rattle.std.specs.Prelude.{IfOk};
+ghost use Rattle.order_file.specs.Filed.{AreFiled};
+
 use crate::reopen_cross_tests::{FIVE, TWO, list_of};
 use market_types::{HIGHEST_PRICE, Side};
 use order_file::{OrdersError, join, read_orders};
@@ -24,7 +27,10 @@ fn long_file(alloc: Global, count: u32) -> Result<String, AllocError> {
     Ok(text)
 }
 
-fn told(alloc: Global, text: &str) -> Result<Vec<Interest>, OrdersError> {
+// What a file says in a study of three traders.
+fn told(alloc: Global, text: &str) -> Result<Vec<Interest>, OrdersError>
+    ensures { IfOk result (λ orders. AreFiled orders.items) }
+{
     read_orders(alloc, TRADERS, text.as_bytes())
 }
 
