@@ -15,12 +15,13 @@ use Rattle.kernel_copy.specs.UntilStop.{until_stop, until_part}
 use Rattle.kernel_copy.specs.Full.{begun, reach, full}
 use Rattle.kernel_copy.specs.Segmentwise.{after, afresh, from_count, parent_end, segment_end, started_at, started_from}
 use Rattle.kernel_copy.proofs.Afters.{after-end, after-full, after-past}
+use Rattle.kernel_copy.proofs.Pieces.{state_afresh}
 use Rattle.kernel_copy.proofs.Trees.{course-tree}
 use Rattle.kernel_copy.proofs.Walks.{full-begun, has_parent, planned-at, segment-after, segment-before, segment-copy, segment-ends, segment-first, segment-goes, segment-grows, segment-stays, segment-within, started-first, started-goes}
 use Rattle.rewind_desk.specs.Best.{count_at}
-use Rattle.rewind_desk.specs.Reach.{IsAt, IsOn, IsUnderway, has_more}
+use Rattle.rewind_desk.specs.Reach.{IsAt, IsOn, RunsOn, has_more}
 use Rattle.rewind_desk.proofs.Chained.{parent_cases, on-first, on-parent}
-use Rattle.rewind_desk.proofs.Halting.{part-before, part-more, part-whole, stop-alone, stop-at, stop-on, until-alone}
+use Rattle.rewind_desk.proofs.Halting.{part-before, part-more, part-whole, stop-afresh, stop-at, stop-on}
 
 pub end-reach : (c : CourseTold) (s : ℕ) → segment_end c.opening c.plan (segment_at c.plan s) ≡ reach c.opening c.plan (segment_at c.plan s).branch (segment_at c.plan s).stop
 unfolding segment_end
@@ -118,8 +119,8 @@ pub chain-end : (c : CourseTold) (s : ℕ) (key : Key) → IsCourse c → s < le
     → count_at c key ≤ (segment_end c.opening c.plan (segment_at c.plan s)).state.events
 chain-end c s key h l on k = chain-count s c s key h l (omega arith) on k
 
--- a state at a key is underway in its segment
-pub from-key : (c : CourseTold) (key : Key) → IsCourse c → IsKeyOf c key → IsUnderway c key.segment (state_at c key)
+-- from a state at a key its segment's run goes on
+pub from-key : (c : CourseTold) (key : Key) → IsCourse c → IsKeyOf c key → RunsOn c key.segment (state_at c key)
 from-key c key h k =
     let o = c.opening in
     let g = segment_at c.plan key.segment in
@@ -133,30 +134,30 @@ from-key c key h k =
     let high : n ≤ (until_stop o g.stop first).state.events = omega (arith, ap (λ (r : Run). r.state.events) end, stands.to) in
     record {
       ends = ap (λ (x : State). (until_stop o g.stop (afresh x)).state) at
-          ∙ sym (stop-alone o g.stop (until o n first))
+          ∙ stop-afresh o g.stop (until o n first)
           ∙ ap (λ (r : Run). r.state) (stop-on o g.stop n first few low high ∙ sym end);
       runs = λ m under.
           let here : (until o n first).state.events ≤ m = omega (arith, under, ap (λ (x : State). x.events) at) in
           let begun_by : first.state.events ≤ m = omega (arith, here, until-grows o n first) in
           ap (λ (x : State). (until o m (afresh x)).state) at
-          ∙ sym (until-alone o m (until o n first))
+          ∙ state_afresh o m (until o n first)
           ∙ ap (λ (r : Run). r.state) (until-again o n m first here ∙ sym (full-begun o c.plan g.branch m begun_by));
     }
 
 -- so is the opening in a segment that goes on from no other
-pub from-opening : (c : CourseTold) (s : ℕ) (k : State) → IsCourse c → s < length (segments_in c.plan) → (segment_at c.plan s).parent ≡ None → k ≡ opened c.opening → IsUnderway c s k
+pub from-opening : (c : CourseTold) (s : ℕ) (k : State) → IsCourse c → s < length (segments_in c.plan) → (segment_at c.plan s).parent ≡ None → k ≡ opened c.opening → RunsOn c s k
 from-opening c s k h l none is =
     let o = c.opening in
     let g = segment_at c.plan s in
     let t = course-tree c h in
     let zero_events : from_count o c.plan g ≡ 0 = ap (λ (x : Option ℕ). (parent_end o c.plan x).state.events) none in
-    let opening : IsUnderway c s (opened o) = record {
+    let opening : RunsOn c s (opened o) = record {
       ends = ap (λ (r : Run). r.state) (sym (segment-first o c.plan s t h.limit l none));
       runs = λ e low.
           ap (λ (r : Run). (until o e r).state) (sym (started-first o c.plan g none))
           ∙ sym (ap (λ (r : Run). r.state) (segment-after o c.plan s e t h.limit l (omega (arith, zero_events))));
     } in
-    subst (λ (x : State). IsUnderway c s x) (sym is) opening
+    subst (λ (x : State). RunsOn c s x) (sym is) opening
 
 -- a segment's own run begins with the events before it
 pub started-events : (c : CourseTold) (s : ℕ) → IsCourse c → s < length (segments_in c.plan) → (started_at c.opening c.plan (segment_at c.plan s)).state.events ≡ from_count c.opening c.plan (segment_at c.plan s)
@@ -170,9 +171,9 @@ go-events c s q old new es h l is end started =
     ap (λ (r : Run). r.state.events) (started ∙ sym (started-goes c.opening c.plan (segment_at c.plan s) q is)) ∙ started-events c s h l ∙ parent-events c s q is
     ∙ sym (ap (λ (x : State). x.events) end)
 
--- and is underway in the segment
+-- and from it the segment's run goes on
 pub from-parent : (c : CourseTold) (s q : ℕ) (k : State) (es : List EntryTold) → IsCourse c → s < length (segments_in c.plan) → (segment_at c.plan s).parent ≡ Some q
-    → record { state = k; entries = es } ≡ started_from c.opening c.plan (segment_at c.plan s).branch (Some q) → IsUnderway c s k
+    → record { state = k; entries = es } ≡ started_from c.opening c.plan (segment_at c.plan s).branch (Some q) → RunsOn c s k
 from-parent c s q k es h l is started =
     let o = c.opening in
     let g = segment_at c.plan s in
@@ -181,14 +182,14 @@ from-parent c s q k es h l is started =
     let start : r ≡ started_at o c.plan g = started ∙ sym (started-goes o c.plan g q is) in
     let count : k.events ≡ from_count o c.plan g = ap (λ (x : Run). x.state.events) start ∙ started-events c s h l in
     record {
-      ends = sym (stop-alone o g.stop r) ∙ ap (λ (x : Run). (until_stop o g.stop x).state) start ∙ sym (ap (λ (x : Run). x.state) (segment-copy o c.plan s t h.limit l));
+      ends = stop-afresh o g.stop r ∙ ap (λ (x : Run). (until_stop o g.stop x).state) start ∙ sym (ap (λ (x : Run). x.state) (segment-copy o c.plan s t h.limit l));
       runs = λ e low.
-          sym (until-alone o e r) ∙ ap (λ (x : Run). (until o e x).state) start
+          state_afresh o e r ∙ ap (λ (x : Run). (until o e x).state) start
           ∙ sym (ap (λ (x : Run). x.state) (segment-after o c.plan s e t h.limit l (omega (arith, low, count))));
     }
 
--- where a state that is underway in a segment comes to
-pub arrives : (c : CourseTold) (s e : ℕ) (k y : State) (more : Bool) → IsUnderway c s k → k.events ≤ e → e ≤ c.opening.limit
+-- where a state comes to from which a segment's run goes on
+pub arrives : (c : CourseTold) (s e : ℕ) (k y : State) (more : Bool) → RunsOn c s k → k.events ≤ e → e ≤ c.opening.limit
     → y ≡ (until_part c.opening (segment_at c.plan s).stop e (afresh k)).state → more ≡ has_more c.opening (segment_at c.plan s).stop y → IsAt c s e y more
 arrives c s e k y more on low few is has =
     let o = c.opening in

@@ -1,8 +1,7 @@
 -- Runs to a stop and to an event number.
-use Rattle.std.proofs.Common.{◌≡◌, ℕ, ◌<◌, ◌≤◌, ◌-◌, min, inl, inr, false, List, Some, None, refl, sym, ap, ◌∙◌, arith, subst, append-nil}
+use Rattle.std.proofs.Common.{◌≡◌, ℕ, ◌<◌, ◌≤◌, ◌-◌, min, inl, inr, false, Some, None, refl, sym, ap, ◌∙◌, arith, subst}
 use Rattle.std.specs.Prelude.{max, nat_lt}
 use Rattle.std.proofs.lemmas.Bool.{cases_lt, lt-ltb, le-ltb, ltb-false}
-use Rattle.market_types.specs.Told.{EntryTold}
 use Rattle.market_types.specs.declared.entry.End.{End}
 use Rattle.branch_tree.specs.declared.stop.Stop.{Stop}
 use Rattle.branch_tree.specs.declared.stop.Stop.TheVariants.{At, When}
@@ -10,25 +9,20 @@ use Rattle.market_floor.specs.declared.opening.Opening.{Opening}
 use Rattle.shelf_core.proofs.Lists.{bool_cases}
 use Rattle.kernel_core.specs.State.{State}
 use Rattle.kernel_core.specs.Step.{end_of}
-use Rattle.kernel_core.specs.Until.{Run, advanced, behind, until}
+use Rattle.kernel_core.specs.Until.{Run, advanced, until}
 use Rattle.kernel_core.specs.Due.{due_by, until_time}
 use Rattle.kernel_core.proofs.Runs.{advanced_by_ended, going_below}
-use Rattle.kernel_core.proofs.Stops.{advanced-events, end_cases, going-events, until-again, until-behind, until-grows, until-past, until-until, until-within}
+use Rattle.kernel_core.proofs.Stops.{advanced-events, end_cases, going-events, until-again, until-grows, until-past, until-until, until-within}
 use Rattle.kernel_core.proofs.Times.{due-going, time-at, time-grows, time-number, time-on, time-over, time-short, time-step, time-within, until-short, until-stays}
 use Rattle.kernel_copy.specs.UntilStop.{until_stop, until_part}
 use Rattle.kernel_copy.specs.Segmentwise.{afresh}
 use Rattle.kernel_copy.proofs.Halts.{stop-behind, stop-own}
+use Rattle.kernel_copy.proofs.Pieces.{fresh}
 use Rattle.rewind_desk.specs.Reach.{has_more}
 
--- the state that a run leads to needs no entries
-afresh-behind : (r : Run) → behind r.entries (afresh r.state) ≡ r
-afresh-behind r = ap (λ (es : List EntryTold). let q : Run = record { state = r.state; entries = es } in q) (append-nil r.entries)
-
-pub until-alone : (o : Opening) (e : ℕ) (r : Run) → (until o e r).state ≡ (until o e (afresh r.state)).state
-until-alone o e r = ap (λ (q : Run). q.state) (sym (ap (λ (q : Run). until o e q) (afresh-behind r)) ∙ until-behind o e r.entries (afresh r.state))
-
-pub stop-alone : (o : Opening) (s : Stop) (r : Run) → (until_stop o s r).state ≡ (until_stop o s (afresh r.state)).state
-stop-alone o s r = ap (λ (q : Run). q.state) (sym (ap (λ (q : Run). until_stop o s q) (afresh-behind r)) ∙ stop-behind o s r.entries (afresh r.state))
+-- the state that a run to a stop leads to needs no entries
+pub stop-afresh : (o : Opening) (s : Stop) (r : Run) → (until_stop o s (afresh r.state)).state ≡ (until_stop o s r).state
+stop-afresh o s r = ap (λ (q : Run). q.state) (sym (ap (λ (q : Run). until_stop o s q) (fresh r) ∙ stop-behind o s r.entries (afresh r.state)))
 
 -- a run has no more events than it had before and than its number says
 until-most : (o : Opening) (n : ℕ) (r : Run) → (until o n r).state.events ≤ max n r.state.events

@@ -3,6 +3,7 @@ use Rattle.std.proofs.Common.{◌≡◌, ◌≤◌, ◌<◌, ◌≢◌, ℕ, Boo
 use Rattle.std.specs.Prelude.{min}
 use Rattle.std.proofs.lemmas.Bool.{cases_lt}
 use Rattle.checkpoint_shelf.specs.Told.{ClosedTold}
+use Rattle.branch_tree.specs.declared.segment.Segment.{Segment}
 use Rattle.branch_tree.specs.Plan.{Plan}
 use Rattle.branch_tree.specs.Planned.{IsTree}
 use Rattle.branch_tree.specs.Segments.{segments_in, segment_at, last_of}
@@ -40,6 +41,10 @@ held-at shelf c s e x (Some n) same h l most held on =
 pub chain-of : (shelf : ClosedTold CourseTold) (c : CourseTold) (s : ℕ) (near : Option Near) → shelf.course ≡ c → IfSome near (λ (n : Near). IsOn shelf.course.plan s n.key.segment)
     → IfSome near (λ (n : Near). IsOn c.plan s n.key.segment)
 chain-of shelf c s near same on = subst (λ (x : CourseTold). IfSome near (λ (n : Near). IsOn x.plan s n.key.segment)) same on
+
+-- a segment's parent, as it was read
+pub parent-is : (p : Plan) (s : ℕ) (g : Segment) (x : Option ℕ) → g ≡ segment_at p s → g.parent ≡ x → (segment_at p s).parent ≡ x
+parent-is p s g x same is = sym (ap (λ (y : Segment). y.parent) same) ∙ is
 
 -- a state that isn't of a chain's last segment is of its parent's chain
 pub on-before : (p : Plan) (s q : ℕ) (near : Option Near) → IsTree p.branches p.limit → s < length (segments_in p) → (segment_at p s).parent ≡ Some q

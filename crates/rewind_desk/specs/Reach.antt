@@ -25,9 +25,9 @@ abbrev pub has_more : Opening → Stop → State → Bool
 has_more o (At n) s = if is_some (end_of o s) then false else nat_lt s.events n
 has_more o (When w) s = due_by o w s
 
--- It is a state of a segment's own run: from it the run goes on to the segment's end, and to each event number that it hasn't
--- passed as the branch's full run does.
-pub record IsUnderway (c : CourseTold) (s : ℕ) (k : State) : Type 0 where
+-- From this state a segment's own run goes on: to the segment's end, and to each event number that it hasn't passed as the
+-- branch's full run does.
+pub record RunsOn (c : CourseTold) (s : ℕ) (k : State) : Type 0 where
   pub ends : (until_stop c.opening (segment_at c.plan s).stop (afresh k)).state ≡ (segment_end c.opening c.plan (segment_at c.plan s)).state
   pub runs : (e : ℕ) → k.events ≤ e → (until c.opening e (afresh k)).state ≡ (full c.opening c.plan (segment_at c.plan s).branch e).state
 

@@ -6,7 +6,7 @@ ghost use Rattle.kernel_core.specs.Step.{Fits};
 ghost use Rattle.kernel_copy.specs.UntilStop.{until_part};
 ghost use Rattle.kernel_copy.specs.Segmentwise.{afresh, segment_end};
 ghost use Rattle.rewind_desk.specs.Nearest.{IsHeld, events_of};
-ghost use Rattle.rewind_desk.specs.Reach.{IsAt, IsOn, IsUnderway, has_more};
+ghost use Rattle.rewind_desk.specs.Reach.{IsAt, IsOn, RunsOn, has_more};
 
 use crate::near::Near;
 use branch_tree::Stop;
@@ -88,7 +88,7 @@ fn run_to<L: Ledger>(
     Ok(ran.kernel)
 }
 
-// Lets a kernel that is underway in a segment run until so many events stand or the segment ends.
+// Lets a kernel from which a segment's run goes on run until so many events stand or the segment ends.
 fn arrive<L: Ledger>(
     alloc: Global,
     course: &Course,
@@ -99,7 +99,7 @@ fn arrive<L: Ledger>(
 ) -> Result<Arrival, Memory>
     requires segment { segment < length (segments_in course.now.plan) }
     requires fits { Fits course.now.opening kernel }
-    requires underway { IsUnderway course.now segment kernel }
+    requires on { RunsOn course.now segment kernel }
     requires early { kernel.events ≤ event }
     requires within { event ≤ course.now.opening.limit }
     requires count { steps.old + (event - kernel.events) < 2 ^ 64 }
@@ -118,7 +118,7 @@ fn arrive<L: Ledger>(
     })
 }
 
-// A kernel in a state that the shelf holds, which is underway in its segment.
+// A kernel in a state that the shelf holds, from which the run of its segment goes on.
 fn resumed(
     alloc: Global,
     course: &Course,
@@ -129,7 +129,7 @@ fn resumed(
     requires near { IsHeld shelf.now near.events near }
     ensures segment { near.key.segment < length (segments_in course.now.plan) }
     ensures fits { IfOk result (λ k. Fits course.now.opening k) }
-    ensures underway { IfOk result (λ k. IsUnderway course.now near.key.segment k) }
+    ensures on { IfOk result (λ k. RunsOn course.now near.key.segment k) }
     ensures events { IfOk result (λ k. k.events ≡ near.events) }
 {
     courses_stay_in_range();

@@ -20,7 +20,7 @@ returns-clause-at g c =
     let y : State = c.in_ok-reached.reached in
     let value = c.opening-o.ensures.value in
     let stop = ap (λ (x : Segment). x.stop) c.segment-stop.ensures.value in
-    arrives k c.args.segment c.args.event c.args.kernel y c.has_more-more.result c.requires.underway c.requires.early c.requires.within
+    arrives k c.args.segment c.args.event c.args.kernel y c.has_more-more.result c.requires.on c.requires.early c.requires.within
     (c.in_ok-reached.ensures.state
     ∙ ap (λ (o : Opening). (until_part o c.segment-stop.result.stop c.args.event (afresh c.args.kernel)).state) value
     ∙ ap (λ (x : Stop). (until_part k.opening x c.args.event (afresh c.args.kernel)).state) stop)

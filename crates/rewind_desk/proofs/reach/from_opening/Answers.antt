@@ -10,8 +10,8 @@ use Rattle.rewind_desk.proofs.reach.from_opening.Goals as goal
 pub arrive-requires-clause-fits : goal.arrive-requires-clause-fits
 arrive-requires-clause-fits g c = subst (λ (o : Opening). Fits o c.in_ok-kernel.kernel) c.opening.ensures.value c.in_ok-kernel.ensures.fitting
 
-pub arrive-requires-clause-underway : goal.arrive-requires-clause-underway
-arrive-requires-clause-underway g c =
+pub arrive-requires-clause-on : goal.arrive-requires-clause-on
+arrive-requires-clause-on g c =
     let k : CourseTold = c.args.course.now in
     from-opening k c.args.segment c.in_ok-kernel.kernel c.opening.ensures.course c.requires.segment c.requires.first
     (c.in_ok-kernel.ensures.opened ∙ ap (λ (o : Opening). opened o) c.opening.ensures.value)

@@ -10,8 +10,8 @@ go_on-requires-clause-segment g c =
     let is = ap (λ (x : Segment). x.parent) c.segment-branch.ensures.value ∙ c.requires.parent in
     omega (arith, c.requires.segment, (c.segment-branch.ensures.parent c.args.parent is).earlier)
 
-pub arrive-requires-clause-underway : goal.arrive-requires-clause-underway
-arrive-requires-clause-underway g c =
+pub arrive-requires-clause-on : goal.arrive-requires-clause-on
+arrive-requires-clause-on g c =
     let k : CourseTold = c.args.course.now in
     let started = c.in_ok-go_on.ensures.state ∙ ap (λ (x : Segment). started_from k.opening k.plan x.branch (Some c.args.parent)) c.segment-branch.ensures.value in
     from-parent k c.args.segment c.args.parent c.go_on.new.kernel c.go_on.new.trace.list c.segment-branch.ensures.course c.requires.segment c.requires.parent started

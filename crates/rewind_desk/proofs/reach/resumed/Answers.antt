@@ -7,7 +7,7 @@ use Rattle.kernel_copy.specs.Courses.{CourseTold, IsKeyOf, state_at}
 use Rattle.kernel_copy.proofs.Trees.{course-tree}
 use Rattle.kernel_copy.proofs.Walks.{planned-at}
 use Rattle.rewind_desk.specs.Best.{count_at}
-use Rattle.rewind_desk.specs.Reach.{IsUnderway}
+use Rattle.rewind_desk.specs.Reach.{RunsOn}
 use Rattle.rewind_desk.proofs.Arrivals.{from-key, key-stands}
 use Rattle.rewind_desk.proofs.reach.resumed.Goals as goal
 
@@ -35,8 +35,8 @@ returns-clause-fits c =
     let fits = (c.courses_stay_in_range.ensures.states k (segment_at k.plan n.key.segment).branch (count_at k n.key) course under).fits in
     subst (λ (s : State). Fits k.opening s) (sym (kernel ∙ (key-stands k n.key course key).state)) fits
 
-pub returns-clause-underway : goal.returns-clause-underway
-returns-clause-underway c =
+pub returns-clause-on : goal.returns-clause-on
+returns-clause-on c =
     let k : CourseTold = c.args.course.now in
     let n = c.args.near in
     let kept = c.deref.result.now in
@@ -46,7 +46,7 @@ returns-clause-underway c =
     c.in_ok-kernel.ensures.state
     ∙ ap (λ (x : CourseTold). state_at x kept.key) (ap (λ x. x.course) c.deref.ensures ∙ told.2 ∙ c.requires.shelf)
     ∙ ap (λ (x : Key). state_at k x) (ap (λ x. x.key) c.deref.ensures ∙ told.1) in
-    subst (λ (s : State). IsUnderway k n.key.segment s) (sym kernel) (from-key k n.key c.opening.ensures.course key)
+    subst (λ (s : State). RunsOn k n.key.segment s) (sym kernel) (from-key k n.key c.opening.ensures.course key)
 
 pub returns-clause-events : goal.returns-clause-events
 returns-clause-events c =
