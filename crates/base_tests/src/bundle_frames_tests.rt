@@ -41,6 +41,7 @@ const ORDER: ClosingOrder = ClosingOrder {
     stock: 0,
     price: 100_000,
     tif: 99_999,
+    shown: true,
 };
 
 fn wakeup(alloc: Global) -> Record

@@ -103,10 +103,14 @@ stock_wire s = record {
       ∷ signed s.offset ∷ number s.live ∷ [];
 }
 
--- `l`
+-- `l` is a shown order, `n` a hidden one
+abbrev pub letter_of_order : Bool → ℕ
+letter_of_order shown = if shown then 108 else 110
+
+-- `l` or `n`
 abbrev pub order_wire : ClosingOrder → Wire
 order_wire o = record {
-  letter = 108;
+  letter = letter_of_order o.shown;
   kinds = order_kinds;
   values =
       number o.reference ∷ number o.agent ∷ bytes o.token.0 ∷ byte (side_letter o.side) ∷ number o.intended ∷ number o.left

@@ -110,6 +110,7 @@ worked_live_order = record {
   stock = 0x0102;
   price = 0x51525354;
   tif = 0x61626364;
+  shown = true;
 }
 
 -- a silenced agent, with cash of -2^65 - 3 and 2^66 + 9, a position of -6 of its own and two settled ones

@@ -56,6 +56,8 @@ pub struct ClosingOrder {
     pub price: u32,
     /// Time in force.
     pub tif: u32,
+    /// Whether the order is shown, and not hidden.
+    pub shown: bool,
 }
 
 /// An agent of a state.

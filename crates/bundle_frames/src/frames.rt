@@ -4,7 +4,7 @@ ghost use Rattle.std.specs.Prelude.{◌≡◌, ◌<◌, ◌/◌, ◌%◌, ◌^�
 ghost use Rattle.std.specs.Int.{cast_unsigned, w64, w128};
 ghost use Rattle.market_types.specs.Told.{event_told, edit_told};
 ghost use Rattle.wire_fields.specs.Wire.{spelling};
-ghost use Rattle.bundle_frames.specs.Wires.{header_wire, branch_wire, event_wire, edit_wire, counts_wire, stock_wire, order_wire, agent_wire, end_wire, position_bytes, letter_of_delivery, letter_of_silence, letter_of_body};
+ghost use Rattle.bundle_frames.specs.Wires.{header_wire, branch_wire, event_wire, edit_wire, counts_wire, stock_wire, order_wire, agent_wire, end_wire, position_bytes, letter_of_delivery, letter_of_silence, letter_of_body, letter_of_order};
 
 use crate::closing::{ClosingAgent, ClosingCounts, ClosingOrder, ClosingStock};
 use crate::layouts::{AGENT, BRANCH, COUNTS, EDIT, END, HEADER, ORDER, POSITION, STOCK};
@@ -153,12 +153,18 @@ pub(crate) fn stock_frame(s: &ClosingStock) -> [u8; 44]
     )
 }
 
+fn order_letter(shown: bool) -> u8
+    ensures { result ≡ letter_of_order shown }
+{
+    if shown { b'l' } else { b'n' }
+}
+
 // A live order of a closing.
 pub(crate) fn order_frame(o: &ClosingOrder) -> [u8; 44]
     ensures { result ≡ spelling (order_wire o.now) }
 {
     message(
-        b'l',
+        order_letter(o.shown),
         &ORDER,
         &[
             Value::Number(o.reference),

@@ -1,5 +1,5 @@
 -- The types of frames, and how a head comes back from its message.
-use Rattle.std.specs.Prelude.{◌≡◌, ℕ, ◌==◌, List, Some, refl, if◌then◌else◌}
+use Rattle.std.specs.Prelude.{◌≡◌, ℕ, ◌==◌, Bool, true, false, List, Some, refl, if◌then◌else◌}
 use Rattle.std.proofs.Common.{ap}
 use Rattle.market_types.specs.declared.order.Side.{Side}
 use Rattle.wire_fields.specs.declared.kind.Kind.{Kind}
@@ -7,6 +7,7 @@ use Rattle.wire_fields.specs.Values.{FieldValue}
 use Rattle.wire_fields.specs.Wire.{Wire}
 use Rattle.wire_fields.specs.Back.{number_in, bytes_in, byte_in, side_in, side_back}
 use Rattle.bundle_frames.specs.Layouts.{header_kinds, branch_kinds, event_kinds, edit_kinds, counts_kinds, stock_kinds, order_kinds, agent_kinds, end_kinds, waiting_kinds}
+use Rattle.bundle_frames.specs.Wires.{letter_of_order, order_wire}
 use Rattle.bundle_frames.specs.declared.closing.ClosingCounts.{ClosingCounts}
 use Rattle.bundle_frames.specs.declared.closing.ClosingOrder.{ClosingOrder}
 use Rattle.bundle_reader.specs.declared.head.Head.{Head}
@@ -19,7 +20,7 @@ use Rattle.bundle_reader.specs.declared.head.StockHead.{StockHead}
 use Rattle.bundle_reader.specs.declared.head.AgentHead.{AgentHead}
 use Rattle.bundle_reader.specs.declared.head.WaitingHead.{WaitingHead}
 use Rattle.bundle_reader.specs.declared.head_type.HeadType.{HeadType}
-use Rattle.bundle_reader.specs.declared.head_type.HeadType.TheVariants.{Header, Branch, Event, Edit, Counts, Stock, Order, Agent, Waiting, End}
+use Rattle.bundle_reader.specs.declared.head_type.HeadType.TheVariants.{Header, Branch, Event, Edit, Counts, Stock, Order, Hidden, Agent, Waiting, End}
 use Rattle.bundle_reader.specs.Heads.{head_wire, head_layout}
 
 -- the letter of a type
@@ -31,6 +32,7 @@ head_letter Edit = 100
 head_letter Counts = 99
 head_letter Stock = 115
 head_letter Order = 108
+head_letter Hidden = 110
 head_letter Agent = 97
 head_letter Waiting = 119
 head_letter End = 122
@@ -44,6 +46,7 @@ head_kinds Edit = edit_kinds
 head_kinds Counts = counts_kinds
 head_kinds Stock = stock_kinds
 head_kinds Order = order_kinds
+head_kinds Hidden = order_kinds
 head_kinds Agent = agent_kinds
 head_kinds Waiting = waiting_kinds
 head_kinds End = end_kinds
@@ -102,9 +105,9 @@ stock_in vs = record {
   live = number_in vs 7;
 }
 
--- the live order of these values, on a side
-abbrev pub order_on : List FieldValue → Side → ClosingOrder
-order_on vs side = record {
+-- the live order of these values, on a side, shown or hidden
+abbrev pub order_on : List FieldValue → Side → Bool → ClosingOrder
+order_on vs side shown = record {
   reference = number_in vs 0;
   agent = number_in vs 1;
   token = record { 0 = bytes_in vs 2 };
@@ -114,6 +117,7 @@ order_on vs side = record {
   stock = number_in vs 6;
   price = number_in vs 7;
   tif = number_in vs 8;
+  shown = shown;
 }
 
 abbrev pub agent_in : List FieldValue → AgentHead
@@ -150,10 +154,11 @@ head_of w =
     (if w.letter == 100 then head.Edit (edit_in w.values) else
     (if w.letter == 99 then head.Counts (counts_in w.values) else
     (if w.letter == 115 then head.Stock (stock_in w.values) else
-    (if w.letter == 108 then head.Order (order_on w.values (side_in w.values 3)) else
+    (if w.letter == 108 then head.Order (order_on w.values (side_in w.values 3) true) else
+    (if w.letter == 110 then head.Order (order_on w.values (side_in w.values 3) false) else
     (if w.letter == 97 then head.Agent (agent_in w.values) else
     (if w.letter == 119 then head.Waiting (waiting_in w.values) else
-    head.End (number_in w.values 0)))))))))
+    head.End (number_in w.values 0))))))))))
 
 pub head_told : (m : Head) → head_layout (head_wire m).letter ≡ Some (head_wire m).kinds
 head_told (head.Header m) = refl
@@ -162,7 +167,7 @@ head_told (head.Event m) = refl
 head_told (head.Edit m) = refl
 head_told (head.Counts m) = refl
 head_told (head.Stock m) = refl
-head_told (head.Order m) = refl
+head_told (head.Order m) = elim m.shown as (λ (shown : Bool). head_layout (letter_of_order shown) ≡ Some order_kinds) [ true ↦ refl | false ↦ refl ]
 head_told (head.Agent m) = refl
 head_told (head.Waiting m) = refl
 head_told (head.End m) = refl
@@ -174,7 +179,11 @@ head_back (head.Event m) = refl
 head_back (head.Edit m) = refl
 head_back (head.Counts m) = refl
 head_back (head.Stock m) = refl
-head_back (head.Order m) = ap (λ (side : Side). head.Order (order_on (head_wire (head.Order m)).values side)) (side_back m.side)
+head_back (head.Order m) =
+    elim m.shown as (λ (shown : Bool). head_of (order_wire (record m { shown = shown })) ≡ head.Order (record m { shown = shown })) [
+      | true ↦ ap (λ (side : Side). head.Order (order_on (order_wire m).values side true)) (side_back m.side)
+      | false ↦ ap (λ (side : Side). head.Order (order_on (order_wire m).values side false)) (side_back m.side)
+    ]
 head_back (head.Agent m) = refl
 head_back (head.Waiting m) = refl
 head_back (head.End m) = refl

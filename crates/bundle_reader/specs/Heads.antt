@@ -95,9 +95,10 @@ head_layout letter =
     (if letter == 99 then Some counts_kinds else
     (if letter == 115 then Some stock_kinds else
     (if letter == 108 then Some order_kinds else
+    (if letter == 110 then Some order_kinds else
     (if letter == 97 then Some agent_kinds else
     (if letter == 119 then Some waiting_kinds else
-    (if letter == 122 then Some end_kinds else None)))))))))
+    (if letter == 122 then Some end_kinds else None))))))))))
 
 -- A payload begins with this head, each of whose fields is in its range, and the rest follows.
 pub record IsLed (payload : List ℕ) (h : Head) (rest : List ℕ) : Type 0 where

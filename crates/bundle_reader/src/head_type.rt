@@ -2,6 +2,7 @@
 
 ghost use Rattle.std.specs.Prelude.{◌≡◌, ◌+◌, length};
 ghost use Rattle.wire_fields.specs.Wire.{AreGood, total_width, wire_in};
+ghost use Rattle.bundle_frames.specs.Wires.{letter_of_order};
 ghost use Rattle.bundle_reader.specs.Heads.{head_wire};
 ghost use Rattle.bundle_reader.specs.Back.{head_kinds};
 
@@ -32,7 +33,10 @@ pub enum HeadType {
     Edit,
     Counts,
     Stock,
+    /// A shown order.
     Order,
+    /// A hidden order.
+    Hidden,
     Agent,
     Waiting,
     End,
@@ -49,7 +53,7 @@ impl HeadType {
             HeadType::Event => 43,
             HeadType::Edit => 18,
             HeadType::Counts => 66,
-            HeadType::Stock | HeadType::Order => 44,
+            HeadType::Stock | HeadType::Order | HeadType::Hidden => 44,
             HeadType::Agent => 70,
             HeadType::Waiting => 22,
             HeadType::End => 3,
@@ -86,6 +90,7 @@ impl MessageType for HeadType {
             b'c' => Some(HeadType::Counts),
             b's' => Some(HeadType::Stock),
             b'l' => Some(HeadType::Order),
+            b'n' => Some(HeadType::Hidden),
             b'a' => Some(HeadType::Agent),
             b'w' => Some(HeadType::Waiting),
             b'z' => Some(HeadType::End),
@@ -101,7 +106,7 @@ impl MessageType for HeadType {
             HeadType::Edit => &EDIT,
             HeadType::Counts => &COUNTS,
             HeadType::Stock => &STOCK,
-            HeadType::Order => &ORDER,
+            HeadType::Order | HeadType::Hidden => &ORDER,
             HeadType::Agent => &AGENT,
             HeadType::Waiting => &WAITING,
             HeadType::End => &END,
@@ -116,7 +121,8 @@ impl MessageType for HeadType {
             HeadType::Edit => edit_at(bytes),
             HeadType::Counts => counts_at(bytes),
             HeadType::Stock => stock_at(bytes),
-            HeadType::Order => order_at(bytes),
+            HeadType::Order => order_at(bytes, true),
+            HeadType::Hidden => order_at(bytes, false),
             HeadType::Agent => agent_at(bytes),
             HeadType::Waiting => waiting_at(bytes),
             HeadType::End => end_at(bytes),
@@ -212,10 +218,10 @@ fn stock_at(bytes: &[u8]) -> Head
     })
 }
 
-fn order_at(bytes: &[u8]) -> Head
+fn order_at(bytes: &[u8], shown: bool) -> Head
     requires length { length bytes.now ≡ 44 }
     requires good { AreGood ORDER 1 bytes.now }
-    ensures { head_wire result ≡ wire_in 108 ORDER bytes.now }
+    ensures { head_wire result ≡ wire_in (letter_of_order shown) ORDER bytes.now }
 {
     Head::Order(ClosingOrder {
         reference: u64_at(bytes, 1),
@@ -227,6 +233,7 @@ fn order_at(bytes: &[u8]) -> Head
         stock: u16_at(bytes, 34),
         price: u32_at(bytes, 36),
         tif: u32_at(bytes, 40),
+        shown,
     })
 }
 

@@ -81,22 +81,22 @@ pub money-traded : (orders shares : ℕ) (w : Way) → shares < 1000000 → IsSm
 money-traded orders shares w few h = all-within (2 ^ 63 + 2 ^ 61 * orders + 2 ^ 41 * shares) (2 ^ 63 + 2 ^ 61 * (orders + 1)) w.cash (omega (arith, few)) h.cash
 
 -- the way in the code is the way of the definition
-pub way-accepted : (s : State) (stocks : List Listing) (cash : List ℤ) (pairs : List Pair) (counts : Counts) (time agent : ℕ) (e : Enter) (k : ℕ) (r : Listing) (v : Way) → s ≡ state_of stocks cash pairs counts → k < length stocks → r ≡ slice_index_or stocks k r → v ≡ way_of (taking_of time agent e k) e (counts.orders + 1) (record { stock = stock_of r; cash = cash; matches = counts.matches; replies = record { to = agent; body = Answer (acceptance_of time e (counts.orders + 1)) } ∷ []; feed = []; fee = pos 0 }) → v ≡ way_of (taking_of time agent e k) e (s.counts.orders + 1) (way_from (remembering s agent e) time agent e k)
-way-accepted s stocks cash pairs counts time agent e k r v is-s in-stocks at way =
+pub way-accepted : (s : State) (stocks : List Listing) (cash : List ℤ) (pairs : List Pair) (counts : Counts) (hidden : Bool) (time agent : ℕ) (e : Enter) (k : ℕ) (r : Listing) (v : Way) → s ≡ state_of stocks cash pairs counts hidden → k < length stocks → r ≡ slice_index_or stocks k r → v ≡ way_of (taking_of time agent e k) e (counts.orders + 1) (record { stock = stock_of r; cash = cash; matches = counts.matches; replies = record { to = agent; body = Answer (acceptance_of time e (counts.orders + 1)) } ∷ []; feed = []; fee = pos 0 }) → v ≡ way_of (taking_of time agent e k) e (s.counts.orders + 1) (way_from (remembering s agent e) time agent e k)
+way-accepted s stocks cash pairs counts hidden time agent e k r v is-s in-stocks at way =
     way
     ∙ ap (λ (x : Stock). way_of (taking_of time agent e k) e (counts.orders + 1) (record { stock = x; cash = cash; matches = counts.matches; replies = record { to = agent; body = Answer (acceptance_of time e (counts.orders + 1)) } ∷ []; feed = []; fee = pos 0 })) (sym (at-map stocks k r no_stock in-stocks at))
     ∙ ap (λ (q : State). way_of (taking_of time agent e k) e (q.counts.orders + 1) (way_from (remembering q agent e) time agent e k)) (sym is-s)
 
 -- the state in the code is the state of the definition
-pub state-accepted : (s : State) (stocks : List Listing) (cash cash-after : List ℤ) (pairs pairs-after : List Pair) (counts counts-after : Counts) (time agent : ℕ) (e : Enter) (k : ℕ) (l : Listing) (v : Way) → s ≡ state_of stocks cash pairs counts → pairs-after ≡ with_pair (pair_of agent e.token) pairs → counts-after ≡ record counts { orders = counts.orders + 1; matches = v.matches } → stock_of l ≡ v.stock → cash-after ≡ v.cash → v ≡ way_of (taking_of time agent e k) e (s.counts.orders + 1) (way_from (remembering s agent e) time agent e k) → state_of (slice_set stocks k l) cash-after pairs-after counts-after ≡ (accepted (remembering s agent e) time agent e k).state
-state-accepted s stocks cash cash-after pairs pairs-after counts counts-after time agent e k l v is-s is-pairs is-counts is-stock is-cash way =
-    let made : Way → State → State = λ (w : Way) (q : State). record { stocks = slice_set q.stocks k w.stock; cash = w.cash; pairs = with_pair (pair_of agent e.token) q.pairs; counts = record q.counts { orders = q.counts.orders + 1; matches = w.matches } } in
+pub state-accepted : (s : State) (stocks : List Listing) (cash cash-after : List ℤ) (pairs pairs-after : List Pair) (counts counts-after : Counts) (hidden : Bool) (time agent : ℕ) (e : Enter) (k : ℕ) (l : Listing) (v : Way) → s ≡ state_of stocks cash pairs counts hidden → pairs-after ≡ with_pair (pair_of agent e.token) pairs → counts-after ≡ record counts { orders = counts.orders + 1; matches = v.matches } → stock_of l ≡ v.stock → cash-after ≡ v.cash → v ≡ way_of (taking_of time agent e k) e (s.counts.orders + 1) (way_from (remembering s agent e) time agent e k) → state_of (slice_set stocks k l) cash-after pairs-after counts-after hidden ≡ (accepted (remembering s agent e) time agent e k).state
+state-accepted s stocks cash cash-after pairs pairs-after counts counts-after hidden time agent e k l v is-s is-pairs is-counts is-stock is-cash way =
+    let made : Way → State → State = λ (w : Way) (q : State). record { stocks = slice_set q.stocks k w.stock; cash = w.cash; pairs = with_pair (pair_of agent e.token) q.pairs; counts = record q.counts { orders = q.counts.orders + 1; matches = w.matches }; hidden = q.hidden } in
     let stocks-are : map stock_of (slice_set stocks k l) ≡ slice_set (map stock_of stocks) k v.stock = map-set stock_of stocks k l ∙ ap (λ (x : Stock). slice_set (map stock_of stocks) k x) is-stock in
-    let here : state_of (slice_set stocks k l) cash-after pairs-after counts-after ≡ made v (state_of stocks cash pairs counts) =
-    ap (λ (xs : List Stock). record { stocks = xs; cash = cash-after; pairs = pairs-after; counts = counts-after }) stocks-are
-    ∙ ap (λ (xs : List ℤ). record { stocks = slice_set (map stock_of stocks) k v.stock; cash = xs; pairs = pairs-after; counts = counts-after }) is-cash
-    ∙ ap (λ (ps : List Pair). record { stocks = slice_set (map stock_of stocks) k v.stock; cash = v.cash; pairs = ps; counts = counts-after }) is-pairs
-    ∙ ap (λ (n : Counts). record { stocks = slice_set (map stock_of stocks) k v.stock; cash = v.cash; pairs = with_pair (pair_of agent e.token) pairs; counts = n }) is-counts in
+    let here : state_of (slice_set stocks k l) cash-after pairs-after counts-after hidden ≡ made v (state_of stocks cash pairs counts hidden) =
+    ap (λ (xs : List Stock). record { stocks = xs; cash = cash-after; pairs = pairs-after; counts = counts-after; hidden = hidden }) stocks-are
+    ∙ ap (λ (xs : List ℤ). record { stocks = slice_set (map stock_of stocks) k v.stock; cash = xs; pairs = pairs-after; counts = counts-after; hidden = hidden }) is-cash
+    ∙ ap (λ (ps : List Pair). record { stocks = slice_set (map stock_of stocks) k v.stock; cash = v.cash; pairs = ps; counts = counts-after; hidden = hidden }) is-pairs
+    ∙ ap (λ (n : Counts). record { stocks = slice_set (map stock_of stocks) k v.stock; cash = v.cash; pairs = with_pair (pair_of agent e.token) pairs; counts = n; hidden = hidden }) is-counts in
     here ∙ ap (λ (q : State). made v q) (sym is-s) ∙ ap (λ (w : Way). made w s) way
 
 -- a way that starts with nothing told
@@ -112,14 +112,14 @@ set-same (x ∷ xs) zero r e = ap (λ (y : Listing). y ∷ xs) e
 set-same (x ∷ xs) (suc k) r e = ap (λ (ys : List Listing). x ∷ ys) (set-same xs k r e)
 
 -- the state where all parts are as they were
-pub state-refused : (stocks : List Listing) (cash cash-after : List ℤ) (pairs pairs-after : List Pair) (counts counts-after : Counts) (k : ℕ) (r l : Listing) → r ≡ slice_index_or stocks k r → stock_of l ≡ stock_of r → cash-after ≡ cash → pairs-after ≡ pairs → counts-after ≡ counts → state_of (slice_set stocks k l) cash-after pairs-after counts-after ≡ state_of stocks cash pairs counts
-state-refused stocks cash cash-after pairs pairs-after counts counts-after k r l at is-stock is-cash is-pairs is-counts =
+pub state-refused : (stocks : List Listing) (cash cash-after : List ℤ) (pairs pairs-after : List Pair) (counts counts-after : Counts) (hidden : Bool) (k : ℕ) (r l : Listing) → r ≡ slice_index_or stocks k r → stock_of l ≡ stock_of r → cash-after ≡ cash → pairs-after ≡ pairs → counts-after ≡ counts → state_of (slice_set stocks k l) cash-after pairs-after counts-after hidden ≡ state_of stocks cash pairs counts hidden
+state-refused stocks cash cash-after pairs pairs-after counts counts-after hidden k r l at is-stock is-cash is-pairs is-counts =
     let stocks-are : map stock_of (slice_set stocks k l) ≡ map stock_of stocks =
     map-set stock_of stocks k l ∙ ap (λ (x : Stock). slice_set (map stock_of stocks) k x) is-stock ∙ sym (map-set stock_of stocks k r) ∙ ap (λ (xs : List Listing). map stock_of xs) (set-same stocks k r at) in
-    ap (λ (xs : List Stock). record { stocks = xs; cash = cash-after; pairs = pairs-after; counts = counts-after }) stocks-are
-    ∙ ap (λ (xs : List ℤ). record { stocks = map stock_of stocks; cash = xs; pairs = pairs-after; counts = counts-after }) is-cash
-    ∙ ap (λ (ps : List Pair). record { stocks = map stock_of stocks; cash = cash; pairs = ps; counts = counts-after }) is-pairs
-    ∙ ap (λ (n : Counts). record { stocks = map stock_of stocks; cash = cash; pairs = pairs; counts = n }) is-counts
+    ap (λ (xs : List Stock). record { stocks = xs; cash = cash-after; pairs = pairs-after; counts = counts-after; hidden = hidden }) stocks-are
+    ∙ ap (λ (xs : List ℤ). record { stocks = map stock_of stocks; cash = xs; pairs = pairs-after; counts = counts-after; hidden = hidden }) is-cash
+    ∙ ap (λ (ps : List Pair). record { stocks = map stock_of stocks; cash = cash; pairs = ps; counts = counts-after; hidden = hidden }) is-pairs
+    ∙ ap (λ (n : Counts). record { stocks = map stock_of stocks; cash = cash; pairs = pairs; counts = n; hidden = hidden }) is-counts
 
 none-within : (x : ℤ) → x ≡ pos 0 → IsWithin 0 x
 none-within x e = record { low = omega (arith, ints, e); high = omega (arith, ints, e) }

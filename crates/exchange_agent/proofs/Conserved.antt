@@ -1,5 +1,5 @@
 -- Whole runs from an opening.
-use Rattle.std.proofs.Common.{◌≡◌, ℕ, zero, suc, ◌+◌, ◌<◌, ℤ, pos, ◌+ℤ◌, List, [], ◌∷◌, map, length, replicate, arith, refl, subst, sym, ◌∙◌, sum_by, true}
+use Rattle.std.proofs.Common.{◌≡◌, ℕ, zero, suc, ◌+◌, ◌<◌, ℤ, pos, ◌+ℤ◌, List, [], ◌∷◌, map, length, replicate, arith, refl, subst, sym, ◌∙◌, sum_by, Bool, true}
 use Rattle.std.specs.Prelude.{if◌then◌else◌, slice_index_or}
 use Rattle.std.specs.List.{AllByRecursion}
 use Rattle.std.proofs.lemmas.Int.{ints}
@@ -78,10 +78,10 @@ no-matches n [] j = refl
 no-matches n (r ∷ rs) zero = refl
 no-matches n (r ∷ rs) (suc j) = no-matches n rs j
 
-pub conserved : (laws : BookLaws) (rules : List StockRules) (cash : List ℤ) (acts : List Act) → AllByRecursion (IsPossible (length cash) (length rules)) acts → IsConserved rules cash acts
-conserved laws rules cash acts h =
+pub conserved : (laws : BookLaws) (rules : List StockRules) (cash : List ℤ) (hidden : Bool) (acts : List Act) → AllByRecursion (IsPossible (length cash) (length rules)) acts → IsConserved rules cash hidden acts
+conserved laws rules cash hidden acts h =
     let n = length cash in
-    let s = opened rules cash in
+    let s = opened rules cash hidden in
     let kept : IsKept n (length rules) s = record { cash = refl; many = length-map rules (listed n); each = All-map (IsKeptStock n 0) (listed n) rules (λ k d in'. kept-listed n (slice_index_or rules k d)) } in
     let r = run-is laws n (length rules) s acts kept h in
     let fees : fees_taken s.stocks ≡ pos 0 = no-fees n rules in

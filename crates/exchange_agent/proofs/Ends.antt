@@ -1,7 +1,6 @@
 -- The whole way of an accepted order: what it keeps and what it counts.
 use Rattle.std.proofs.Common.{◌≡◌, ◌≢◌, ℕ, zero, suc, ◌+◌, ◌-◌, ◌<◌, ◌≤◌, Bool, true, false, ◌+ℤ◌, List, [], ◌∷◌, ◌++◌, inl, inr, length, All, Option, Some, None, arith, refl, subst, ap, sym, ◌∙◌, sum_by, append_assoc}
 use Rattle.std.specs.Prelude.{◌==◌, ◌&&◌, nat_le, if◌then◌else◌}
-use Rattle.market_types.specs.declared.feed.What.TheVariants as what
 use Rattle.std.proofs.lemmas.Bool.Decides.{nat_tests}
 use Rattle.std.proofs.lemmas.Bool.{false≢true}
 use Rattle.std.proofs.lemmas.List.{append-nil}
@@ -18,7 +17,7 @@ use Rattle.price_time_book.specs.Orderly.{IsOrderly}
 use Rattle.price_time_book.specs.Orders.{changed, order_of, order_with, reduced}
 use Rattle.market_types.specs.declared.order.Token.{Token}
 use Rattle.exchange_agent.specs.declared.settle.Taking.{Taking}
-use Rattle.exchange_agent.specs.Enter.{resting_of, way_of}
+use Rattle.exchange_agent.specs.Enter.{added_feed, resting_of, way_of}
 use Rattle.exchange_agent.specs.Settle.{Way, all_settled, settled}
 use Rattle.market_types.specs.declared.feed.Feed.{Feed}
 use Rattle.market_types.specs.declared.message.Body.{Body}
@@ -201,7 +200,7 @@ tif-by d t e reference left w =
     then record w { replies = w.replies ++ record { to = t.agent; body = Answer (Canceled t.time e.token left 73) } ∷ [] }
     else record w {
       stock = record w.stock { book = w.stock.book ++ resting_of reference t.agent e left ∷ [] };
-      feed = w.feed ++ record { locate = t.locate; tracking = 0; time = t.time; what = what.Add reference e.side left e.stock e.price } ∷ [];
+      feed = w.feed ++ added_feed t e reference left;
     }
 
 abbrev left-by : Bool → Taking → Enter → ℕ → ℕ → Way → Way

@@ -64,8 +64,8 @@ pub length-with_pair : (p : Pair) (pairs : List Pair) → has_pair p pairs ≡ f
 length-with_pair p pairs e = length-insert_key by_pair p pairs e
 
 -- the state stays sound once a pair more is remembered
-pub sound-remembering : (stocks : List Listing) (cash : List ℤ) (pairs : List Pair) (counts : Counts) (p : Pair) (after : List Pair) → IsSound (state_of stocks cash pairs counts) → after ≡ with_pair p pairs → length pairs ≤ length after → length after ≤ 131072 → IsSound (state_of stocks cash after counts)
-sound-remembering stocks cash pairs counts p after h is-after longer few = record {
+pub sound-remembering : (stocks : List Listing) (cash : List ℤ) (pairs : List Pair) (counts : Counts) (hidden : Bool) (p : Pair) (after : List Pair) → IsSound (state_of stocks cash pairs counts hidden) → after ≡ with_pair p pairs → length pairs ≤ length after → length after ≤ 131072 → IsSound (state_of stocks cash after counts hidden)
+sound-remembering stocks cash pairs counts hidden p after h is-after longer few = record {
   some = h.some;
   few = h.few;
   traders = h.traders;
@@ -77,8 +77,8 @@ sound-remembering stocks cash pairs counts p after h is-after longer few = recor
 }
 
 -- the state is sound once an order was accepted at one stock
-pub sound-accepted : (stocks : List Listing) (cash cash-after : List ℤ) (pairs : List Pair) (p : Pair) (pairs-after : List Pair) (counts counts-after : Counts) (k : ℕ) (l : Listing) → IsSound (state_of stocks cash pairs counts) → pairs-after ≡ with_pair p pairs → has_pair p pairs ≡ false → length pairs < 131072 → length cash-after ≡ length cash → counts-after.orders ≡ counts.orders + 1 → counts-after.matches ≤ 1000000 * (counts.orders + 1) → All (IsWithin (2 ^ 63 + 2 ^ 61 * (counts.orders + 1))) cash-after → IsSoundStock (length cash-after) counts-after.orders pairs-after (stock_of l) → IsSound (state_of (slice_set stocks k l) cash-after pairs-after counts-after)
-sound-accepted stocks cash cash-after pairs p pairs-after counts counts-after k l h is-pairs new room same-cash orders matches money stock =
+pub sound-accepted : (stocks : List Listing) (cash cash-after : List ℤ) (pairs : List Pair) (p : Pair) (pairs-after : List Pair) (counts counts-after : Counts) (hidden : Bool) (k : ℕ) (l : Listing) → IsSound (state_of stocks cash pairs counts hidden) → pairs-after ≡ with_pair p pairs → has_pair p pairs ≡ false → length pairs < 131072 → length cash-after ≡ length cash → counts-after.orders ≡ counts.orders + 1 → counts-after.matches ≤ 1000000 * (counts.orders + 1) → All (IsWithin (2 ^ 63 + 2 ^ 61 * (counts.orders + 1))) cash-after → IsSoundStock (length cash-after) counts-after.orders pairs-after (stock_of l) → IsSound (state_of (slice_set stocks k l) cash-after pairs-after counts-after hidden)
+sound-accepted stocks cash cash-after pairs p pairs-after counts counts-after hidden k l h is-pairs new room same-cash orders matches money stock =
     let long : length (map stock_of (slice_set stocks k l)) ≡ length (map stock_of stocks) = ap (λ (xs : List Stock). length xs) (map-set stock_of stocks k l) ∙ length-set (map stock_of stocks) k (stock_of l) in
     let more : length pairs-after ≡ length pairs + 1 = ap (λ (ps : List Pair). length ps) is-pairs ∙ length-with_pair p pairs new in
     let P : Stock → Type 0 = IsSoundStock (length cash-after) counts-after.orders pairs-after in

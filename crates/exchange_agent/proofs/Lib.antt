@@ -4,6 +4,7 @@ pub mod Bytewise
 pub mod Conserved
 pub mod Crossings
 pub mod Ends
+pub mod Hiddens
 pub mod Knowns
 pub mod Numbers
 pub mod Pairs

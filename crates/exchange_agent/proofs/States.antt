@@ -1,5 +1,5 @@
 -- One stock of the inside is replaced, and the state is sound as before.
-use Rattle.std.proofs.Common.{◌≡◌, ℕ, zero, suc, ◌<◌, ◌≤◌, ◌^◌, ℤ, pos, List, [], ◌∷◌, map, length, slice_index_or, slice_set, All, arith, ap, subst, sym, ◌∙◌, true}
+use Rattle.std.proofs.Common.{◌≡◌, ℕ, zero, suc, ◌<◌, ◌≤◌, ◌^◌, ℤ, pos, List, [], ◌∷◌, map, length, slice_index_or, slice_set, All, arith, ap, subst, sym, ◌∙◌, Bool, true}
 use Rattle.std.proofs.lemmas.List.{map-set, length-map, length-replicate}
 use Rattle.std.proofs.lemmas.List.Elements.{All-set, All-map, All-nil, All-replicate}
 use Rattle.exchange_agent.specs.declared.listing.Listing.{Listing}
@@ -19,21 +19,21 @@ at-map [] k r d h e = absurd (omega (arith, h))
 at-map (x ∷ xs) zero r d h e = ap (λ (l : Listing). stock_of l) (sym e)
 at-map (x ∷ xs) (suc k) r d h e = at-map xs k r d (omega arith) e
 
-pub at-state : (stocks : List Listing) (cash : List ℤ) (pairs : List Pair) (counts : Counts) (s : State) (k : ℕ) (r : Listing) → s ≡ state_of stocks cash pairs counts → k < length stocks → r ≡ slice_index_or stocks k r → stock_at s k ≡ stock_of r
-at-state stocks cash pairs counts s k r e h at = ap (λ (q : State). stock_at q k) e ∙ at-map stocks k r no_stock h at
+pub at-state : (stocks : List Listing) (cash : List ℤ) (pairs : List Pair) (counts : Counts) (hidden : Bool) (s : State) (k : ℕ) (r : Listing) → s ≡ state_of stocks cash pairs counts hidden → k < length stocks → r ≡ slice_index_or stocks k r → stock_at s k ≡ stock_of r
+at-state stocks cash pairs counts hidden s k r e h at = ap (λ (q : State). stock_at q k) e ∙ at-map stocks k r no_stock h at
 
-pub set-state : (stocks : List Listing) (cash : List ℤ) (pairs : List Pair) (counts : Counts) (s : State) (k : ℕ) (l : Listing) (x : Stock) → s ≡ state_of stocks cash pairs counts → stock_of l ≡ x → state_of (slice_set stocks k l) cash pairs counts ≡ with_stock s k x
-set-state stocks cash pairs counts s k l x e f =
-    ap (λ (xs : List Stock). record { stocks = xs; cash = cash; pairs = pairs; counts = counts }) (map-set stock_of stocks k l ∙ ap (λ (y : Stock). slice_set (map stock_of stocks) k y) f)
+pub set-state : (stocks : List Listing) (cash : List ℤ) (pairs : List Pair) (counts : Counts) (hidden : Bool) (s : State) (k : ℕ) (l : Listing) (x : Stock) → s ≡ state_of stocks cash pairs counts hidden → stock_of l ≡ x → state_of (slice_set stocks k l) cash pairs counts hidden ≡ with_stock s k x
+set-state stocks cash pairs counts hidden s k l x e f =
+    ap (λ (xs : List Stock). record { stocks = xs; cash = cash; pairs = pairs; counts = counts; hidden = hidden }) (map-set stock_of stocks k l ∙ ap (λ (y : Stock). slice_set (map stock_of stocks) k y) f)
     ∙ ap (λ (q : State). with_stock q k x) (sym e)
 
-pub sound_at : (stocks : List Listing) (cash : List ℤ) (pairs : List Pair) (counts : Counts) (k : ℕ) (r : Listing) → IsSound (state_of stocks cash pairs counts) → k < length stocks → r ≡ slice_index_or stocks k r → IsSoundStock (length cash) counts.orders pairs (stock_of r)
-sound_at stocks cash pairs counts k r sound h at =
+pub sound_at : (stocks : List Listing) (cash : List ℤ) (pairs : List Pair) (counts : Counts) (hidden : Bool) (k : ℕ) (r : Listing) → IsSound (state_of stocks cash pairs counts hidden) → k < length stocks → r ≡ slice_index_or stocks k r → IsSoundStock (length cash) counts.orders pairs (stock_of r)
+sound_at stocks cash pairs counts hidden k r sound h at =
     subst (λ (x : Stock). IsSoundStock (length cash) counts.orders pairs x) (at-map stocks k r no_stock h at)
     (sound.stocks k no_stock (subst (λ (n : ℕ). k < n) (sym (length-map stocks stock_of)) h))
 
-pub sound_set : (stocks : List Listing) (cash : List ℤ) (pairs : List Pair) (counts : Counts) (k : ℕ) (l : Listing) → IsSound (state_of stocks cash pairs counts) → IsSoundStock (length cash) counts.orders pairs (stock_of l) → IsSound (state_of (slice_set stocks k l) cash pairs counts)
-sound_set stocks cash pairs counts k l sound new =
+pub sound_set : (stocks : List Listing) (cash : List ℤ) (pairs : List Pair) (counts : Counts) (hidden : Bool) (k : ℕ) (l : Listing) → IsSound (state_of stocks cash pairs counts hidden) → IsSoundStock (length cash) counts.orders pairs (stock_of l) → IsSound (state_of (slice_set stocks k l) cash pairs counts hidden)
+sound_set stocks cash pairs counts hidden k l sound new =
     let P : Stock → Type 0 = λ (x : Stock). IsSoundStock (length cash) counts.orders pairs x in
     let same : map stock_of (slice_set stocks k l) ≡ slice_set (map stock_of stocks) k (stock_of l) = map-set stock_of stocks k l in
     let long : length (map stock_of (slice_set stocks k l)) ≡ length (map stock_of stocks) = ap (λ (xs : List Stock). length xs) same ∙ length-set (map stock_of stocks) k (stock_of l) in
@@ -48,21 +48,21 @@ sound_set stocks cash pairs counts k l sound new =
       matches = sound.matches;
     }
 
-pub in-stocks : (stocks : List Listing) (cash : List ℤ) (pairs : List Pair) (counts : Counts) (s : State) (j k : ℕ) → s ≡ state_of stocks cash pairs counts → j ≡ k → k < length s.stocks → j < length stocks
-in-stocks stocks cash pairs counts s j k e i h =
+pub in-stocks : (stocks : List Listing) (cash : List ℤ) (pairs : List Pair) (counts : Counts) (hidden : Bool) (s : State) (j k : ℕ) → s ≡ state_of stocks cash pairs counts hidden → j ≡ k → k < length s.stocks → j < length stocks
+in-stocks stocks cash pairs counts hidden s j k e i h =
     let long : length s.stocks ≡ length stocks = ap (λ (q : State). length q.stocks) e ∙ length-map stocks stock_of in
     omega (arith, long, i, h)
 
 -- the state and its soundness where the stock at j, which was r, has become l
-pub at-stock : (stocks : List Listing) (cash : List ℤ) (pairs : List Pair) (counts : Counts) (s : State) (j k : ℕ) (r : Listing) → s ≡ state_of stocks cash pairs counts → j ≡ k → k < length s.stocks → r ≡ slice_index_or stocks j r → stock_at s k ≡ stock_of r
-at-stock stocks cash pairs counts s j k r e i h at =
-    ap (λ (n : ℕ). stock_at s n) (sym i) ∙ at-state stocks cash pairs counts s j r e (in-stocks stocks cash pairs counts s j k e i h) at
+pub at-stock : (stocks : List Listing) (cash : List ℤ) (pairs : List Pair) (counts : Counts) (hidden : Bool) (s : State) (j k : ℕ) (r : Listing) → s ≡ state_of stocks cash pairs counts hidden → j ≡ k → k < length s.stocks → r ≡ slice_index_or stocks j r → stock_at s k ≡ stock_of r
+at-stock stocks cash pairs counts hidden s j k r e i h at =
+    ap (λ (n : ℕ). stock_at s n) (sym i) ∙ at-state stocks cash pairs counts hidden s j r e (in-stocks stocks cash pairs counts hidden s j k e i h) at
 
-pub set-stock : (stocks : List Listing) (cash : List ℤ) (pairs : List Pair) (counts : Counts) (s : State) (j k : ℕ) (l : Listing) (x : Stock) → s ≡ state_of stocks cash pairs counts → j ≡ k → stock_of l ≡ x → state_of (slice_set stocks j l) cash pairs counts ≡ with_stock s k x
-set-stock stocks cash pairs counts s j k l x e i f = set-state stocks cash pairs counts s j l x e f ∙ ap (λ (n : ℕ). with_stock s n x) i
+pub set-stock : (stocks : List Listing) (cash : List ℤ) (pairs : List Pair) (counts : Counts) (hidden : Bool) (s : State) (j k : ℕ) (l : Listing) (x : Stock) → s ≡ state_of stocks cash pairs counts hidden → j ≡ k → stock_of l ≡ x → state_of (slice_set stocks j l) cash pairs counts hidden ≡ with_stock s k x
+set-stock stocks cash pairs counts hidden s j k l x e i f = set-state stocks cash pairs counts hidden s j l x e f ∙ ap (λ (n : ℕ). with_stock s n x) i
 
-pub sound-stock : (stocks : List Listing) (cash : List ℤ) (pairs : List Pair) (counts : Counts) (s : State) (j k : ℕ) (r : Listing) → s ≡ state_of stocks cash pairs counts → IsSound (state_of stocks cash pairs counts) → j ≡ k → k < length s.stocks → r ≡ slice_index_or stocks j r → IsSoundStock (length cash) counts.orders pairs (stock_of r)
-sound-stock stocks cash pairs counts s j k r e sound i h at = sound_at stocks cash pairs counts j r sound (in-stocks stocks cash pairs counts s j k e i h) at
+pub sound-stock : (stocks : List Listing) (cash : List ℤ) (pairs : List Pair) (counts : Counts) (hidden : Bool) (s : State) (j k : ℕ) (r : Listing) → s ≡ state_of stocks cash pairs counts hidden → IsSound (state_of stocks cash pairs counts hidden) → j ≡ k → k < length s.stocks → r ≡ slice_index_or stocks j r → IsSoundStock (length cash) counts.orders pairs (stock_of r)
+sound-stock stocks cash pairs counts hidden s j k r e sound i h at = sound_at stocks cash pairs counts hidden j r sound (in-stocks stocks cash pairs counts hidden s j k e i h) at
 
 -- a stock stays sound under another book of known orders that is no longer
 pub rebooked-sound : (agents orders : ℕ) (pairs : List Pair) (x : Stock) (book : List Resting) → IsSoundStock agents orders pairs x → All (λ (o : Resting). is_known agents orders pairs o ≡ true) book → length book ≤ length x.book → IsSoundStock agents orders pairs (record x { book = book })
@@ -78,8 +78,8 @@ listed-sound n r = record {
   positions = All-replicate (IsWithin 0) n (pos 0) (record { low = omega (arith, ints); high = omega (arith, ints) });
 }
 
-pub sound_opened : (rules : List StockRules) (opening : List ℤ) (stocks : List Listing) (cash : List ℤ) (pairs : List Pair) → IsOpening rules opening → map stock_of stocks ≡ map (listed (length opening)) rules → cash ≡ opening → pairs ≡ [] → All (IsWithin (2 ^ 63)) cash → IsSound (state_of stocks cash pairs (record { orders = 0; matches = 0; enters = 0; cancels = 0 }))
-sound_opened rules opening stocks cash pairs h stocks-are cash-is none small =
+pub sound_opened : (rules : List StockRules) (opening : List ℤ) (stocks : List Listing) (cash : List ℤ) (pairs : List Pair) (hidden : Bool) → IsOpening rules opening → map stock_of stocks ≡ map (listed (length opening)) rules → cash ≡ opening → pairs ≡ [] → All (IsWithin (2 ^ 63)) cash → IsSound (state_of stocks cash pairs (record { orders = 0; matches = 0; enters = 0; cancels = 0 }) hidden)
+sound_opened rules opening stocks cash pairs hidden h stocks-are cash-is none small =
     let n = length opening in
     let long : length (map stock_of stocks) ≡ length rules = ap (λ (xs : List Stock). length xs) stocks-are ∙ length-map rules (listed n) in
     let many : length cash ≡ n = ap (λ (xs : List ℤ). length xs) cash-is in

@@ -65,6 +65,11 @@ at-all : (t : Taking) (fills : List Fill) (w : Way) → All (IsAt t.time) w.feed
 at-all t [] w h = h
 at-all t (f ∷ fs) w h = at-all t fs (settled t f w) (All-append (IsAt t.time) w.feed _ h (one-at t.time _ refl))
 
+-- what is told of a match, or of an order that rests or is lowered, if it is told
+if-told : (b : Bool) (time : ℕ) (x : Feed) → IsAt time x → All (IsAt time) (if b then x ∷ [] else [])
+if-told true time x h = one-at time x h
+if-told false time x h = All-nil (IsAt time)
+
 if-both : (b : Bool) (P : Way → Type 0) (x y : Way) → P x → P y → P (if b then x else y)
 if-both true P x y p q = p
 if-both false P x y p q = q
@@ -77,7 +82,7 @@ to-remainder n t e reference left w a b h =
 at-remainder : (t : Taking) (e : Enter) (reference left : ℕ) (w : Way) → All (IsAt t.time) w.feed → All (IsAt t.time) (remainder t e reference left w).feed
 at-remainder t e reference left w h =
     if-both (left == 0) (λ (v : Way). All (IsAt t.time) v.feed) w _ h
-    (if-both (e.tif == 0) (λ (v : Way). All (IsAt t.time) v.feed) _ _ h (All-append (IsAt t.time) w.feed _ h (one-at t.time _ refl)))
+    (if-both (e.tif == 0) (λ (v : Way). All (IsAt t.time) v.feed) _ _ h (All-append (IsAt t.time) w.feed _ h (if-told (e.display == 89) t.time _ refl)))
 
 -- what the book's law says: an order that gives shares is one of the traders' as the book's are
 abbrev pub FillsAreKnown : ℕ → Type 0
@@ -121,7 +126,7 @@ to-cancel s time agent c (Some f) n a b =
 at-cancel : (s : State) (time agent : ℕ) (c : Cancel) (f : Option Found) → All (IsAt time) (cancel_of s time agent c f).feed
 at-cancel s time agent c None = All-nil (IsAt time)
 at-cancel s time agent c (Some f) =
-    elim (nat_lt c.shares f.order.intended) as (λ t. All (IsAt time) (cancel-by t s time agent c f).feed) [ true ↦ one-at time _ refl | false ↦ All-nil (IsAt time) ]
+    elim (nat_lt c.shares f.order.intended) as (λ t. All (IsAt time) (cancel-by t s time agent c f).feed) [ true ↦ if-told f.order.shown time _ refl | false ↦ All-nil (IsAt time) ]
 
 -- replies of the market go to traders
 pub to-traders : (s : State) (time agent : ℕ) (b : Body) → IsSound s → FillsAreKnown (length s.cash) → 1 ≤ agent → agent ≤ length s.cash → All (IsToTrader (length s.cash)) (market s time agent b).replies

@@ -32,7 +32,7 @@ there s e j k is =
     let w4 = if price_is_refused (stock_at s j) e then Refused 88 else w5 in
     let w3 = if shares_are_refused e then Refused 79 else w4 in
     let w2 = if is_halted (stock_at s j) then Refused 72 else w3 in
-    let first = past (terms_are_refused e) (Refused 79) w2 (Accepted k) (λ (q : Refused 79 ≡ Accepted k). cc) is in
+    let first = past (terms_are_refused s.hidden e) (Refused 79) w2 (Accepted k) (λ (q : Refused 79 ≡ Accepted k). cc) is in
     let second = past (is_halted (stock_at s j)) (Refused 72) w3 (Accepted k) (λ (q : Refused 72 ≡ Accepted k). cc) first.1 in
     let third = past (shares_are_refused e) (Refused 79) w4 (Accepted k) (λ (q : Refused 79 ≡ Accepted k). cc) second.1 in
     let fourth = past (price_is_refused (stock_at s j) e) (Refused 88) w5 (Accepted k) (λ (q : Refused 88 ≡ Accepted k). cc) third.1 in
@@ -64,7 +64,7 @@ late-if false x y first second = second
 
 late-there : (s : State) (e : Enter) (k : ℕ) → IsLate (verdict_there s e k)
 late-there s e k =
-    late-if (terms_are_refused e) _ _ tt (late-if (is_halted (stock_at s k)) _ _ tt (late-if (shares_are_refused e) _ _ tt (late-if (price_is_refused (stock_at s k) e) _ _ tt (late-if (is_full s) _ _ tt tt))))
+    late-if (terms_are_refused s.hidden e) _ _ tt (late-if (is_halted (stock_at s k)) _ _ tt (late-if (shares_are_refused e) _ _ tt (late-if (price_is_refused (stock_at s k) e) _ _ tt (late-if (is_full s) _ _ tt tt))))
 
 late-at : (s : State) (e : Enter) (o : Option ℕ) → IsLate (verdict_at s e o)
 late-at s e None = tt

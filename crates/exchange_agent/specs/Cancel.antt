@@ -1,5 +1,6 @@
 -- What the exchange does with a Cancel.
 use Rattle.std.specs.Prelude.{ℕ, ◌+◌, ◌-◌, ◌==◌, nat_lt, if◌then◌else◌, pos, List, [], ◌∷◌, Option, Some, None}
+use Rattle.market_types.specs.declared.feed.Feed.{Feed}
 use Rattle.market_types.specs.declared.feed.What.{What}
 use Rattle.market_types.specs.declared.feed.What.TheVariants as what
 use Rattle.market_types.specs.declared.message.Body.TheVariants.{Answer}
@@ -30,12 +31,17 @@ open_of o shares = shares - (o.intended - o.left)
 abbrev pub lowering_of : Resting → ℕ → What
 lowering_of o left = if left == 0 then what.Delete o.reference else what.Cancel o.reference (o.left - left)
 
+-- what the feed tells of it: nothing of a hidden order
+abbrev pub lowered_feed : ℕ → ℕ → Resting → ℕ → List Feed
+lowered_feed locate time o left =
+    if o.shown then record { locate = locate; tracking = 0; time = time; what = lowering_of o left } ∷ [] else []
+
 -- a Cancel of an order that rests, to fewer shares than its intended size; the reason 'U' is 85
 abbrev pub canceled : State → ℕ → ℕ → Cancel → ℕ → Resting → Outcome
 canceled s time agent c k o = record {
   state = with_stock s k (record (stock_at s k) { book = changed (reduced (open_of o c.shares) o) (stock_at s k).book });
   replies = record { to = agent; body = Answer (Canceled time c.token (o.left - open_of o c.shares) 85) } ∷ [];
-  feed = record { locate = k + 1; tracking = 0; time = time; what = lowering_of o (open_of o c.shares) } ∷ [];
+  feed = lowered_feed (k + 1) time o (open_of o c.shares);
   fee = pos 0;
 }
 

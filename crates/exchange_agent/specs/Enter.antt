@@ -1,6 +1,7 @@
 -- What the exchange does with an Enter: of the nine lines of its table the first that applies answers.
-use Rattle.std.specs.Prelude.{ℕ, ◌+◌, ◌==◌, nat_lt, nat_le, not, ◌||◌, Bool, if◌then◌else◌, pos, [], ◌∷◌, ◌++◌, length, Option, Some, None}
+use Rattle.std.specs.Prelude.{ℕ, ◌+◌, ◌==◌, nat_lt, nat_le, not, ◌||◌, ◌&&◌, Bool, if◌then◌else◌, pos, List, [], ◌∷◌, ◌++◌, length, Option, Some, None}
 use Rattle.market_types.specs.declared.order.Enter.{Enter}
+use Rattle.market_types.specs.declared.feed.Feed.{Feed}
 use Rattle.market_types.specs.declared.feed.What.TheVariants as what
 use Rattle.market_types.specs.declared.reply.Reply.{Reply}
 use Rattle.market_types.specs.declared.reply.Reply.TheVariants.{Accepted, Canceled, Rejected}
@@ -24,9 +25,10 @@ is_remembered s agent e = has_pair (pair_of agent e.token) s.pairs
 abbrev pub is_memory_full : State → Bool
 is_memory_full s = nat_le 131072 (length s.pairs)
 
--- line 4: display is not 'Y', minimum is not 0, cross is not 'N', or time in force is not 0, 99,998 or 99,999
-abbrev pub display_is_not_y : Enter → Bool
-display_is_not_y e = not (e.display == 89)
+-- line 4: display is neither 'Y' nor, where hidden orders are taken, 'N'; minimum is not 0, cross is not 'N', or time in force
+-- is not 0, 99,998 or 99,999
+abbrev pub display_is_refused : Bool → Enter → Bool
+display_is_refused hidden e = not ((e.display == 89) || (hidden && (e.display == 78)))
 
 abbrev pub minimum_is_not_0 : Enter → Bool
 minimum_is_not_0 e = not (e.minimum == 0)
@@ -37,8 +39,8 @@ cross_is_not_n e = not (e.cross == 78)
 abbrev pub time_in_force_is_none : Enter → Bool
 time_in_force_is_none e = not ((e.tif == 0) || (e.tif == 99998) || (e.tif == 99999))
 
-abbrev pub terms_are_refused : Enter → Bool
-terms_are_refused e = display_is_not_y e || minimum_is_not_0 e || cross_is_not_n e || time_in_force_is_none e
+abbrev pub terms_are_refused : Bool → Enter → Bool
+terms_are_refused hidden e = display_is_refused hidden e || minimum_is_not_0 e || cross_is_not_n e || time_in_force_is_none e
 
 -- line 5: the stock's state is not 'T'
 abbrev pub is_halted : Stock → Bool
@@ -59,7 +61,7 @@ is_full s = nat_le 16384 (resting_over s.stocks)
 -- lines 4 to 9, at the stock of a number; 'O' is 79, 'H' 72, 'X' 88
 abbrev pub verdict_there : State → Enter → ℕ → Verdict
 verdict_there s e k =
-    if terms_are_refused e then verdict.Refused 79
+    if terms_are_refused s.hidden e then verdict.Refused 79
     else (if is_halted (stock_at s k) then verdict.Refused 72
     else (if shares_are_refused e then verdict.Refused 79
     else (if price_is_refused (stock_at s k) e then verdict.Refused 88
@@ -129,6 +131,13 @@ way_from s time agent e k = record {
   fee = pos 0;
 }
 
+-- the feed's Add Order of what comes to rest: a hidden order is not told
+abbrev pub added_feed : Taking → Enter → ℕ → ℕ → List Feed
+added_feed t e reference left =
+    if e.display == 89
+    then record { locate = t.locate; tracking = 0; time = t.time; what = what.Add reference e.side left e.stock e.price } ∷ []
+    else []
+
 -- what is left is canceled with reason 'I' where the time in force is 0, and else rests; nothing is done where nothing is left
 abbrev pub remainder : Taking → Enter → ℕ → ℕ → Way → Way
 remainder t e reference left w =
@@ -137,7 +146,7 @@ remainder t e reference left w =
     then record w { replies = w.replies ++ record { to = t.agent; body = Answer (Canceled t.time e.token left 73) } ∷ [] }
     else record w {
       stock = record w.stock { book = w.stock.book ++ resting_of reference t.agent e left ∷ [] };
-      feed = w.feed ++ record { locate = t.locate; tracking = 0; time = t.time; what = what.Add reference e.side left e.stock e.price } ∷ [];
+      feed = w.feed ++ added_feed t e reference left;
     })
 
 -- its whole way: through all its matches, by the book's own matching, and then what is left

@@ -1,5 +1,5 @@
 -- The exchange at the opening, and what its readers tell.
-use Rattle.std.specs.Prelude.{◌≤◌, ◌≢◌, ℕ, ℤ, pos, List, [], map, length, replicate, AllPairs}
+use Rattle.std.specs.Prelude.{◌≤◌, ◌≢◌, ℕ, ℤ, pos, Bool, List, [], map, length, replicate, AllPairs}
 use Rattle.exchange_agent.specs.declared.told.StockRules.{StockRules}
 use Rattle.exchange_agent.specs.declared.told.StockTold.{StockTold}
 use Rattle.exchange_agent.specs.State.{State, Stock, trades}
@@ -15,13 +15,14 @@ listed traders r = record {
   tally = record { last = 0; matched = 0; taken = pos 0; positions = replicate traders (pos 0) };
 }
 
--- the exchange of these stocks, where each trader in order has so much cash
-abbrev pub opened : List StockRules → List ℤ → State
-opened rules cash = record {
+-- the exchange of these stocks, where each trader in order has so much cash, and hidden orders are taken or not
+abbrev pub opened : List StockRules → List ℤ → Bool → State
+opened rules cash hidden = record {
   stocks = map (listed (length cash)) rules;
   cash = cash;
   pairs = [];
   counts = record { orders = 0; matches = 0; enters = 0; cancels = 0 };
+  hidden = hidden;
 }
 
 abbrev pub told_of : Stock → StockTold

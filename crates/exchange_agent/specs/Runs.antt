@@ -97,14 +97,14 @@ abbrev pub IsUncrossed : List Resting → Type 0
 IsUncrossed book = All (λ b. All (λ s. b.side ≡ Buy → s.side ≡ Sell → b.price < s.price) book) book
 
 -- What stays constant over a run from an opening with these stocks and this cash.
-pub record IsConserved (rules : List StockRules) (cash : List ℤ) (acts : List Act) : Type 0 where
+pub record IsConserved (rules : List StockRules) (cash : List ℤ) (hidden : Bool) (acts : List Act) : Type 0 where
   -- the settled cash of all traders and all fees are together the opening cash
-  pub money : total (run (opened rules cash) acts).cash +ℤ fees_taken (run (opened rules cash) acts).stocks ≡ total cash
+  pub money : total (run (opened rules cash hidden) acts).cash +ℤ fees_taken (run (opened rules cash hidden) acts).stocks ≡ total cash
   -- the positions of each stock sum to zero
-  pub positions : All (λ k. total k.tally.positions ≡ pos 0) (run (opened rules cash) acts).stocks
+  pub positions : All (λ k. total k.tally.positions ≡ pos 0) (run (opened rules cash hidden) acts).stocks
   -- the matched shares of a stock are those executed with flag 'R' by orders for it
-  pub matched : (k : ℕ) → (stock_at (run (opened rules cash) acts) k).tally.matched ≡ removed_over (opened rules cash) k acts
+  pub matched : (k : ℕ) → (stock_at (run (opened rules cash hidden) acts) k).tally.matched ≡ removed_over (opened rules cash hidden) k acts
   -- what was accepted is open, or was executed (on either side) or canceled
-  pub shares : open_shares (run (opened rules cash) acts).stocks + total_of executed_shares (replies_over (opened rules cash) acts) + total_of canceled_shares (replies_over (opened rules cash) acts) ≡ total_of accepted_shares (replies_over (opened rules cash) acts)
+  pub shares : open_shares (run (opened rules cash hidden) acts).stocks + total_of executed_shares (replies_over (opened rules cash hidden) acts) + total_of canceled_shares (replies_over (opened rules cash hidden) acts) ≡ total_of accepted_shares (replies_over (opened rules cash hidden) acts)
   -- no two live orders of a stock cross
-  pub uncrossed : All (λ k. IsUncrossed k.book) (run (opened rules cash) acts).stocks
+  pub uncrossed : All (λ k. IsUncrossed k.book) (run (opened rules cash hidden) acts).stocks

@@ -1,12 +1,14 @@
 -- What a match settles.
-use Rattle.std.specs.Prelude.{ℕ, ◌+◌, ◌-◌, ◌*◌, ℤ, pos, neg_ℤ, ◌+ℤ◌, List, [], ◌∷◌, ◌++◌, slice_index_or, slice_set}
+use Rattle.std.specs.Prelude.{ℕ, ◌+◌, ◌-◌, ◌*◌, if◌then◌else◌, ℤ, pos, neg_ℤ, ◌+ℤ◌, List, [], ◌∷◌, ◌++◌, slice_index_or, slice_set}
 use Rattle.market_types.specs.declared.order.Side.{Side}
 use Rattle.market_types.specs.declared.order.Side.TheVariants.{Buy, Sell}
+use Rattle.market_types.specs.declared.order.Symbol.{Symbol}
 use Rattle.market_types.specs.declared.order.Token.{Token}
 use Rattle.market_types.specs.declared.reply.Reply.TheVariants.{Executed}
 use Rattle.market_types.specs.declared.message.Body.{Body}
 use Rattle.market_types.specs.declared.message.Body.TheVariants.{Answer}
 use Rattle.market_types.specs.declared.feed.Feed.{Feed}
+use Rattle.market_types.specs.declared.feed.What.{What}
 use Rattle.market_types.specs.declared.feed.What.TheVariants as what
 use Rattle.market_rules.specs.declared.fees.FeeTable.{FeeTable}
 use Rattle.market_rules.specs.Fees.{fee_of}
@@ -76,9 +78,15 @@ tally_after fees agent side f t = record {
 abbrev pub execution_of : ℕ → Token → ℕ → ℕ → Fill → Body
 execution_of time token flag number f = Answer (Executed time token f.shares f.resting.price flag number)
 
--- the feed's Order Executed of the resting order
-abbrev pub fed : ℕ → ℕ → ℕ → Fill → Feed
-fed locate time number f = record { locate = locate; tracking = 0; time = time; what = what.Executed f.resting.reference f.shares number }
+-- What the feed tells of a match: Order Executed of a shown resting order; a Trade in the stock where it is hidden, with
+-- reference 0 and side 'B' whatever its own are.
+abbrev pub match_told : Symbol → ℕ → Fill → What
+match_told symbol number f =
+    if f.resting.shown then what.Executed f.resting.reference f.shares number
+    else what.Trade 0 Buy f.shares symbol f.resting.price number
+
+abbrev pub fed : ℕ → ℕ → Symbol → ℕ → Fill → Feed
+fed locate time symbol number f = record { locate = locate; tracking = 0; time = time; what = match_told symbol number f }
 
 -- An incoming order on its way through its matches: its stock, settled cash, the count of matches, replies and feed so far, and
 -- the fees so far.
@@ -100,7 +108,7 @@ settled t f w = record {
       ++ record { to = f.resting.agent; body = execution_of t.time f.resting.token added (w.matches + 1) f }
       ∷ record { to = t.agent; body = execution_of t.time t.token removed (w.matches + 1) f }
       ∷ [];
-  feed = w.feed ++ fed t.locate t.time (w.matches + 1) f ∷ [];
+  feed = w.feed ++ fed t.locate t.time w.stock.symbol (w.matches + 1) f ∷ [];
   fee = w.fee +ℤ both_fees_of w.stock.fees f;
 }
 

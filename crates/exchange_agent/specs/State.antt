@@ -1,5 +1,5 @@
 -- The exchange's state as plain data.
-use Rattle.std.specs.Prelude.{ℕ, ℤ, pos, List, [], length, slice_index_or, slice_set, sum_by, position, Option, bytes_eq}
+use Rattle.std.specs.Prelude.{ℕ, ℤ, pos, Bool, List, [], length, slice_index_or, slice_set, sum_by, position, Option, bytes_eq}
 use Rattle.market_types.specs.declared.order.Symbol.{Symbol}
 use Rattle.market_rules.specs.declared.bands.Band.{Band}
 use Rattle.market_rules.specs.declared.fees.FeeTable.{FeeTable}
@@ -24,13 +24,14 @@ pub record Stock : Type 0 where
   pub book : List Resting
   pub tally : Tally
 
--- The stocks, the settled cash of each trader in order, the remembered pairs of agent and token in order, and the counts of
--- orders, matches, ignored enters and ignored cancels.
+-- The stocks, the settled cash of each trader in order, the remembered pairs of agent and token in order, the counts of
+-- orders, matches, ignored enters and ignored cancels, and whether hidden orders are taken, which never changes.
 pub record State : Type 0 where
   pub stocks : List Stock
   pub cash : List ℤ
   pub pairs : List Pair
   pub counts : Counts
+  pub hidden : Bool
 
 -- the letters of the trading states: 'T' and 'H'
 abbrev pub trades : ℕ

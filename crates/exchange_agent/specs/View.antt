@@ -1,5 +1,5 @@
 -- The plain data of the exchange's inside.
-use Rattle.std.specs.Prelude.{ℕ, ℤ, List, map}
+use Rattle.std.specs.Prelude.{ℕ, ℤ, Bool, List, map}
 use Rattle.exchange_agent.specs.declared.listing.Listing.{Listing}
 use Rattle.exchange_agent.specs.declared.pair.Pair.{Pair}
 use Rattle.exchange_agent.specs.declared.told.Counts.{Counts}
@@ -17,8 +17,8 @@ stock_of k = record {
   tally = record { last = k.last; matched = k.matched; taken = k.taken; positions = k.positions.items };
 }
 
-abbrev pub state_of : List Listing → List ℤ → List Pair → Counts → State
-state_of stocks cash pairs counts = record { stocks = map stock_of stocks; cash = cash; pairs = pairs; counts = counts }
+abbrev pub state_of : List Listing → List ℤ → List Pair → Counts → Bool → State
+state_of stocks cash pairs counts hidden = record { stocks = map stock_of stocks; cash = cash; pairs = pairs; counts = counts; hidden = hidden }
 
 abbrev pub way_at : Listing → List ℤ → ℕ → Handled → Way
 way_at k cash matches out = record {

@@ -1,5 +1,5 @@
 -- Worked examples on one stock of cent ticks, fees of -20 and 30 millionths a share, and three traders.
-use Rattle.std.specs.Prelude.{ℕ, pos, negsuc, [], ◌∷◌, codes}
+use Rattle.std.specs.Prelude.{ℕ, pos, negsuc, true, false, [], ◌∷◌, codes}
 use Rattle.market_types.specs.declared.order.Enter.{Enter}
 use Rattle.market_types.specs.declared.order.Side.{Side}
 use Rattle.market_types.specs.declared.order.Side.TheVariants.{Buy, Sell}
@@ -25,6 +25,7 @@ opening = record {
   cash = pos 0 ∷ pos 0 ∷ pos 0 ∷ [];
   pairs = [];
   counts = record { orders = 0; matches = 0; enters = 0; cancels = 0 };
+  hidden = false;
 }
 
 abbrev pub token : ℕ → Token
@@ -71,6 +72,20 @@ sweep = entering three_sells 1 (order 68 Buy 700 100100)
 -- 500 to sell of which 200 were bought
 abbrev pub bought_in_part : State
 bought_in_part = (entering (entering opening 2 (order 65 Sell 500 100000)).state 1 (order 66 Buy 200 100000)).state
+
+-- a hidden sell of the second trader and a shown one of the third, of 100 each at 10.00, where hidden orders are taken; then
+-- the first trader buys 150
+abbrev pub hidden_order : Enter
+hidden_order = record (order 65 Sell 100 100000) { display = 78 }
+
+abbrev pub hidden_sell : Outcome
+hidden_sell = entering (record opening { hidden = true }) 2 hidden_order
+
+abbrev pub shown_sell : Outcome
+shown_sell = entering hidden_sell.state 3 (order 66 Sell 100 100000)
+
+abbrev pub bought_of_both : Outcome
+bought_of_both = entering shown_sell.state 1 (order 67 Buy 150 100000)
 
 -- what is executed, in short
 abbrev pub fill_told : ℕ → ℕ → ℕ → ℕ → ℕ → Body

@@ -2,7 +2,7 @@
 
 ghost use Rattle.std.specs.Prelude.{◌≡◌, ◌<◌, ◌≤◌, ◌++◌, ◌^◌, OnOk, OnErr, IfSome, Some, length, slice_index_or, map};
 ghost use Rattle.price_time_book.specs.Orders.{order_with};
-ghost use Rattle.exchange_agent.specs.Cancel.{cancel_of, canceled, found_from, lowering_of, open_of, unheard};
+ghost use Rattle.exchange_agent.specs.Cancel.{cancel_of, canceled, found_from, lowered_feed, lowering_of, open_of, unheard};
 ghost use Rattle.exchange_agent.specs.State.{no_stock, stock_at};
 ghost use Rattle.exchange_agent.specs.View.{stock_of};
 
@@ -64,6 +64,24 @@ fn lowering(order: &Resting, left: u32) -> What
     }
 }
 
+// The feed is told of an order that is lowered, unless it is hidden.
+fn tell_lowering(locate: u16, time: Time, order: &Resting, left: u32, out: &mut Handled)
+    requires left { left ≤ order.now.left }
+    requires feed_room { 0 < out.old.feed.spare }
+    ensures feed { out.new.feed.list ≡ out.old.feed.list ++ lowered_feed locate time order.now left }
+    ensures replies { out.new.replies ≡ out.old.replies }
+    ensures fee { out.new.fee ≡ out.old.fee }
+{
+    if order.shown {
+        out.tell(Feed {
+            locate,
+            tracking: 0,
+            time,
+            what: lowering(order, left),
+        });
+    }
+}
+
 impl Exchange {
     // A Cancel is ignored.
     fn ignore_cancel(&mut self)
@@ -107,12 +125,7 @@ impl Exchange {
                 reason: b'U',
             }),
         );
-        out.tell(Feed {
-            locate: found.stock as u16 + 1,
-            tracking: 0,
-            time,
-            what: lowering(&found.order, left),
-        });
+        tell_lowering(found.stock as u16 + 1, time, &found.order, left, out);
     }
 
     /// A Cancel, in every state of the stock.

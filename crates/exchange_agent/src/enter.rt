@@ -3,7 +3,7 @@
 ghost use Rattle.std.specs.Prelude.{◌≡◌, ◌<◌, ◌≤◌, ◌+◌, ◌*◌, ◌++◌, ◌∷◌, ◌^◌, [], pos, not, OnOk, OnErr, IfOk, All, map, length, position, bytes_eq};
 ghost use Rattle.std.specs.Bool.{OnFalse, OnTrue};
 ghost use Rattle.exchange_agent.specs.declared.verdict.Verdict.TheVariants as verdict;
-ghost use Rattle.exchange_agent.specs.Enter.{acceptance_of, entered, entered_unless, is_remembered, price_is_refused, shares_are_refused, terms_are_refused, rejection_of, remembering, verdict_found, verdict_there, verdict_when_full, way_of};
+ghost use Rattle.exchange_agent.specs.Enter.{acceptance_of, display_is_refused, entered, entered_unless, is_remembered, price_is_refused, shares_are_refused, terms_are_refused, rejection_of, remembering, verdict_found, verdict_there, verdict_when_full, way_of};
 ghost use Rattle.exchange_agent.specs.Pairs.{has_pair, pair_of, with_pair};
 ghost use Rattle.exchange_agent.specs.Sound.{IsSoundStock, IsWithin};
 ghost use Rattle.exchange_agent.specs.State.{stock_number_of, resting_over};
@@ -26,11 +26,21 @@ const MOST_PAIRS: usize = 131_072;
 // How many orders rest at most over all stocks.
 const MOST_RESTING: usize = 16_384;
 
-// The display is not 'Y', there is a minimum, it is for a cross, or the time in force is none of the three.
-fn has_strange_terms(e: &Enter) -> bool
-    ensures { result ≡ terms_are_refused e.now }
+// The display is neither 'Y' nor, where hidden orders are taken, 'N'.
+fn has_strange_display(hidden: bool, e: &Enter) -> bool
+    ensures { result ≡ display_is_refused hidden e.now }
 {
-    e.display != b'Y' || e.minimum != 0 || e.cross != b'N' || !matches!(e.tif, 0 | 99_998 | 99_999)
+    !(e.display == b'Y' || (hidden && e.display == b'N'))
+}
+
+// The display is strange, there is a minimum, it is for a cross, or the time in force is none of the three.
+fn has_strange_terms(hidden: bool, e: &Enter) -> bool
+    ensures { result ≡ terms_are_refused hidden e.now }
+{
+    has_strange_display(hidden, e)
+        || e.minimum != 0
+        || e.cross != b'N'
+        || !matches!(e.tif, 0 | 99_998 | 99_999)
 }
 
 // The shares are 0 or above 999,999.
@@ -132,7 +142,7 @@ impl Exchange {
         ensures { result ≡ verdict_there self.now e.now stock }
     {
         let listing = &self.stocks[stock];
-        if has_strange_terms(e) {
+        if has_strange_terms(self.hidden, e) {
             return Verdict::Refused(b'O');
         }
         if listing.trading != b'T' {

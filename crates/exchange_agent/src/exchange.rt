@@ -20,6 +20,7 @@ pub struct Exchange {
     pub(crate) cash: Vec<Money>,
     pub(crate) pairs: BTreeSet<Pair>,
     pub(crate) counts: Counts,
+    pub(crate) hidden: bool,
 }
 
 impl Model for Exchange {
@@ -29,9 +30,9 @@ impl Model for Exchange {
 
     ghost Value = { State };
 
-    ghost view = { λ x. state_of x.stocks.items x.cash.items x.pairs.keys x.counts };
+    ghost view = { λ x. state_of x.stocks.items x.cash.items x.pairs.keys x.counts x.hidden };
 
-    ghost invariant = { λ x. IsSound (state_of x.stocks.items x.cash.items x.pairs.keys x.counts) };
+    ghost invariant = { λ x. IsSound (state_of x.stocks.items x.cash.items x.pairs.keys x.counts x.hidden) };
 }
 
 // The stocks before the first order.
@@ -79,10 +80,16 @@ fn accounts(alloc: Global, cash: &[i64]) -> Result<Vec<Money>, Memory>
 }
 
 impl Exchange {
-    /// The exchange of these stocks, where each trader in order has so much cash.
-    pub fn open(alloc: Global, stocks: &[StockRules], cash: &[i64]) -> Result<Exchange, Memory>
+    /// The exchange of these stocks, where each trader in order has so much cash, in millionths of a dollar. With `hidden` it
+    /// takes orders with display `N`, which rest hidden; else it rejects them.
+    pub fn open(
+        alloc: Global,
+        stocks: &[StockRules],
+        cash: &[i64],
+        hidden: bool,
+    ) -> Result<Exchange, Memory>
         requires { IsOpening stocks.now cash.now }
-        ensures { IfOk result (λ x. x ≡ opened stocks.now cash.now) }
+        ensures { IfOk result (λ x. x ≡ opened stocks.now cash.now hidden) }
     {
         let stocks = listings(alloc, stocks, cash.len())?;
         let cash = accounts(alloc, cash)?;
@@ -96,6 +103,7 @@ impl Exchange {
                 enters: 0,
                 cancels: 0,
             },
+            hidden,
         })
     }
 
@@ -112,6 +120,7 @@ impl Exchange {
             cash,
             pairs,
             counts: self.counts,
+            hidden: self.hidden,
         })
     }
 }

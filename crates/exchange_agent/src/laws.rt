@@ -1,6 +1,6 @@
 //! Laws of whole runs: for every list of messages and changes.
 
-ghost use Rattle.std.specs.Prelude.{◌≡◌, ◌≤◌, ◌+◌, ◌*◌, ℕ, ℤ, List, All, length};
+ghost use Rattle.std.specs.Prelude.{◌≡◌, ◌≤◌, ◌+◌, ◌*◌, ℕ, ℤ, Bool, List, All, length};
 ghost use Rattle.std.specs.List.{AllByRecursion};
 ghost use Rattle.exchange_agent.specs.declared.told.StockRules.{StockRules};
 ghost use Rattle.market_types.specs.declared.message.Body.{Body};
@@ -21,10 +21,10 @@ use price_time_book::laws::{matching_ends, next_is_best};
 /// executed with flag `R` by orders for it; what was accepted is open, executed or canceled; and no two live
 /// orders of a stock cross.
 pub fn runs_are_conserved()
-    ensures { (rules : List StockRules) (cash : List ℤ) (acts : List Act) →
+    ensures { (rules : List StockRules) (cash : List ℤ) (hidden : Bool) (acts : List Act) →
         IsOpening rules cash →
         AllByRecursion (IsPossible (length cash) (length rules)) acts →
-        IsConserved rules cash acts }
+        IsConserved rules cash hidden acts }
 {
     a_match_keeps();
     a_reduce_keeps();
@@ -51,6 +51,12 @@ pub fn books_stay_short()
     a_match_keeps();
     changes_keep();
 }
+
+/// Whether hidden orders are taken is said at the opening: no message and no change of rules alters it.
+pub fn hidden_orders_stay_taken()
+    ensures messages { (s : State) (time agent : ℕ) (b : Body) → (market s time agent b).state.hidden ≡ s.hidden }
+    ensures changes { (s : State) (time stock : ℕ) (c : Change) → (changed_by s time stock c).state.hidden ≡ s.hidden }
+{}
 
 /// No reply to a message is a question, whatever the number of stocks.
 pub fn replies_ask_nothing()

@@ -6,7 +6,7 @@ ghost use Rattle.price_time_book.specs.Matched.{after_fill, fill_of, matched};
 ghost use Rattle.price_time_book.specs.Kept.{IsKeptByFills};
 ghost use Rattle.price_time_book.specs.Next.{crossing_of, next_of};
 ghost use Rattle.price_time_book.specs.Orders.{order_of};
-ghost use Rattle.exchange_agent.specs.Enter.{remainder, resting_of, way_of};
+ghost use Rattle.exchange_agent.specs.Enter.{added_feed, remainder, resting_of, way_of};
 ghost use Rattle.exchange_agent.specs.Settle.{all_settled, settled, Way};
 ghost use Rattle.exchange_agent.specs.Sound.{IsFar, IsSmall, is_trader};
 ghost use Rattle.exchange_agent.specs.View.{way_at};
@@ -18,6 +18,29 @@ use market_types::{Body, Enter, Feed, Money, Reply, Side, What};
 use price_time_book::keeping::{a_fill_keeps, a_match_keeps, fills_add_up, matching_goes_on};
 use price_time_book::laws::{matching_ends, next_is_best};
 use price_time_book::{Fill, Resting};
+
+// The feed is told of an order that comes to rest, unless it is hidden.
+fn add_to_feed(taking: &Taking, e: &Enter, reference: u64, left: u32, out: &mut Handled)
+    requires feed_room { 0 < out.old.feed.spare }
+    ensures feed { out.new.feed.list ≡ out.old.feed.list ++ added_feed taking.now e.now reference left }
+    ensures replies { out.new.replies ≡ out.old.replies }
+    ensures fee { out.new.fee ≡ out.old.fee }
+{
+    if e.display == b'Y' {
+        out.tell(Feed {
+            locate: taking.locate,
+            tracking: 0,
+            time: taking.time,
+            what: What::Add {
+                reference,
+                side: e.side,
+                shares: left,
+                stock: e.stock,
+                price: e.price,
+            },
+        });
+    }
+}
 
 impl Listing {
     // The next resting order that crosses gives its shares.
@@ -189,17 +212,6 @@ impl Listing {
             tif: e.tif,
             shown: e.display == b'Y',
         });
-        out.tell(Feed {
-            locate: taking.locate,
-            tracking: 0,
-            time: taking.time,
-            what: What::Add {
-                reference,
-                side: e.side,
-                shares: left,
-                stock: e.stock,
-                price: e.price,
-            },
-        });
+        add_to_feed(taking, e, reference, left, out);
     }
 }

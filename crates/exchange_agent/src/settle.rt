@@ -1,7 +1,7 @@
 //! What a match settles.
 
 ghost use Rattle.std.specs.Prelude.{◌≡◌, ◌<◌, ◌≤◌, ◌+◌, ◌*◌, ◌^◌, ◌-◌, ◌++◌, ◌∷◌, [], ℕ, ℤ, pos, neg_ℤ, ◌+ℤ◌, length, All, unsigned_abs};
-ghost use Rattle.exchange_agent.specs.Settle.{added, removed, both_fees_of, cash_after, execution_of, fed, gained, money_gained, positions_after, shares_gained, settled, tally_after, worth_of};
+ghost use Rattle.exchange_agent.specs.Settle.{added, removed, both_fees_of, cash_after, execution_of, fed, gained, match_told, money_gained, positions_after, shares_gained, settled, tally_after, worth_of};
 ghost use Rattle.exchange_agent.specs.Sound.{IsFar, IsSmall, IsWithin};
 ghost use Rattle.market_rules.specs.Fees.{each_of, fee_of};
 ghost use Rattle.exchange_agent.specs.View.{stock_of, way_at};
@@ -9,7 +9,7 @@ ghost use Rattle.exchange_agent.specs.View.{stock_of, way_at};
 use crate::handled::Handled;
 use crate::listing::Listing;
 use market_rules::FeeTable;
-use market_types::{AgentNo, Body, Feed, Money, Reply, Side, Time, Token, What};
+use market_types::{AgentNo, Body, Feed, Money, Reply, Side, Symbol, Time, Token, What};
 use price_time_book::Fill;
 
 /// The order that came: when it is handled, whose it is, its stock's locate number, its side and its token.
@@ -191,12 +191,34 @@ fn execution(time: Time, token: Token, flag: u8, number: u64, fill: &Fill) -> Bo
     })
 }
 
+// What the feed tells of a match: of a hidden order neither its reference nor its side.
+fn told(symbol: Symbol, number: u64, fill: &Fill) -> What
+    ensures { result ≡ match_told symbol number fill.now }
+{
+    if fill.resting.shown {
+        What::Executed {
+            reference: fill.resting.reference,
+            shares: fill.shares,
+            number,
+        }
+    } else {
+        What::Trade {
+            reference: 0,
+            side: Side::Buy,
+            shares: fill.shares,
+            stock: symbol,
+            price: fill.resting.price,
+            number,
+        }
+    }
+}
+
 // What is told of a match: to the resting order's agent, to the incoming one's, and to the feed.
-fn tell(taking: &Taking, fill: &Fill, number: u64, out: &mut Handled)
+fn tell(taking: &Taking, symbol: Symbol, fill: &Fill, number: u64, out: &mut Handled)
     requires room { 2 ≤ out.old.replies.spare }
     requires feed_room { 1 ≤ out.old.feed.spare }
     ensures replies { out.new.replies ≡ record { list = out.old.replies.list ++ record { to = fill.now.resting.agent; body = execution_of taking.now.time fill.now.resting.token added number fill.now } ∷ record { to = taking.now.agent; body = execution_of taking.now.time taking.now.token removed number fill.now } ∷ []; spare = out.old.replies.spare - 2 } }
-    ensures feed { out.new.feed ≡ record { list = out.old.feed.list ++ fed taking.now.locate taking.now.time number fill.now ∷ []; spare = out.old.feed.spare - 1 } }
+    ensures feed { out.new.feed ≡ record { list = out.old.feed.list ++ fed taking.now.locate taking.now.time symbol number fill.now ∷ []; spare = out.old.feed.spare - 1 } }
     ensures fee { out.new.fee ≡ out.old.fee }
 {
     out.reply(
@@ -211,11 +233,7 @@ fn tell(taking: &Taking, fill: &Fill, number: u64, out: &mut Handled)
         locate: taking.locate,
         tracking: 0,
         time: taking.time,
-        what: What::Executed {
-            reference: fill.resting.reference,
-            shares: fill.shares,
-            number,
-        },
+        what: told(symbol, number, fill),
     });
 }
 
@@ -266,14 +284,14 @@ impl Listing {
         ensures book { self.new.book ≡ self.old.book }
         ensures matches { matches.new ≡ matches.old + 1 }
         ensures replies { out.new.replies ≡ record { list = out.old.replies.list ++ record { to = fill.now.resting.agent; body = execution_of taking.now.time fill.now.resting.token added (matches.old + 1) fill.now } ∷ record { to = taking.now.agent; body = execution_of taking.now.time taking.now.token removed (matches.old + 1) fill.now } ∷ []; spare = out.old.replies.spare - 2 } }
-        ensures feed { out.new.feed ≡ record { list = out.old.feed.list ++ fed taking.now.locate taking.now.time (matches.old + 1) fill.now ∷ []; spare = out.old.feed.spare - 1 } }
+        ensures feed { out.new.feed ≡ record { list = out.old.feed.list ++ fed taking.now.locate taking.now.time self.old.symbol (matches.old + 1) fill.now ∷ []; spare = out.old.feed.spare - 1 } }
         ensures fee { out.new.fee ≡ out.old.fee +ℤ both_fees_of self.old.fees fill.now }
         ensures small { (orders shares : ℕ) → 1 ≤ fill.now.shares → IsSmall orders shares (way_at self.old cash.old.items matches.old out.old) → IsSmall orders (shares + fill.now.shares) (way_at self.new cash.new.items matches.new out.new) }
     {
         settle_money(cash, taking, fill, &self.fees);
         self.count(taking, fill);
         *matches += 1;
-        tell(taking, fill, *matches, out);
+        tell(taking, self.symbol, fill, *matches, out);
         let fees = both_fees(&self.fees, fill);
         out.fee = summed(out.fee, fees);
     }

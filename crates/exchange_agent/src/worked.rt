@@ -1,10 +1,12 @@
 //! What the definitions give on worked examples.
 
-ghost use Rattle.std.specs.Prelude.{◌≡◌, ◌∷◌, [], pos, negsuc, map, slice_get, Some, codes};
+ghost use Rattle.std.specs.Prelude.{◌≡◌, ◌∷◌, [], pos, negsuc, map, slice_get, Some, false, codes};
 ghost use Rattle.market_types.specs.declared.feed.What.TheVariants as what;
 ghost use Rattle.market_types.specs.declared.message.Body.TheVariants as body;
 ghost use Rattle.market_types.specs.declared.reply.Reply.TheVariants as reply;
-ghost use Rattle.exchange_agent.specs.Worked.{sweep, three_sells, bought_in_part, canceling, entering, token, fill_told, opening, order};
+ghost use Rattle.exchange_agent.specs.Worked.{sweep, three_sells, bought_in_part, bought_of_both, canceling, entering, token, fill_told, hidden_order, hidden_sell, opening, order, shown_sell};
+ghost use Rattle.exchange_agent.specs.Market.{market};
+ghost use Rattle.exchange_agent.specs.State.{stock_at};
 
 use market_types::Side;
 
@@ -42,4 +44,21 @@ pub fn refusals()
     ensures off_tick { map (λ r. r.body) (entering three_sells 1 (order 65 Side.Buy 1 1)).replies ≡ body.Answer (reply.Rejected 3000 (token 65) 88) ∷ [] }
     ensures too_large { map (λ r. r.body) (entering opening 1 (order 65 Side.Buy 1000000 100)).replies ≡ body.Answer (reply.Rejected 3000 (token 65) 79) ∷ [] }
     ensures no_stock { map (λ r. r.body) (entering opening 1 (record (order 65 Side.Buy 1 100) { stock = record { 0 = codes "XYZ     " } })).replies ≡ body.Answer (reply.Rejected 3000 (token 65) 83) ∷ [] }
+{}
+
+/// A hidden order isn't told when it rests; the shown one at its price trades first, and of the hidden one's match the feed
+/// gives neither reference nor side. What stays of it is in no quote, and a Cancel of it isn't told.
+pub fn hidden_orders()
+    ensures accepted { map (λ r. r.body) hidden_sell.replies ≡ body.Answer (reply.Accepted 3000 (token 65) Side.Sell 100 (record { 0 = codes "ABM     " }) 100000 99999 (codes "ABID") 78 1 80 78 0 78 76 32) ∷ [] }
+    ensures no_feed { hidden_sell.feed ≡ [] }
+    ensures shown { map (λ f. f.what) shown_sell.feed ≡ what.Add 2 Side.Sell 100 (record { 0 = codes "ABM     " }) 100000 ∷ [] }
+    ensures feed { map (λ f. f.what) bought_of_both.feed ≡ what.Executed 2 100 1 ∷ what.Trade 0 Side.Buy 50 (record { 0 = codes "ABM     " }) 100000 2 ∷ [] }
+    ensures reference { map (λ o. o.reference) (stock_at bought_of_both.state 0).book ≡ 1 ∷ [] }
+    ensures intended { map (λ o. o.intended) (stock_at bought_of_both.state 0).book ≡ 100 ∷ [] }
+    ensures left { map (λ o. o.left) (stock_at bought_of_both.state 0).book ≡ 50 ∷ [] }
+    ensures rests_hidden { map (λ o. o.shown) (stock_at bought_of_both.state 0).book ≡ false ∷ [] }
+    ensures quote { map (λ r. r.body) (market bought_of_both.state 3000 1 (body.Ask 0)).replies ≡ body.Quote (record { stock = 0; state = 84; bid = 0; bid_shares = 0; ask = 0; ask_shares = 0; last = 100000 }) ∷ [] }
+    ensures lowered { map (λ r. r.body) (canceling bought_of_both.state 2 65 60).replies ≡ body.Answer (reply.Canceled 3000 (token 65) 40 85) ∷ [] }
+    ensures not_told { (canceling bought_of_both.state 2 65 60).feed ≡ [] }
+    ensures refused { map (λ r. r.body) (entering opening 2 hidden_order).replies ≡ body.Answer (reply.Rejected 3000 (token 65) 79) ∷ [] }
 {}

@@ -69,6 +69,7 @@ order_closed k r = record {
   stock = k;
   price = r.price;
   tif = r.tif;
+  shown = r.shown;
 }
 
 -- the orders of the first n stocks, each stock's in order of their arrival

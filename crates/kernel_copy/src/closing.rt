@@ -92,6 +92,7 @@ fn add_orders(k: StockNo, book: &[Resting], orders: &mut Vec<ClosingOrder>) -> R
             stock: k,
             price: resting.price,
             tif: resting.tif,
+            shown: resting.shown,
         })?;
     }
     Ok(())

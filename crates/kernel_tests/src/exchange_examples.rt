@@ -20,6 +20,16 @@ pub(crate) fn opened(rt: &impl Abort, alloc: Global) -> Exchange
     ensures enters { result.counts.enters ≡ 0 }
     ensures cancels { result.counts.cancels ≡ 0 }
 {
+    opened_for(rt, alloc, false)
+}
+
+// The same, where hidden orders are taken or not.
+pub(crate) fn opened_for(rt: &impl Abort, alloc: Global, hidden: bool) -> Exchange
+    ensures traders { length result.cash ≡ 3 }
+    ensures stocks { length result.stocks ≡ 1 }
+    ensures enters { result.counts.enters ≡ 0 }
+    ensures cancels { result.counts.cancels ≡ 0 }
+{
     let Ok(ticks) = TickTable::new(alloc, &[Band { from: 0, tick: 100 }]) else {
         panic!(rt; "no table");
     };
@@ -28,7 +38,7 @@ pub(crate) fn opened(rt: &impl Abort, alloc: Global) -> Exchange
         ticks,
         fees: FeeTable { add: -20, take: 30 },
     }];
-    let Ok(exchange) = Exchange::open(alloc, &rules, &[0, 0, 0]) else {
+    let Ok(exchange) = Exchange::open(alloc, &rules, &[0, 0, 0], hidden) else {
         panic!(rt; "no exchange");
     };
     exchange

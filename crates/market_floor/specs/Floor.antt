@@ -28,7 +28,7 @@ parties_from agent (s ∷ ss) = party_at_opening agent s ∷ parties_from (agent
 -- no order rests, no trader is silenced, and no value has an offset
 abbrev pub floor_at_opening : Opening → FloorState
 floor_at_opening o = record {
-  exchange = opened o.stocks (cash_of o);
+  exchange = opened o.stocks (cash_of o) o.hidden;
   parties = parties_from 1 o.traders;
   offsets = replicate (length o.stocks) (pos 0);
 }

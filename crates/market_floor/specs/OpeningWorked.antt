@@ -1,5 +1,5 @@
 -- Openings for worked examples: one stock whose value stays at 10 dollars, a latency of 5 within one group, and the zero key.
-use Rattle.std.specs.Prelude.{ℕ, pos, negsuc, List, [], ◌∷◌, replicate, codes}
+use Rattle.std.specs.Prelude.{false, ℕ, pos, negsuc, List, [], ◌∷◌, replicate, codes}
 use Rattle.fundamental_series.specs.Made.{Made, by_rule}
 use Rattle.agent_shell.specs.declared.setting.Kind.{Kind}
 use Rattle.agent_shell.specs.declared.setting.Kind.TheVariants.{Watcher}
@@ -44,6 +44,7 @@ market_of close limit delay traders = record {
   stocks = abm ∷ [];
   series = ten_dollars close ∷ [];
   dated = [];
+  hidden = false;
   traders = traders;
 }
 

@@ -76,7 +76,7 @@ impl Floor {
         ensures fits { IfOk result (λ f. FitsFloor o.now f) }
     {
         let cash = cash_of(alloc, o.traders.as_slice())?;
-        let exchange = Exchange::open(alloc, o.stocks.as_slice(), cash.as_slice())?;
+        let exchange = Exchange::open(alloc, o.stocks.as_slice(), cash.as_slice(), o.hidden)?;
         let parties = open_all(alloc, o)?;
         let offsets = vec![in alloc; 0i64; o.stocks.len()]?;
         Ok(Floor {

@@ -33,6 +33,8 @@ pub struct Opening {
     pub series: Sequence<Series>,
     /// Changes of the stocks' rules in order of their dates.
     pub dated: DatedList,
+    /// Whether the exchange takes hidden orders: those with display `N`.
+    pub hidden: bool,
     /// The traders' parameters at the opening.
     pub traders: Sequence<TraderSetting>,
 }

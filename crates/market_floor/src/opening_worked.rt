@@ -99,6 +99,7 @@ pub fn opening(
         stocks: Sequence::new(stocks),
         series: Sequence::new(values),
         dated,
+        hidden: false,
         traders: Sequence::new(traders),
     })
 }

@@ -3,7 +3,7 @@ use Rattle.std.proofs.Common.{◌≡◌, ◌∙◌, ℕ, ◌+◌, ◌<◌, ◌-�
 use Rattle.std.specs.Prelude.{◌==◌, nat_lt, if◌then◌else◌}
 use Rattle.std.specs.Str.{bytes_eq}
 use Rattle.std.proofs.lemmas.Bool.{and_from}
-use Rattle.std.proofs.lemmas.List.Elements.{All-cons, All-nil, All-push}
+use Rattle.std.proofs.lemmas.List.Elements.{All-append, All-cons, All-nil, All-push}
 use Rattle.std.proofs.lemmas.List.Quantifiers.{position-Some}
 use Rattle.std.proofs.lemmas.Slice.Eq.{bytes_eq-Decides}
 use Rattle.market_types.specs.declared.feed.Feed.{Feed}
@@ -15,6 +15,7 @@ use Rattle.market_types.specs.declared.order.Cancel.{Cancel}
 use Rattle.market_types.specs.declared.order.Enter.{Enter}
 use Rattle.market_types.specs.declared.order.Inbound.TheVariants as inbound
 use Rattle.market_types.specs.declared.order.Side.{Side}
+use Rattle.market_types.specs.declared.order.Side.TheVariants.{Buy}
 use Rattle.market_types.specs.declared.order.Symbol.{Symbol}
 use Rattle.price_time_book.specs.declared.resting.Fill.{Fill}
 use Rattle.price_time_book.specs.declared.resting.Resting.{Resting}
@@ -24,7 +25,7 @@ use Rattle.exchange_agent.specs.declared.settle.Taking.{Taking}
 use Rattle.exchange_agent.specs.declared.verdict.Verdict.{Verdict}
 use Rattle.exchange_agent.specs.declared.verdict.Verdict.TheVariants.{Ignored, Forgotten, Refused, Accepted}
 use Rattle.exchange_agent.specs.Cancel.{cancel_of, canceled, found_from, lowering_of, open_of, unheard}
-use Rattle.exchange_agent.specs.Enter.{entered_by, remainder, remembering, taking_of, verdict_of, way_from}
+use Rattle.exchange_agent.specs.Enter.{added_feed, entered_by, remainder, remembering, taking_of, verdict_of, way_from}
 use Rattle.exchange_agent.specs.Market.{market}
 use Rattle.exchange_agent.specs.Outcome.{Outcome}
 use Rattle.exchange_agent.specs.Settle.{Way, all_settled, settled}
@@ -59,12 +60,26 @@ added-text locate time reference side shares stock price h =
     and_from (is_in_range kind.Side (bytes (side_letter side ∷ []))) (is_in_range (Text 8) (bytes stock.0) && true) (side-in side)
     (and_from (is_in_range (Text 8) (bytes stock.0)) true h refl)
 
+match-text : (shown : Bool) (locate time number : ℕ) (symbol : Symbol) (f : Fill) → is_in_range (Text 8) (bytes symbol.0) ≡ true
+    → HasFeedTexts (record { locate = locate; tracking = 0; time = time; what = if shown then what.Executed f.resting.reference f.shares number else what.Trade 0 Buy f.shares symbol f.resting.price number })
+match-text true locate time number symbol f h = refl
+match-text false locate time number symbol f h =
+    and_from (is_in_range kind.Side (bytes (side_letter Buy ∷ []))) (is_in_range (Text 8) (bytes symbol.0) && true) (side-in Buy)
+    (and_from (is_in_range (Text 8) (bytes symbol.0)) true h refl)
+
+-- a message that is told or not
+told-texts : (b : Bool) (m : Feed) → HasFeedTexts m → All HasFeedTexts (if b then m ∷ [] else [])
+told-texts true m h = All-cons HasFeedTexts m [] h (All-nil HasFeedTexts)
+told-texts false m h = All-nil HasFeedTexts
+
 abbrev IsSpelled : Way → Type 0
 IsSpelled w = All HasFeedTexts w.feed
 
-settled-texts : (t : Taking) (fills : List Fill) (w : Way) → IsSpelled w → IsSpelled (all_settled t fills w)
-settled-texts t [] w h = h
-settled-texts t (f ∷ fs) w h = settled-texts t fs (settled t f w) (All-push HasFeedTexts w.feed _ h refl)
+settled-texts : (t : Taking) (fills : List Fill) (w : Way) → is_in_range (Text 8) (bytes w.stock.symbol.0) ≡ true → IsSpelled w → IsSpelled (all_settled t fills w)
+settled-texts t [] w text h = h
+settled-texts t (f ∷ fs) w text h =
+    settled-texts t fs (settled t f w) text
+    (All-push HasFeedTexts w.feed _ h (match-text f.resting.shown t.locate t.time (w.matches + 1) w.stock.symbol f text))
 
 if-both : (b : Bool) (P : Way → Type 0) (x y : Way) → P x → P y → P (if b then x else y)
 if-both true P x y p q = p
@@ -72,7 +87,8 @@ if-both false P x y p q = q
 
 remainder-texts : (t : Taking) (e : Enter) (reference left : ℕ) (w : Way) → is_in_range (Text 8) (bytes e.stock.0) ≡ true → IsSpelled w → IsSpelled (remainder t e reference left w)
 remainder-texts t e reference left w text h =
-    let more = All-push HasFeedTexts w.feed (added t.locate t.time reference e.side left e.stock e.price) h (added-text t.locate t.time reference e.side left e.stock e.price text) in
+    let more = All-append HasFeedTexts w.feed (added_feed t e reference left) h
+    (told-texts (e.display == 89) (added t.locate t.time reference e.side left e.stock e.price) (added-text t.locate t.time reference e.side left e.stock e.price text)) in
     if-both (left == 0) IsSpelled w _ h (if-both (e.tif == 0) IsSpelled _ _ h more)
 
 -- the symbol of an accepted order is that of its stock
@@ -92,7 +108,10 @@ entered-texts o s time agent e (Accepted k) is same v =
     let t = taking_of time agent e k in
     let w = way_from (remembering s agent e) time agent e k in
     let m = matched w.stock.book e.side e.price e.shares in
-    remainder-texts t e (s.counts.orders + 1) m.shares (all_settled t m.fills w) (accepted-text o s agent e k is same v) (settled-texts t m.fills w (All-nil HasFeedTexts))
+    let found = position-Some (λ (x : Stock). bytes_eq x.symbol.0 e.stock.0) s.stocks k no_stock (acceptable s agent e k v).number in
+    let l : k < length o.stocks = omega (arith, found.0, count-is o s same) in
+    remainder-texts t e (s.counts.orders + 1) m.shares (all_settled t m.fills w) (accepted-text o s agent e k is same v)
+    (settled-texts t m.fills w (text-at o s k is same l) (All-nil HasFeedTexts))
 
 lowering-text : (b : Bool) (locate time : ℕ) (o : Resting) (left : ℕ)
     → HasFeedTexts (record { locate = locate; tracking = 0; time = time; what = if b then what.Delete o.reference else what.Cancel o.reference (o.left - left) })
@@ -105,8 +124,8 @@ cancel-by t s time agent c f = if t then canceled s time agent c f.stock f.order
 cancel-by-texts : (b : Bool) (s : Exchange) (time agent : ℕ) (c : Cancel) (f : Found) → All HasFeedTexts (cancel-by b s time agent c f).feed
 cancel-by-texts true s time agent c f =
     let left = open_of f.order c.shares in
-    All-cons HasFeedTexts (record { locate = f.stock + 1; tracking = 0; time = time; what = lowering_of f.order left }) []
-    (lowering-text (left == 0) (f.stock + 1) time f.order left) (All-nil HasFeedTexts)
+    told-texts f.order.shown (record { locate = f.stock + 1; tracking = 0; time = time; what = lowering_of f.order left })
+    (lowering-text (left == 0) (f.stock + 1) time f.order left)
 cancel-by-texts false s time agent c f = All-nil HasFeedTexts
 
 cancel-texts : (s : Exchange) (time agent : ℕ) (c : Cancel) (f : Option Found) → All HasFeedTexts (cancel_of s time agent c f).feed

@@ -14,6 +14,8 @@ use Rattle.market_types.specs.declared.entry.End.{End}
 use Rattle.market_types.specs.declared.order.Cancel.{Cancel}
 use Rattle.market_types.specs.declared.order.Enter.{Enter}
 use Rattle.market_types.specs.declared.order.Inbound.TheVariants as inbound
+use Rattle.market_types.specs.declared.order.Side.TheVariants.{Buy}
+use Rattle.market_types.specs.declared.order.Symbol.{Symbol}
 use Rattle.market_types.specs.Told.{EntryTold, EditTold, event, edit as edited_entry}
 use Rattle.market_rules.specs.declared.changes.Change.{Change}
 use Rattle.market_rules.specs.declared.changes.Change.TheVariants as change
@@ -58,11 +60,23 @@ is_on_orders m = is_of_orders m.what
 both-pass : (test : Feed → Bool) (xs ys : List Feed) → list_all test xs ≡ true → list_all test ys ≡ true → list_all test (xs ++ ys) ≡ true
 both-pass test xs ys p q = list_all-append test xs ys ∙ ap (λ t. t && list_all test ys) p ∙ q
 
+-- a message that is told or not
+told-by : (b : Bool) (m : Feed) → is_on_orders m ≡ true → list_all is_on_orders (if b then m ∷ [] else []) ≡ true
+told-by true m h = ap (λ t. t && true) h
+told-by false m h = refl
+
 -- ---- the market's feed speaks of orders
+
+match-by : (shown : Bool) (reference shares price number : ℕ) (symbol : Symbol)
+    → is_of_orders (if shown then what.Executed reference shares number else what.Trade 0 Buy shares symbol price number) ≡ true
+match-by true reference shares price number symbol = refl
+match-by false reference shares price number symbol = refl
 
 orders-all : (t : Taking) (fills : List Fill) (w : Way) → list_all is_on_orders w.feed ≡ true → list_all is_on_orders (all_settled t fills w).feed ≡ true
 orders-all t [] w h = h
-orders-all t (f ∷ fs) w h = orders-all t fs (settled t f w) (both-pass is_on_orders w.feed _ h refl)
+orders-all t (f ∷ fs) w h =
+    orders-all t fs (settled t f w) (both-pass is_on_orders w.feed _ h
+    (ap (λ b. b && true) (match-by f.resting.shown f.resting.reference f.shares f.resting.price (w.matches + 1) w.stock.symbol)))
 
 if-both : (b : Bool) (P : Way → Type 0) (x y : Way) → P x → P y → P (if b then x else y)
 if-both true P x y p q = p
@@ -73,7 +87,7 @@ IsOnOrders w = list_all is_on_orders w.feed ≡ true
 
 orders-remainder : (t : Taking) (e : Enter) (reference left : ℕ) (w : Way) → IsOnOrders w → IsOnOrders (remainder t e reference left w)
 orders-remainder t e reference left w h =
-    if-both (left == 0) IsOnOrders w _ h (if-both (e.tif == 0) IsOnOrders _ _ h (both-pass is_on_orders w.feed _ h refl))
+    if-both (left == 0) IsOnOrders w _ h (if-both (e.tif == 0) IsOnOrders _ _ h (both-pass is_on_orders w.feed _ h (told-by (e.display == 89) _ refl)))
 
 orders-entered : (s : Exchange) (time agent : ℕ) (e : Enter) (v : Verdict) → list_all is_on_orders (entered_by s time agent e v).feed ≡ true
 orders-entered s time agent e Ignored = refl
@@ -93,7 +107,7 @@ abbrev cancel-by : Bool → Exchange → ℕ → ℕ → Cancel → Found → Ou
 cancel-by t s time agent c f = if t then canceled s time agent c f.stock f.order else unheard s
 
 orders-cancel-by : (b : Bool) (s : Exchange) (time agent : ℕ) (c : Cancel) (f : Found) → list_all is_on_orders (cancel-by b s time agent c f).feed ≡ true
-orders-cancel-by true s time agent c f = ap (λ t. t && true) (lowering-by (open_of f.order c.shares == 0) f.order (open_of f.order c.shares))
+orders-cancel-by true s time agent c f = told-by f.order.shown _ (lowering-by (open_of f.order c.shares == 0) f.order (open_of f.order c.shares))
 orders-cancel-by false s time agent c f = refl
 
 orders-cancel : (s : Exchange) (time agent : ℕ) (c : Cancel) (f : Option Found) → list_all is_on_orders (cancel_of s time agent c f).feed ≡ true

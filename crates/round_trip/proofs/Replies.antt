@@ -116,7 +116,7 @@ HasReason (Accepted k) = Unit {0}
 
 reason-there : (s : State) (e : Enter) (k : ℕ) → HasReason (verdict_there s e k)
 reason-there s e k =
-    if-both (terms_are_refused e) HasReason (Refused 79) _ letter-o
+    if-both (terms_are_refused s.hidden e) HasReason (Refused 79) _ letter-o
     (if-both (is_halted (stock_at s k)) HasReason (Refused 72) _ letter-h
     (if-both (shares_are_refused e) HasReason (Refused 79) _ letter-o
     (if-both (price_is_refused (stock_at s k) e) HasReason (Refused 88) _ letter-x

@@ -1,5 +1,5 @@
 -- What a run of a study starts from, by its tables and by the rows of its series file.
-use Rattle.std.specs.Prelude.{◌≡◌, ℕ, pos, List, Option, None, Ok, codes}
+use Rattle.std.specs.Prelude.{◌≡◌, ◌==◌, ℕ, Bool, pos, List, Option, None, Ok, codes}
 use Rattle.toml.specs.Data.{Members}
 use Rattle.market_floor.specs.declared.opening.Opening.{Opening}
 use Rattle.fundamental_series.specs.declared.rule.SeriesRow.{SeriesRow}
@@ -15,6 +15,10 @@ use Rattle.study_market.specs.Traders.{traders_of}
 abbrev pub limit_of : Members → ℕ
 limit_of t = natural_at (codes "events") t
 
+-- hidden orders are taken in a study of version 2
+abbrev pub takes_hidden_orders : Members → Bool
+takes_hidden_orders t = natural_at (codes "version") t == 2
+
 -- what a run starts from
 abbrev pub opening_of : Members → List (List SeriesRow) → Opening
 opening_of t tables = record {
@@ -28,6 +32,7 @@ opening_of t tables = record {
   stocks = stock_rules_of t;
   series = series_of t tables;
   dated = changes_of t;
+  hidden = takes_hidden_orders t;
   traders = traders_of t;
 }
 

@@ -7,7 +7,7 @@ ghost use Rattle.study_file.specs.Keys.{is_hex_digit};
 ghost use Rattle.study_market.specs.MarketRules.{start_of, close_of, exchange_of, key_broken as rule_3, limits_broken as rule_5, squares_broken as rule_7, exchange_broken as rule_9};
 ghost use Rattle.study_market.specs.Entries.{natural_at as natural_of};
 ghost use Rattle.study_market.specs.Market.{hex_value as hex_value_of, hex_bytes, key_of};
-ghost use Rattle.study_market.specs.Opening.{limit_of, stride_of};
+ghost use Rattle.study_market.specs.Opening.{limit_of, stride_of, takes_hidden_orders};
 
 use crate::entries::natural_at;
 use market_types::Time;
@@ -33,6 +33,13 @@ pub fn limit(table: &Table) -> u32
     ensures { result ≡ limit_of (table_view table.now) }
 {
     natural_at(table, "events") as u32
+}
+
+/// Whether hidden orders are taken: in a study of version 2.
+pub fn takes_hidden_orders(table: &Table) -> bool
+    ensures { result ≡ takes_hidden_orders (table_view table.now) }
+{
+    natural_at(table, "version") == 2
 }
 
 /// Each how many events a run keeps a copy of itself, of a study whose limits are in their ranges.

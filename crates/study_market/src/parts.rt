@@ -8,7 +8,7 @@ ghost use Rattle.study_market.specs.Opening.{opening_of, IsAccepted};
 use crate::SeriesTables;
 use crate::change_parts::dated_list;
 use crate::latencies::latencies;
-use crate::market_parts::{close, exchange_group, exchange_natural, key, limit, start};
+use crate::market_parts::{close, exchange_group, exchange_natural, key, limit, start, takes_hidden_orders};
 use crate::series::all_series;
 use crate::stock_parts::stock_rules;
 use crate::traders::all_traders;
@@ -33,6 +33,7 @@ fn all_parts(alloc: Global, table: &Table, rows: &SeriesTables) -> Result<Openin
         stocks: stock_rules(alloc, table)?,
         series: all_series(alloc, table, rows)?,
         dated: dated_list(alloc, table)?,
+        hidden: takes_hidden_orders(table),
         traders: all_traders(alloc, table)?,
     })
 }

@@ -1,6 +1,6 @@
 //! Orders, replies and feed byte by byte.
 
-use super::{numbered, opened, sent};
+use super::{numbered, opened, opened_for, sent};
 use exchange_agent::Handled;
 use itch_codec::encode_feed;
 use market_types::{AgentNo, Body, Enter, Inbound, Side};
@@ -88,4 +88,31 @@ fn a_sweep_is_fed_byte_by_byte(rt: HostRuntime) {
         assert!(rt; is_fed(&out, i, bytes), "feed {i}");
     }
     assert_eq!(rt; (out.len(), out.feed.len(), out.fee), (7, 4, 6000));
+}
+
+// What is fed at 3000 nanoseconds where an order meets a shown order, and then a hidden one of the same price.
+const OF_BOTH: [&[u8]; 2] = [
+    b"E\0\x01\0\0\0\0\0\0\x0b\xb8\0\0\0\0\0\0\0\x02\0\0\0\x64\0\0\0\0\0\0\0\x01",
+    b"P\0\x01\0\0\0\0\0\0\x0b\xb8\0\0\0\0\0\0\0\0B\0\0\0\x32ABM     \0\x01\x86\xa0\0\0\0\0\0\0\0\x02",
+];
+
+#[test]
+fn a_hidden_order_is_fed_without_its_name(rt: HostRuntime) {
+    let alloc = rt.alloc();
+    let mut exchange = opened_for(&rt, alloc, true);
+    let hidden = Enter {
+        display: b'N',
+        ..numbered(1, Side::Sell, 100, 100_000)
+    };
+    let shown = Inbound::Enter(numbered(1, Side::Sell, 100, 100_000));
+    let buy = Inbound::Enter(numbered(1, Side::Buy, 150, 100_000));
+    let out = sent(&rt, alloc, &mut exchange, 3000, 2, Inbound::Enter(hidden));
+    assert_eq!(rt; (out.len(), out.feed.len()), (1, 0));
+    let out = sent(&rt, alloc, &mut exchange, 3000, 3, shown);
+    assert_eq!(rt; (out.len(), out.feed.len()), (1, 1));
+    let out = sent(&rt, alloc, &mut exchange, 3000, 1, buy);
+    for (i, bytes) in OF_BOTH.into_iter().enumerate() {
+        assert!(rt; is_fed(&out, i, bytes), "feed {i}");
+    }
+    assert_eq!(rt; (out.len(), out.feed.len()), (5, 2));
 }

@@ -18,6 +18,7 @@ returns c = record {
   counts = refl;
   stock = refl;
   order = refl;
+  hidden_order = refl;
   agent = refl;
   end = refl;
 }

@@ -2,7 +2,7 @@ use Rattle.exchange_agent.proofs.Conserved.{conserved}
 use Rattle.exchange_agent.proofs.laws.runs_are_conserved.Goals as goal
 
 pub returns : goal.returns
-returns c = λ rules cash acts opening possible.
+returns c = λ rules cash hidden acts opening possible.
     conserved
     (record {
       fills = c.fills_add_up.ensures.tested;
@@ -20,4 +20,4 @@ returns c = λ rules cash acts opening possible.
       lowered-shares = c.orderly_books_stay.ensures.lowered_shares;
       by-reference = c.orderly_books_stay.ensures.by_reference;
       rested = c.orderly_books_stay.ensures.rested;
-    }) rules cash acts possible
+    }) rules cash hidden acts possible

@@ -20,24 +20,24 @@ use Rattle.exchange_agent.proofs.exchange.Exchange.accept.Goals as goal
 pub admit-requires-clause-stock : goal.admit-requires-clause-stock
 admit-requires-clause-stock c =
     let i = c.self.inside in
-    let view : c.args.self.now ≡ state_of i.stocks.items i.cash.items i.pairs.keys i.counts = search rules in
-    sound-stock i.stocks.items i.cash.items i.pairs.keys i.counts c.args.self.now c.args.stock c.args.stock c.index_mut-listing.result.now view c.self.invariant refl c.requires.stock (search rules)
+    let view : c.args.self.now ≡ state_of i.stocks.items i.cash.items i.pairs.keys i.counts i.hidden = search rules in
+    sound-stock i.stocks.items i.cash.items i.pairs.keys i.counts i.hidden c.args.self.now c.args.stock c.args.stock c.index_mut-listing.result.now view c.self.invariant refl c.requires.stock (search rules)
 
-few-stocks : (s : State) (stocks : List Listing) (cash : List ℤ) (pairs : List Pair) (counts : Counts) (k : ℕ) → s ≡ state_of stocks cash pairs counts → IsSound (state_of stocks cash pairs counts) → k < length s.stocks → k < 16
-few-stocks s stocks cash pairs counts k e sound h = let long : length s.stocks ≡ length (map stock_of stocks) = ap (λ (q : State). length q.stocks) e in omega (arith, long, sound.few, h)
+few-stocks : (s : State) (stocks : List Listing) (cash : List ℤ) (pairs : List Pair) (counts : Counts) (hidden : Bool) (k : ℕ) → s ≡ state_of stocks cash pairs counts hidden → IsSound (state_of stocks cash pairs counts hidden) → k < length s.stocks → k < 16
+few-stocks s stocks cash pairs counts hidden k e sound h = let long : length s.stocks ≡ length (map stock_of stocks) = ap (λ (q : State). length q.stocks) e in omega (arith, long, sound.few, h)
 
 pub overflow_cast-taking : goal.overflow_cast-taking
 overflow_cast-taking c =
     let i = c.self.inside in
-    let view : c.args.self.now ≡ state_of i.stocks.items i.cash.items i.pairs.keys i.counts = search rules in
-    let few : c.args.stock < 16 = few-stocks c.args.self.now i.stocks.items i.cash.items i.pairs.keys i.counts c.args.stock view c.self.invariant c.requires.stock in
+    let view : c.args.self.now ≡ state_of i.stocks.items i.cash.items i.pairs.keys i.counts i.hidden = search rules in
+    let few : c.args.stock < 16 = few-stocks c.args.self.now i.stocks.items i.cash.items i.pairs.keys i.counts i.hidden c.args.stock view c.self.invariant c.requires.stock in
     search (rules, few)
 
 pub overflow_add-taking : goal.overflow_add-taking
 overflow_add-taking c =
     let i = c.self.inside in
-    let view : c.args.self.now ≡ state_of i.stocks.items i.cash.items i.pairs.keys i.counts = search rules in
-    let few : c.args.stock < 16 = few-stocks c.args.self.now i.stocks.items i.cash.items i.pairs.keys i.counts c.args.stock view c.self.invariant c.requires.stock in
+    let view : c.args.self.now ≡ state_of i.stocks.items i.cash.items i.pairs.keys i.counts i.hidden = search rules in
+    let few : c.args.stock < 16 = few-stocks c.args.self.now i.stocks.items i.cash.items i.pairs.keys i.counts i.hidden c.args.stock view c.self.invariant c.requires.stock in
     search (rules, few)
 
 on-err : {A E : Type 0} (r : Result A E) (P : Type 0) → P → OnErr r P
@@ -49,16 +49,16 @@ invariant_of-self c =
     let i = c.self.inside in
     let e = c.in_err-admitted.ensures in
     subst (λ (q : State). IsSound q)
-    (sym (state-refused i.stocks.items i.cash.items c.admit.new.cash.items i.pairs.keys c.admit.new.pairs.keys i.counts c.admit.new.counts c.args.stock c.index_mut-listing.result.now c.admit.new.listing (search rules) e.stock_refused e.cash_refused e.pairs_refused e.counts_refused))
+    (sym (state-refused i.stocks.items i.cash.items c.admit.new.cash.items i.pairs.keys c.admit.new.pairs.keys i.counts c.admit.new.counts i.hidden c.args.stock c.index_mut-listing.result.now c.admit.new.listing (search rules) e.stock_refused e.cash_refused e.pairs_refused e.counts_refused))
     c.self.invariant
 
 pub returns-in_err-admitted-clause-exchange_refused : goal.returns-in_err-admitted-clause-exchange_refused
 returns-in_err-admitted-clause-exchange_refused c =
     let i = c.self.inside in
     let e = c.in_err-admitted.ensures in
-    let view : c.args.self.now ≡ state_of i.stocks.items i.cash.items i.pairs.keys i.counts = search rules in
+    let view : c.args.self.now ≡ state_of i.stocks.items i.cash.items i.pairs.keys i.counts i.hidden = search rules in
     on-err c.from_residual.result _
-    (state-refused i.stocks.items i.cash.items c.admit.new.cash.items i.pairs.keys c.admit.new.pairs.keys i.counts c.admit.new.counts c.args.stock c.index_mut-listing.result.now c.admit.new.listing (search rules) e.stock_refused e.cash_refused e.pairs_refused e.counts_refused ∙ sym view)
+    (state-refused i.stocks.items i.cash.items c.admit.new.cash.items i.pairs.keys c.admit.new.pairs.keys i.counts c.admit.new.counts i.hidden c.args.stock c.index_mut-listing.result.now c.admit.new.listing (search rules) e.stock_refused e.cash_refused e.pairs_refused e.counts_refused ∙ sym view)
 
 pub invariant_of-self-else-not-admitted : goal.invariant_of-self-else-not-admitted
 invariant_of-self-else-not-admitted c =
@@ -67,10 +67,10 @@ invariant_of-self-else-not-admitted c =
     let b = c.in_ok-admitted.admitted in
     let went = c.if-not-admitted.false in
     let pair = pair_of c.args.from c.args.e.now.token in
-    let view : c.args.self.now ≡ state_of i.stocks.items i.cash.items i.pairs.keys i.counts = search rules in
+    let view : c.args.self.now ≡ state_of i.stocks.items i.cash.items i.pairs.keys i.counts i.hidden = search rules in
     let new : has_pair pair i.pairs.keys ≡ false = not-there b (has_pair pair i.pairs.keys) o.new went in
     let long : length c.args.self.now.pairs ≡ length i.pairs.keys = ap (λ (q : State). length q.pairs) view in
-    sound-accepted i.stocks.items i.cash.items c.admit.new.cash.items i.pairs.keys pair c.admit.new.pairs.keys i.counts c.admit.new.counts c.args.stock c.admit.new.listing c.self.invariant (on-true b _ went o.pairs) new (omega (arith, long, c.requires.room)) c.admit.ensures.same (ap (λ (n : Counts). n.orders) (on-true b _ went o.counts)) (on-true b _ went o.matches) (on-true b _ went o.money) (on-true b _ went o.stock)
+    sound-accepted i.stocks.items i.cash.items c.admit.new.cash.items i.pairs.keys pair c.admit.new.pairs.keys i.counts c.admit.new.counts i.hidden c.args.stock c.admit.new.listing c.self.invariant (on-true b _ went o.pairs) new (omega (arith, long, c.requires.room)) c.admit.ensures.same (ap (λ (n : Counts). n.orders) (on-true b _ went o.counts)) (on-true b _ went o.matches) (on-true b _ went o.money) (on-true b _ went o.stock)
 
 pub returns-else-not-admitted-clause-state : goal.returns-else-not-admitted-clause-state
 returns-else-not-admitted-clause-state c =
@@ -83,13 +83,13 @@ returns-else-not-admitted-clause-state c =
     let b = c.in_ok-admitted.admitted in
     let went = c.if-not-admitted.false in
     let pair = pair_of c.args.from e.token in
-    let view : s ≡ state_of i.stocks.items i.cash.items i.pairs.keys i.counts = search rules in
+    let view : s ≡ state_of i.stocks.items i.cash.items i.pairs.keys i.counts i.hidden = search rules in
     let new : is_remembered s c.args.from e ≡ false = ap (λ (q : State). has_pair pair q.pairs) view ∙ not-there b (has_pair pair i.pairs.keys) o.new went in
     let v = way_at c.admit.new.listing c.admit.new.cash.items c.admit.new.counts.matches c.admit.new.out in
-    let inside : k < length i.stocks.items = in-stocks i.stocks.items i.cash.items i.pairs.keys i.counts s k k view refl c.requires.stock in
+    let inside : k < length i.stocks.items = in-stocks i.stocks.items i.cash.items i.pairs.keys i.counts i.hidden s k k view refl c.requires.stock in
     let clean = way-clean (taking_of c.args.time c.args.from e k) e (i.counts.orders + 1) (stock_of r) i.cash.items i.counts.matches (record { to = c.args.from; body = Answer (acceptance_of c.args.time e (i.counts.orders + 1)) }) c.args.out.now.replies.list c.args.out.now.feed.list c.args.out.now.fee c.requires.no_replies c.requires.no_feed c.requires.no_fee in
-    let way = way-accepted s i.stocks.items i.cash.items i.pairs.keys i.counts c.args.time c.args.from e k r v view inside (search rules) (on-true b _ went o.way ∙ clean) in
-    state-accepted s i.stocks.items i.cash.items c.admit.new.cash.items i.pairs.keys c.admit.new.pairs.keys i.counts c.admit.new.counts c.args.time c.args.from e k c.admit.new.listing v view (on-true b _ went o.pairs) (on-true b _ went o.counts) refl refl way
+    let way = way-accepted s i.stocks.items i.cash.items i.pairs.keys i.counts i.hidden c.args.time c.args.from e k r v view inside (search rules) (on-true b _ went o.way ∙ clean) in
+    state-accepted s i.stocks.items i.cash.items c.admit.new.cash.items i.pairs.keys c.admit.new.pairs.keys i.counts c.admit.new.counts i.hidden c.args.time c.args.from e k c.admit.new.listing v view (on-true b _ went o.pairs) (on-true b _ went o.counts) refl refl way
     ∙ ap (λ (t : Bool). (entered_by s c.args.time c.args.from e (if t then Ignored else Accepted k)).state) (sym new)
 
 pub invariant_of-self-then-not-admitted : goal.invariant_of-self-then-not-admitted
@@ -100,7 +100,7 @@ invariant_of-self-then-not-admitted c =
     let went = c.if-not-admitted.true in
     let kept = on-false b _ went o.ignored in
     subst (λ (q : State). IsSound q)
-    (sym (state-refused i.stocks.items i.cash.items c.admit.new.cash.items i.pairs.keys c.admit.new.pairs.keys i.counts c.admit.new.counts c.args.stock c.index_mut-listing.result.now c.admit.new.listing (search rules) kept.0 kept.1 kept.2 kept.3))
+    (sym (state-refused i.stocks.items i.cash.items c.admit.new.cash.items i.pairs.keys c.admit.new.pairs.keys i.counts c.admit.new.counts i.hidden c.args.stock c.index_mut-listing.result.now c.admit.new.listing (search rules) kept.0 kept.1 kept.2 kept.3))
     c.self.invariant
 
 pub returns-then-not-admitted-clause-state : goal.returns-then-not-admitted-clause-state
@@ -111,11 +111,11 @@ returns-then-not-admitted-clause-state c =
     let b = c.in_ok-admitted.admitted in
     let went = c.if-not-admitted.true in
     let pair = pair_of c.args.from c.args.e.now.token in
-    let view : s ≡ state_of i.stocks.items i.cash.items i.pairs.keys i.counts = search rules in
+    let view : s ≡ state_of i.stocks.items i.cash.items i.pairs.keys i.counts i.hidden = search rules in
     let old : is_remembered s c.args.from c.args.e.now ≡ true = ap (λ (q : State). has_pair pair q.pairs) view ∙ there b (has_pair pair i.pairs.keys) o.new went in
     let kept = on-false b _ went o.ignored in
-    let same : state_of (slice_set i.stocks.items c.args.stock c.admit.new.listing) c.admit.new.cash.items c.admit.new.pairs.keys c.admit.new.counts ≡ s =
-    state-refused i.stocks.items i.cash.items c.admit.new.cash.items i.pairs.keys c.admit.new.pairs.keys i.counts c.admit.new.counts c.args.stock c.index_mut-listing.result.now c.admit.new.listing (search rules) kept.0 kept.1 kept.2 kept.3 ∙ sym view in
+    let same : state_of (slice_set i.stocks.items c.args.stock c.admit.new.listing) c.admit.new.cash.items c.admit.new.pairs.keys c.admit.new.counts i.hidden ≡ s =
+    state-refused i.stocks.items i.cash.items c.admit.new.cash.items i.pairs.keys c.admit.new.pairs.keys i.counts c.admit.new.counts i.hidden c.args.stock c.index_mut-listing.result.now c.admit.new.listing (search rules) kept.0 kept.1 kept.2 kept.3 ∙ sym view in
     c.ignore_enter.ensures
     ∙ ap (λ (q : State). record q { counts = record q.counts { enters = q.counts.enters + 1 } }) same
     ∙ ap (λ (t : Bool). (entered_by s c.args.time c.args.from c.args.e.now (if t then Ignored else Accepted c.args.stock)).state) (sym old)

@@ -16,15 +16,15 @@ invariant_of-self c =
     let o = c.args.found.now.order in
     let left = c.open_after-left.result in
     let r = c.index_mut.result.now in
-    let view : s ≡ state_of i.stocks.items i.cash.items i.pairs.keys i.counts = search rules in
-    let at : stock_at s k ≡ stock_of r = at-stock i.stocks.items i.cash.items i.pairs.keys i.counts s k k r view refl c.requires.stock (search rules) in
+    let view : s ≡ state_of i.stocks.items i.cash.items i.pairs.keys i.counts i.hidden = search rules in
+    let at : stock_at s k ≡ stock_of r = at-stock i.stocks.items i.cash.items i.pairs.keys i.counts i.hidden s k k r view refl c.requires.stock (search rules) in
     let h : IsSoundStock (length i.cash.items) i.counts.orders i.pairs.keys (stock_of r) =
-    sound-stock i.stocks.items i.cash.items i.pairs.keys i.counts s k k r view c.self.invariant refl c.requires.stock (search rules) in
+    sound-stock i.stocks.items i.cash.items i.pairs.keys i.counts i.hidden s k k r view c.self.invariant refl c.requires.stock (search rules) in
     let held : order_with o.reference r.book.list ≡ Some o = ap (λ (x : Stock). order_with o.reference x.book) (sym at) ∙ c.requires.held in
     let fewer : left ≤ o.left = omega (arith, c.open_after-left.ensures, c.requires.below, c.requires.intended) in
     let p = is_known (length i.cash.items) i.counts.orders i.pairs.keys in
     let known : All (λ (x : Resting). p x ≡ true) (changed (reduced left o) r.book.list) = c.a_reduce_keeps.ensures.tested p (λ x n l e. e) o.reference left r.book.list o held fewer h.known in
-    sound_set i.stocks.items i.cash.items i.pairs.keys i.counts k c.reduce.new.self c.self.invariant
+    sound_set i.stocks.items i.cash.items i.pairs.keys i.counts i.hidden k c.reduce.new.self c.self.invariant
     (subst (λ (x : Stock). IsSoundStock (length i.cash.items) i.counts.orders i.pairs.keys x) (sym c.reduce.ensures)
     (rebooked-sound (length i.cash.items) i.counts.orders i.pairs.keys (stock_of r) (changed (reduced left o) r.book.list) h known (c.changes_keep.ensures.length (reduced left o) r.book.list)))
 
@@ -35,8 +35,8 @@ returns-clause-state c =
     let k = c.args.found.now.stock in
     let o = c.args.found.now.order in
     let r = c.index_mut.result.now in
-    let view : s ≡ state_of i.stocks.items i.cash.items i.pairs.keys i.counts = search rules in
-    let at : stock_at s k ≡ stock_of r = at-stock i.stocks.items i.cash.items i.pairs.keys i.counts s k k r view refl c.requires.stock (search rules) in
+    let view : s ≡ state_of i.stocks.items i.cash.items i.pairs.keys i.counts i.hidden = search rules in
+    let at : stock_at s k ≡ stock_of r = at-stock i.stocks.items i.cash.items i.pairs.keys i.counts i.hidden s k k r view refl c.requires.stock (search rules) in
     let made : stock_of c.reduce.new.self ≡ record (stock_at s k) { book = changed (reduced (open_of o c.args.cancel.now.shares) o) (stock_at s k).book } =
     c.reduce.ensures ∙ ap (λ (x : Stock). record x { book = changed (reduced c.open_after-left.result o) x.book }) (sym at) ∙ ap (λ (n : ℕ). record (stock_at s k) { book = changed (reduced n o) (stock_at s k).book }) c.open_after-left.ensures in
-    set-stock i.stocks.items i.cash.items i.pairs.keys i.counts s k k _ _ view refl made
+    set-stock i.stocks.items i.cash.items i.pairs.keys i.counts i.hidden s k k _ _ view refl made

@@ -7,7 +7,7 @@ use Rattle.exchange_agent.proofs.exchange.Exchange.stock.Goals as goal
 pub told-requires : goal.told-requires
 told-requires c =
     let i = c.self.inside in
-    let view : c.args.self.now ≡ state_of i.stocks.items i.cash.items i.pairs.keys i.counts = search rules in
+    let view : c.args.self.now ≡ state_of i.stocks.items i.cash.items i.pairs.keys i.counts i.hidden = search rules in
     let h : IsSoundStock (length i.cash.items) i.counts.orders i.pairs.keys (stock_of c.index.result.now) =
-    sound-stock i.stocks.items i.cash.items i.pairs.keys i.counts c.args.self.now c.from.result c.args.stock c.index.result.now view c.self.invariant c.from.ensures c.requires c.index.ensures in
+    sound-stock i.stocks.items i.cash.items i.pairs.keys i.counts i.hidden c.args.self.now c.from.result c.args.stock c.index.result.now view c.self.invariant c.from.ensures c.requires c.index.ensures in
     omega (arith, h.few, c.self.invariant.orders, c.self.invariant.pairs)

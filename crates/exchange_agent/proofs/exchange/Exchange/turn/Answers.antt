@@ -13,10 +13,10 @@ turned-state s time k letter e = rw e refl
 pub invariant_of-self-2 : goal.invariant_of-self-2
 invariant_of-self-2 c =
     let i = c.self.inside in
-    let view : c.args.self.now ≡ state_of i.stocks.items i.cash.items i.pairs.keys i.counts = search rules in
+    let view : c.args.self.now ≡ state_of i.stocks.items i.cash.items i.pairs.keys i.counts i.hidden = search rules in
     let h : IsSoundStock (length i.cash.items) i.counts.orders i.pairs.keys (stock_of c.index_mut-listing.result.now) =
-    sound-stock i.stocks.items i.cash.items i.pairs.keys i.counts c.args.self.now c.from.result c.args.stock c.index_mut-listing.result.now view c.self.invariant c.from.ensures c.requires (search rules) in
-    sound_set i.stocks.items i.cash.items i.pairs.keys i.counts c.from.result _ c.self.invariant (record { known = h.known; few = h.few; traders = h.traders; matched = h.matched; taken = h.taken; positions = h.positions })
+    sound-stock i.stocks.items i.cash.items i.pairs.keys i.counts i.hidden c.args.self.now c.from.result c.args.stock c.index_mut-listing.result.now view c.self.invariant c.from.ensures c.requires (search rules) in
+    sound_set i.stocks.items i.cash.items i.pairs.keys i.counts i.hidden c.from.result _ c.self.invariant (record { known = h.known; few = h.few; traders = h.traders; matched = h.matched; taken = h.taken; positions = h.positions })
 
 pub returns-clause-state : goal.returns-clause-state
 returns-clause-state c =
@@ -24,8 +24,8 @@ returns-clause-state c =
     let s = c.args.self.now in
     let k = c.args.stock in
     let r = c.index_mut-listing.result.now in
-    let view : s ≡ state_of i.stocks.items i.cash.items i.pairs.keys i.counts = search rules in
-    let at : stock_at s k ≡ stock_of r = at-stock i.stocks.items i.cash.items i.pairs.keys i.counts s c.from.result k r view c.from.ensures c.requires (search rules) in
+    let view : s ≡ state_of i.stocks.items i.cash.items i.pairs.keys i.counts i.hidden = search rules in
+    let at : stock_at s k ≡ stock_of r = at-stock i.stocks.items i.cash.items i.pairs.keys i.counts i.hidden s c.from.result k r view c.from.ensures c.requires (search rules) in
     let test : ((stock_at s k).trading == c.args.letter) ≡ false = ap (λ (x : Stock). x.trading == c.args.letter) at ∙ search rules in
-    set-stock i.stocks.items i.cash.items i.pairs.keys i.counts s c.from.result k _ _ view c.from.ensures (ap (λ (x : Stock). record x { trading = c.args.letter }) (sym at))
+    set-stock i.stocks.items i.cash.items i.pairs.keys i.counts i.hidden s c.from.result k _ _ view c.from.ensures (ap (λ (x : Stock). record x { trading = c.args.letter }) (sym at))
     ∙ sym (turned-state s c.args.time k c.args.letter test)

@@ -1,4 +1,4 @@
-use Rattle.std.proofs.Common.{◌≡◌, ◌≤◌, ◌+◌, ◌-◌, ◌+ℤ◌, ℕ, length, rules, arith, ap, ◌∙◌, sym, refl, Option, Some, None, IfSome, option_map, true, subst}
+use Rattle.std.proofs.Common.{◌≡◌, ◌≤◌, ◌+◌, ◌-◌, ◌+ℤ◌, ◌++◌, ◌∷◌, [], ℕ, length, rules, arith, ap, ◌∙◌, sym, refl, Option, Some, None, IfSome, option_map, true, subst}
 use Rattle.std.proofs.lemmas.Bool.Decides.{nat_tests}
 use Rattle.price_time_book.specs.declared.resting.Resting.{Resting}
 use Rattle.price_time_book.specs.declared.resting.Fill.{Fill}
@@ -8,7 +8,7 @@ use Rattle.exchange_agent.specs.Sound.{is_trader}
 use Rattle.price_time_book.specs.Matched.{after_fill}
 use Rattle.exchange_agent.specs.declared.listing.Listing.{Listing}
 use Rattle.exchange_agent.specs.declared.settle.Taking.{Taking}
-use Rattle.exchange_agent.specs.Settle.{Way, both_fees_of, cash_after, settled, tally_after}
+use Rattle.exchange_agent.specs.Settle.{Way, both_fees_of, cash_after, fed, settled, tally_after}
 use Rattle.exchange_agent.specs.Sound.{IsSmall}
 use Rattle.exchange_agent.specs.State.{Tally}
 use Rattle.exchange_agent.specs.View.{stock_of, way_at}
@@ -69,7 +69,7 @@ returns-clause-met c =
     (c.settle.ensures.cash ∙ ap (λ (m : Listing). cash_after m.fees t.agent t.side f c.args.cash.now.items) filled)
     c.settle.ensures.matches
     (ap (λ r. r.list) c.settle.ensures.replies)
-    (ap (λ r. r.list) c.settle.ensures.feed)
+    (ap (λ r. r.list) c.settle.ensures.feed ∙ ap (λ (m : Listing). c.args.out.now.feed.list ++ fed t.locate t.time m.symbol (c.args.matches.now + 1) f ∷ []) filled)
     (c.settle.ensures.fee ∙ ap (λ (m : Listing). c.args.out.now.fee +ℤ both_fees_of m.fees f) filled))
 
 pub returns-clause-small : goal.returns-clause-small
