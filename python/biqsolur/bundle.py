@@ -30,8 +30,9 @@ EDIT_WORDS = {ord(letter): word for letter, word in {
 class Branch:
     """One branch: all entries of its full run from the opening, so also those that it shares with its parent.
 
-    Attributes: name, number (the root is 0), parent (a name, None for the root), stop (the number of events
-    after which it leaves its parent), symbols (a list, by number of the stock), bundle.
+    Attributes: name, number (the root is 0), parent (a name, None for the root), stop (the event number at which it
+    leaves its parent, as the study says it; where it leaves by time, how many events its parent then had), fork (how
+    many events it shares with its parent), symbols (a list, by number of the stock), bundle.
 
     The data frames are made when they are first asked for, and kept; `forget` gives them up. A column of words is
     a pandas Categorical: group by it with `observed=True`. A number of an agent or an event has 32 bits, others 64.
@@ -55,6 +56,23 @@ class Branch:
         """The name of the parent, None for the root."""
         names = list(self.bundle.branches)
         return names[self.parent_number] if self.parent_number < len(names) else None
+
+    @property
+    def fork(self) -> int:
+        """How many events it shares with its parent; 0 for the root. That is `stop`, but for two cases: fewer where the
+        parent's run ended before the event number `stop`, and more where the parent, which itself left by time, had more
+        events from its beginning on."""
+        by_number, line = list(self.bundle.branches.values()), [self]
+        while line[-1].parent_number < line[-1].number:
+            line.append(by_number[line[-1].parent_number])
+        fork = 0
+        for parent, branch in zip(reversed(line), reversed(line[:-1])):
+            fork = max(fork, min(branch.stop, parent._event_count))
+        return fork
+
+    @property
+    def _event_count(self) -> int:
+        return int(self.bundle.frames.records(numpy.array([self.part.counts]), layouts.COUNTS)["events"][0])
 
     @cached_property
     def events(self) -> pandas.DataFrame:

@@ -29,14 +29,15 @@ class Difference:
 class BranchData:
     """One branch of a report.
 
-    fork: the time (ns) of its last event before it leaves its parent. end: the time of its end. stocks: the series of
-    each. difference: None where nothing differs, and for the root. cash: of each agent, settled, millionths of a
-    dollar. positions: of each stock, of each agent, settled, shares. edits: its own, with event, time and kind.
+    shared: how many events it shares with its parent. fork: the time (ns) of the last of them. end: the time of its
+    end. stocks: the series of each. difference: None where nothing differs, and for the root. cash: of each agent,
+    settled, millionths of a dollar. positions: of each stock, of each agent, settled, shares. edits: its own, with
+    event, time and kind.
     """
 
     name: str
     parent: str | None
-    stop: int
+    shared: int
     fork: int
     end: int
     counts: dict
@@ -122,9 +123,9 @@ def find_difference(bundle: Bundle, branch: Branch) -> Difference | None:
 
 
 def fork_time(branch: Branch, begin: int) -> int:
-    """The time of the branch's last event before it leaves its parent."""
+    """The time of the last event that the branch shares with its parent."""
     events = branch.events
-    place = min(branch.stop, len(events)) - 1
+    place = min(branch.fork, len(events)) - 1
     return int(events.time.iat[place]) if place >= 0 else begin
 
 
@@ -137,7 +138,7 @@ def branch_data(bundle: Bundle, branch: Branch) -> BranchData:
     agents = closing.agents[closing.agents.agent > 0]
     fees = branch.events.fee
     return BranchData(
-        name=branch.name, parent=branch.parent, stop=branch.stop, fork=fork_time(branch, begin), end=end,
+        name=branch.name, parent=branch.parent, shared=branch.fork, fork=fork_time(branch, begin), end=end,
         counts=closing.counts,
         stocks=[stock_series(book, trades, stock, begin, end) for stock in range(len(bundle.symbols))],
         closing_stocks=closing.stocks, difference=find_difference(bundle, branch),
@@ -196,7 +197,7 @@ def page_data(bundle: Bundle, branches: list[BranchData]) -> dict:
     return {
         "symbols": bundle.symbols, "levels": LEVELS, "begin": begin, "end": max(data.end for data in branches),
         "branches": [{
-            "name": data.name, "parent": data.parent, "stop": data.stop, "fork": data.fork, "end": data.end,
+            "name": data.name, "parent": data.parent, "fork": data.fork, "end": data.end,
             "difference": data.difference and {"event": data.difference.event, "time": data.difference.time},
             "cash": [round(cash / 10_000) / 100 for cash in data.cash], "positions": data.positions,
             "stocks": [picture(series, series.begin if roots[data.name] else data.fork, cells)

@@ -65,7 +65,7 @@ def branches_table(branches: list[BranchData]) -> str:
     for number, data in enumerate(branches):
         difference = data.difference
         cells = [row_head(data.name), cell(data.parent or "–"),
-                 cell(f"{data.stop:,}" if data.parent else "–", "number"),
+                 cell(f"{data.shared:,}" if data.parent else "–", "number"),
                  cell(", ".join(data.edits.kind) or "–"),
                  cell(f"{data.counts['events']:,}", "number"), cell(time_text(data.end), "number"),
                  cell(ENDS.get(data.counts["end"], data.counts["end"]), "short"),

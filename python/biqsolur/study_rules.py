@@ -51,7 +51,9 @@ AGENTS = {
     "watcher": (), "noise": ("size",), "value": ("size", "noise", "margin"), "momentum": ("size", "short", "long"),
     "maker": ("size", "half", "step", "levels", "pause"),
 }
-BRANCH = {"name": TEXT, "parent": TEXT, "at": NUMBER}
+BRANCH = {"name": TEXT, "parent": TEXT}
+BRANCH_STOPS = {1: {"at": NUMBER}, 2: {"at": NUMBER, "when": NUMBER}}       # by the study's version
+MOST_BRANCHES = {1: 127, 2: 255}
 EDITS = {
     "tick": {"stock": TEXT, "bands": PAIRS}, "fee": {"stock": TEXT, "add": NUMBER, "take": NUMBER},
     "halt": {"stock": TEXT}, "resume": {"stock": TEXT},
@@ -74,7 +76,7 @@ EVERY = (1, HOUR)       # of an agent; that of a stock has no upper end of its o
 # What each rule asks, for where the entry itself cannot be looked at.
 ASKED = {
     1: "each top key that has no default is there, each is of its type, and there is no other",
-    2: "`version` is 1",
+    2: "`version` is 1 or 2",
     3: "`key` has 64 digits, each 0 to 9 or a to f",
     4: f"0 <= `open` <= `close` <= {DAY_END:,}",
     5: f"`events` is 1 to {MILLION:,} and `stride` 100 to {MILLION:,}",
@@ -106,10 +108,12 @@ ASKED = {
         f"{HOUR:,}, `wobble` 0 to {MOST_JITTER:,}, and the last trader first wakes at {DAY_END:,} at most",
     28: "`stock` is the symbol of a stock",
     29: "the keys of an agent's kind are in their ranges",
-    30: "there are at most 127 branches, each with `name`, `parent` and `at`, perhaps `edit`, and no other key",
+    30: "there are at most 127 branches, or 255 in version 2; each has `name`, `parent` and `at`, in version 2 either `at` or "
+        "`when`, perhaps `edit`, and no other key",
     31: "`name` has 1 to 32 of a to z, 0 to 9, _ and -, is not root, and not the name of a branch above",
     32: "`parent` is root or the name of a branch above",
-    33: "`at` is not below that of the parent, and not above `events`",
+    33: "`at` is not above `events`, `when` is from `open` to `close`, neither is below that of the parent, and all branches of "
+        "one parent have the same of the two",
     34: "a branch has at most 16 edits, each of a known kind, with its keys and no other",
     35: "the stock, trader and groups of an edit exist, and its numbers are in range",
     36: f"(branches + 1) * `events` is at most {MOST_EVENTS:,}",
@@ -454,13 +458,13 @@ def agent_faults(study: Table, rule: int, place: int) -> list[str]:
 
 def branch_faults(study: Table, rule: int, place: int) -> list[str]:
     """Rules 30 to 33."""
-    branches = study["branch"]
-    if rule == 30 and place >= 127:
-        return [f"there are {len(branches)} branches, and are to be at most 127"]
+    branches, version = study["branch"], study["version"]
+    if rule == 30 and place >= MOST_BRANCHES[version]:
+        return [f"there are {len(branches)} branches, and are to be at most {MOST_BRANCHES[version]}"]
     branch = branches[place]
     above = [other["name"] for other in branches[:place]] if rule > 30 else []
     if rule == 30:
-        return key_faults(branch, BRANCH, {"edit": TABLES})
+        return branch_key_faults(branch, version)
     if rule == 31:
         name = branch["name"]
         if name == "root":
@@ -473,9 +477,42 @@ def branch_faults(study: Table, rule: int, place: int) -> list[str]:
         hint = "; that one stands below" if later else did_you_mean(branch["parent"], ["root", *above])
         return [f"`parent` is {shown(branch['parent'])}, and is to be root or the name of a branch above"
                 + ("; that is its own name" if branch["parent"] == branch["name"] else hint)]
-    least = 0 if branch["parent"] == "root" else branches[above.index(branch["parent"])]["at"]
-    return [f"`at` is {branch['at']:,}, and is to be {least:,} to {study['events']:,}: from that of its parent "
-            f"{shown(branch['parent'])} to `events`"]
+    return stop_faults(study, place)
+
+
+def branch_key_faults(branch: Table, version: int) -> list[str]:
+    """Rule 30 for one branch."""
+    stops = BRANCH_STOPS[version]
+    if version == 1:
+        later = ["; `when` is a key of studies of version 2"] if "when" in branch else []
+        faults = key_faults(branch, {**BRANCH, **stops}, {"edit": TABLES})
+        return [fault + "".join(later) if fault == "unknown key `when`" else fault for fault in faults]
+    faults = key_faults(branch, BRANCH, {**stops, "edit": TABLES})
+    if "at" in branch and "when" in branch:
+        faults.append("`at` and `when` are both there, and one of them is to be")
+    if "at" not in branch and "when" not in branch:
+        faults.append("neither `at`, an event number, nor `when`, a time, is there, and one of them is to be")
+    return faults
+
+
+def stop_faults(study: Table, place: int) -> list[str]:
+    """Rule 33."""
+    branches, branch = study["branch"], study["branch"][place]
+    key = "when" if "when" in branch else "at"
+    ends = {"at": (0, study["events"], "0", "`events`"), "when": (study["open"], study["close"], "`open`", "`close`")}
+    least, most, start, end = ends[key]
+    parent = next((other for other in branches[:place] if other["name"] == branch["parent"]), {"at": 0})
+    if parent.get(key, least - 1) >= least:
+        least, start = parent[key], f"that of its parent {shown(branch['parent'])}"
+    faults = []
+    if not least <= branch[key] <= most:
+        faults.append(f"`{key}` is {branch[key]:,}, and is to be {least:,} to {most:,}: from {start} to {end}")
+    other = next((other for other in branches[:place] if other["parent"] == branch["parent"] and key not in other), None)
+    if other is not None:
+        faults.append(f"it has `{key}`, and the branch {shown(other['name'])} above, of the same parent "
+                      f"{shown(branch['parent'])}, has `{'at' if key == 'when' else 'when'}`: all branches of one parent "
+                      "are to have the same of the two")
+    return faults
 
 
 def edit_faults(study: Table, rule: int, place: int) -> list[str]:
@@ -574,7 +611,8 @@ def place_name(study: Table, rule: int, place: int) -> str:
         return "series file"
     key = ENTRY_OF_RULE.get(rule)
     entries = study.get(key, []) if key else []
-    many = rule == 21 and place == 1024 or rule == 30 and place == 127 or rule == 25 and entries == []
+    most = 255 if study.get("version") == 2 else 127
+    many = rule == 21 and place == 1024 or rule == 30 and place == most or rule == 25 and entries == []
     if key is None or many:
         return "top of the study"
     index = place // 16 if rule in (34, 35) else place
@@ -586,7 +624,7 @@ def faults_of(study: Table, rule: int, place: int) -> list[str]:
     if rule == 1:
         return top_faults(study, place)
     if rule == 2:
-        return [f"`version` is {shown(study['version'])}, and is to be 1"]
+        return [f"`version` is {shown(study['version'])}, and is to be 1 or 2"]
     if rule == 3:
         return [f"`key` has {len(study['key'])} characters, {shown(study['key'])}, and is to have 64 digits, each 0 to 9 or "
                 "a to f"]

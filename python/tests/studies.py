@@ -40,6 +40,7 @@ class Generator:
         self.random = random.Random(f"biqsolur {seed}")
         pick = self.random.choice
         self.seed = seed
+        self.version = 2 if seed % 3 == 2 else 1
         self.pace = pick([1_000, 50_000, 20_000_000])           # about the time between two wakeups of a trader, ns
         self.events = self.random.randint(150, 600)
         self.open = pick([0, 5_000, 34_200_000_000_000])
@@ -55,7 +56,7 @@ class Generator:
         choose = self.random.choice
         stocks = [self.stock(symbol) for symbol in self.symbols]
         study = {
-            "version": 1, "key": self.random.randbytes(32).hex(), "open": self.open, "close": self.close,
+            "version": self.version, "key": self.random.randbytes(32).hex(), "open": self.open, "close": self.close,
             "events": self.events, "stride": 100,
         }
         rows = [stock["symbol"] for stock in stocks if stock["series"] == "rows"]
@@ -131,17 +132,23 @@ class Generator:
         return agent
 
     def branches(self):
-        branches = []
+        branches, keys = [], {}
         for place in range(self.random.choice([0, 1, 2, 4])):
             parent = self.random.choice([None, *branches])
-            least = parent["at"] if parent else 0
+            name = parent["name"] if parent else "root"
+            key = keys.setdefault(name, self.random.choice(["at", "when", "when"]) if self.version == 2 else "at")
             branches.append({
-                "name": f"{self.random.choice(['b', '-', '_', 'wide'])}{place}",
-                "parent": parent["name"] if parent else "root",
-                "at": self.random.choice([least, self.random.randint(least, self.events), min(least + 40, self.events)]),
+                "name": f"{self.random.choice(['b', '-', '_', 'wide'])}{place}", "parent": name,
+                key: self.stop(key, parent or {"at": 0}),
                 "edit": [self.edit() for _ in range(self.random.choice([0, 1, 3, 8]))] + self.part_cancel(place),
             })
         return branches
+
+    def stop(self, key, parent):
+        """An event number or a time, not below that of the parent."""
+        least, most, step = {"at": (0, self.events, 40), "when": (self.open, self.close, 3 * self.pace)}[key]
+        least = parent.get(key, least)
+        return self.random.choice([least, self.random.randint(least, most), min(least + step, most)])
 
     def edit(self):
         choose, between = self.random.choice, self.random.randint
@@ -182,7 +189,7 @@ class Generator:
         symbol = choose(self.symbols + ["NOSUCH"]).encode().ljust(8)
         price = max(1, self.price + self.random.randint(-6, 6) * self.tick)
         shares = choose([1, 50, 700, 999_999, 0])
-        display = choose([b"Y", b"Y", b"Y", b"N"])
+        display = choose([b"Y", b"Y", b"Y", b"N" if self.version == 1 else b"Y"])
         return (b"O" + self.tokens[-1] + choose([b"B", b"S"]) + shares.to_bytes(4, "big") + symbol
                 + price.to_bytes(4, "big") + choose([0, 99_998, 99_999]).to_bytes(4, "big") + b"ABID" + display + b"PN"
                 + bytes(4) + b"NN").hex()

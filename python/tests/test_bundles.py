@@ -42,9 +42,26 @@ def test_branches_are_those_of_the_study(market, bundle):
     assert bundle.symbols == [stock["symbol"] for stock in study["stock"]]
     assert bundle.agents == len(market.traders)
     assert bundle.branches["root"].parent is None and bundle.branches["root"].stop == 0
+    assert bundle.branches["root"].fork == 0
     for entry in study["branch"]:
-        branch = bundle.branches[entry["name"]]
-        assert (branch.parent, branch.stop) == (entry["parent"], entry["at"])
+        branch, parent = bundle.branches[entry["name"]], bundle.branches[entry["parent"]]
+        assert branch.parent == parent.name
+        if "at" in entry:
+            assert branch.stop == entry["at"]
+            assert branch.fork == max(parent.fork, min(entry["at"], len(parent.events)))
+        else:
+            assert branch.stop == branch.fork == max(parent.fork, int((parent.events.time <= entry["when"]).sum()))
+
+
+def test_branches_share_their_parents_events_up_to_their_edits(bundle, plain_branches):
+    names = list(bundle.branches)
+    for branch, told in pairs(bundle, plain_branches):
+        own = [plain.number(d, 1, 4) for d, _, _ in told.entries if d[:1] == b"d" and names[plain.number(d, 13, 2)] == branch.name]
+        assert set(own) <= {branch.fork}
+        if branch.parent is not None:
+            events = [[entry for entry, _, _ in part.entries if entry[:1] == b"e"][:branch.fork]
+                      for part in (told, plain_branches[branch.parent_number])]
+            assert len(events[0]) == branch.fork and events[0] == events[1]
 
 
 def test_events_are_those_of_the_plain_reader(bundle, plain_branches):
@@ -90,12 +107,9 @@ def test_edits_are_those_of_the_study(market, bundle):
         while entry is not None:
             line.append(entry)
             entry = entries.get(entry["parent"])
-        last = branch.closing.counts["events"]
-        expected = [(min(entry["at"], last), entry["name"], index, edit["kind"])
+        expected = [(bundle.branches[entry["name"]].fork, entry["name"], index, edit["kind"])
                     for entry in reversed(line) for index, edit in enumerate(entry["edit"])]
-        found = rows(branch.edits, ["event", "branch", "index", "kind"])
-        assert [edit[1:] for edit in found] == [edit[1:] for edit in expected]
-        assert all(event <= edit[0] for (event, *_), edit in zip(found, expected))
+        assert rows(branch.edits, ["event", "branch", "index", "kind"]) == expected
 
 
 def test_edits_are_those_of_the_plain_reader(bundle, plain_branches):

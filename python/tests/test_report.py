@@ -166,6 +166,26 @@ def test_the_command(made, tmp_path):
     assert (tmp_path / "page.html").read_bytes() == (made[0] / "halt.html").read_bytes()
 
 
+def test_a_branch_is_cut_where_it_left(tmp_path):
+    """One that leaves at a time, one of it at an event number below that, and an order that sets the ended market going."""
+    order = b"OT0001000000001S" + (100).to_bytes(4, "big") + b"ABM     " + (100_000).to_bytes(4, "big") + \
+        (99_999).to_bytes(4, "big") + b"ABIDYPN" + bytes(4) + b"NN"
+    text = (ROOT / "examples" / "two_watchers.toml").read_text()
+    text = text.replace("version = 1", "version = 2").replace("close = 1005", "close = 2000")
+    for name, parent, stop, edit in (("x", "root", "when = 1004", ""), ("w", "x", "at = 1", ""), (
+            "i", "root", "when = 2000", f'{{ kind = "inject", agent = 1, after = 100, message = "{order.hex()}" }}')):
+        text += f'\n[[branch]]\nname = "{name}"\nparent = "{parent}"\n{stop}\nedit = [{edit}]\n'
+    (tmp_path / "study.toml").write_text(text)
+    with open(tmp_path / "study.bundle", "wb") as file:
+        subprocess.run([program(), "run", tmp_path / "study.toml"], stdout=file, check=True)
+    report.write_report(tmp_path / "study.bundle", tmp_path / "study.html")
+    branches = report_data.bundle_data(biqsolur.read(tmp_path / "study.bundle"))
+    assert [(data.shared, data.fork, data.end) for data in branches] == [
+        (0, 1000, 1010), (2, 1000, 1010), (2, 1000, 1010), (6, 1010, 1115)]
+    rows = tables_of((tmp_path / "study.html").read_text()).tables["The branches"][1:]
+    assert [row[2] for row in rows] == ["–", "2", "2", "6"]
+
+
 # ---- thinning
 
 def drawn_at(times, values, instants):

@@ -153,6 +153,25 @@ SLIPS = [
     ("events = 100\n", "events = 1000000\nstride = 99\n", ["`stride` is 99, and is to be 100 to 1,000,000"]),
     ("events = 100\n", "events = 1000000\n", []),
 ]
+TIMED = STUDY.replace("version = 1", "version = 2", 1).replace("at = 10\n", "when = 1200\n", 1).replace(
+    "at = 30\n\n", "when = 1300\n\n", 1)
+TIMED_SLIPS = [
+    ("version = 2\n", "version = 3\n", ["`version` is 3, and is to be 1 or 2"]),
+    ("version = 2\n", "version = 1\n", ["branch entry 0 (the first `[[branch]]`, \"cheap\"): unknown key `when`; `when` is a key of "
+                                        "studies of version 2", "the key `at` is missing"]),
+    ("when = 1200\n", "wen = 1200\n", ["unknown key `wen`; did you mean `when`?", "neither `at`"]),
+    ("when = 1200\n", "", ["branch entry 0", "neither `at`, an event number, nor `when`, a time, is there"]),
+    ("when = 1200\n", "at = 10\nwhen = 1200\n", ["`at` and `when` are both there, and one of them is to be"]),
+    ("when = 1200\n", "when = 12:00:00\n", ["`when` is \"12:00:00\", and is to be a whole number"]),
+    ("when = 1200\n", "when = 999\n", ["`when` is 999, and is to be 1,000 to 2,000: from `open` to `close`"]),
+    ("when = 1200\n", "when = 2001\n", ["`when` is 2,001, and is to be 1,000 to 2,000: from `open` to `close`"]),
+    ("when = 1200\n", "when = 2000\n", []),
+    ("when = 1300\n", "at = 30\n", ["branch entry 2 (the third `[[branch]]`, \"order\"): it has `at`, and the branch \"cheap\" above, "
+                                    "of the same parent \"root\", has `when`"]),
+    ("at = 30\n", "at = 101\n", ["branch entry 1", "`at` is 101, and is to be 0 to 100: from 0 to `events`"]),
+    ("at = 30\n", "at = 0\n", []),
+    ("at = 30\n", "when = 1199\n", ["`when` is 1,199, and is to be 1,200 to 2,000: from that of its parent \"cheap\" to `close`"]),
+]
 SERIES_SLIPS = [
     ("symbol,time,value", "Symbol,Time,Value", ["line 1", "`symbol,time,value`"]),
     ("XYZ,1500", "XYZ, 1500", ["values.csv, line 4", "`time` is \" 1500\""]),
@@ -194,6 +213,24 @@ def test_slips_in_the_study(refused, right, wrong, said):
     assert bool(sentence) == bool(said)
     for words in said:
         assert words in sentence
+
+
+@pytest.mark.parametrize("right, wrong, said", TIMED_SLIPS, ids=[wrong.strip()[:30] for _, wrong, _ in TIMED_SLIPS])
+def test_slips_in_a_study_with_forks_by_time(refused, right, wrong, said):
+    assert right in TIMED
+    sentence = refused(TIMED.replace(right, wrong, 1))
+    assert bool(sentence) == bool(said)
+    for words in said:
+        assert words in sentence
+
+
+def test_too_many_branches(refused):
+    for version, most, stop in ((1, 127, "at = 30"), (2, 255, "when = 1300")):
+        study = (STUDY if version == 1 else TIMED).split("[[branch]]")[0]
+        study += "".join(f'[[branch]]\nname = "b{place}"\nparent = "root"\n{stop}\n' for place in range(most))
+        assert refused(study) == ""
+        study += f'[[branch]]\nname = "more"\nparent = "root"\n{stop}\n'
+        assert refused(study) == f"top of the study: there are {most + 1} branches, and are to be at most {most}"
 
 
 @pytest.mark.parametrize("right, wrong, said", SERIES_SLIPS, ids=[wrong for _, wrong, _ in SERIES_SLIPS])

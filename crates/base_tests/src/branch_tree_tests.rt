@@ -1,6 +1,6 @@
 ghost use Rattle.std.specs.Prelude.{◌≡◌, [], IfOk};
 
-use branch_tree::{plan, Branch, BranchPlan, Name, PlanError, Stop};
+use branch_tree::{Branch, BranchPlan, Name, PlanError, Stop, plan};
 use market_rules::Edit;
 use market_types::{Memory, Sequence};
 use std::alloc::Global;
@@ -70,9 +70,27 @@ fn a_nested_tree_has_five_segments(rt: HostRuntime) -> Result<(), Fail> {
 fn refused_trees_and_names(rt: HostRuntime) -> Result<(), Fail> {
     let alloc = rt.alloc();
     let rows: [(&[u8], u16, Stop, u32, Option<PlanError>); 10] = [
-        (b"b", 2, Stop::At(6), 100, Some(PlanError::ParentNotBefore(2))),
-        (b"b", 1, Stop::At(5), 100, Some(PlanError::StopOutOfRange(2))),
-        (b"b", 1, Stop::At(101), 100, Some(PlanError::StopOutOfRange(2))),
+        (
+            b"b",
+            2,
+            Stop::At(6),
+            100,
+            Some(PlanError::ParentNotBefore(2)),
+        ),
+        (
+            b"b",
+            1,
+            Stop::At(5),
+            100,
+            Some(PlanError::StopOutOfRange(2)),
+        ),
+        (
+            b"b",
+            1,
+            Stop::At(101),
+            100,
+            Some(PlanError::StopOutOfRange(2)),
+        ),
         (b"b", 1, Stop::When(5), 100, None),
         (b"b", 1, Stop::When(101), 100, None),
         (b"b", 0, Stop::When(6), 100, Some(PlanError::StopsMixed(2))),

@@ -19,10 +19,13 @@ agent = [{ kind = \"watcher\", group = 0, stock = \"ABM\", first = 1000, every =
 branch = [{ name = \"i\", parent = \"root\", at = 0, edit = [{ kind = \"inject\", agent = 1, after = 100, message = \"4f5430303031303030303030303031530000006441424d2020202020000186a00001869f4142494459504e000000004e4e\" }] }]
 ";
 
-// How many agents, stocks and branches are read of the study with one text in place of another, how many entries of each of
-// the two branches, and the rule that refuses it, 0 where it is accepted.
-fn read_of(alloc: Global, old: &str, new: &str) -> Result<([usize; 5], u32), Fail> {
-    let text = STUDY.replacen(alloc, old, new, 1)?;
+// How many agents, stocks and branches are read of the study with texts in place of others, how many entries of each of the
+// two branches, and the rule that refuses it, 0 where it is accepted.
+fn read_of(alloc: Global, changes: &[(&str, &str)]) -> Result<([usize; 5], u32), Fail> {
+    let mut text = String::from_str(alloc, STUDY)?;
+    for (old, new) in changes.iter() {
+        text = text.replacen(alloc, *old, new, 1)?;
+    }
     let raw = read_tables(alloc, text.as_bytes())?;
     let mut steps: Steps<Counted> = Steps::new();
     let read = run_and_read(alloc, &raw, None, &mut steps);
@@ -49,10 +52,16 @@ fn read_of(alloc: Global, old: &str, new: &str) -> Result<([usize; 5], u32), Fai
 
 #[test]
 fn studies_are_read_back(rt: HostRuntime) -> Result<(), Fail> {
-    let (sizes, rule) = read_of(rt.alloc(), "version", "version")?;
-    assert!(rt; rule == 0);
-    assert!(rt; sizes == [2, 1, 2, 3, 6]);
-    let (_, rule) = read_of(rt.alloc(), "4f54", "4f20")?;
+    let second = ("version = 1", "version = 2");
+    let opening = ("at = 0", "when = 1000");
+    let close = ("at = 0", "when = 2000");
+    let rows: [&[(&str, &str)]; 3] = [&[], &[second, opening], &[second, close]];
+    for changes in rows {
+        let (sizes, rule) = read_of(rt.alloc(), changes)?;
+        assert!(rt; rule == 0);
+        assert!(rt; sizes == [2, 1, 2, 3, 6]);
+    }
+    let (_, rule) = read_of(rt.alloc(), &[("4f54", "4f20")])?;
     assert!(rt; rule == 35);
     Ok(())
 }

@@ -10,7 +10,7 @@ ghost use Rattle.kernel_copy.specs.Outcomes.{outcome_told, outcomes_before};
 ghost use Rattle.branch_tests.specs.Worked.{AreBranches, small, two_watchers};
 
 use agent_shell::{Kind, TraderSetting};
-use branch_tree::{Branch, Name, plan};
+use branch_tree::{Branch, Name, Stop, plan};
 use bundle_frames::put_end;
 use kernel_copy::laws::segments_have_few_events;
 use kernel_copy::{Course, Keep, Kept, Outcome, closing_of, run_segments};
@@ -158,7 +158,7 @@ fn root(alloc: Global) -> Result<Vec<Branch>, Memory>
     branches.push(Branch {
         name,
         parent: 0,
-        stop: 0,
+        stop: Stop::At(0),
         edits: Sequence::new(Vec::new(alloc)),
     })?;
     Ok(branches)
@@ -169,7 +169,7 @@ fn fork(
     branches: &mut Vec<Branch>,
     name: &[u8],
     parent: u16,
-    stop: u32,
+    stop: Stop,
     edits: Vec<Edit>,
 ) -> Result<(), Memory>
     requires before { AreBranches branches.old.items }
@@ -301,27 +301,73 @@ fn heard(outcomes: &[Outcome], segment: usize, agent: usize) -> Option<(bool, Ti
     Some((a.silenced, a.time, a.quotes))
 }
 
-// A branch that makes the latency 50, one that makes it 7, and one that changes nothing, all at event 2.
+// A branch that makes the latency 50, one that makes it 7, and one that changes nothing, all at one stop.
+fn three_at(alloc: Global, stop: Stop) -> Result<Vec<Branch>, Memory>
+    ensures { IfOk result (λ v. AreBranches v.items) }
+{
+    let mut branches = root(alloc)?;
+    fork(&mut branches, b"x", 0, stop, latency(alloc, 50)?)?;
+    fork(&mut branches, b"y", 0, stop, latency(alloc, 7)?)?;
+    fork(&mut branches, b"z", 0, stop, nothing(alloc))?;
+    Ok(branches)
+}
+
+// They leave the root at event 2, at the time of that event, or right before the time of the next.
 #[test]
 fn three_branches(rt: HostRuntime) -> Result<(), Fail> {
     let alloc = rt.alloc();
+    for stop in [Stop::At(2), Stop::When(1000), Stop::When(1004)] {
+        let run = run(alloc, three_at(alloc, stop)?)?;
+        assert_eq!(rt; run.ticks, 18);
+        let ends = ends(alloc, run.outcomes.as_slice())?;
+        let wanted = [
+            (2, 2, 1000),
+            (4, 6, 1010),
+            (5, 6, 1055),
+            (5, 6, 1012),
+            (4, 6, 1010),
+        ];
+        assert_eq!(rt; ends.as_slice(), wanted.as_slice());
+        assert_eq!(rt; digest(run.bundle.as_slice()), (3255, 550_129_052_676));
+        assert_eq!(rt; digest(run.last.as_slice()), (799, 1_096_420_110_848));
+    }
+    Ok(())
+}
+
+// A branch at the time of two messages, which both come before its edit; and one of a branch at a time that leaves at an
+// event number below its parent's, so that its parent's first segment has no event.
+#[test]
+fn branches_by_time(rt: HostRuntime) -> Result<(), Fail> {
+    let alloc = rt.alloc();
     let mut branches = root(alloc)?;
-    fork(&mut branches, b"x", 0, 2, latency(alloc, 50)?)?;
-    fork(&mut branches, b"y", 0, 2, latency(alloc, 7)?)?;
-    fork(&mut branches, b"z", 0, 2, nothing(alloc))?;
-    let run = run(alloc, branches)?;
-    assert_eq!(rt; run.ticks, 18);
-    let ends = ends(alloc, run.outcomes.as_slice())?;
+    fork(
+        &mut branches,
+        b"x",
+        0,
+        Stop::When(1005),
+        latency(alloc, 50)?,
+    )?;
+    let one = run(alloc, branches)?;
+    assert_eq!(rt; one.ticks, 8);
+    let told = ends(alloc, one.outcomes.as_slice())?;
+    let wanted = [(4, 4, 1005), (2, 6, 1010), (3, 6, 1010)];
+    assert_eq!(rt; told.as_slice(), wanted.as_slice());
+    assert_eq!(rt; digest(one.bundle.as_slice()), (1637, 356_322_517_250));
+    let mut branches = root(alloc)?;
+    fork(&mut branches, b"x", 0, Stop::When(1004), nothing(alloc))?;
+    fork(&mut branches, b"w", 1, Stop::At(1), nothing(alloc))?;
+    let low = run(alloc, branches)?;
+    assert_eq!(rt; low.ticks, 14);
+    let told = ends(alloc, low.outcomes.as_slice())?;
     let wanted = [
         (2, 2, 1000),
         (4, 6, 1010),
-        (5, 6, 1055),
-        (5, 6, 1012),
+        (0, 2, 1000),
+        (4, 6, 1010),
         (4, 6, 1010),
     ];
-    assert_eq!(rt; ends.as_slice(), wanted.as_slice());
-    assert_eq!(rt; digest(run.bundle.as_slice()), (3255, 550_129_052_676));
-    assert_eq!(rt; digest(run.last.as_slice()), (799, 1_096_420_110_848));
+    assert_eq!(rt; told.as_slice(), wanted.as_slice());
+    assert_eq!(rt; digest(low.bundle.as_slice()), (2416, 315_712_857_091));
     Ok(())
 }
 
@@ -330,8 +376,8 @@ fn three_branches(rt: HostRuntime) -> Result<(), Fail> {
 fn empty_segments(rt: HostRuntime) -> Result<(), Fail> {
     let alloc = rt.alloc();
     let mut branches = root(alloc)?;
-    fork(&mut branches, b"x", 0, 6, nothing(alloc))?;
-    fork(&mut branches, b"y", 1, 6, nothing(alloc))?;
+    fork(&mut branches, b"x", 0, Stop::At(6), nothing(alloc))?;
+    fork(&mut branches, b"y", 1, Stop::At(6), nothing(alloc))?;
     let run = run(alloc, branches)?;
     assert_eq!(rt; run.ticks, 6);
     let ends = ends(alloc, run.outcomes.as_slice())?;
@@ -353,9 +399,21 @@ fn empty_segments(rt: HostRuntime) -> Result<(), Fail> {
 fn edits_in_both_orders(rt: HostRuntime) -> Result<(), Fail> {
     let alloc = rt.alloc();
     let mut branches = root(alloc)?;
-    fork(&mut branches, b"x", 0, 50, order(alloc)?)?;
-    fork(&mut branches, b"y", 0, 50, order_and_halt(alloc, false)?)?;
-    fork(&mut branches, b"z", 0, 50, order_and_halt(alloc, true)?)?;
+    fork(&mut branches, b"x", 0, Stop::At(50), order(alloc)?)?;
+    fork(
+        &mut branches,
+        b"y",
+        0,
+        Stop::At(50),
+        order_and_halt(alloc, false)?,
+    )?;
+    fork(
+        &mut branches,
+        b"z",
+        0,
+        Stop::At(50),
+        order_and_halt(alloc, true)?,
+    )?;
     let run = run(alloc, branches)?;
     assert_eq!(rt; run.ticks, 12);
     let ends = ends(alloc, run.outcomes.as_slice())?;
@@ -376,7 +434,7 @@ fn silenced(alloc: Global) -> Result<Vec<Branch>, Memory>
     ensures { IfOk result (λ v. AreBranches v.items) }
 {
     let mut branches = root(alloc)?;
-    fork(&mut branches, b"x", 0, 2, silence(alloc)?)?;
+    fork(&mut branches, b"x", 0, Stop::At(2), silence(alloc)?)?;
     Ok(branches)
 }
 
@@ -407,13 +465,14 @@ fn name(k: u16) -> [u8; 2]
     [b'a' + (k / 16) as u8, b'a' + (k % 16) as u8]
 }
 
-// 127 branches of the root without edits, which fork after 0 to 3 events.
+// 255 branches of the root without edits, which fork after 0 to 3 events.
 fn wide(alloc: Global) -> Result<Vec<Branch>, Memory>
     ensures { IfOk result (λ v. AreBranches v.items) }
 {
     let mut branches = root(alloc)?;
-    for k in 1..128u16 {
-        fork(&mut branches, &name(k), 0, u32::from(k % 4), nothing(alloc))?;
+    for k in 1..256u16 {
+        let stop = Stop::At(u32::from(k % 4));
+        fork(&mut branches, &name(k), 0, stop, nothing(alloc))?;
     }
     Ok(branches)
 }
@@ -425,7 +484,8 @@ fn deep(alloc: Global) -> Result<Vec<Branch>, Memory>
     let mut branches = root(alloc)?;
     for k in 1..61u16 {
         let edits = latency(alloc, u64::from(k))?;
-        fork(&mut branches, &name(k), k - 1, u32::from(k / 10), edits)?;
+        let stop = Stop::At(u32::from(k / 10));
+        fork(&mut branches, &name(k), k - 1, stop, edits)?;
     }
     Ok(branches)
 }
@@ -435,8 +495,8 @@ fn deep(alloc: Global) -> Result<Vec<Branch>, Memory>
 fn wide_and_deep_trees(rt: HostRuntime) -> Result<(), Fail> {
     let alloc = rt.alloc();
     let wide = run(alloc, wide(alloc)?)?;
-    assert_eq!(rt; (wide.ticks, wide.outcomes.len()), (576, 132));
-    assert_eq!(rt; digest(wide.bundle.as_slice()), (102_418, 718_875_032_192));
+    assert_eq!(rt; (wide.ticks, wide.outcomes.len()), (1152, 260));
+    assert_eq!(rt; digest(wide.bundle.as_slice()), (204_818, 276_323_116_800));
     let deep = run(alloc, deep(alloc)?)?;
     assert_eq!(rt; (deep.ticks, deep.outcomes.len()), (210, 121));
     assert_eq!(rt; digest(deep.bundle.as_slice()), (85_418, 1_091_373_565_245));

@@ -10,7 +10,7 @@ ghost use Rattle.kernel_copy.specs.declared.kept.Keep.TheVariants as keeping;
 ghost use Rattle.study_report.specs.BranchWorked.{AreBranches, busy, small, three_watchers, two_watchers};
 
 use agent_shell::{Kind, TraderSetting};
-use branch_tree::{Branch, Name, plan};
+use branch_tree::{Branch, Name, Stop, plan};
 use kernel_copy::laws::segments_have_few_events;
 use kernel_copy::{Course, Keep, Outcome, run_segments};
 use market_floor::Opening;
@@ -131,7 +131,7 @@ fn root(alloc: Global) -> Result<Vec<Branch>, Memory>
     branches.push(Branch {
         name,
         parent: 0,
-        stop: 0,
+        stop: Stop::At(0),
         edits: Sequence::new(Vec::new(alloc)),
     })?;
     Ok(branches)
@@ -171,7 +171,7 @@ fn fork(branches: &mut Vec<Branch>, name: &[u8], edits: Vec<Edit>) -> Result<(),
     branches.push(Branch {
         name,
         parent: 0,
-        stop: 2,
+        stop: Stop::At(2),
         edits: Sequence::new(edits),
     })?;
     Ok(())

@@ -7,6 +7,7 @@ ghost use Rattle.std.specs.Prelude.{All};
 ghost use Rattle.kernel_copy.specs.Kept.{IsWritable, kept_told};
 
 use self::market::course;
+use branch_tree::Stop;
 use branch_workers::work;
 use checkpoint_shelf::{ClosedShelf, Key};
 use kernel_copy::laws::{courses_stay_in_range, segments_have_few_events};
@@ -14,6 +15,7 @@ use kernel_copy::{Checkpoint, Course, Keep, Kept, Outcome, run_segments};
 use market_types::{Entry, Memory, Trace};
 use outside::{Counted, Gate, HoldGate, OpenGate, Steps};
 use std::alloc::Global;
+use std::process::Abort;
 use std::sync::{Arc, Wait};
 use std::test::Fail;
 use std::thread::Threads;
@@ -138,10 +140,12 @@ fn frames<R: Threads + Wait + Sync>(
 // Three branches, x, y and z, by one worker and by many: as one after another. Four of the five segments pass event 5, and
 // of the states there no place, one place and enough places hold none, one and all. The frames that workers keep are those of
 // the entries.
-#[test]
-fn three_branches(rt: HostRuntime) -> Result<(), Fail> {
-    let alloc = rt.alloc();
-    let course = course(alloc)?;
+fn three_at<R: Abort + Threads + Wait + Sync>(
+    rt: &R,
+    alloc: Global,
+    stop: Stop,
+) -> Result<(), Fail> {
+    let course = course(alloc, stop)?;
     segments_have_few_events(&course);
     let mut steps: Steps<Counted> = Steps::new();
     let alone = run_segments(alloc, &course, Keep::Entries, &mut steps);
@@ -149,7 +153,7 @@ fn three_branches(rt: HostRuntime) -> Result<(), Fail> {
     let alone = alone?;
     assert_eq!(rt; (ticks, alone.len()), (18, 5));
     for (workers, places, held) in [(1, 0, 0), (3, 1, 1), (64, 128, 4)] {
-        let (told, ticks) = worked(&rt, alloc, &course, places, workers, &OpenGate);
+        let (told, ticks) = worked(rt, alloc, &course, places, workers, &OpenGate);
         let told = told?;
         assert_eq!(rt;
             (ticks, told.outcomes.len(), told.held),
@@ -160,17 +164,25 @@ fn three_branches(rt: HostRuntime) -> Result<(), Fail> {
             assert!(rt; are_one(a, b), "{workers} workers");
         }
     }
-    let bytes = frames(&rt, alloc, &course, Keep::Frames)?;
+    let bytes = frames(rt, alloc, &course, Keep::Frames)?;
     assert!(rt; !bytes.is_empty());
-    assert!(rt; bytes == frames(&rt, alloc, &course, Keep::Entries)?);
+    assert!(rt; bytes == frames(rt, alloc, &course, Keep::Entries)?);
     Ok(())
+}
+
+// They leave the root at event 2, or right before the time of the next.
+#[test]
+fn three_branches(rt: HostRuntime) -> Result<(), Fail> {
+    let alloc = rt.alloc();
+    three_at(&rt, alloc, Stop::At(2))?;
+    three_at(&rt, alloc, Stop::When(1004))
 }
 
 // Two segments are under way at once: each of two branches waits for the other to begin.
 #[test]
 fn two_segments_at_once(rt: HostRuntime) -> Result<(), Fail> {
     let alloc = rt.alloc();
-    let course = course(alloc)?;
+    let course = course(alloc, Stop::At(2))?;
     for (held, until) in [(2, 3), (3, 2)] {
         let gate = HoldGate::new(held, until, 100_000_000);
         let (told, ticks) = worked(&rt, alloc, &course, 1, 2, &gate);

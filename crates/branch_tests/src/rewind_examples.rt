@@ -6,6 +6,7 @@ ghost use Rattle.std.specs.Prelude.{◌≡◌, ◌≤◌, IfOk};
 ghost use Rattle.rewind_desk.specs.AfterWork.{IsAfterWork};
 
 use self::market::course;
+use branch_tree::Stop;
 use branch_workers::work;
 use checkpoint_shelf::ClosedShelf;
 use kernel_copy::Keep;
@@ -14,6 +15,7 @@ use market_types::Memory;
 use outside::{Counted, OpenGate, Steps};
 use rewind_desk::{Checkpoint, Course, Key, RewindError, nearest, rewind};
 use std::alloc::Global;
+use std::process::Abort;
 use std::sync::{Arc, Wait};
 use std::test::Fail;
 use std::thread::Threads;
@@ -80,47 +82,81 @@ fn key(segment: u32, event: u32) -> Option<Key> {
     Some(Key { segment, event })
 }
 
-// With a place for each state of the grid a rewind goes on from the one at event 5, or from the fork's at event 2 before
-// that. A branch that isn't there counts no event, and an event past the last counts those to the last.
-#[test]
-fn rewinds_of_a_small_course(rt: HostRuntime) -> Result<(), Fail> {
-    let alloc = rt.alloc();
-    let course = course(alloc)?;
-    let shelf = left(&rt, alloc, &course, 128)?;
-    for (branch, event, told, ticks) in [
-        (0u16, 1u32, Ok((1, 0)), 1u64),
-        (0, 6, Ok((6, 5)), 1),
-        (1, 4, Ok((4, 2)), 2),
-        (2, 5, Ok((5, 5)), 0),
-        (99, 0, Err(RewindError::NoBranch), 0),
-        (2, 7, Err(RewindError::NoEvent(6)), 1),
-    ] {
+// A rewind's branch and event, what it comes to, and how many events it counts.
+type Row = (u16, u32, Result<(u32, u32), RewindError>, u64);
+
+// Asks for each row's rewind of a course whose branches leave at this stop, with a place for each state of the grid.
+fn rewound<R: Abort + Threads + Wait + Sync>(
+    rt: &R,
+    alloc: Global,
+    stop: Stop,
+    rows: &[Row],
+) -> Result<(), Fail> {
+    let course = course(alloc, stop)?;
+    let shelf = left(rt, alloc, &course, 128)?;
+    for (branch, event, told, ticks) in rows.iter() {
         assert_eq!(rt;
-            came(alloc, &course, &shelf, branch, event),
-            (told, ticks),
+            came(alloc, &course, &shelf, *branch, *event),
+            (*told, *ticks),
             "event {event} of branch {branch}"
         );
     }
     Ok(())
 }
 
-// Without places for the grid the fork's state is the nearest from its event on, and with them the one at the greatest
-// multiple of the stride.
+// A rewind goes on from the state of the grid at event 5, or from the fork's before that, which has two events, or four where
+// the branches leave at 1005. A branch that isn't there counts no event, and an event past the last counts those to the last.
 #[test]
-fn nearest_states_of_a_branch(rt: HostRuntime) -> Result<(), Fail> {
+fn rewinds_of_a_small_course(rt: HostRuntime) -> Result<(), Fail> {
     let alloc = rt.alloc();
-    let course = course(alloc)?;
-    let forks = left(&rt, alloc, &course, 0)?;
-    let all = left(&rt, alloc, &course, 128)?;
+    let early: [Row; 6] = [
+        (0, 1, Ok((1, 0)), 1),
+        (0, 6, Ok((6, 5)), 1),
+        (1, 4, Ok((4, 2)), 2),
+        (2, 5, Ok((5, 5)), 0),
+        (99, 0, Err(RewindError::NoBranch), 0),
+        (2, 7, Err(RewindError::NoEvent(6)), 1),
+    ];
+    let late: [Row; 5] = [
+        (1, 3, Ok((3, 0)), 3),
+        (1, 4, Ok((4, 4)), 0),
+        (1, 5, Ok((5, 5)), 0),
+        (2, 6, Ok((6, 5)), 1),
+        (2, 7, Err(RewindError::NoEvent(6)), 1),
+    ];
+    rewound(&rt, alloc, Stop::At(2), &early)?;
+    rewound(&rt, alloc, Stop::When(1004), &early)?;
+    rewound(&rt, alloc, Stop::When(1005), &late)
+}
+
+// The fork's state has two events, and this number in its key. Without places for the grid it is the nearest from its event on,
+// and with them the one at the greatest multiple of the stride.
+fn nearest_at<R: Abort + Threads + Wait + Sync>(
+    rt: &R,
+    alloc: Global,
+    stop: Stop,
+    number: u32,
+) -> Result<(), Fail> {
+    let course = course(alloc, stop)?;
+    let forks = left(rt, alloc, &course, 0)?;
+    let all = left(rt, alloc, &course, 128)?;
+    let fork = key(0, number);
     for (event, without, with) in [
         (1, None, None),
-        (2, key(0, 2), key(0, 2)),
-        (4, key(0, 2), key(0, 2)),
-        (5, key(0, 2), key(3, 5)),
-        (6, key(0, 2), key(3, 5)),
+        (2, fork, fork),
+        (4, fork, fork),
+        (5, fork, key(3, 5)),
+        (6, fork, key(3, 5)),
     ] {
         assert_eq!(rt; near(&course, &forks, event), without, "up to {event}");
         assert_eq!(rt; near(&course, &all, event), with, "up to {event}");
     }
     Ok(())
+}
+
+#[test]
+fn nearest_states_of_a_branch(rt: HostRuntime) -> Result<(), Fail> {
+    let alloc = rt.alloc();
+    nearest_at(&rt, alloc, Stop::At(2), 2)?;
+    nearest_at(&rt, alloc, Stop::When(1004), 16_777_215)
 }

@@ -1,6 +1,6 @@
 ghost use Rattle.std.specs.Prelude.{◌≡◌, [], IfOk};
 
-use branch_tree::{Branch, BranchPlan, Name, plan};
+use branch_tree::{Branch, BranchPlan, Name, Stop, plan};
 use command_words::{Command, ask};
 use market_rules::Edit;
 use market_types::Sequence;
@@ -9,7 +9,7 @@ use std::alloc::Global;
 use std::test::Fail;
 
 // A branch with no edits.
-fn branch(alloc: Global, name: &str, parent: u16, stop: u32) -> Result<Branch, Fail>
+fn branch(alloc: Global, name: &str, parent: u16, stop: Stop) -> Result<Branch, Fail>
     ensures parent { IfOk result (λ b. b.parent ≡ parent) }
     ensures stop { IfOk result (λ b. b.stop ≡ stop) }
     ensures edits { IfOk result (λ b. b.edits ≡ []) }
@@ -29,9 +29,9 @@ fn branch(alloc: Global, name: &str, parent: u16, stop: u32) -> Result<Branch, F
 // The plan of `root`, `x` from it at 2 and `x-1` from `x` at 4.
 fn tree(alloc: Global) -> Result<BranchPlan, Fail> {
     let mut branches = Vec::new(alloc);
-    branches.push(branch(alloc, "root", 0, 0)?)?;
-    branches.push(branch(alloc, "x", 0, 2)?)?;
-    branches.push(branch(alloc, "x-1", 1, 4)?)?;
+    branches.push(branch(alloc, "root", 0, Stop::At(0))?)?;
+    branches.push(branch(alloc, "x", 0, Stop::At(2))?)?;
+    branches.push(branch(alloc, "x-1", 1, Stop::At(4))?)?;
     match plan(alloc, branches, 100) {
         Ok(plan) => Ok(plan),
         Err(_) => Err(Fail::from("refused")),

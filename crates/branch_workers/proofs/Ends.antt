@@ -5,15 +5,16 @@ use Rattle.branch_tree.specs.Segments.{segments_in, segment_at, last_of}
 use Rattle.shelf_core.specs.Plan.{place_of, is_sole}
 use Rattle.shelf_core.specs.declared.plan.Key.{Key}
 use Rattle.checkpoint_shelf.specs.Told.{ShelfTold}
-use Rattle.kernel_copy.specs.Segmentwise.{segment_end}
-use Rattle.kernel_copy.specs.Courses.{CourseTold, CheckpointTold, IsCourse, state_at, end_of_segment, kept_of}
+use Rattle.kernel_copy.specs.Segmentwise.{segment_end, fork_number}
+use Rattle.kernel_copy.specs.Courses.{CourseTold, CheckpointTold, state_at, end_of_segment, kept_of}
 use Rattle.kernel_copy.proofs.Keeping.{end-state}
-use Rattle.branch_workers.specs.Layout.{end_key}
+use Rattle.branch_workers.specs.Layout.{end_key, key_at}
 use Rattle.branch_workers.specs.Runs.{HasForks}
 use Rattle.branch_workers.proofs.Forks.{end_place}
 
-pub key_is : (c : CourseTold) (s : ℕ) (g : Segment) → g ≡ segment_at c.plan s → ◌≡◌ {A = Key} (record { segment = s; event = g.stop }) (end_key c.plan s)
-key_is c s g e = ap (λ (x : Segment). let k : Key = record { segment = s; event = x.stop } in k) e
+-- a key with the number of a segment's end is that of the end
+pub key_is : (c : CourseTold) (s e : ℕ) (g : Segment) → g ≡ segment_at c.plan s → e ≡ fork_number g.stop → ◌≡◌ {A = Key} (record { segment = s; event = e }) (end_key c.plan s)
+key_is c s e g is number = ap (λ (n : ℕ). key_at s n) (number ∙ ap (λ (x : Segment). fork_number x.stop) is)
 
 -- an end from which others go on has a place of its own
 pub has_place : (c : CourseTold) (shelf : ShelfTold CourseTold) (s : ℕ) (key : Key) → HasForks c shelf → s < length (segments_in c.plan) → s < last_of c.plan.branches (segment_at c.plan s).branch → key ≡ end_key c.plan s
@@ -23,10 +24,10 @@ has_place c shelf s key is l u e =
     subst (λ (k : Key). IsSome (place_of shelf.plan k) × (is_sole shelf.plan k ≡ true)) (sym e) (ap (λ (o : Option ℕ). is_some o) p.0.1, p.1)
 
 -- what a value of its key has is the segment's end
-pub end_state_of : (c : CourseTold) (s : ℕ) (x : CheckpointTold) → IsCourse c → s < length (segments_in c.plan) → x.key ≡ end_key c.plan s → x.course ≡ c
+pub end_state_of : (c : CourseTold) (s : ℕ) (x : CheckpointTold) → x.key ≡ end_key c.plan s → x.course ≡ c
     → state_at x.course x.key ≡ (segment_end c.opening c.plan (segment_at c.plan s)).state
-end_state_of c s x h l key course =
-    ap (λ (k : CourseTold). state_at k x.key) course ∙ ap (λ (k : Key). state_at c k) key ∙ sym (end-state c s h l)
+end_state_of c s x key course =
+    ap (λ (k : CourseTold). state_at k x.key) course ∙ ap (λ (k : Key). state_at c k) key ∙ sym (end-state c s)
 
 -- what is kept of a segment
 pub kept_is : (c : CourseTold) (s : ℕ) (x : CheckpointTold) → Some x ≡ kept_of c s → (x ≡ end_of_segment c s) × (s < last_of c.plan.branches (segment_at c.plan s).branch)

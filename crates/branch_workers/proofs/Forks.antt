@@ -7,6 +7,8 @@ use mathlib.Core.Logic.{dite}
 use native.Mathlib.Decide.{ℕ_discrete}
 use Rattle.branch_tree.specs.declared.branch.Branch.{Branch}
 use Rattle.branch_tree.specs.declared.segment.Segment.{Segment}
+use Rattle.branch_tree.specs.declared.stop.Stop.{Stop}
+use Rattle.branch_tree.specs.Stops.{number_of}
 use Rattle.branch_tree.specs.Plan.{Plan}
 use Rattle.branch_tree.specs.Segments.{joined_stop, stops_among, count_before, segments_in, segment_at, no_segment, last_of}
 use Rattle.branch_tree.proofs.PartLemmas.{length-before}
@@ -16,6 +18,7 @@ use Rattle.shelf_core.specs.declared.plan.ShelfPlan.{ShelfPlan}
 use Rattle.shelf_core.proofs.Lists.{bool_cases}
 use Rattle.shelf_core.proofs.Plans.{key_self, fork_place}
 use Rattle.checkpoint_shelf.specs.Plans.{KeyBelow}
+use Rattle.kernel_copy.specs.Segmentwise.{fork_number}
 use Rattle.branch_workers.specs.Layout.{end_key, forks_from, fork_keys}
 use Rattle.branch_workers.proofs.Sums.{upto}
 
@@ -39,14 +42,14 @@ lt_true a b h = lt-ltb a b h
 
 -- a segment that isn't its branch's last has its key among the forks
 forks_have : (p : Plan) (k : ℕ) (gs : List Segment) (i s : ℕ) → s ≡ k + i → i < length gs → nat_lt s (last_of p.branches (get_or gs i no_segment).branch) ≡ true
-    → is_in (record { segment = s; event = (get_or gs i no_segment).stop }) (forks_from p k gs) ≡ true
+    → is_in (record { segment = s; event = fork_number (get_or gs i no_segment).stop }) (forks_from p k gs) ≡ true
 forks_have p k [] i s at l t = absurd (omega arith)
 forks_have p k (g ∷ gs) zero s at l t =
     let e : k ≡ s = omega arith in
-    subst (λ (n : ℕ). is_in (record { segment = s; event = g.stop }) (forks_from p n (g ∷ gs)) ≡ true) (sym e)
-    (here_in (nat_lt s (last_of p.branches g.branch)) (record { segment = s; event = g.stop }) (forks_from p (s + 1) gs) t)
+    subst (λ (n : ℕ). is_in (record { segment = s; event = fork_number g.stop }) (forks_from p n (g ∷ gs)) ≡ true) (sym e)
+    (here_in (nat_lt s (last_of p.branches g.branch)) (record { segment = s; event = fork_number g.stop }) (forks_from p (s + 1) gs) t)
 forks_have p k (g ∷ gs) (suc i) s at l t =
-    later_in (nat_lt k (last_of p.branches g.branch)) (record { segment = k; event = g.stop }) (record { segment = s; event = (get_or gs i no_segment).stop }) (forks_from p (k + 1) gs)
+    later_in (nat_lt k (last_of p.branches g.branch)) (record { segment = k; event = fork_number g.stop }) (record { segment = s; event = fork_number (get_or gs i no_segment).stop }) (forks_from p (k + 1) gs)
     (forks_have p (k + 1) gs i s (omega arith) (omega arith) t)
 
 pub end_is_fork : (p : Plan) (s : ℕ) → s < length (segments_in p) → s < last_of p.branches (segment_at p s).branch → is_in (end_key p s) (fork_keys p) ≡ true
@@ -68,7 +71,7 @@ after_all : (p : Plan) (x : Key) (k : ℕ) (gs : List Segment) → x.segment < k
 after_all p x k [] h = refl
 after_all p x k (g ∷ gs) h = more (nat_lt k (last_of p.branches g.branch)) (after_all p x (k + 1) gs (omega arith))
   where
-    more : (b : Bool) → list_all (λ j. is_before x j) (forks_from p (k + 1) gs) ≡ true → list_all (λ j. is_before x j) (with_key b (record { segment = k; event = g.stop }) (forks_from p (k + 1) gs)) ≡ true
+    more : (b : Bool) → list_all (λ j. is_before x j) (forks_from p (k + 1) gs) ≡ true → list_all (λ j. is_before x j) (with_key b (record { segment = k; event = fork_number g.stop }) (forks_from p (k + 1) gs)) ≡ true
     more false e = e
     more true e = let t = lt_true x.segment k h in rw t e
 
@@ -76,18 +79,18 @@ pub forks_rise : (p : Plan) (k : ℕ) (gs : List Segment) → rise (forks_from p
 forks_rise p k [] = refl
 forks_rise p k (g ∷ gs) = more (nat_lt k (last_of p.branches g.branch)) (forks_rise p (k + 1) gs)
   where
-    more : (b : Bool) → rise (forks_from p (k + 1) gs) ≡ true → rise (with_key b (record { segment = k; event = g.stop }) (forks_from p (k + 1) gs)) ≡ true
+    more : (b : Bool) → rise (forks_from p (k + 1) gs) ≡ true → rise (with_key b (record { segment = k; event = fork_number g.stop }) (forks_from p (k + 1) gs)) ≡ true
     more false e = e
-    more true e = let a = after_all p (record { segment = k; event = g.stop }) (k + 1) gs (omega arith) in rw a e
+    more true e = let a = after_all p (record { segment = k; event = fork_number g.stop }) (k + 1) gs (omega arith) in rw a e
 
 none_before : (p : Plan) (x : Key) (k : ℕ) (gs : List Segment) → x.segment < k → is_in x (forks_from p k gs) ≡ false
 none_before p x k [] h = refl
 none_before p x k (g ∷ gs) h = more (nat_lt k (last_of p.branches g.branch)) (none_before p x (k + 1) gs (omega arith))
   where
-    apart : same_key (record { segment = k; event = g.stop }) x ≡ false
+    apart : same_key (record { segment = k; event = fork_number g.stop }) x ≡ false
     apart = let n : k ≢ x.segment = (λ e. omega arith) in rw (Rattle.std.proofs.Common.ne_eqb k x.segment n) refl
 
-    more : (b : Bool) → is_in x (forks_from p (k + 1) gs) ≡ false → is_in x (with_key b (record { segment = k; event = g.stop }) (forks_from p (k + 1) gs)) ≡ false
+    more : (b : Bool) → is_in x (forks_from p (k + 1) gs) ≡ false → is_in x (with_key b (record { segment = k; event = fork_number g.stop }) (forks_from p (k + 1) gs)) ≡ false
     more false e = e
     more true e = rw apart e
 
@@ -95,36 +98,36 @@ pub forks_distinct : (p : Plan) (k : ℕ) (gs : List Segment) → are_distinct (
 forks_distinct p k [] = refl
 forks_distinct p k (g ∷ gs) = more (nat_lt k (last_of p.branches g.branch)) (forks_distinct p (k + 1) gs)
   where
-    more : (b : Bool) → are_distinct (forks_from p (k + 1) gs) ≡ true → are_distinct (with_key b (record { segment = k; event = g.stop }) (forks_from p (k + 1) gs)) ≡ true
+    more : (b : Bool) → are_distinct (forks_from p (k + 1) gs) ≡ true → are_distinct (with_key b (record { segment = k; event = fork_number g.stop }) (forks_from p (k + 1) gs)) ≡ true
     more false e = e
-    more true e = let a = none_before p (record { segment = k; event = g.stop }) (k + 1) gs (omega arith) in rw a e
+    more true e = let a = none_before p (record { segment = k; event = fork_number g.stop }) (k + 1) gs (omega arith) in rw a e
 
-pub forks_below : (p : Plan) (n k : ℕ) (gs : List Segment) → k + length gs ≤ n → All (λ (g : Segment). g.stop < 16777216) gs → All (KeyBelow n) (forks_from p k gs)
+pub forks_below : (p : Plan) (n k : ℕ) (gs : List Segment) → k + length gs ≤ n → All (λ (g : Segment). fork_number g.stop < 16777216) gs → All (KeyBelow n) (forks_from p k gs)
 forks_below p n k [] h stops = All-nil (KeyBelow n)
-forks_below p n k (g ∷ gs) h stops = more (nat_lt k (last_of p.branches g.branch)) (forks_below p n (k + 1) gs (omega arith) (All-tail (λ (x : Segment). x.stop < 16777216) g gs stops))
+forks_below p n k (g ∷ gs) h stops = more (nat_lt k (last_of p.branches g.branch)) (forks_below p n (k + 1) gs (omega arith) (All-tail (λ (x : Segment). fork_number x.stop < 16777216) g gs stops))
   where
-    more : (b : Bool) → All (KeyBelow n) (forks_from p (k + 1) gs) → All (KeyBelow n) (with_key b (record { segment = k; event = g.stop }) (forks_from p (k + 1) gs))
+    more : (b : Bool) → All (KeyBelow n) (forks_from p (k + 1) gs) → All (KeyBelow n) (with_key b (record { segment = k; event = fork_number g.stop }) (forks_from p (k + 1) gs))
     more false e = e
-    more true e = All-cons (KeyBelow n) (record { segment = k; event = g.stop }) (forks_from p (k + 1) gs) (omega arith, All-head (λ (x : Segment). x.stop < 16777216) g gs stops) e
+    more true e = All-cons (KeyBelow n) (record { segment = k; event = fork_number g.stop }) (forks_from p (k + 1) gs) (omega arith, All-head (λ (x : Segment). fork_number x.stop < 16777216) g gs stops) e
 
 pub forks_few : (p : Plan) (k : ℕ) (gs : List Segment) → length (forks_from p k gs) ≤ length gs
 forks_few p k [] = omega arith
 forks_few p k (g ∷ gs) = more (nat_lt k (last_of p.branches g.branch)) (forks_few p (k + 1) gs)
   where
-    more : (b : Bool) → length (forks_from p (k + 1) gs) ≤ length gs → length (with_key b (record { segment = k; event = g.stop }) (forks_from p (k + 1) gs)) ≤ suc (length gs)
+    more : (b : Bool) → length (forks_from p (k + 1) gs) ≤ length gs → length (with_key b (record { segment = k; event = fork_number g.stop }) (forks_from p (k + 1) gs)) ≤ suc (length gs)
     more false e = omega arith
     more true e = omega arith
 
 -- How many segments there are: one for each branch, and at most one more for each branch that leaves another.
-joined_few : (x : ℕ) (ys : List ℕ) → length (joined_stop x ys) ≤ suc (length ys)
+joined_few : (x : Stop) (ys : List Stop) → length (joined_stop x ys) ≤ suc (length ys)
 joined_few x [] = omega arith
 joined_few x (y ∷ ys) = ⊎_elim
-    (λ (t : nat_lt x y ≡ true). rw t (omega arith))
-    (λ (f : nat_lt x y ≡ false). ⊎_elim
-    (λ (t : Rattle.std.proofs.Common.◌==◌ x y ≡ true). rw f (rw t (omega arith)))
-    (λ (n : Rattle.std.proofs.Common.◌==◌ x y ≡ false). let r = joined_few x ys in rw f (rw n (omega arith)))
-    (bool_cases (Rattle.std.proofs.Common.◌==◌ x y)))
-    (bool_cases (nat_lt x y))
+    (λ (t : nat_lt (number_of x) (number_of y) ≡ true). rw t (omega arith))
+    (λ (f : nat_lt (number_of x) (number_of y) ≡ false). ⊎_elim
+    (λ (t : Rattle.std.proofs.Common.◌==◌ (number_of x) (number_of y) ≡ true). rw f (rw t (omega arith)))
+    (λ (n : Rattle.std.proofs.Common.◌==◌ (number_of x) (number_of y) ≡ false). let r = joined_few x ys in rw f (rw n (omega arith)))
+    (bool_cases (Rattle.std.proofs.Common.◌==◌ (number_of x) (number_of y))))
+    (bool_cases (nat_lt (number_of x) (number_of y)))
 
 abbrev cuts : ℕ → List Branch → ℕ
 cuts n cs = upto n (λ b. length (stops_among b cs))
@@ -160,9 +163,9 @@ counted : (root : Branch) (bs : List Branch) (n : ℕ) → count_before (root �
 counted root bs zero = refl
 counted root bs (suc n) = let r = counted root bs n in omega arith
 
-few_segments : (limit : ℕ) (bs : List Branch) → length bs ≤ 128 → count_before bs (length bs) ≤ 256
+few_segments : (limit : ℕ) (bs : List Branch) → length bs ≤ 256 → count_before bs (length bs) ≤ 512
 few_segments limit [] h = omega arith
 few_segments limit (root ∷ bs) h = let c = counted root bs (length (root ∷ bs)) in let f = cuts_few (length (root ∷ bs)) bs in omega arith
 
-pub segments_few : (p : Plan) → length p.branches ≤ 128 → length (segments_in p) ≤ 256
+pub segments_few : (p : Plan) → length p.branches ≤ 256 → length (segments_in p) ≤ 512
 segments_few p h = let l = length-before p.branches p.limit (length p.branches) in let f = few_segments p.limit p.branches h in omega arith

@@ -5,6 +5,8 @@ use Rattle.std.proofs.lemmas.List.Elements.{All-cons, All-nil}
 use Rattle.std.proofs.lemmas.List.Folds.{list_any-append}
 use Rattle.std.specs.List.{list_all}
 use Rattle.branch_tree.specs.declared.segment.Segment.{Segment}
+use Rattle.branch_tree.specs.declared.stop.Stop.{Stop}
+use Rattle.branch_tree.specs.declared.stop.Stop.TheVariants.{At, When}
 use Rattle.branch_tree.specs.Plan.{Plan}
 use Rattle.branch_tree.specs.Segments.{segments_in, segment_at, no_segment, last_of}
 use Rattle.shelf_core.specs.Plan.{same_key, is_in, is_before, are_distinct, rise, index_of, fork_or_grid, place_of, is_at, has_alone, is_sole}
@@ -14,7 +16,8 @@ use Rattle.shelf_core.proofs.Lists.{bool_cases, some_same, not_some, within}
 use Rattle.shelf_core.proofs.Plans.{and_left, and_right, and_both, or_either, eq_true, key_is, key_self, in_has_index, index_found, place_cases, fork_place, distinct_append}
 use Rattle.shelf_core.proofs.Rising.{before_self}
 use Rattle.checkpoint_shelf.specs.Plans.{KeyBelow}
-use Rattle.branch_workers.specs.Layout.{forks_from, fork_keys, key_at, multiples_from, grid_of, grids_from, grid_keys}
+use Rattle.kernel_copy.specs.Segmentwise.{fork_number}
+use Rattle.branch_workers.specs.Layout.{forks_from, fork_keys, key_at, multiples_from, start_number, stop_number, grid_of, grids_from, grid_keys}
 
 or_left : (a b : Bool) → a ≡ true → (a || b) ≡ true
 or_left true b e = refl
@@ -122,63 +125,63 @@ multiples_rise stride s e (suc n) = more (multiples_rise stride s (e + 1) n) (e 
         (all_of (λ k. is_before (key_at s e) k) (multiples_from stride s (e + 1) n) after) rec
 
 -- A key of the grids of segments from a number on.
-pub record IsOfGrids (stride s : ℕ) (gs : List Segment) (key : Key) : Type 0 where
+pub record IsOfGrids (limit stride s : ℕ) (gs : List Segment) (key : Key) : Type 0 where
   pub index : ℕ
   pub segment : key.segment ≡ s + index
   pub within : index < length gs
-  pub from : (get_or gs index no_segment).start < key.event
-  pub below : key.event < (get_or gs index no_segment).stop
+  pub from : start_number (get_or gs index no_segment).start < key.event
+  pub below : key.event < stop_number limit (get_or gs index no_segment).stop
   pub divides : key.event % stride ≡ 0
 
-pub in_grids : (stride s : ℕ) (gs : List Segment) (key : Key) → is_in key (grids_from stride s gs) ≡ true → IsOfGrids stride s gs key
-in_grids stride s [] key h = absurd (true≢false (sym h))
-in_grids stride s (g ∷ gs) key h = ⊎_elim
-    (λ (own : is_in key (grid_of stride s g) ≡ true).
-    let m = in_multiples stride s (g.start + 1) (g.stop - (g.start + 1)) key own in
+pub in_grids : (limit stride s : ℕ) (gs : List Segment) (key : Key) → is_in key (grids_from limit stride s gs) ≡ true → IsOfGrids limit stride s gs key
+in_grids limit stride s [] key h = absurd (true≢false (sym h))
+in_grids limit stride s (g ∷ gs) key h = ⊎_elim
+    (λ (own : is_in key (grid_of limit stride s g) ≡ true).
+    let m = in_multiples stride s (start_number g.start + 1) (stop_number limit g.stop - (start_number g.start + 1)) key own in
     let a = m.segment in let f = m.from in let b = m.below in
     record { index = 0; segment = omega arith; within = omega arith; from = omega arith; below = omega arith; divides = m.divides })
-    (λ (rest : is_in key (grids_from stride (s + 1) gs) ≡ true).
-    let r = in_grids stride (s + 1) gs key rest in
+    (λ (rest : is_in key (grids_from limit stride (s + 1) gs) ≡ true).
+    let r = in_grids limit stride (s + 1) gs key rest in
     let a = r.segment in let w = r.within in
     record { index = suc r.index; segment = omega arith; within = omega arith; from = r.from; below = r.below; divides = r.divides })
-    (in_either key (grid_of stride s g) (grids_from stride (s + 1) gs) h)
+    (in_either key (grid_of limit stride s g) (grids_from limit stride (s + 1) gs) h)
 
 -- A key of a plan's grid.
 pub record IsGridKey (p : Plan) (stride : ℕ) (key : Key) : Type 0 where
   pub segment : key.segment < length (segments_in p)
-  pub from : (segment_at p key.segment).start < key.event
-  pub below : key.event < (segment_at p key.segment).stop
+  pub from : start_number (segment_at p key.segment).start < key.event
+  pub below : key.event < stop_number p.limit (segment_at p key.segment).stop
   pub divides : key.event % stride ≡ 0
 
 pub grid_key : (p : Plan) (stride : ℕ) (key : Key) → is_in key (grid_keys p stride) ≡ true → IsGridKey p stride key
 grid_key p stride key h =
-    let r = in_grids stride 0 (segments_in p) key h in
+    let r = in_grids p.limit stride 0 (segments_in p) key h in
     let at : r.index ≡ key.segment = (let a = r.segment in omega arith) in
     let w = r.within in
     record {
       segment = omega arith;
-      from = subst (λ (i : ℕ). (get_or (segments_in p) i no_segment).start < key.event) at r.from;
-      below = subst (λ (i : ℕ). key.event < (get_or (segments_in p) i no_segment).stop) at r.below;
+      from = subst (λ (i : ℕ). start_number (get_or (segments_in p) i no_segment).start < key.event) at r.from;
+      below = subst (λ (i : ℕ). key.event < stop_number p.limit (get_or (segments_in p) i no_segment).stop) at r.below;
       divides = r.divides;
     }
 
-pub grids_rise : (stride s : ℕ) (gs : List Segment) → rise (grids_from stride s gs) ≡ true
-grids_rise stride s [] = refl
-grids_rise stride s (g ∷ gs) = rise_append (grid_of stride s g) (grids_from stride (s + 1) gs)
-    (multiples_rise stride s (g.start + 1) (g.stop - (g.start + 1))) (grids_rise stride (s + 1) gs)
+pub grids_rise : (limit stride s : ℕ) (gs : List Segment) → rise (grids_from limit stride s gs) ≡ true
+grids_rise limit stride s [] = refl
+grids_rise limit stride s (g ∷ gs) = rise_append (grid_of limit stride s g) (grids_from limit stride (s + 1) gs)
+    (multiples_rise stride s (start_number g.start + 1) (stop_number limit g.stop - (start_number g.start + 1))) (grids_rise limit stride (s + 1) gs)
     (λ a b e f.
-    let m = in_multiples stride s (g.start + 1) (g.stop - (g.start + 1)) a e in
-    let r = in_grids stride (s + 1) gs b f in
+    let m = in_multiples stride s (start_number g.start + 1) (stop_number limit g.stop - (start_number g.start + 1)) a e in
+    let r = in_grids limit stride (s + 1) gs b f in
     earlier a b (let x = m.segment in let y = r.segment in omega arith))
   where
     earlier : (a b : Key) → a.segment < b.segment → is_before a b ≡ true
     earlier a b less = grind (arith, less)
 
--- A fork's key has the stop of its segment.
+-- A fork's key has the number of its segment's end.
 pub record IsOfForks (s : ℕ) (gs : List Segment) (key : Key) : Type 0 where
   pub index : ℕ
   pub segment : key.segment ≡ s + index
-  pub event : key.event ≡ (get_or gs index no_segment).stop
+  pub event : key.event ≡ fork_number (get_or gs index no_segment).stop
 
 in_forks : (p : Plan) (s : ℕ) (gs : List Segment) (key : Key) → is_in key (forks_from p s gs) ≡ true → IsOfForks s gs key
 in_forks p s [] key h = absurd (true≢false (sym h))
@@ -187,39 +190,44 @@ in_forks p s (g ∷ gs) key h = more (in_forks p (s + 1) gs key) (nat_lt s (last
     later : IsOfForks (s + 1) gs key → IsOfForks s (g ∷ gs) key
     later r = let a = r.segment in record { index = suc r.index; segment = omega arith; event = r.event }
 
-    here : key_at s g.stop ≡ key → IsOfForks s (g ∷ gs) key
+    here : key_at s (fork_number g.stop) ≡ key → IsOfForks s (g ∷ gs) key
     here is = subst (λ (k : Key). IsOfForks s (g ∷ gs) k) is (record { index = 0; segment = omega arith; event = refl })
 
     more : (is_in key (forks_from p (s + 1) gs) ≡ true → IsOfForks (s + 1) gs key) → (b : Bool)
-        → is_in key (with_key b (key_at s g.stop) (forks_from p (s + 1) gs)) ≡ true → IsOfForks s (g ∷ gs) key
+        → is_in key (with_key b (key_at s (fork_number g.stop)) (forks_from p (s + 1) gs)) ≡ true → IsOfForks s (g ∷ gs) key
     more rec false x = later (rec x)
     more rec true x = ⊎_elim
-        (λ (same : same_key (key_at s g.stop) key ≡ true). here (key_is (key_at s g.stop) key same))
+        (λ (same : same_key (key_at s (fork_number g.stop)) key ≡ true). here (key_is (key_at s (fork_number g.stop)) key same))
         (λ (rest : is_in key (forks_from p (s + 1) gs) ≡ true). later (rec rest))
-        (or_either (same_key (key_at s g.stop) key) (is_in key (forks_from p (s + 1) gs)) x)
+        (or_either (same_key (key_at s (fork_number g.stop)) key) (is_in key (forks_from p (s + 1) gs)) x)
+
+-- The number of a segment's end isn't below the number up to which its grid goes.
+past_grid : (limit e : ℕ) (stop : Stop) → limit ≤ 16777215 → e ≡ fork_number stop → e < stop_number limit stop → ⊥
+past_grid limit e (At n) few is below = absurd (omega arith)
+past_grid limit e (When w) few is below = absurd (omega arith)
 
 -- A fork is no key of the grid.
-apart : (p : Plan) (stride : ℕ) (key : Key) → is_in key (fork_keys p) ≡ true → is_in key (grid_keys p stride) ≡ true → ⊥
-apart p stride key f h =
+apart : (p : Plan) (stride : ℕ) (key : Key) → p.limit ≤ 16777215 → is_in key (fork_keys p) ≡ true → is_in key (grid_keys p stride) ≡ true → ⊥
+apart p stride key few f h =
     let a = in_forks p 0 (segments_in p) key f in
-    let b = in_grids stride 0 (segments_in p) key h in
+    let b = in_grids p.limit stride 0 (segments_in p) key h in
     let same : a.index ≡ b.index = (let x = a.segment in let y = b.segment in omega arith) in
-    let stops = ap (λ (i : ℕ). (get_or (segments_in p) i no_segment).stop) same in
-    let x = a.event in let y = b.below in absurd (omega arith)
+    past_grid p.limit key.event (get_or (segments_in p) b.index no_segment).stop few
+    (subst (λ (i : ℕ). key.event ≡ fork_number (get_or (segments_in p) i no_segment).stop) same a.event) b.below
 
 -- So no key stands twice among the forks and the grid, where none does among the forks.
-pub keys_distinct : (p : Plan) (stride : ℕ) → are_distinct (fork_keys p) ≡ true → are_distinct (fork_keys p ++ grid_keys p stride) ≡ true
-keys_distinct p stride forks =
+pub keys_distinct : (p : Plan) (stride : ℕ) → p.limit ≤ 16777215 → are_distinct (fork_keys p) ≡ true → are_distinct (fork_keys p ++ grid_keys p stride) ≡ true
+keys_distinct p stride few forks =
     distinct_append (fork_keys p) (grid_keys p stride)
     ∙ and_both (are_distinct (fork_keys p) && are_distinct (grid_keys p stride)) (list_all (λ key. not (is_in key (grid_keys p stride))) (fork_keys p))
-    (and_both (are_distinct (fork_keys p)) (are_distinct (grid_keys p stride)) forks (rise_distinct (grid_keys p stride) (grids_rise stride 0 (segments_in p))))
-    (all_of (λ key. not (is_in key (grid_keys p stride))) (fork_keys p) (λ k e. none (is_in k (grid_keys p stride)) (apart p stride k e)))
+    (and_both (are_distinct (fork_keys p)) (are_distinct (grid_keys p stride)) forks (rise_distinct (grid_keys p stride) (grids_rise p.limit stride 0 (segments_in p))))
+    (all_of (λ key. not (is_in key (grid_keys p stride))) (fork_keys p) (λ k e. none (is_in k (grid_keys p stride)) (apart p stride k few e)))
   where
     none : (b : Bool) → (b ≡ true → ⊥) → not b ≡ true
     none true h = absurd (h refl)
     none false h = refl
 
-pub grid_below : (p : Plan) (stride : ℕ) → ((s : ℕ) → s < length (segments_in p) → (segment_at p s).stop < 16777216) → All (KeyBelow (length (segments_in p))) (grid_keys p stride)
+pub grid_below : (p : Plan) (stride : ℕ) → ((s : ℕ) → s < length (segments_in p) → stop_number p.limit (segment_at p s).stop < 16777216) → All (KeyBelow (length (segments_in p))) (grid_keys p stride)
 grid_below p stride stops = All_of (KeyBelow (length (segments_in p))) (grid_keys p stride)
     (λ k e. let g = grid_key p stride k e in (g.segment, (let t = stops k.segment g.segment in let b = g.below in omega arith)))
 

@@ -2,6 +2,8 @@ pub mod Sums
 pub mod Joined
 pub mod Forks
 pub mod Grids
+pub mod Parts
+pub mod Starts
 pub mod Underway
 pub mod Children
 pub mod Standing

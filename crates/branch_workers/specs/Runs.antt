@@ -8,9 +8,10 @@ use Rattle.shelf_core.specs.declared.plan.ShelfPlan.{ShelfPlan}
 use Rattle.shelf_core.specs.declared.seat.SeatView.{SeatView}
 use Rattle.checkpoint_shelf.specs.Told.{ShelfTold}
 use Rattle.kernel_core.specs.Step.{Fits}
-use Rattle.kernel_core.specs.Until.{Run, until}
+use Rattle.kernel_core.specs.Until.{Run}
 use Rattle.kernel_copy.specs.Courses.{CourseTold}
 use Rattle.kernel_copy.specs.Segmentwise.{from_count, segment_end, segment_run, started_at}
+use Rattle.kernel_copy.specs.UntilStop.{until_part}
 use Rattle.kernel_copy.specs.Ran.{RanTold, ran_as}
 use Rattle.kernel_copy.specs.declared.kept.Keep.{Keep}
 use Rattle.branch_workers.specs.Layout.{end_key, fork_keys, key_at, grid_keys}
@@ -43,12 +44,12 @@ pub record HasStates (c : CourseTold) (plan : ShelfPlan) (s : ℕ) (v : SeatView
 abbrev pub HasAllStates : CourseTold → ShelfPlan → SeatView → Type 0
 HasAllStates c plan v = (s : ℕ) → 0 < times s v.claims → HasStates c plan s v
 
--- A run of a segment, of which this is kept, that stopped on its way, at this event number or before: it goes on as if it
--- hadn't stopped.
+-- A run of a segment, of which this is kept, that stopped on its way, at this event number or before: it goes on towards the
+-- segment's stop, to this number and to each later one, as if it hadn't stopped.
 pub record IsUnderway (c : CourseTold) (keep : Keep) (s e : ℕ) (x : RanTold) : Type 0 where
   pub run : Run
   pub is : x ≡ ran_as keep run
-  pub again : (m : ℕ) → e ≤ m → until c.opening m run ≡ until c.opening m (started_at c.opening c.plan (segment_at c.plan s))
+  pub again : (m : ℕ) → e ≤ m → until_part c.opening (segment_at c.plan s).stop m run ≡ until_part c.opening (segment_at c.plan s).stop m (started_at c.opening c.plan (segment_at c.plan s))
   pub few : run.state.events ≤ (segment_run c.opening c.plan (segment_at c.plan s)).state.events
   pub fits : Fits c.opening run.state
 

@@ -160,8 +160,9 @@ fn work_in<R: Threads + Wait + Sync, G: Gate + Sync, L: Ledger + Send, B: Room +
 /// is left. The shelf has the end of each segment from which others go on. It may wait.
 ///
 /// The shelf has so many places more, 0 to 128, for the states at the multiples of the stride between the start and the
-/// stop of each segment, which have the places in turn. The state at each number that its segment passed stands there, if
-/// its place is no other's: so it is of all where there are as many places as multiples.
+/// stop of each segment, which have the places in turn. In place of a start that is a time stands 0 there, and in place of
+/// such a stop the limit of events. The state at each number that its segment passed stands there, if its place is no
+/// other's: so it is of all where there are as many places as multiples.
 ///
 /// Each outcome has what is to be kept of its segment's entries: they themselves, or the bytes of their frames one after
 /// another. With `Keep::Frames` a worker turns entries into bytes piece by piece while the segment runs, and holds no more

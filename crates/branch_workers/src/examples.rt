@@ -2,7 +2,7 @@
 
 ghost use Rattle.std.specs.Prelude.{◌≡◌, [], ◌∷◌, Some, None, true, false};
 ghost use Rattle.shelf_core.specs.Plan.{place_of, is_sole};
-ghost use Rattle.branch_workers.specs.Example.{forked_once};
+ghost use Rattle.branch_workers.specs.Example.{forked_at_time, forked_once};
 ghost use Rattle.branch_workers.specs.Layout.{end_key, fork_keys, grid_keys, key_at, layout};
 ghost use Rattle.branch_workers.specs.Claims.{pushes};
 
@@ -20,6 +20,14 @@ pub fn grids_of_strides()
     ensures forty { grid_keys forked_once 40 ≡ key_at 1 40 ∷ key_at 1 80 ∷ key_at 2 40 ∷ key_at 2 80 ∷ [] }
     ensures fifty { grid_keys forked_once 50 ≡ key_at 1 50 ∷ key_at 2 50 ∷ [] }
     ensures hundred { grid_keys forked_once 100 ≡ [] }
+{}
+
+/// Where a branch leaves at a time, the key of the end there has the greatest number that a key can have, and the grids on both
+/// sides of the time have all multiples of the stride: only the run tells which numbers it passes before the time.
+pub fn one_fork_at_a_time()
+    ensures keys { fork_keys forked_at_time ≡ record { segment = 0; event = 16777215 } ∷ [] }
+    ensures last { end_key forked_at_time 2 ≡ record { segment = 2; event = 100 } }
+    ensures forty { grid_keys forked_at_time 40 ≡ key_at 0 40 ∷ key_at 0 80 ∷ key_at 1 40 ∷ key_at 1 80 ∷ key_at 2 40 ∷ key_at 2 80 ∷ [] }
 {}
 
 /// Four keys of the grid have three places in turn, so that the first and the last share theirs; with as many places as

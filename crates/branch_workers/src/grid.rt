@@ -2,16 +2,17 @@
 
 ghost use Rattle.std.specs.Prelude.{◌≡◌, ℕ, ◌+◌, ◌%◌, ◌∷◌, ◌<◌, ◌≤◌, ◌^◌, [], true, Some, OnOk, length};
 ghost use Rattle.branch_tree.specs.Segments.{segments_in, segment_at};
-ghost use Rattle.kernel_core.specs.Until.{until};
 ghost use Rattle.shelf_core.specs.Made.{Stays};
 ghost use Rattle.shelf_core.specs.Plan.{is_in, is_sole};
 ghost use Rattle.shelf_core.specs.Views.{times};
 ghost use Rattle.kernel_copy.specs.Courses.{IsCourse, IsKeyOf, state_at};
 ghost use Rattle.kernel_copy.specs.Ran.{ran_told, ran_as};
-ghost use Rattle.kernel_copy.specs.Segmentwise.{segment_run, started_at};
+ghost use Rattle.kernel_copy.specs.Segmentwise.{from_count, segment_run, started_at};
+ghost use Rattle.kernel_copy.specs.UntilStop.{until_part};
 ghost use Rattle.branch_workers.specs.Layout.{key_at};
 ghost use Rattle.branch_workers.specs.Runs.{IsPassed, IsShelfOf, IsUnderway};
 
+use crate::layout::{start_number, stop_number};
 use checkpoint_shelf::{Begun, Key, Shelf, ShelfSeat, Turn};
 use kernel_copy::{Checkpoint, Course, Keep, Ran};
 use kernel_core::Kernel;
@@ -83,34 +84,35 @@ fn put_copy(
     }
 }
 
-// Lets a run of a segment go on to an event number.
+// Lets a run of a segment go on to the segment's stop, and to no more than so many events.
 pub(crate) fn run_to<L: Ledger>(
     alloc: Global,
     course: &Course,
     keep: Keep,
-    key: Key,
+    segment: u32,
+    most: u32,
     ran: &mut Ran,
     steps: &mut Steps<L>,
 ) -> Result<(), Memory>
-    requires segment { key.segment < length (segments_in course.now.plan) }
-    requires within { key.event ≤ (segment_at course.now.plan key.segment).stop }
-    requires underway { IsUnderway course.now keep key.segment key.event (ran_told ran.old) }
+    requires segment { segment < length (segments_in course.now.plan) }
+    requires most { most ≤ course.now.opening.limit }
+    requires underway { IsUnderway course.now keep segment most (ran_told ran.old) }
     requires count { steps.old + course.now.opening.limit < 2 ^ 64 }
     ensures course { IsCourse course.now }
-    ensures ran { OnOk result (ran_told ran.new ≡ ran_as keep (until course.now.opening key.event (started_at course.now.opening course.now.plan (segment_at course.now.plan key.segment)))) }
-    ensures underway { OnOk result (IsUnderway course.now keep key.segment key.event (ran_told ran.new)) }
-    ensures few { ran.new.kernel.events ≤ (segment_run course.now.opening course.now.plan (segment_at course.now.plan key.segment)).state.events }
+    ensures ran { OnOk result (ran_told ran.new ≡ ran_as keep (until_part course.now.opening (segment_at course.now.plan segment).stop most (started_at course.now.opening course.now.plan (segment_at course.now.plan segment)))) }
+    ensures underway { OnOk result (IsUnderway course.now keep segment most (ran_told ran.new)) }
+    ensures few { ran.new.kernel.events ≤ (segment_run course.now.opening course.now.plan (segment_at course.now.plan segment)).state.events }
     ensures ticks { steps.new + ran.old.kernel.events ≡ steps.old + ran.new.kernel.events }
     ensures grows { ran.old.kernel.events ≤ ran.new.kernel.events }
 {
-    let _ = course.plan();
     let _ = keep;
-    ran.run_until(alloc, course.opening(), key.event, steps)?;
+    let stop = course.segment(segment).stop;
+    ran.run_to(alloc, course.opening(), stop, most, steps)?;
     Ok(())
 }
 
-// Lets a run of a segment go on to an event number if it is a multiple of the stride, and puts a copy of the state there
-// on the shelf, unless the state ended before.
+// Lets a run of a segment that began with fewer events go on to an event number if it is a multiple of the stride, and puts
+// a copy of the state there on the shelf, unless the run reached its stop or the state ended before.
 fn pass<L: Ledger>(
     alloc: Global,
     course: &Arc<Course>,
@@ -127,7 +129,9 @@ fn pass<L: Ledger>(
     requires stride { 0 < stride }
     requires claim { 0 < times key.segment seat.old.view.claims }
     requires turns { seat.old.view.turns ≡ [] }
-    requires key { IsKeyOf course.now.value key }
+    requires segment { key.segment < length (segments_in course.now.value.plan) }
+    requires begins { from_count course.now.value.opening course.now.value.plan (segment_at course.now.value.plan key.segment) < key.event }
+    requires within { key.event ≤ course.now.value.opening.limit }
     requires underway { IsUnderway course.now.value keep key.segment key.event (ran_told ran.old) }
     requires count { steps.old + course.now.value.opening.limit < 2 ^ 64 }
     ensures same { seat.new.shelf ≡ seat.old.shelf }
@@ -142,7 +146,7 @@ fn pass<L: Ledger>(
     if key.event % stride != 0 {
         return Ok(());
     }
-    run_to(alloc, course, keep, key, ran, steps)?;
+    run_to(alloc, course, keep, key.segment, key.event, ran, steps)?;
     if ran.kernel.events() != key.event {
         return Ok(());
     }
@@ -150,8 +154,8 @@ fn pass<L: Ledger>(
     Ok(())
 }
 
-// Lets a run of a segment that is at its beginning go on over the numbers of its grid, and puts copies of the states
-// there on the shelf.
+// Lets a run of a segment that is at its beginning go on over the numbers of its grid that are above its events, and puts
+// copies of the states there on the shelf.
 pub(crate) fn pass_grid<L: Ledger>(
     alloc: Global,
     course: &Arc<Course>,
@@ -169,19 +173,25 @@ pub(crate) fn pass_grid<L: Ledger>(
     requires segment { segment < length (segments_in course.now.value.plan) }
     requires claim { 0 < times segment seat.old.view.claims }
     requires turns { seat.old.view.turns ≡ [] }
+    requires begins { ran.old.kernel.events ≡ from_count course.now.value.opening course.now.value.plan (segment_at course.now.value.plan segment) }
     requires underway { IsUnderway course.now.value keep segment 0 (ran_told ran.old) }
     requires count { steps.old ≤ 2 ^ 63 }
     ensures same { seat.new.shelf ≡ seat.old.shelf }
     ensures stays { Stays seat.old.view seat.new.view }
     ensures turns { seat.new.view.turns ≡ [] }
-    ensures underway { OnOk result (IsUnderway course.now.value keep segment (segment_at course.now.value.plan segment).stop (ran_told ran.new)) }
+    ensures underway { OnOk result (IsUnderway course.now.value keep segment course.now.value.opening.limit (ran_told ran.new)) }
     ensures few { ran.new.kernel.events ≤ (segment_run course.now.value.opening course.now.value.plan (segment_at course.now.value.plan segment)).state.events }
     ensures ticks { steps.new + ran.old.kernel.events ≡ steps.old + ran.new.kernel.events }
     ensures grows { ran.old.kernel.events ≤ ran.new.kernel.events }
     ensures known { OnOk result ((e : ℕ) → is_in (key_at segment e) shelf.now.plan.grid ≡ true → is_sole shelf.now.plan (key_at segment e) ≡ true → IsPassed course.now.value segment e → is_in (key_at segment e) seat.new.view.known ≡ true) }
 {
     let g = course.segment(segment);
-    for event in g.start + 1..g.stop {
+    let limit = course.opening().limit;
+    let start = start_number(g.start);
+    let from = ran.kernel.events();
+    let first = start.max(from);
+    let stop = stop_number(limit, g.stop);
+    for event in first + 1..stop {
         let key = Key { segment, event };
         pass(alloc, course, shelf, seat, stride, keep, key, ran, steps)?;
     }

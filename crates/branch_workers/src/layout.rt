@@ -4,12 +4,12 @@ ghost use Rattle.std.specs.Prelude.{◌≡◌, ◌<◌, ◌≤◌, ◌++◌, ◌
 ghost use Rattle.branch_tree.specs.Planned.{IsTree};
 ghost use Rattle.checkpoint_shelf.specs.Plans.{PlanFits};
 ghost use Rattle.checkpoint_shelf.specs.Seats.{NewFrom};
-ghost use Rattle.branch_workers.specs.Layout.{fork_keys, grid_keys, grid_of, layout};
+ghost use Rattle.branch_workers.specs.Layout.{fork_keys, grid_keys, grid_of, layout, start_number, stop_number};
 ghost use Rattle.branch_workers.specs.Runs.{IsShelfOf};
 
-use branch_tree::{BranchPlan, Segment};
+use branch_tree::{BranchPlan, Segment, Stop};
 use checkpoint_shelf::{Key, Shelf, ShelfPlan, ShelfSeat};
-use kernel_copy::{Checkpoint, Course, goes_on};
+use kernel_copy::{Checkpoint, Course, goes_on, number_of_end};
 use market_types::Memory;
 use plain_lists::Sequence;
 use std::alloc::Global;
@@ -25,25 +25,48 @@ fn forks(alloc: Global, plan: &BranchPlan) -> Result<Sequence<Key>, Memory>
         if goes_on(plan, segment_number) {
             keys.push(Key {
                 segment: segment_number,
-                event: segment.stop,
+                event: number_of_end(segment.stop),
             })?;
         }
     }
     Ok(keys)
 }
 
+// The event number above which the grid of a segment with this start lies.
+pub(crate) fn start_number(start: Stop) -> u32
+    ensures { result ≡ start_number start }
+{
+    match start {
+        Stop::At(events) => events,
+        Stop::When(_) => 0,
+    }
+}
+
+// The event number below which the grid of a segment with this stop lies.
+pub(crate) fn stop_number(limit: u32, stop: Stop) -> u32
+    ensures { result ≡ stop_number limit stop }
+{
+    match stop {
+        Stop::At(events) => events,
+        Stop::When(_) => limit,
+    }
+}
+
 // The keys of a segment's grid join others.
 fn add_grid(
     keys: &mut Sequence<Key>,
+    limit: u32,
     stride: u32,
     number: u32,
     segment: Segment,
 ) -> Result<(), Memory>
     requires stride { 0 < stride }
-    requires stop { segment.start < 16777216 }
-    ensures { OnOk result (keys.new ≡ keys.old ++ grid_of stride number segment) }
+    requires start { start_number segment.start < 16777216 }
+    ensures { OnOk result (keys.new ≡ keys.old ++ grid_of limit stride number segment) }
 {
-    for event in segment.start + 1..segment.stop {
+    let start = start_number(segment.start);
+    let stop = stop_number(limit, segment.stop);
+    for event in start + 1..stop {
         if event % stride == 0 {
             keys.push(Key {
                 segment: number,
@@ -61,9 +84,10 @@ fn grid(alloc: Global, plan: &BranchPlan, stride: u32) -> Result<Sequence<Key>, 
     requires limit { plan.now.limit < 16777216 }
     ensures { IfOk result (λ keys. keys ≡ grid_keys plan.now stride) }
 {
+    let limit = plan.limit();
     let mut keys = Sequence::empty(alloc);
     for (number, segment) in plan.segments().iter().enumerate() {
-        add_grid(&mut keys, stride, number as u32, *segment)?;
+        add_grid(&mut keys, limit, stride, number as u32, *segment)?;
     }
     Ok(keys)
 }

@@ -17,7 +17,9 @@ ghost use Rattle.branch_workers.specs.Runs.{IsPassed, IsShelfOf, HasForks, HasSt
 use crate::found::wait_for;
 use crate::grid::{pass_grid, run_to};
 use checkpoint_shelf::{Begun, Key, Shelf, ShelfSeat};
-use kernel_copy::{Checkpoint, Course, Keep, Kept, Outcome, Ran, go_on, kept_end, outcome_at};
+use kernel_copy::{
+    Checkpoint, Course, Keep, Kept, Outcome, Ran, go_on, kept_end, number_of_end, outcome_at,
+};
 use kernel_core::Kernel;
 use market_types::{Memory, Trace};
 use outside::{Gate, Ledger, Steps};
@@ -43,7 +45,8 @@ fn end_of<R: Wait>(
     ensures state { IfOk result (λ k. k ≡ (segment_end course.now.opening course.now.plan (segment_at course.now.plan segment)).state) }
     ensures found { OnOk result (is_in (end_key course.now.plan segment) seat.new.view.found ≡ true) }
 {
-    let event = course.segment(segment).stop;
+    let stop = course.segment(segment).stop;
+    let event = number_of_end(stop);
     let end = wait_for(rt, shelf, seat, Key { segment, event })?;
     end.resume(alloc)
 }
@@ -117,7 +120,7 @@ fn advance<R: Wait, L: Ledger>(
     ensures most { steps.new ≤ steps.old + own_count course.now.value.opening course.now.value.plan (segment_at course.now.value.plan segment) }
     ensures least { steps.old ≤ steps.new }
 {
-    let event = course.segment(segment).stop;
+    let most = course.opening().limit;
     let mut entries = Trace::new(alloc);
     let kernel = begun(rt, alloc, course, shelf, seat, segment, &mut entries)?;
     let kept = Kept::of(alloc, keep, entries)?;
@@ -125,7 +128,7 @@ fn advance<R: Wait, L: Ledger>(
     pass_grid(
         alloc, course, shelf, seat, stride, keep, segment, &mut ran, steps,
     )?;
-    run_to(alloc, course, keep, Key { segment, event }, &mut ran, steps)?;
+    run_to(alloc, course, keep, segment, most, &mut ran, steps)?;
     Ok(ran)
 }
 
@@ -179,7 +182,8 @@ fn put_end(
 /// Runs a segment that the seat claimed, from the end of its parent that the shelf keeps or is to keep, puts its end on
 /// the shelf where others go on from it, and counts it: the outcome is the segment's own, with what is to be kept of its
 /// entries, and the counter rises by the segment's own events. On its way it puts copies of the states at the multiples of
-/// the stride between the segment's start and its stop on the shelf, where they have places that may be written.
+/// the stride between the segment's start and its stop on the shelf, where they have places that may be written: of those
+/// that the run passes, also where start or stop is a time.
 ///
 /// The gate is passed before the first step. It may wait.
 ///

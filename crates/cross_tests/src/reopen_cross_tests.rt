@@ -12,16 +12,16 @@ use std::test::Fail;
 const ROUNDS: u64 = 64;
 
 // An order: its side, price and open shares, and whether it is displayed.
-type Row = (Side, u32, u32, bool);
+pub type Row = (Side, u32, u32, bool);
 
 // Two orders to buy.
-const TWO: [Row; 2] = [
+pub const TWO: [Row; 2] = [
     (Side::Buy, 100_200, 100, true),
     (Side::Buy, 100_100, 200, true),
 ];
 
 // The same, and then three to sell.
-const FIVE: [Row; 5] = [
+pub const FIVE: [Row; 5] = [
     (Side::Buy, 100_200, 100, true),
     (Side::Buy, 100_100, 200, true),
     (Side::Sell, 100_000, 150, true),
@@ -58,8 +58,9 @@ fn join(list: &mut Vec<Interest>, row: &Row) -> Result<(), Memory>
 }
 
 // Orders under the references 1, 2, 3 and so on.
-fn list_of(alloc: Global, rows: &[Row]) -> Result<Vec<Interest>, Memory>
-    ensures { IfOk result (λ v. AreInterests v.items) }
+pub fn list_of(alloc: Global, rows: &[Row]) -> Result<Vec<Interest>, Memory>
+    ensures interests { IfOk result (λ v. AreInterests v.items) }
+    ensures numbered { IfOk result (λ v. All (λ (o : Interest). o.reference ≤ length v.items) v.items) }
 {
     an_order_joins();
     let mut list = Vec::new(alloc);

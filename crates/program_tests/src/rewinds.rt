@@ -1,7 +1,7 @@
 //! Rewinds: the states that they write, their steps, and writes that fail.
 
 use crate::runs::{library, run_over, sink};
-use crate::worked_examples::{BRANCHES, WATCHERS, study};
+use crate::worked_examples::{BRANCHES, WATCHERS, study, timed};
 use abides_run::Status;
 use outside::MemorySink;
 use std::alloc::Global;
@@ -41,18 +41,31 @@ fn written<R: Threads + Wait + Sync>(
     }
 }
 
+// Whether at these places of the bytes stand a branch's frame and, right behind it, the first bytes of a state's counters.
+fn have_states(bytes: &[u8], states: &[(usize, &[u8], &[u8])]) -> bool {
+    for (at, branch, counters) in states {
+        let Some(rest) = bytes.get(*at..) else {
+            return false;
+        };
+        match rest.strip_prefix(*branch) {
+            Some(rest) if rest.starts_with(*counters) => {}
+            _ => return false,
+        }
+    }
+    true
+}
+
 // Each branch has the event as its stop, and behind it stand the counters: how the state ended and how many events it has.
 #[test]
 fn rewinds_of_three_branches(rt: HostRuntime) -> Result<(), Fail> {
     let alloc = rt.alloc();
     let text = study(alloc, 2000, WATCHERS, BRANCHES)?;
     let (out, _) = written(&rt, alloc, text.as_str(), "rewind s root:0 x:2 root:6")?;
-    let bytes = out.taken();
-    for (at, branch, counters) in [
+    let states: [(usize, &[u8], &[u8]); 3] = [
         (
             0,
-            b"\0\x0eb\0\0\xff\xff\0\0\0\0\x04root".as_slice(),
-            b"\0\x42c-\0\0\0\0".as_slice(),
+            b"\0\x0eb\0\0\xff\xff\0\0\0\0\x04root",
+            b"\0\x42c-\0\0\0\0",
         ),
         (
             418,
@@ -64,11 +77,26 @@ fn rewinds_of_three_branches(rt: HostRuntime) -> Result<(), Fail> {
             b"\0\x0eb\0\0\xff\xff\0\0\0\x06\x04root",
             b"\0\x42cC\0\0\0\x06",
         ),
-    ] {
-        let rest = bytes.get(at..).and_then(|rest| rest.strip_prefix(branch));
-        assert!(rt; rest.is_some_and(|rest| rest.starts_with(counters)), "{at}");
-    }
-    assert!(rt; bytes.ends_with(b"\0\x03z\0\x03"));
+    ];
+    assert!(rt; have_states(out.taken(), &states));
+    assert!(rt; out.taken().ends_with(b"\0\x03z\0\x03"));
+    // branches that leave at 1005, after events 3 and 4 of that time: x after event 4 has its edit, and hasn't ended
+    let text = timed(alloc, "when = 1005")?;
+    let (out, _) = written(&rt, alloc, text.as_str(), "rewind s x:4 x:5")?;
+    let states: [(usize, &[u8], &[u8]); 2] = [
+        (
+            0,
+            b"\0\x0bb\0\x01\0\0\0\0\0\x04\x01x",
+            b"\0\x42c-\0\0\0\x04",
+        ),
+        (
+            525,
+            b"\0\x0bb\0\x01\0\0\0\0\0\x05\x01x",
+            b"\0\x42c-\0\0\0\x05",
+        ),
+    ];
+    assert!(rt; have_states(out.taken(), &states));
+    assert!(rt; out.taken().ends_with(b"\0\x03z\0\x02"));
     Ok(())
 }
 

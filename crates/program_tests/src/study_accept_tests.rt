@@ -64,5 +64,7 @@ fn studies_are_accepted(rt: HostRuntime) -> Result<(), Fail> {
     assert!(rt;
         counts(rt.alloc(), "events = 100", "events = 100\nstride = 500")? == [3, 4, 7, 1, 1, 500]
     );
+    let timed = "version = 2\nbranch = [{ name = \"x\", parent = \"root\", when = 2000 }]";
+    assert!(rt; counts(rt.alloc(), "version = 1", timed)? == [3, 4, 7, 2, 3, 10_000]);
     Ok(())
 }

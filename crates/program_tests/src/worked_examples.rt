@@ -26,6 +26,13 @@ pub const BRANCHES: &str =
 const INJECTED: &str =
     "\n[[branch]]\nname = \"i\"\nparent = \"root\"\nat = 50\nedit = [{ kind = \"inject\", agent = 1, after = 100, message = \"4f5430303031303030303030303031530000006441424d2020202020000186a00001869f4142494459504e000000004e4e\" }]\n";
 
+/// The three branches, with this in place of each event number; of a study of version 2.
+pub fn timed(alloc: Global, stop: &str) -> Result<String, Fail> {
+    let branches = BRANCHES.replace(alloc, "at = 2", stop)?;
+    let text = study(alloc, 2000, WATCHERS, branches.as_str())?;
+    Ok(text.replacen(alloc, "version = 1", "version = 2", 1)?)
+}
+
 /// The text of a study that closes then, with these agents and branches.
 pub fn study(alloc: Global, close: u32, agent: &str, branches: &str) -> Result<String, Fail> {
     Ok(format!(in alloc; "{BEFORE_CLOSE}{close}{BEFORE_AGENT}{agent}{branches}")?)
@@ -113,6 +120,14 @@ fn three_branches_share_two_events_among_any_workers(rt: HostRuntime) -> Result<
     assert!(rt; bytes.get(295..308) == Some(root.as_slice()));
     assert!(rt; bytes.get(1114..1127) == Some(x.as_slice()));
     assert!(rt; bytes.get(1933..1946) == Some(y.as_slice()));
+    // the same where they leave at the time of the second event, or right before that of the third
+    for stop in ["when = 1000", "when = 1004"] {
+        let text = timed(alloc, stop)?;
+        for workers in ["1", "3", "64"] {
+            let again = written(&rt, alloc, text.as_str(), workers, &OpenGate, (3255, 18))?;
+            assert!(rt; again.taken() == bytes, "{stop}, {workers} workers");
+        }
+    }
     // the segments of x and y are under way at once, each held until the other is passed
     for (held, until) in [(2, 3), (3, 2)] {
         let gate = HoldGate::new(held, until, 100_000_000);

@@ -5,7 +5,6 @@ use Rattle.std.specs.List.{list_any}
 use Rattle.std.proofs.lemmas.Bool.{cases_lt, lt-ltb, le-ltb, lt-leb, le-leb}
 use Rattle.std.proofs.lemmas.List.Folds.{list_any-append}
 use Rattle.shelf_core.specs.declared.plan.Key.{Key}
-use Rattle.shelf_core.specs.Plan.{is_in}
 use Rattle.checkpoint_shelf.specs.Told.{ClosedTold}
 use Rattle.kernel_copy.specs.Courses.{CheckpointTold, CourseTold, IsKeyOf}
 use Rattle.rewind_desk.specs.declared.near.Near.{Near}

@@ -1,5 +1,5 @@
 -- Workers leave on their shelf what they surely leave.
-use Rattle.std.proofs.Common.{◌≡◌, ◌<◌, ◌+◌, ℕ, suc, ◌&&◌, Bool, true, false, List, [], ◌∷◌, ◌++◌, length, get_or, nat_lt, ltb-true, if◌then◌else◌, ◌||◌, refl, sym, ap, ◌∙◌, subst, inl, inr, ◌⊎◌, arith}
+use Rattle.std.proofs.Common.{◌≡◌, ◌<◌, ◌+◌, ℕ, suc, ◌&&◌, true, false, List, [], ◌∷◌, length, get_or, nat_lt, ltb-true, if◌then◌else◌, refl, sym, ap, ◌∙◌, subst, inl, inr, arith}
 use Rattle.std.proofs.lemmas.Bool.{and_parts, leb-true}
 use Rattle.branch_tree.specs.declared.segment.Segment.{Segment}
 use Rattle.branch_tree.specs.Plan.{Plan}
@@ -10,7 +10,7 @@ use Rattle.shelf_core.specs.Plan.{is_in, is_sole, same_key}
 use Rattle.shelf_core.proofs.Plans.{key_is, or_either}
 use Rattle.checkpoint_shelf.specs.Told.{ClosedTold}
 use Rattle.kernel_copy.specs.Courses.{CourseTold}
-use Rattle.kernel_copy.specs.Segmentwise.{from_count}
+use Rattle.kernel_copy.specs.Segmentwise.{fork_number, from_count}
 use Rattle.branch_workers.specs.Layout.{end_key, fork_keys, forks_from, layout}
 use Rattle.branch_workers.specs.Workers.{RanOnce}
 use Rattle.rewind_desk.specs.Best.{is_held, keys_in}
@@ -43,7 +43,7 @@ forks-end : (p : Plan) (k : Key) (n : ℕ) (gs : List Segment) → AreFrom p n g
 forks-end p k n [] f h = absurd (cc h)
 forks-end p k n (g ∷ gs) f h =
     let is = from-first p n g gs f in
-    let here : Key = record { segment = n; event = g.stop } in
+    let here : Key = record { segment = n; event = fork_number g.stop } in
     let more = forks_from p (n + 1) gs in
     elim (nat_lt n (last_of p.branches g.branch)) as (λ b. nat_lt n (last_of p.branches g.branch) ≡ b → is_in k (if b then here ∷ more else more) ≡ true → IsEnd p k) [
       | true ↦ λ e i. elim (or_either (same_key here k) (is_in k more) i) [
@@ -51,7 +51,7 @@ forks-end p k n (g ∷ gs) f h =
           segment = n;
           below = omega (arith, f.all);
           unfinished = let less : n < last_of p.branches g.branch = grind (arith, e) in subst (λ (x : Segment). n < last_of p.branches x.branch) is less;
-          key = sym (key_is here k same) ∙ ap (λ (x : Segment). record { segment = n; event = x.stop }) is;
+          key = sym (key_is here k same) ∙ ap (λ (x : Segment). record { segment = n; event = fork_number x.stop }) is;
         }
         | inr rest ↦ forks-end p k (n + 1) gs (from-next p n g gs f) rest
       ]

@@ -8,7 +8,7 @@ use Rattle.branch_tree.specs.Segments.{segments_in, no_segment}
 use Rattle.shelf_core.specs.declared.plan.Key.{Key}
 use Rattle.shelf_core.specs.Plan.{is_in, same_key}
 use Rattle.shelf_core.proofs.Plans.{key_self}
-use Rattle.branch_workers.specs.Layout.{key_at, multiples_from, grid_of, grids_from, layout}
+use Rattle.branch_workers.specs.Layout.{key_at, multiples_from, start_number, stop_number, grid_of, grids_from, layout}
 use Rattle.branch_workers.proofs.Forks.{end_is_fork}
 use Rattle.rewind_desk.specs.Sure.{IsLaidFor}
 
@@ -42,22 +42,23 @@ multiples-have stride s e (suc n) k from below divides =
           (multiples-have stride s (e + 1) n k (omega (arith, from, other)) (omega (arith, below)) divides)
     ]
 
-grid-has : (stride s k : ℕ) (g : Segment) → g.start < k → k < g.stop → k % stride ≡ 0 → is_in (key_at s k) (grid_of stride s g) ≡ true
-grid-has stride s k g from below divides = multiples-have stride s (g.start + 1) (g.stop - (g.start + 1)) k (omega (arith, from)) (omega (arith, from, below)) divides
+grid-has : (limit stride s k : ℕ) (g : Segment) → start_number g.start < k → k < stop_number limit g.stop → k % stride ≡ 0 → is_in (key_at s k) (grid_of limit stride s g) ≡ true
+grid-has limit stride s k g from below divides =
+    multiples-have stride s (start_number g.start + 1) (stop_number limit g.stop - (start_number g.start + 1)) k (omega (arith, from)) (omega (arith, from, below)) divides
 
-grids-have : (stride n : ℕ) (gs : List Segment) (i s k : ℕ) → s ≡ n + i → i < length gs → (get_or gs i no_segment).start < k → k < (get_or gs i no_segment).stop → k % stride ≡ 0
-    → is_in (key_at s k) (grids_from stride n gs) ≡ true
-grids-have stride n [] i s k at l from below divides = absurd (omega (arith, l))
-grids-have stride n (g ∷ gs) zero s k at l from below divides =
+grids-have : (limit stride n : ℕ) (gs : List Segment) (i s k : ℕ) → s ≡ n + i → i < length gs → start_number (get_or gs i no_segment).start < k → k < stop_number limit (get_or gs i no_segment).stop
+    → k % stride ≡ 0 → is_in (key_at s k) (grids_from limit stride n gs) ≡ true
+grids-have limit stride n [] i s k at l from below divides = absurd (omega (arith, l))
+grids-have limit stride n (g ∷ gs) zero s k at l from below divides =
     let is : n ≡ s = omega (arith, at) in
-    subst (λ (m : ℕ). is_in (key_at s k) (grids_from stride m (g ∷ gs)) ≡ true) (sym is)
-    (in-left (key_at s k) (grid_of stride s g) (grids_from stride (s + 1) gs) (grid-has stride s k g from below divides))
-grids-have stride n (g ∷ gs) (suc i) s k at l from below divides =
-    in-right (key_at s k) (grid_of stride n g) (grids_from stride (n + 1) gs)
-    (grids-have stride (n + 1) gs i s k (omega (arith, at)) (omega (arith, l)) from below divides)
+    subst (λ (m : ℕ). is_in (key_at s k) (grids_from limit stride m (g ∷ gs)) ≡ true) (sym is)
+    (in-left (key_at s k) (grid_of limit stride s g) (grids_from limit stride (s + 1) gs) (grid-has limit stride s k g from below divides))
+grids-have limit stride n (g ∷ gs) (suc i) s k at l from below divides =
+    in-right (key_at s k) (grid_of limit stride n g) (grids_from limit stride (n + 1) gs)
+    (grids-have limit stride (n + 1) gs i s k (omega (arith, at)) (omega (arith, l)) from below divides)
 
 pub is-laid : (p : Plan) (stride places : ℕ) → IsLaidFor p stride (layout p stride places)
 is-laid p stride places = record {
   forks = λ s l u. end_is_fork p s l u;
-  grid = λ s n l from below divides. grids-have stride 0 (segments_in p) s s n (omega arith) l from below divides;
+  grid = λ s n l from below divides. grids-have p.limit stride 0 (segments_in p) s s n (omega arith) l from below divides;
 }

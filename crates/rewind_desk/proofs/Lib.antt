@@ -2,6 +2,7 @@ pub mod Most
 pub mod Mosts
 pub mod Chained
 pub mod Bests
+pub mod Halting
 pub mod Arrivals
 pub mod Lasts
 pub mod Nears

@@ -1,26 +1,25 @@
 -- The nearest state along a chain.
-use Rattle.std.proofs.Common.{◌≡◌, ◌≤◌, ◌<◌, ◌≢◌, ℕ, inl, inr, Option, Some, None, IfSome, length, refl, sym, ap, ◌∙◌, arith, subst}
+use Rattle.std.proofs.Common.{◌≡◌, ◌≤◌, ◌<◌, ◌≢◌, ℕ, Bool, inl, inr, Option, Some, None, IfSome, length, refl, sym, ap, ◌∙◌, arith, subst}
 use Rattle.std.specs.Prelude.{min}
 use Rattle.std.proofs.lemmas.Bool.{cases_lt}
 use Rattle.checkpoint_shelf.specs.Told.{ClosedTold}
+use Rattle.branch_tree.specs.declared.segment.Segment.{Segment}
 use Rattle.branch_tree.specs.Plan.{Plan}
 use Rattle.branch_tree.specs.Planned.{IsTree}
 use Rattle.branch_tree.specs.Segments.{segments_in, segment_at, last_of}
 use Rattle.branch_tree.proofs.PartLemmas.{last-at}
 use Rattle.kernel_core.specs.State.{State}
-use Rattle.kernel_core.specs.Step.{end_of}
-use Rattle.kernel_core.proofs.Stops.{end_cases}
 use Rattle.kernel_copy.specs.Courses.{CourseTold, IsCourse, IsKeyOf}
 use Rattle.kernel_copy.specs.Full.{full}
 use Rattle.kernel_copy.specs.Segmentwise.{segment_end}
 use Rattle.kernel_copy.proofs.Trees.{course-tree}
-use Rattle.kernel_copy.proofs.Walks.{segment-starts, segment-within}
+use Rattle.kernel_copy.proofs.Walks.{segment-within}
 use Rattle.rewind_desk.specs.declared.near.Near.{Near}
 use Rattle.rewind_desk.specs.Best.{count_at}
 use Rattle.rewind_desk.specs.Nearest.{events_of, IsHeld}
 use Rattle.rewind_desk.specs.Reach.{IsAt, IsOn}
 use Rattle.rewind_desk.specs.Rewinds.{last_event}
-use Rattle.rewind_desk.proofs.Arrivals.{at-last, chain-end, parent-events}
+use Rattle.rewind_desk.proofs.Arrivals.{at-last, at-within, chain-end}
 use Rattle.rewind_desk.proofs.Chained.{on-first, on-parent}
 use Rattle.rewind_desk.proofs.Lasts.{last-end}
 
@@ -43,10 +42,9 @@ pub chain-of : (shelf : ClosedTold CourseTold) (c : CourseTold) (s : ℕ) (near 
     → IfSome near (λ (n : Near). IsOn c.plan s n.key.segment)
 chain-of shelf c s near same on = subst (λ (x : CourseTold). IfSome near (λ (n : Near). IsOn x.plan s n.key.segment)) same on
 
--- a parent's end has at most the events up to its stop, which is the segment's start
-pub parent-within : (c : CourseTold) (s q : ℕ) → IsCourse c → s < length (segments_in c.plan) → (segment_at c.plan s).parent ≡ Some q
-    → (segment_end c.opening c.plan (segment_at c.plan q)).state.events ≤ (segment_at c.plan s).start
-parent-within c s q h l is = omega (arith, parent-events c s q is, segment-starts c.opening c.plan s (course-tree c h) l)
+-- a segment's parent, as it was read
+pub parent-is : (p : Plan) (s : ℕ) (g : Segment) (x : Option ℕ) → g ≡ segment_at p s → g.parent ≡ x → (segment_at p s).parent ≡ x
+parent-is p s g x same is = sym (ap (λ (y : Segment). y.parent) same) ∙ is
 
 -- a state that isn't of a chain's last segment is of its parent's chain
 pub on-before : (p : Plan) (s q : ℕ) (near : Option Near) → IsTree p.branches p.limit → s < length (segments_in p) → (segment_at p s).parent ≡ Some q
@@ -67,33 +65,32 @@ pub record Arrived (c : CourseTold) (b e : ℕ) (k : State) : Type 0 where
   pub exists : e ≤ k.events → e ≤ last_event c b
   pub within : k.events ≤ e
 
-at-limit : (c : CourseTold) (b m : ℕ) (k : State) → IsCourse c → b < length c.plan.branches → m ≡ c.opening.limit → IsAt c (last_of c.plan.branches b) m k → k.events ≡ last_event c b
-at-limit c b m k h l is at = ap (λ (s : State). s.events) (at-last c b m k h l (omega arith) at ∙ ap (λ (e : ℕ). (full c.opening c.plan b e).state) is)
-
-ended-last : (c : CourseTold) (b m : ℕ) (k : State) → IsCourse c → b < length c.plan.branches → k ≡ (segment_end c.opening c.plan (segment_at c.plan (last_of c.plan.branches b))).state → k.events ≡ last_event c b
-ended-last c b m k h l is = ap (λ (s : State). s.events) is ∙ sym (last-end c b h l)
-
-arrived-whole : (c : CourseTold) (b e m : ℕ) (k : State) → IsCourse c → b < length c.plan.branches → m ≡ min e c.opening.limit → IsAt c (last_of c.plan.branches b) m k → k.events < e → k.events ≡ last_event c b
-arrived-whole c b e m k h l is at less = elim (cases_lt m (segment_end c.opening c.plan (segment_at c.plan (last_of c.plan.branches b))).state.events) [
-  | inl under ↦ let all = at.events under in at-limit c b m k h l (omega arith) at
-  | inr most ↦ ended-last c b m k h l (at.whole most)
-]
-
-arrived-exists : (c : CourseTold) (b e m : ℕ) (k : State) → IsCourse c → b < length c.plan.branches → m ≡ min e c.opening.limit → IsAt c (last_of c.plan.branches b) m k → e ≤ k.events → e ≤ last_event c b
-arrived-exists c b e m k h l is at more = elim (cases_lt m (segment_end c.opening c.plan (segment_at c.plan (last_of c.plan.branches b))).state.events) [
-  | inl under ↦ omega (arith, at.within, last-end c b h l)
-  | inr most ↦ omega (arith, ended-last c b m k h l (at.whole most))
-]
-
-pub arrived : (c : CourseTold) (b e m : ℕ) (k : State) → IsCourse c → b < length c.plan.branches → m ≡ min e c.opening.limit → IsAt c (last_of c.plan.branches b) m k → Arrived c b e k
-arrived c b e m k h l is at = record {
-  whole = arrived-whole c b e m k h l is at;
-  state = λ more. let same : m ≡ e = omega (arith, at.within) in
-      at-last c b m k h l (omega arith) at ∙ ap (λ (x : ℕ). (full c.opening c.plan b x).state) same;
-  exists = arrived-exists c b e m k h l is at;
-  within = omega (arith, at.within);
-}
-
 -- the last segment's end has at most as many events as the limit says
 pub last-within : (c : CourseTold) (b : ℕ) → IsCourse c → b < length c.plan.branches → (segment_end c.opening c.plan (segment_at c.plan (last_of c.plan.branches b))).state.events ≤ c.opening.limit
-last-within c b h l = omega (arith, segment-within c.opening c.plan (last_of c.plan.branches b) (course-tree c h) (last-at c.plan b l).0, h.limit)
+last-within c b h l = segment-within c.opening c.plan (last_of c.plan.branches b) (course-tree c h) h.limit (last-at c.plan b l).0
+
+ended-last : (c : CourseTold) (b : ℕ) (k : State) → IsCourse c → b < length c.plan.branches → k ≡ (segment_end c.opening c.plan (segment_at c.plan (last_of c.plan.branches b))).state → k.events ≡ last_event c b
+ended-last c b k h l is = ap (λ (s : State). s.events) is ∙ sym (last-end c b h l)
+
+arrived-whole : (c : CourseTold) (b e m : ℕ) (k : State) (more : Bool) → IsCourse c → b < length c.plan.branches → m ≡ min e c.opening.limit → IsAt c (last_of c.plan.branches b) m k more → k.events < e → k.events ≡ last_event c b
+arrived-whole c b e m k more h l is at less = elim (cases_lt m (segment_end c.opening c.plan (segment_at c.plan (last_of c.plan.branches b))).state.events) [
+  | inl under ↦ absurd (omega (arith, is, less, under, at.events under, last-within c b h l))
+  | inr most ↦ ended-last c b k h l (at.whole most)
+]
+
+arrived-exists : (c : CourseTold) (b e m : ℕ) (k : State) (more : Bool) → IsCourse c → b < length c.plan.branches → m ≡ min e c.opening.limit → IsAt c (last_of c.plan.branches b) m k more → e ≤ k.events → e ≤ last_event c b
+arrived-exists c b e m k more h l is at high = elim (cases_lt m (segment_end c.opening c.plan (segment_at c.plan (last_of c.plan.branches b))).state.events) [
+  | inl under ↦ omega (arith, high, under, at.events under, last-end c b h l)
+  | inr most ↦ omega (arith, high, ended-last c b k h l (at.whole most))
+]
+
+pub arrived : (c : CourseTold) (b e m : ℕ) (k : State) (more : Bool) → IsCourse c → b < length c.plan.branches → m ≡ min e c.opening.limit → IsAt c (last_of c.plan.branches b) m k more → Arrived c b e k
+arrived c b e m k more h l is at =
+    let within = at-within c (last_of c.plan.branches b) m k more at in
+    record {
+      whole = arrived-whole c b e m k more h l is at;
+      state = λ high. let same : m ≡ e = omega (arith, is, high, within) in
+          at-last c b m k more h l (omega (arith, is)) at ∙ ap (λ (x : ℕ). (full c.opening c.plan b x).state) same;
+      exists = arrived-exists c b e m k more h l is at;
+      within = omega (arith, is, within);
+    }

@@ -1,5 +1,5 @@
 -- How near the states are that the workers surely leave.
-use Rattle.std.proofs.Common.{◌≡◌, ◌≤◌, ◌<◌, ℕ, ◌+◌, ◌-◌, ◌*◌, ◌/◌, ◌%◌, true, ◌&&◌, ◌⊎◌, inl, inr, List, [], ◌∷◌, ◌++◌, Option, Some, None, get_or, length, refl, sym, ap, ◌∙◌, arith, suc, zero}
+use Rattle.std.proofs.Common.{◌≡◌, ◌≤◌, ◌<◌, ℕ, ◌+◌, ◌-◌, ◌*◌, ◌/◌, ◌%◌, true, ◌&&◌, inl, inr, List, [], ◌∷◌, ◌++◌, Option, Some, None, get_or, length, refl, sym, ap, ◌∙◌, arith, subst, suc, zero}
 use Rattle.std.specs.Prelude.{nat_le, nat_lt}
 use Rattle.std.proofs.Math.Nat.{mul-mod_left, mod-lt}
 use Rattle.std.proofs.lemmas.Bool.{cases_eq, cases_lt, le-leb, lt-ltb, or_left, or_right, ne_eqb}
@@ -12,42 +12,48 @@ use Rattle.shelf_core.proofs.Plans.{and_left, and_right}
 use Rattle.checkpoint_shelf.specs.Told.{ClosedTold}
 use Rattle.branch_tree.specs.declared.branch.Branch.{Branch}
 use Rattle.branch_tree.specs.declared.segment.Segment.{Segment}
+use Rattle.branch_tree.specs.declared.stop.Stop.{Stop}
+use Rattle.branch_tree.specs.declared.stop.Stop.TheVariants.{At, When}
 use Rattle.branch_tree.specs.Plan.{stop_at}
 use Rattle.branch_tree.specs.Segments.{cuts_of, count_before, last_of, no_segment, origin_of, fork_of, parts, segments_before, segments_in, segments_of, segment_at}
-use Rattle.branch_tree.proofs.PartLemmas.{last-at, rises-at}
+use Rattle.branch_tree.proofs.PartLemmas.{last-at}
 use Rattle.kernel_core.specs.State.{State}
 use Rattle.kernel_core.specs.Step.{end_of}
-use Rattle.kernel_core.specs.Until.{Run}
-use Rattle.kernel_core.proofs.Runs.{advanced_by_ended}
-use Rattle.kernel_core.proofs.Stops.{end_cases}
-use Rattle.kernel_copy.specs.Courses.{CourseTold, IsCourse, state_at}
-use Rattle.kernel_copy.specs.Segmentwise.{from_count, segment_end}
+use Rattle.kernel_core.specs.Until.{Run, until}
+use Rattle.kernel_core.proofs.Stops.{end_cases, going-events, until-past}
+use Rattle.kernel_copy.specs.Courses.{CourseTold, IsCourse}
+use Rattle.kernel_copy.specs.UntilStop.{until_stop}
+use Rattle.kernel_copy.specs.Full.{begun}
+use Rattle.kernel_copy.specs.Segmentwise.{fork_number, from_count, parent_end, segment_end, started_at}
+use Rattle.kernel_copy.proofs.Afters.{after-end}
 use Rattle.kernel_copy.proofs.Trees.{course-tree}
-use Rattle.kernel_copy.proofs.Walks.{has_parent, planned-at, segment-ends, segment-next, segment-starts}
+use Rattle.kernel_copy.proofs.Walks.{has_parent, planned-at, segment-copy, segment-next, segment-until, segment-within}
+use Rattle.branch_workers.specs.Layout.{start_number, stop_number}
 use Rattle.rewind_desk.specs.Best.{best, count_at, is_held, is_held_near, is_near, is_on, keys_in}
-use Rattle.rewind_desk.specs.Reach.{IsAt, IsOn}
+use Rattle.rewind_desk.specs.Reach.{IsOn}
 use Rattle.rewind_desk.specs.Rewinds.{last_event}
-use Rattle.rewind_desk.specs.Sure.{end_events, is_passed, is_sure, is_sure_near, sure, HoldsSure, IsLaidFor, AreAllSole, IsWholeAtForks}
-use Rattle.rewind_desk.proofs.Arrivals.{at-full, end-going, parent-stop}
+use Rattle.rewind_desk.specs.Sure.{end_events, is_passed, is_sure, is_sure_near, sure, HoldsSure, IsLaidFor, AreAllSole, IsWhole, IsWholeAtForks}
+use Rattle.rewind_desk.proofs.Arrivals.{end-reach, parent-events, standing-events, standing-state, started-events}
 use Rattle.rewind_desk.proofs.Chained.{on-more, on-self, parent_cases}
+use Rattle.rewind_desk.proofs.Halting.{stop-ended}
 use Rattle.rewind_desk.proofs.Lasts.{last-end}
 use Rattle.rewind_desk.proofs.Most.{and-true, most-fewer, most-least}
 
--- segments that go on from no other start at a number
-abbrev Start : ℕ → List Segment → Type 0
+-- segments that go on from no other start at a stop
+abbrev Start : Stop → List Segment → Type 0
 Start m [] = Unit {0}
 Start m (g ∷ gs) = (g.parent ≡ None → g.start ≡ m) × Start m gs
 
-start-append : (m : ℕ) (xs ys : List Segment) → Start m xs → Start m ys → Start m (xs ++ ys)
+start-append : (m : Stop) (xs ys : List Segment) → Start m xs → Start m ys → Start m (xs ++ ys)
 start-append m [] ys h k = k
 start-append m (g ∷ xs) ys h k = (h.0, start-append m xs ys h.1 k)
 
-start-at : (m : ℕ) (xs : List Segment) (s : ℕ) (d : Segment) → s < length xs → Start m xs → (get_or xs s d).parent ≡ None → (get_or xs s d).start ≡ m
+start-at : (m : Stop) (xs : List Segment) (s : ℕ) (d : Segment) → s < length xs → Start m xs → (get_or xs s d).parent ≡ None → (get_or xs s d).start ≡ m
 start-at m [] s d l h none = absurd (omega arith)
 start-at m (g ∷ xs) zero d l h none = h.0 none
 start-at m (g ∷ xs) (suc s) d l h none = start-at m xs s d (omega arith) h.1 none
 
-parts-starts : (m limit branch number : ℕ) (parent : Option ℕ) (start : ℕ) (cuts : List ℕ) → (parent ≡ None → start ≡ m) → Start m (parts limit branch number parent start cuts)
+parts-starts : (m : Stop) (limit branch number : ℕ) (parent : Option ℕ) (start : Stop) (cuts : List Stop) → (parent ≡ None → start ≡ m) → Start m (parts limit branch number parent start cuts)
 parts-starts m limit branch number parent start [] h = (h, tt)
 parts-starts m limit branch number parent start (c ∷ cs) h = (h, parts-starts m limit branch (number + 1) (Some number) c cs (λ none. cc none))
 
@@ -64,63 +70,95 @@ before-starts bs limit (suc b) =
     (parts-starts (stop_at bs 0) limit b (count_before bs b) (origin_of bs b) (stop_at bs b) (cuts_of bs b) (origin-starts bs b))
 
 -- and so with the root, at 0
-first-start : (c : CourseTold) (s : ℕ) → IsCourse c → s < length (segments_in c.plan) → (segment_at c.plan s).parent ≡ None → (segment_at c.plan s).start ≡ 0
+first-start : (c : CourseTold) (s : ℕ) → IsCourse c → s < length (segments_in c.plan) → (segment_at c.plan s).parent ≡ None → (segment_at c.plan s).start ≡ At 0
 first-start c s h l none =
     start-at (stop_at c.plan.branches 0) (segments_in c.plan) s no_segment l (before-starts c.plan.branches c.plan.limit (length c.plan.branches)) none ∙ h.rooted.stop
 
--- where a segment's end stands
-end-at : (c : CourseTold) (s : ℕ) → IsCourse c → s < length (segments_in c.plan) → IsAt c s (segment_at c.plan s).stop (segment_end c.opening c.plan (segment_at c.plan s)).state
-end-at c s h l =
-    let g = segment_at c.plan s in
-    let t = course-tree c h in
-    at-full c s g.stop (segment_end c.opening c.plan g).state h l (omega (arith, segment-starts c.opening c.plan s t l, rises-at c.plan s t l)) (omega arith)
-    (ap (λ (r : Run). r.state) (segment-ends c.opening c.plan s t l))
+-- the events before a segment's own
+abbrev from_events : CourseTold → ℕ → ℕ
+from_events c s = from_count c.opening c.plan (segment_at c.plan s)
+
+-- before a segment that goes on from no other there are none
+first-events : (c : CourseTold) (s : ℕ) → (segment_at c.plan s).parent ≡ None → from_events c s ≡ 0
+first-events c s none = ap (λ (x : Option ℕ). (parent_end c.opening c.plan x).state.events) none
 
 -- the state of a fork has the events of its segment's end
-end-count : (c : CourseTold) (s : ℕ) → IsCourse c → s < length (segments_in c.plan) → count_at c (record { segment = s; event = (segment_at c.plan s).stop }) ≡ end_events c s
-end-count c s h l = sym (ap (λ (r : Run). r.state.events) (segment-ends c.opening c.plan s (course-tree c h) l))
+end-count : (c : CourseTold) (s : ℕ) → count_at c (record { segment = s; event = fork_number (segment_at c.plan s).stop }) ≡ end_events c s
+end-count c s = ap (λ (k : State). k.events) (after-end c.opening c.plan (segment_at c.plan s))
 
--- the state at an event number that its segment passes has as many events
-passed-count : (c : CourseTold) (s n : ℕ) → IsCourse c → s < length (segments_in c.plan) → (segment_at c.plan s).start ≤ n → n ≤ (segment_at c.plan s).stop → n ≤ end_events c s
-    → count_at c (record { segment = s; event = n }) ≡ n
-passed-count c s n h l from to passes =
-    let k : State = state_at c (record { segment = s; event = n }) in
-    let at = at-full c s n k h l (omega (arith, segment-starts c.opening c.plan s (course-tree c h) l)) to refl in
-    elim (cases_lt n (end_events c s)) [
-      | inl less ↦ at.events less
-      | inr all ↦ omega (arith, ap (λ (x : State). x.events) (at.whole all))
-    ]
+-- the state at an event number at which a segment's run stands has as many events
+passed-count : (c : CourseTold) (s n : ℕ) → IsCourse c → s < length (segments_in c.plan) → from_events c s ≤ n → n ≤ end_events c s → count_at c (record { segment = s; event = n }) ≡ n
+passed-count c s n h l from to =
+    ap (λ (k : State). k.events) (standing-state c (record { segment = s; event = n }) h l from to) ∙ standing-events c s n h l from to
 
--- A segment that goes on in its own branch from an end before its stop has no event of its own.
-still-ended : (c : CourseTold) (s q : ℕ) → IsCourse c → s < length (segments_in c.plan) → q < length (segments_in c.plan) → (segment_at c.plan s).parent ≡ Some q
-    → (segment_at c.plan q).branch ≡ (segment_at c.plan s).branch → end_events c q < (segment_at c.plan q).stop → end_events c s ≡ end_events c q
-still-ended c s q h l k is same early =
+-- A segment that goes on in its own branch from an end before its start, an event number, has no event of its own.
+still-ended : (c : CourseTold) (s q m : ℕ) → IsCourse c → s < length (segments_in c.plan) → (segment_at c.plan s).parent ≡ Some q
+    → (segment_at c.plan q).branch ≡ (segment_at c.plan s).branch → (segment_at c.plan q).stop ≡ At m → end_events c q < m → end_events c s ≡ end_events c q
+still-ended c s q m h l is same stop early =
     let o = c.opening in
     let y = segment_end o c.plan (segment_at c.plan q) in
+    let first = begun o c.plan (segment_at c.plan q).branch in
+    let at : y ≡ until o m first = end-reach c q ∙ ap (λ (x : Stop). until_stop o x first) stop in
     elim (end_cases (end_of o y.state)) [
-      | inl going ↦ absurd (omega (arith, end-going c q h k going))
-      | inr over ↦ ap (λ (r : Run). r.state.events) (segment-next o c.plan s q (course-tree c h) l is same
-          ∙ advanced_by_ended ((segment_at c.plan s).stop - y.state.events) o y over.0 over.1)
+      | inl going ↦
+          let made = going-events (m - first.state.events) o first (subst (λ (r : Run). end_of o r.state ≡ None) at going) in
+          absurd (omega (arith, early, made, ap (λ (r : Run). r.state.events) at))
+      | inr over ↦ ap (λ (r : Run). r.state.events) (segment-next o c.plan s q (course-tree c h) h.limit l is same ∙ stop-ended o (segment_at c.plan s).stop y over.0 over.1)
     ]
 
--- A parent's end has all events up to its stop, or its child has none of its own.
-whole-or-ended : (c : CourseTold) (b s q : ℕ) → IsCourse c → IsWholeAtForks c b → IsOn c.plan (last_of c.plan.branches b) s → s < length (segments_in c.plan) → (segment_at c.plan s).parent ≡ Some q
-    → (end_events c q ≡ (segment_at c.plan s).start) ⊎ ((end_events c s ≡ end_events c q) × (end_events c q < (segment_at c.plan s).start))
-whole-or-ended c b s q h whole on l is =
-    let t = course-tree c h in
-    let parent = has_parent c.plan s q t l is in
-    let stop = parent-stop c s q h l is in
-    elim parent.joins [
-      | inl n ↦
-          let within = (end-at c q h (omega (arith, parent.earlier))).within in
-          elim (cases_lt (end_events c q) (segment_at c.plan q).stop) [
-            | inl less ↦ inr (still-ended c s q h l (omega (arith, parent.earlier)) is n.branch less, omega arith)
-            | inr more ↦ inl (omega arith)
-          ]
-      | inr n ↦
-          let under = t.parents (segment_at c.plan s).branch n.later (planned-at c.plan s t l).branch in
-          inl (whole s q on is (λ same. absurd (omega (arith, n.parent))) ∙ stop)
-    ]
+-- where one has events of its own, all events up to its start stood there
+next-start : (c : CourseTold) (s q : ℕ) (at : Stop) → IsCourse c → s < length (segments_in c.plan) → (segment_at c.plan s).parent ≡ Some q
+    → (segment_at c.plan q).branch ≡ (segment_at c.plan s).branch → (segment_at c.plan q).stop ≡ at → end_events c q < end_events c s → start_number at ≤ end_events c q
+next-start c s q (At m) h l is same stop own = elim (cases_lt (end_events c q) m) [
+  | inl early ↦ absurd (omega (arith, own, still-ended c s q m h l is same stop early))
+  | inr reached ↦ reached
+]
+next-start c s q (When w) h l is same stop own = omega arith
+
+whole-start : (at : Stop) (events : ℕ) → IsWhole at events → start_number at ≤ events
+whole-start (At n) events h = h
+whole-start (When w) events h = omega arith
+
+-- so the grid of a segment with events of its own begins no later than they
+start-from : (c : CourseTold) (b s : ℕ) → IsCourse c → IsWholeAtForks c b → IsOn c.plan (last_of c.plan.branches b) s → s < length (segments_in c.plan)
+    → from_events c s < end_events c s → start_number (segment_at c.plan s).start ≤ from_events c s
+start-from c b s h whole on l own = elim (parent_cases (segment_at c.plan s).parent) [
+  | inl none ↦ omega (arith, ap (λ (x : Stop). start_number x) (first-start c s h l none))
+  | inr some ↦
+      let q = some.0 in
+      let is = some.1 in
+      let t = course-tree c h in
+      let events = parent-events c s q is in
+      elim (has_parent c.plan s q t l is).joins [
+        | inl n ↦ omega (arith, events, next-start c s q (segment_at c.plan s).start h l is n.branch n.meets (omega (arith, own, events)))
+        | inr n ↦
+            let under = t.parents (segment_at c.plan s).branch n.later (planned-at c.plan s t l).branch in
+            let all = whole-start (segment_at c.plan q).stop (end_events c q) (whole s q on is (λ same. absurd (omega (arith, under, same, n.parent)))) in
+            let meets : start_number (segment_at c.plan q).stop ≡ start_number (segment_at c.plan s).start = ap (λ (x : Stop). start_number x) (n.meets ∙ sym n.start) in
+            omega (arith, events, all, meets)
+      ]
+]
+
+-- a segment that begins past its stop has no event of its own
+past-stop : (c : CourseTold) (s m : ℕ) → IsCourse c → s < length (segments_in c.plan) → (segment_at c.plan s).stop ≡ At m → m < from_events c s → end_events c s ≡ from_events c s
+past-stop c s m h l stop past =
+    let o = c.opening in
+    let g = segment_at c.plan s in
+    let first = started_at o c.plan g in
+    let count = started-events c s h l in
+    ap (λ (r : Run). r.state.events) (segment-copy o c.plan s (course-tree c h) h.limit l)
+    ∙ ap (λ (x : Stop). (until_stop o x first).state.events) stop
+    ∙ ap (λ (r : Run). r.state.events) (until-past o m first (omega (arith, past, count)))
+    ∙ count
+
+-- and the grid of one with events of its own ends no earlier than they
+stop-above : (c : CourseTold) (s n : ℕ) (stop : Stop) → IsCourse c → s < length (segments_in c.plan) → (segment_at c.plan s).stop ≡ stop → from_events c s < end_events c s → n < end_events c s
+    → n < stop_number c.plan.limit stop
+stop-above c s n (At m) h l is own less = elim (cases_lt m (from_events c s)) [
+  | inl past ↦ absurd (omega (arith, own, past-stop c s m h l is past))
+  | inr ahead ↦ omega (arith, less, segment-until c.opening c.plan s m (course-tree c h) h.limit l is ahead)
+]
+stop-above c s n (When w) h l is own less = omega (arith, less, h.limit, segment-within c.opening c.plan s (course-tree c h) h.limit l)
 
 -- a key stands in one of two lists
 in-front : (k : Key) (xs ys : List Key) → is_in k xs ≡ true → is_in k (xs ++ ys) ≡ true
@@ -141,28 +179,26 @@ sure-least c plan b e k i known on early =
 fork-least : (c : CourseTold) (plan : ShelfPlan) (b e stride s q : ℕ) → IsCourse c → IsLaidFor c.plan stride plan → s < length (segments_in c.plan) → (segment_at c.plan s).parent ≡ Some q
     → IsOn c.plan (last_of c.plan.branches b) q → end_events c q ≤ e → end_events c q ≤ sure c plan b e
 fork-least c plan b e stride s q h laid l is on early =
-    let t = course-tree c h in
-    let parent = has_parent c.plan s q t l is in
-    let lq : q < length (segments_in c.plan) = omega (arith, parent.earlier) in
-    let k : Key = record { segment = q; event = (segment_at c.plan q).stop } in
-    let here = laid.forks q lq parent.unfinished in
-    let count = end-count c q h lq in
+    let parent = has_parent c.plan s q (course-tree c h) l is in
+    let k : Key = record { segment = q; event = fork_number (segment_at c.plan q).stop } in
+    let here = laid.forks q (omega (arith, l, parent.earlier)) parent.unfinished in
+    let count = end-count c q in
     let least = sure-least c plan b e k (in-front k plan.forks plan.grid here)
-    (or_left (is_in k plan.forks) (is_sole plan k && is_passed c k.segment k.event) here) on (omega arith) in
+    (or_left (is_in k plan.forks) (is_sole plan k && is_passed c k.segment k.event) here) on (omega (arith, count, early)) in
     omega (arith, count, least)
 
 -- so is that at a grid key that its segment passes
-grid-least : (c : CourseTold) (plan : ShelfPlan) (b e stride s n : ℕ) → IsCourse c → IsLaidFor c.plan stride plan → AreAllSole plan → s < length (segments_in c.plan)
-    → IsOn c.plan (last_of c.plan.branches b) s → (segment_at c.plan s).start < n → n < (segment_at c.plan s).stop → n % stride ≡ 0 → n ≤ end_events c s → n ≤ e → n ≤ sure c plan b e
-grid-least c plan b e stride s n h laid sole l on above below at passes early =
+grid-least : (c : CourseTold) (plan : ShelfPlan) (b e stride s n : ℕ) → IsCourse c → IsLaidFor c.plan stride plan → AreAllSole plan → IsWholeAtForks c b → s < length (segments_in c.plan)
+    → IsOn c.plan (last_of c.plan.branches b) s → from_events c s < n → n < end_events c s → n % stride ≡ 0 → n ≤ e → n ≤ sure c plan b e
+grid-least c plan b e stride s n h laid sole whole l on above below at early =
     let k : Key = record { segment = s; event = n } in
-    let here = laid.grid s n l above below at in
-    let count = passed-count c s n h l (omega arith) (omega arith) passes in
-    let from = from_count c.opening c.plan (segment_at c.plan s) in
-    let begins : from < n = omega (arith, segment-starts c.opening c.plan s (course-tree c h) l) in
-    let passed = and-true (nat_lt from n) (nat_le n (end_events c s)) (lt-ltb from n begins) (le-leb n (end_events c s) passes) in
+    let own : from_events c s < end_events c s = omega (arith, above, below) in
+    let from = start-from c b s h whole on l own in
+    let here = laid.grid s n l (omega (arith, from, above)) (stop-above c s n (segment_at c.plan s).stop h l refl own below) at in
+    let count = passed-count c s n h l (omega (arith, above)) (omega (arith, below)) in
+    let passed = and-true (nat_lt (from_events c s) n) (nat_le n (end_events c s)) (lt-ltb (from_events c s) n above) (le-leb n (end_events c s) (omega (arith, below))) in
     let least = sure-least c plan b e k (in-back k plan.forks plan.grid here)
-    (or_right (is_in k plan.forks) (is_sole plan k && is_passed c k.segment k.event) (and-true (is_sole plan k) (is_passed c s n) (sole k here) passed)) on (omega arith) in
+    (or_right (is_in k plan.forks) (is_sole plan k && is_passed c k.segment k.event) (and-true (is_sole plan k) (is_passed c s n) (sole k here) passed)) on (omega (arith, count, early)) in
     omega (arith, count, least)
 
 -- a multiple of the stride is less than a number, and at most the stride before it
@@ -177,27 +213,26 @@ multiple-before stride e some more =
     let rest = mod-lt (e - 1) some in
     record { less = omega (arith, whole); near = omega (arith, whole, rest); at = mul-mod_left ((e - 1) / stride) stride }
 
--- what of a segment is past its start
+-- what of a segment is its own
 own-near : (c : CourseTold) (plan : ShelfPlan) (b e stride s : ℕ) → IsCourse c → 0 < stride → IsLaidFor c.plan stride plan → AreAllSole plan → IsWholeAtForks c b → s < length (segments_in c.plan)
-    → ((k : ℕ) → IsOn c.plan s k → IsOn c.plan (last_of c.plan.branches b) k) → (segment_at c.plan s).start < e → e ≤ end_events c s → e ≤ sure c plan b e + stride
+    → ((k : ℕ) → IsOn c.plan s k → IsOn c.plan (last_of c.plan.branches b) k) → from_events c s < e → e ≤ end_events c s → e ≤ sure c plan b e + stride
 own-near c plan b e stride s h some laid sole whole l on above most =
     let t = course-tree c h in
     let n = (e - 1) / stride * stride in
-    let before = multiple-before stride e some (omega arith) in
-    let within = (end-at c s h l).within in
-    elim (cases_lt (segment_at c.plan s).start n) [
-      | inl less ↦ omega (arith, before.near, grid-least c plan b e stride s n h laid sole l (on s (on-self c.plan s t l)) less (omega (arith, before.less, within)) before.at (omega (arith, before.less)) (omega (arith, before.less)))
-      | inr more ↦ elim (parent_cases (segment_at c.plan s).parent) [
-        | inl none ↦ omega (arith, before.near, first-start c s h l none)
+    let before = multiple-before stride e some (omega (arith, above)) in
+    elim (cases_lt (from_events c s) n) [
+      | inl past ↦
+          let least = grid-least c plan b e stride s n h laid sole whole l (on s (on-self c.plan s t l)) past (omega (arith, before.less, most)) before.at (omega (arith, before.less)) in
+          omega (arith, before.near, least)
+      | inr under ↦ elim (parent_cases (segment_at c.plan s).parent) [
+        | inl none ↦ omega (arith, before.near, under, first-events c s none)
         | inr parent ↦
             let q = parent.0 in
             let is = parent.1 in
-            let k = has_parent c.plan s q t l is in
-            let lq : q < length (segments_in c.plan) = omega (arith, k.earlier) in
-            elim (whole-or-ended c b s q h whole (on s (on-self c.plan s t l)) l is) [
-              | inl all ↦ omega (arith, before.near, all, fork-least c plan b e stride s q h laid l is (on q (on-more c.plan s q q t l is (on-self c.plan q t lq))) (omega (arith, all)))
-              | inr ended ↦ absurd (omega (arith, ended.0, ended.1))
-            ]
+            let lq : q < length (segments_in c.plan) = omega (arith, l, (has_parent c.plan s q t l is).earlier) in
+            let events = parent-events c s q is in
+            let least = fork-least c plan b e stride s q h laid l is (on q (on-more c.plan s q q t l is (on-self c.plan q t lq))) (omega (arith, events, above)) in
+            omega (arith, before.near, under, events, least)
       ]
     ]
 
@@ -205,14 +240,11 @@ own-near c plan b e stride s h some laid sole whole l on above most =
 step-near : (c : CourseTold) (plan : ShelfPlan) (b e stride s : ℕ) → IsCourse c → 0 < stride → IsLaidFor c.plan stride plan → AreAllSole plan → IsWholeAtForks c b → s < length (segments_in c.plan)
     → ((k : ℕ) → IsOn c.plan s k → IsOn c.plan (last_of c.plan.branches b) k)
     → ((q : ℕ) → (segment_at c.plan s).parent ≡ Some q → e ≤ end_events c q → e ≤ sure c plan b e + stride) → e ≤ end_events c s → e ≤ sure c plan b e + stride
-step-near c plan b e stride s h some laid sole whole l on up most = elim (cases_lt (segment_at c.plan s).start e) [
+step-near c plan b e stride s h some laid sole whole l on up most = elim (cases_lt (from_events c s) e) [
   | inl above ↦ own-near c plan b e stride s h some laid sole whole l on above most
   | inr below ↦ elim (parent_cases (segment_at c.plan s).parent) [
-    | inl none ↦ omega (arith, first-start c s h l none)
-    | inr parent ↦ elim (whole-or-ended c b s parent.0 h whole (on s (on-self c.plan s (course-tree c h) l)) l parent.1) [
-      | inl all ↦ up parent.0 parent.1 (omega (arith, all))
-      | inr ended ↦ up parent.0 parent.1 (omega (arith, ended.0))
-    ]
+    | inl none ↦ omega (arith, below, first-events c s none)
+    | inr parent ↦ up parent.0 parent.1 (omega (arith, below, parent-events c s parent.0 parent.1))
   ]
 ]
 

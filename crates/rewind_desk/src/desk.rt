@@ -62,9 +62,9 @@ fn reached<L: Ledger>(
     let last = course.last_segment(branch);
     let near = nearest_to(course, shelf, last, event);
     let most = lesser(event, course.opening().limit);
-    let kernel = reach(alloc, course, shelf, near, last, most, steps)?;
+    let arrival = reach(alloc, course, shelf, near, last, most, steps)?;
     Ok(Rewound {
-        kernel,
+        kernel: arrival.kernel,
         from: events_of(near),
     })
 }

@@ -6,7 +6,7 @@ ghost use Rattle.rewind_desk.specs.Nearest.{events_of, nearer_of};
 use shelf_core::Key;
 
 // A state that a closed shelf holds: its key, and how many events it has. These are fewer than its key says where its run ended
-// before.
+// before or stopped at a time.
 #[derive(Clone, Copy)]
 pub(crate) struct Near {
     pub(crate) key: Key,

@@ -3,20 +3,30 @@
 ghost use Rattle.std.specs.Prelude.{◌≡◌, ◌≢◌, ◌<◌, ◌≤◌, ◌+◌, ◌-◌, ◌^◌, min, None, Some, IfOk, IfSome, IfNone, length};
 ghost use Rattle.branch_tree.specs.Segments.{segments_in, segment_at};
 ghost use Rattle.kernel_core.specs.Step.{Fits};
-ghost use Rattle.kernel_core.specs.Until.{until};
-ghost use Rattle.kernel_copy.specs.Segmentwise.{from_count, segment_end};
+ghost use Rattle.kernel_copy.specs.UntilStop.{until_part};
+ghost use Rattle.kernel_copy.specs.Segmentwise.{afresh, segment_end};
 ghost use Rattle.rewind_desk.specs.Nearest.{IsHeld, events_of};
-ghost use Rattle.rewind_desk.specs.Reach.{IsAt, IsOn};
+ghost use Rattle.rewind_desk.specs.Reach.{IsAt, IsOn, RunsOn, has_more};
 
 use crate::near::Near;
+use branch_tree::Stop;
 use checkpoint_shelf::ClosedShelf;
 use kernel_copy::laws::courses_stay_in_range;
-use kernel_copy::{Checkpoint, Course, go_on};
+use kernel_copy::{Checkpoint, Course, Kept, Ran, go_on};
 use kernel_core::Kernel;
 use market_floor::Opening;
 use market_types::{Memory, Trace};
 use outside::{Ledger, Steps};
 use std::alloc::Global;
+
+// Where a run to so many events of a segment's branch came.
+#[derive(Drop)]
+pub(crate) struct Arrival {
+    // The kernel there.
+    pub(crate) kernel: Kernel,
+    // Whether the segment has more events than so many. If not, the kernel is at the segment's end.
+    pub(crate) has_more: bool,
+}
 
 // The lesser of two numbers.
 pub(crate) fn lesser(a: u32, b: u32) -> u32
@@ -42,28 +52,96 @@ fn own_of(near: Option<Near>, segment: u32) -> Option<Near>
     }
 }
 
-// Lets a kernel run until so many events stand.
+// Whether a kernel has one more event before a stop.
+fn has_more(o: &Opening, stop: Stop, kernel: &Kernel) -> bool
+    ensures { result ≡ has_more o.now stop kernel.now }
+{
+    match stop {
+        Stop::At(events) => match kernel.end(o) {
+            Some(_) => false,
+            None => kernel.events() < events,
+        },
+        Stop::When(time) => kernel.due_by(o, time),
+    }
+}
+
+// Lets a kernel run to a stop, and to no more than so many events.
 fn run_to<L: Ledger>(
     alloc: Global,
     o: &Opening,
+    stop: Stop,
     event: u32,
-    mut kernel: Kernel,
-    mut trace: Trace,
+    kernel: Kernel,
     steps: &mut Steps<L>,
 ) -> Result<Kernel, Memory>
     requires fits { Fits o.now kernel }
     requires early { kernel.events ≤ event }
     requires count { steps.old + (event - kernel.events) < 2 ^ 64 }
-    ensures state { IfOk result (λ k. k ≡ (until o.now event (record { state = kernel; entries = trace.list })).state) }
+    ensures state { IfOk result (λ k. k ≡ (until_part o.now stop event (afresh kernel)).state) }
     ensures ticks { IfOk result (λ k. steps.new + kernel.events ≡ steps.old + k.events) }
     ensures least { steps.old ≤ steps.new }
     ensures most { steps.new + kernel.events ≤ steps.old + event }
 {
-    kernel.run_until(alloc, o, event, &mut trace, steps)?;
+    let kept = Kept::Entries(Trace::new(alloc));
+    let mut ran = Ran { kept, kernel };
+    ran.run_to(alloc, o, stop, event, steps)?;
+    Ok(ran.kernel)
+}
+
+// Lets a kernel from which a segment's run goes on run until so many events stand or the segment ends.
+fn arrive<L: Ledger>(
+    alloc: Global,
+    course: &Course,
+    segment: u32,
+    event: u32,
+    kernel: Kernel,
+    steps: &mut Steps<L>,
+) -> Result<Arrival, Memory>
+    requires segment { segment < length (segments_in course.now.plan) }
+    requires fits { Fits course.now.opening kernel }
+    requires on { RunsOn course.now segment kernel }
+    requires early { kernel.events ≤ event }
+    requires within { event ≤ course.now.opening.limit }
+    requires count { steps.old + (event - kernel.events) < 2 ^ 64 }
+    ensures at { IfOk result (λ a. IsAt course.now segment event a.kernel a.has_more) }
+    ensures ticks { IfOk result (λ a. steps.new + kernel.events ≡ steps.old + a.kernel.events) }
+    ensures least { steps.old ≤ steps.new }
+    ensures most { steps.new + kernel.events ≤ steps.old + event }
+{
+    let o = course.opening();
+    let stop = course.segment(segment).stop;
+    let reached = run_to(alloc, o, stop, event, kernel, steps)?;
+    let more = has_more(o, stop, &reached);
+    Ok(Arrival {
+        kernel: reached,
+        has_more: more,
+    })
+}
+
+// A kernel in a state that the shelf holds, from which the run of its segment goes on.
+fn resumed(
+    alloc: Global,
+    course: &Course,
+    shelf: &ClosedShelf<Checkpoint>,
+    near: Near,
+) -> Result<Kernel, Memory>
+    requires shelf { shelf.now.course ≡ course.now }
+    requires near { IsHeld shelf.now near.events near }
+    ensures segment { near.key.segment < length (segments_in course.now.plan) }
+    ensures fits { IfOk result (λ k. Fits course.now.opening k) }
+    ensures on { IfOk result (λ k. RunsOn course.now near.key.segment k) }
+    ensures events { IfOk result (λ k. k.events ≡ near.events) }
+{
+    courses_stay_in_range();
+    let _ = course.opening();
+    let Some(kept) = shelf.get(near.key) else {
+        unreachable!()
+    };
+    let kernel = kept.resume(alloc)?;
     Ok(kernel)
 }
 
-// The state after so many events of a segment, from a state that the shelf holds of it.
+// The state after so many events of a segment, or its end, from a state that the shelf holds of it.
 fn from_near<L: Ledger>(
     alloc: Global,
     course: &Course,
@@ -71,50 +149,45 @@ fn from_near<L: Ledger>(
     near: Near,
     event: u32,
     steps: &mut Steps<L>,
-) -> Result<Kernel, Memory>
+) -> Result<Arrival, Memory>
     requires shelf { shelf.now.course ≡ course.now }
     requires near { IsHeld shelf.now event near }
-    requires within { event ≤ (segment_at course.now.plan near.key.segment).stop }
+    requires within { event ≤ course.now.opening.limit }
     requires count { steps.old + (event - near.events) < 2 ^ 64 }
-    ensures at { IfOk result (λ k. IsAt course.now near.key.segment event k) }
-    ensures ticks { IfOk result (λ k. steps.new + near.events ≡ steps.old + k.events) }
+    ensures at { IfOk result (λ a. IsAt course.now near.key.segment event a.kernel a.has_more) }
+    ensures ticks { IfOk result (λ a. steps.new + near.events ≡ steps.old + a.kernel.events) }
     ensures least { steps.old ≤ steps.new }
     ensures most { steps.new + near.events ≤ steps.old + event }
 {
-    courses_stay_in_range();
-    let Some(kept) = shelf.get(near.key) else {
-        unreachable!()
-    };
-    let kernel = kept.resume(alloc)?;
-    let trace = Trace::new(alloc);
-    let reached = run_to(alloc, course.opening(), event, kernel, trace, steps)?;
-    Ok(reached)
+    let kernel = resumed(alloc, course, shelf, near)?;
+    let arrival = arrive(alloc, course, near.key.segment, event, kernel, steps)?;
+    Ok(arrival)
 }
 
-// The state after so many events of a segment that goes on from no other, from the opening.
+// The state after so many events of a segment that goes on from no other, or its end, from the opening.
 fn from_opening<L: Ledger>(
     alloc: Global,
     course: &Course,
     segment: u32,
     event: u32,
     steps: &mut Steps<L>,
-) -> Result<Kernel, Memory>
+) -> Result<Arrival, Memory>
     requires segment { segment < length (segments_in course.now.plan) }
     requires first { (segment_at course.now.plan segment).parent ≡ None }
-    requires within { event ≤ (segment_at course.now.plan segment).stop }
+    requires within { event ≤ course.now.opening.limit }
     requires count { steps.old + event < 2 ^ 64 }
-    ensures at { IfOk result (λ k. IsAt course.now segment event k) }
-    ensures ticks { IfOk result (λ k. steps.new ≡ steps.old + k.events) }
+    ensures at { IfOk result (λ a. IsAt course.now segment event a.kernel a.has_more) }
+    ensures ticks { IfOk result (λ a. steps.new ≡ steps.old + a.kernel.events) }
     ensures least { steps.old ≤ steps.new }
     ensures most { steps.new ≤ steps.old + event }
 {
     let kernel = Kernel::open(alloc, course.opening())?;
-    let trace = Trace::new(alloc);
-    let reached = run_to(alloc, course.opening(), event, kernel, trace, steps)?;
-    Ok(reached)
+    let arrival = arrive(alloc, course, segment, event, kernel, steps)?;
+    Ok(arrival)
 }
 
-// The state after so many events of a segment, from its parent's end.
+// The state after so many events of a segment, or its end, from its parent's end, with its branch's edits made where it is the
+// branch's first.
 fn from_parent<L: Ledger>(
     alloc: Global,
     course: &Course,
@@ -123,58 +196,55 @@ fn from_parent<L: Ledger>(
     event: u32,
     mut kernel: Kernel,
     steps: &mut Steps<L>,
-) -> Result<Kernel, Memory>
+) -> Result<Arrival, Memory>
     requires segment { segment < length (segments_in course.now.plan) }
     requires parent { (segment_at course.now.plan segment).parent ≡ Some parent }
     requires end { kernel ≡ (segment_end course.now.opening course.now.plan (segment_at course.now.plan parent)).state }
     requires from { kernel.events ≤ event }
-    requires within { event ≤ (segment_at course.now.plan segment).stop }
+    requires within { event ≤ course.now.opening.limit }
     requires count { steps.old + (event - kernel.events) < 2 ^ 64 }
-    ensures at { IfOk result (λ k. IsAt course.now segment event k) }
-    ensures ticks { IfOk result (λ k. steps.new + kernel.events ≡ steps.old + k.events) }
+    ensures at { IfOk result (λ a. IsAt course.now segment event a.kernel a.has_more) }
+    ensures ticks { IfOk result (λ a. steps.new + kernel.events ≡ steps.old + a.kernel.events) }
     ensures least { steps.old ≤ steps.new }
     ensures most { steps.new + kernel.events ≤ steps.old + event }
 {
     let branch = course.segment(segment).branch;
     let mut trace = Trace::new(alloc);
     go_on(alloc, course, branch, parent, &mut kernel, &mut trace)?;
-    let reached = run_to(alloc, course.opening(), event, kernel, trace, steps)?;
-    Ok(reached)
+    let arrival = arrive(alloc, course, segment, event, kernel, steps)?;
+    Ok(arrival)
 }
 
-// The state after so many events of a segment, from the parent's branch after as many, or at the segment's start where that is
-// less: it goes on in the segment where the parent's run came to its end.
+// The state after so many events of a segment, or its end, from what was reached of its parent for as many: it goes on in the
+// segment where that is the parent's end.
 fn onward<L: Ledger>(
     alloc: Global,
     course: &Course,
     parent: u32,
     segment: u32,
     event: u32,
-    kernel: Kernel,
+    before: Arrival,
     steps: &mut Steps<L>,
-) -> Result<Kernel, Memory>
+) -> Result<Arrival, Memory>
     requires segment { segment < length (segments_in course.now.plan) }
     requires parent { (segment_at course.now.plan segment).parent ≡ Some parent }
-    requires at { IsAt course.now parent (min event (segment_at course.now.plan segment).start) kernel }
-    requires within { event ≤ (segment_at course.now.plan segment).stop }
-    requires count { steps.old + (event - kernel.events) < 2 ^ 64 }
-    ensures at { IfOk result (λ k. IsAt course.now segment event k) }
-    ensures ticks { IfOk result (λ k. steps.new + kernel.events ≡ steps.old + k.events) }
+    requires at { IsAt course.now parent event before.kernel before.has_more }
+    requires within { event ≤ course.now.opening.limit }
+    requires count { steps.old + (event - before.kernel.events) < 2 ^ 64 }
+    ensures at { IfOk result (λ a. IsAt course.now segment event a.kernel a.has_more) }
+    ensures ticks { IfOk result (λ a. steps.new + before.kernel.events ≡ steps.old + a.kernel.events) }
     ensures least { steps.old ≤ steps.new }
-    ensures most { steps.new + kernel.events ≤ steps.old + event }
+    ensures most { steps.new + before.kernel.events ≤ steps.old + event }
 {
-    let start = course.segment(segment).start;
-    if event >= start {
-        return from_parent(alloc, course, parent, segment, event, kernel, steps);
+    let _ = course.opening();
+    if before.has_more {
+        return Ok(before);
     }
-    match kernel.end(course.opening()) {
-        None => Ok(kernel),
-        Some(_) => from_parent(alloc, course, parent, segment, event, kernel, steps),
-    }
+    from_parent(alloc, course, parent, segment, event, before.kernel, steps)
 }
 
-// The state of a segment's branch after so many events, at most those to the segment's stop, from the nearest state that the
-// shelf holds of its chain, or else from the opening.
+// The state after so many events of a segment, or its end where that has no more, from the nearest state that the shelf holds
+// of its chain, or else from the opening.
 pub(crate) fn reach<L: Ledger>(
     alloc: Global,
     course: &Course,
@@ -183,15 +253,15 @@ pub(crate) fn reach<L: Ledger>(
     segment: u32,
     event: u32,
     steps: &mut Steps<L>,
-) -> Result<Kernel, Memory>
+) -> Result<Arrival, Memory>
     requires shelf { shelf.now.course ≡ course.now }
     requires segment { segment < length (segments_in course.now.plan) }
-    requires within { event ≤ (segment_at course.now.plan segment).stop }
+    requires within { event ≤ course.now.opening.limit }
     requires held { IfSome near (IsHeld shelf.now event) }
     requires chain { IfSome near (λ n. IsOn course.now.plan segment n.key.segment) }
     requires count { steps.old + (event - events_of near) < 2 ^ 64 }
-    ensures at { IfOk result (λ k. IsAt course.now segment event k) }
-    ensures ticks { IfOk result (λ k. steps.new + events_of near ≡ steps.old + k.events) }
+    ensures at { IfOk result (λ a. IsAt course.now segment event a.kernel a.has_more) }
+    ensures ticks { IfOk result (λ a. steps.new + events_of near ≡ steps.old + a.kernel.events) }
     ensures least { steps.old ≤ steps.new }
     ensures most { steps.new + events_of near ≤ steps.old + event }
 {
@@ -208,9 +278,8 @@ pub(crate) fn reach<L: Ledger>(
                     Ok(opened)
                 }
                 Some(parent) => {
-                    let stop = lesser(event, g.start);
-                    let kernel = reach(alloc, course, shelf, near, parent, stop, steps)?;
-                    let gone_on = onward(alloc, course, parent, segment, event, kernel, steps)?;
+                    let before = reach(alloc, course, shelf, near, parent, event, steps)?;
+                    let gone_on = onward(alloc, course, parent, segment, event, before, steps)?;
                     Ok(gone_on)
                 }
             }

@@ -1,8 +1,12 @@
-//! Nearest states on worked examples.
+//! Nearest states, and states before a stop, on worked examples.
 
-ghost use Rattle.std.specs.Prelude.{◌≡◌, ◌∷◌, [], None, Some, nat_le};
+ghost use Rattle.std.specs.Prelude.{◌≡◌, ◌∷◌, [], None, Some, nat_le, true, false};
+ghost use Rattle.branch_tree.specs.declared.stop.Stop.TheVariants as stop;
+ghost use Rattle.market_floor.specs.OpeningWorked.{market, watcher};
+ghost use Rattle.kernel_core.specs.Open.{opened};
 ghost use Rattle.rewind_desk.specs.Best.{most_among};
 ghost use Rattle.rewind_desk.specs.Nearest.{nearer_of};
+ghost use Rattle.rewind_desk.specs.Reach.{has_more};
 ghost use Rattle.rewind_desk.specs.Worked.{key_at, near_at};
 
 /// Of three keys whose states have 5, 9 and 2 events the one with 5 has the most up to 7; none has up to 1.
@@ -16,4 +20,14 @@ pub fn the_nearer_of_two()
     ensures more { nearer_of (Some (near_at 0 5)) (Some (near_at 1 3)) ≡ Some (near_at 0 5) }
     ensures same { nearer_of (Some (near_at 0 5)) (Some (near_at 1 5)) ≡ Some (near_at 1 5) }
     ensures alone { nearer_of (Some (near_at 0 5)) None ≡ Some (near_at 0 5) }
+{}
+
+/// Two watchers wake at 1000. Before an event number that stands there is no more, nor before a time at which nothing is due,
+/// nor before any stop where nobody wakes.
+pub fn more_before_a_stop()
+    ensures number { has_more (market 1005 0 (watcher 1000 ∷ watcher 1000 ∷ [])) (stop.At 1) (opened (market 1005 0 (watcher 1000 ∷ watcher 1000 ∷ []))) ≡ true }
+    ensures stands { has_more (market 1005 0 (watcher 1000 ∷ watcher 1000 ∷ [])) (stop.At 0) (opened (market 1005 0 (watcher 1000 ∷ watcher 1000 ∷ []))) ≡ false }
+    ensures time { has_more (market 1005 0 (watcher 1000 ∷ watcher 1000 ∷ [])) (stop.When 1000) (opened (market 1005 0 (watcher 1000 ∷ watcher 1000 ∷ []))) ≡ true }
+    ensures early { has_more (market 1005 0 (watcher 1000 ∷ watcher 1000 ∷ [])) (stop.When 999) (opened (market 1005 0 (watcher 1000 ∷ watcher 1000 ∷ []))) ≡ false }
+    ensures quiet { has_more (market 1005 0 []) (stop.At 100) (opened (market 1005 0 [])) ≡ false }
 {}

@@ -17,7 +17,7 @@ FeedsOf c = (b e : ℕ) → All HasFeed (full c.opening c.plan b e).entries
 
 -- what the law of ranges says of it
 abbrev pub StatesOf : CourseTold → Type 0
-StatesOf c = (b e : ℕ) → b < length c.plan.branches → IsReached c.opening 2032 (full c.opening c.plan b e).state
+StatesOf c = (b e : ℕ) → b < length c.plan.branches → IsReached c.opening 4080 (full c.opening c.plan b e).state
 
 abbrev Is : CourseTold → BranchTold → Type 0
 Is c x = IsBranch (length c.opening.stocks) (length c.opening.traders + 1) x

@@ -1,5 +1,5 @@
 -- The feed of each entry of a run is of the kinds by which reading splits it.
-use Rattle.std.proofs.Common.{◌≡◌, ◌∙◌, ℕ, ◌+◌, ◌-◌, zero, suc, Bool, true, false, ◌&&◌, ◌||◌, cond, ltb, List, [], ◌∷◌, ◌++◌, Option, Some, None, option_map, is_some, slice_index, refl, ap, All}
+use Rattle.std.proofs.Common.{◌≡◌, ◌∙◌, ℕ, ◌+◌, ◌-◌, zero, suc, Bool, true, false, ◌&&◌, ◌||◌, cond, ltb, List, [], ◌∷◌, ◌++◌, Option, Some, None, option_map, is_some, slice_index, refl, ap, sym, subst, All}
 use Rattle.std.specs.Prelude.{◌==◌, nat_lt, nat_le, if◌then◌else◌}
 use Rattle.std.specs.List.{list_all}
 use Rattle.std.proofs.lemmas.Bool.{eq-eqb}
@@ -38,6 +38,7 @@ use Rattle.exchange_agent.specs.Settle.{Way, all_settled, settled}
 use Rattle.exchange_agent.specs.State.{State as Exchange, stock_at, with_stock}
 use Rattle.event_queue.specs.Waiting.{least}
 use Rattle.branch_tree.specs.declared.branch.Branch.{Branch}
+use Rattle.branch_tree.specs.declared.stop.Stop.{Stop}
 use Rattle.branch_tree.specs.Plan.{Plan, branch_at, stop_at}
 use Rattle.market_floor.specs.declared.opening.Opening.{Opening}
 use Rattle.market_floor.specs.Floor.{FloorState, party_at}
@@ -47,6 +48,8 @@ use Rattle.kernel_core.specs.State.{State}
 use Rattle.kernel_core.specs.Step.{Happened, end_of, event_back, event_delivered, event_of, in_force}
 use Rattle.kernel_core.specs.Until.{Run, with_event, advanced, advanced_by, until}
 use Rattle.kernel_core.specs.Edited.{edited_one, edited_from, mark_of}
+use Rattle.kernel_copy.specs.UntilStop.{until_stop}
+use Rattle.trace_bundle.proofs.Origins.{stop-some}
 use Rattle.kernel_copy.specs.Full.{opening_run, edited_by, forks_of, full_along, full}
 use Rattle.bundle_reader.specs.Order.{is_trading, is_of_orders}
 use Rattle.bundle_reader.specs.Bundle.{HasFeed, is_own}
@@ -218,6 +221,9 @@ feed-by (suc n) o r h = feed-by n o (advanced o r) (feed-advanced o r h)
 feed-until : (o : Opening) (stop : ℕ) (r : Run) → All HasFeed r.entries → All HasFeed (until o stop r).entries
 feed-until o stop r h = feed-by (stop - r.state.events) o r h
 
+feed-stop : (o : Opening) (s : Stop) (r : Run) → All HasFeed r.entries → All HasFeed (until_stop o s r).entries
+feed-stop o s r h = let p = stop-some o s r in subst (λ (q : Run). All HasFeed q.entries) (sym p.1) (feed-by p.0 o r h)
+
 feed-edit : (b i : ℕ) (e : Edit) (r : Run) → All HasFeed r.entries → All HasFeed (edited_one b i e r).entries
 unfolding edited_one
 feed-edit b i e r h = feed-push r.entries (edited_entry (mark_of b i e r.state)) h (mark-feed b i e r.state)
@@ -229,8 +235,8 @@ feed-edits b i (e ∷ es) r h = feed-edits b (i + 1) es (edited_one b i e r) (fe
 feed-along : (o : Opening) (bs : List Branch) (n : ℕ) (cs : List ℕ) (r : Run) → All HasFeed r.entries → All HasFeed (full_along o bs n cs r).entries
 feed-along o bs n [] r h = feed-until o n r h
 feed-along o bs n (b ∷ cs) r h =
-    let t = until o (stop_at bs b) r in
-    let more = feed-along o bs n cs (edited_by bs b t) (feed-edits b 0 (branch_at bs b).edits t (feed-until o (stop_at bs b) r h)) in
+    let t = until_stop o (stop_at bs b) r in
+    let more = feed-along o bs n cs (edited_by bs b t) (feed-edits b 0 (branch_at bs b).edits t (feed-stop o (stop_at bs b) r h)) in
     let stays = feed-until o n r h in
     elim (nat_le t.state.events n) as (λ x. All HasFeed (if x then full_along o bs n cs (edited_by bs b t) else until o n r).entries) [ true ↦ more | false ↦ stays ]
 

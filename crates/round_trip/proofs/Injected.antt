@@ -11,12 +11,13 @@ use Rattle.market_floor.specs.Opening.{IsOpening, IsStock}
 use Rattle.market_floor.specs.Reaction.{no_rules}
 use Rattle.kernel_core.specs.Until.{Run, until}
 use Rattle.kernel_copy.specs.Courses.{CourseTold, IsCourse}
+use Rattle.kernel_copy.specs.UntilStop.{until_stop}
 use Rattle.kernel_copy.specs.Full.{edited_by, forks_of, full, full_along, opening_run}
 use Rattle.round_trip.specs.Fields.{HasEventTexts}
 use Rattle.round_trip.specs.Spelled.{AreMessagesSpelled, HasMessageTexts}
 use Rattle.round_trip.proofs.Reactions.{HasNames, opened-spelled}
 use Rattle.round_trip.proofs.Replies.{all-at}
-use Rattle.round_trip.proofs.Steps.{IsSpelledRun, edits-spelled, state-opened, until-spelled}
+use Rattle.round_trip.proofs.Steps.{IsSpelledRun, edits-spelled, state-opened, stop-spelled, until-spelled}
 use Rattle.round_trip.proofs.Texts.{symbol-in}
 
 names-are : (o : Opening) → IsOpening o → HasNames o
@@ -42,8 +43,8 @@ branch-spelled o bs b r names edits h =
 along-spelled : (o : Opening) (bs : List Branch) (n : ℕ) (cs : List ℕ) (r : Run) → HasNames o → AreEditsSpelled bs → IsSpelledRun o r → IsSpelledRun o (full_along o bs n cs r)
 along-spelled o bs n [] r names edits h = until-spelled o n r names h
 along-spelled o bs n (b ∷ cs) r names edits h =
-    let t = until o (stop_at bs b) r in
-    let more = along-spelled o bs n cs (edited_by bs b t) names edits (branch-spelled o bs b t names edits (until-spelled o (stop_at bs b) r names h)) in
+    let t = until_stop o (stop_at bs b) r in
+    let more = along-spelled o bs n cs (edited_by bs b t) names edits (branch-spelled o bs b t names edits (stop-spelled o (stop_at bs b) r names h)) in
     let stays = until-spelled o n r names h in
     elim (nat_le t.state.events n) as (λ x. IsSpelledRun o (if x then full_along o bs n cs (edited_by bs b t) else until o n r)) [ true ↦ more | false ↦ stays ]
 

@@ -28,6 +28,7 @@ use Rattle.itch_codec.specs.Messages.{feed_wire}
 use Rattle.bundle_frames.specs.Layouts.{edit_kinds}
 use Rattle.bundle_frames.specs.Wires.{edit_wire}
 use Rattle.branch_tree.specs.declared.branch.Branch.{Branch}
+use Rattle.branch_tree.specs.declared.stop.Stop.{Stop}
 use Rattle.branch_tree.specs.Paths.{path_of, path_within}
 use Rattle.branch_tree.specs.Plan.{branch_at, no_branch, parent_at, stop_at}
 use Rattle.branch_tree.specs.Planned.{IsTree}
@@ -44,9 +45,11 @@ use Rattle.kernel_core.specs.Edited.{IsEditOf, edited_from, edited_one, mark_of}
 use Rattle.kernel_core.proofs.Runs.{advanced_ended, advanced_going, event-events, going_below, next-time}
 use Rattle.kernel_core.proofs.Stops.{end_cases, next-message}
 use Rattle.kernel_copy.specs.Courses.{CourseTold, AreEdits, IsCourse}
+use Rattle.kernel_copy.specs.UntilStop.{until_stop}
 use Rattle.kernel_copy.specs.Full.{opening_run, edited_by, forks_of, full_along, full}
 use Rattle.kernel_copy.proofs.Opened.{opened-stocks}
 use Rattle.kernel_copy.proofs.Trees.{course-few, course-tree}
+use Rattle.trace_bundle.proofs.Origins.{stop-some}
 use Rattle.round_trip.proofs.Adds.{HasFeedTexts, reaction-texts, text-at}
 use Rattle.round_trip.proofs.Around.{byte-in, four, six, two}
 use Rattle.round_trip.proofs.Symbols.{change-symbols, edit-symbols, event-symbols, opened-symbols, opening_symbols, ruled-symbols, symbols}
@@ -201,6 +204,9 @@ marked-by (suc n) o r is h = marked-by n o (advanced o r) is (marked-advanced o 
 marked-until : (o : Opening) (n : ℕ) (r : Run) → IsOpening o → IsMarkedRun o r → IsMarkedRun o (until o n r)
 marked-until o n r is h = marked-by (n - r.state.events) o r is h
 
+marked-stop : (o : Opening) (s : Stop) (r : Run) → IsOpening o → IsMarkedRun o r → IsMarkedRun o (until_stop o s r)
+marked-stop o s r is h = let p = stop-some o s r in subst (λ (q : Run). IsMarkedRun o q) (sym p.1) (marked-by p.0 o r is h)
+
 marked-edit : (o : Opening) (b i : ℕ) (e : Edit) (r : Run) → IsOpening o → IsEditOf (opened o) e → b < 65536 → i < 65536 → IsMarkedRun o r → IsMarkedRun o (edited_one b i e r)
 unfolding edited_one
 marked-edit o b i e r is k p q h = record {
@@ -228,19 +234,19 @@ marked-along : (o : Opening) (bs : List Branch) (n : ℕ) (cs : List ℕ) (r : R
     → IsMarkedRun o (full_along o bs n cs r)
 marked-along o bs n [] r is k small h = marked-until o n r is h
 marked-along o bs n (b ∷ cs) r is k small h =
-    let t = until o (stop_at bs b) r in
+    let t = until_stop o (stop_at bs b) r in
     let own = edits-of o bs b k in
-    let made = marked-edits o b 0 (branch_at bs b).edits t is own.fit (All-head IsSmall b cs small) (omega (arith, own.few)) (marked-until o (stop_at bs b) r is h) in
+    let made = marked-edits o b 0 (branch_at bs b).edits t is own.fit (All-head IsSmall b cs small) (omega (arith, own.few)) (marked-stop o (stop_at bs b) r is h) in
     let more = marked-along o bs n cs (edited_by bs b t) is k (All-tail IsSmall b cs small) made in
     let stays = marked-until o n r is h in
     elim (nat_le t.state.events n) as (λ x. IsMarkedRun o (if x then full_along o bs n cs (edited_by bs b t) else until o n r)) [ true ↦ more | false ↦ stays ]
 
-parent-small : (bs : List Branch) (limit b : ℕ) → IsTree bs limit → length bs ≤ 128 → (b == 0) ≡ false → b < length bs → parent_at bs b < length bs
+parent-small : (bs : List Branch) (limit b : ℕ) → IsTree bs limit → length bs ≤ 256 → (b == 0) ≡ false → b < length bs → parent_at bs b < length bs
 parent-small bs limit b tree few e l =
     let more : 0 < b = first_of (grind (arith, nat_tests), cc) in
     omega (arith, tree.parents b more l, l)
 
-path-small : (n : ℕ) (bs : List Branch) (limit b : ℕ) → IsTree bs limit → length bs ≤ 128 → b < length bs → All IsSmall (path_within n bs b)
+path-small : (n : ℕ) (bs : List Branch) (limit b : ℕ) → IsTree bs limit → length bs ≤ 256 → b < length bs → All IsSmall (path_within n bs b)
 path-small zero bs limit b tree few l = All-cons IsSmall b [] (omega (arith, few, l)) (All-nil IsSmall)
 path-small (suc n) bs limit b tree few l =
     let one = All-cons IsSmall b [] (omega (arith, few, l)) (All-nil IsSmall) in

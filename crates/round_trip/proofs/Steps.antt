@@ -1,5 +1,5 @@
 -- Each event of a run has its texts in their ranges, where those of the messages have that edits inject.
-use Rattle.std.proofs.Common.{◌≡◌, ℕ, zero, suc, ◌+◌, ◌-◌, true, false, cond, ltb, List, [], ◌∷◌, ◌++◌, Option, Some, None, option_map, is_some, slice_index, All, refl}
+use Rattle.std.proofs.Common.{◌≡◌, ℕ, zero, suc, ◌+◌, ◌-◌, true, false, cond, ltb, List, [], ◌∷◌, ◌++◌, Option, Some, None, option_map, is_some, slice_index, All, refl, sym, subst}
 use Rattle.std.proofs.lemmas.List.Elements.{All-append, All-cons, All-head, All-nil, All-tail}
 use Rattle.market_types.specs.declared.entry.End.{End}
 use Rattle.market_types.specs.declared.message.Message.{Message}
@@ -10,6 +10,7 @@ use Rattle.latency_model.specs.Tables.{Tables}
 use Rattle.agent_shell.specs.declared.setting.TraderSetting.{TraderSetting}
 use Rattle.event_queue.specs.Waiting.{least, without}
 use Rattle.event_queue.proofs.Kept.{all-joined, all-least, all-without}
+use Rattle.branch_tree.specs.declared.stop.Stop.{Stop}
 use Rattle.market_floor.specs.declared.opening.Opening.{Opening}
 use Rattle.market_floor.specs.declared.posting.Posting.{Posting}
 use Rattle.market_floor.specs.declared.posting.Posting.TheVariants.{To, WakeAt}
@@ -22,6 +23,8 @@ use Rattle.kernel_core.specs.Open.{opened, woken}
 use Rattle.kernel_core.specs.State.{State}
 use Rattle.kernel_core.specs.Step.{Happened, end_of, event_back, event_delivered, event_of, in_force}
 use Rattle.kernel_core.specs.Until.{Run, advanced, advanced_by, until, with_event}
+use Rattle.kernel_copy.specs.UntilStop.{until_stop}
+use Rattle.trace_bundle.proofs.Origins.{stop-some}
 use Rattle.round_trip.specs.Fields.{HasBodyTexts, HasEventTexts}
 use Rattle.round_trip.specs.Spelled.{HasMessageTexts}
 use Rattle.round_trip.proofs.Reactions.{HasNames, HasPostingTexts, IsSpelledFloor, edit-spelled, reaction-spelled, ruled-spelled}
@@ -109,6 +112,9 @@ by-spelled (suc n) o r names h = by-spelled n o (advanced o r) names (advanced-s
 
 pub until-spelled : (o : Opening) (stop : ℕ) (r : Run) → HasNames o → IsSpelledRun o r → IsSpelledRun o (until o stop r)
 until-spelled o stop r names h = by-spelled (stop - r.state.events) o r names h
+
+pub stop-spelled : (o : Opening) (s : Stop) (r : Run) → HasNames o → IsSpelledRun o r → IsSpelledRun o (until_stop o s r)
+stop-spelled o s r names h = let p = stop-some o s r in subst (λ (q : Run). IsSpelledRun o q) (sym p.1) (by-spelled p.0 o r names h)
 
 -- ---- edits
 

@@ -14,8 +14,9 @@ use Rattle.kernel_copy.specs.Courses.{CourseTold, IsCourse}
 use Rattle.kernel_copy.specs.Full.{full_run}
 use Rattle.kernel_copy.proofs.Opened.{few-traders}
 use Rattle.kernel_copy.proofs.Trees.{course-few, course-tree}
-use Rattle.trace_bundle.specs.Bundle.{parent_written}
+use Rattle.trace_bundle.specs.Bundle.{parent_written, stop_written}
 use Rattle.trace_bundle.specs.Feed.{opening_feed, system_event}
+use Rattle.trace_bundle.proofs.Origins.{stop-within}
 use Rattle.bundle_reader.specs.Frames.{HasRanges, payload}
 use Rattle.bundle_reader.specs.declared.frame.Frame.{Frame}
 use Rattle.bundle_reader.specs.declared.frame.Frame.TheVariants as frame
@@ -59,21 +60,21 @@ entries-in stocks (edit d ∷ xs) marked events =
     (All-cons (HasRanges stocks) here (feed_list d.feed) own.0 (messages-in stocks d.feed own.1))
     (entries-in stocks xs (All-tail IsMarkedInRange (edit d) xs marked) (All-tail (IsEventInRange stocks) (edit d) xs events))
 
-parent-in : (c : CourseTold) (b : ℕ) → IsTree c.plan.branches c.plan.limit → length c.plan.branches ≤ 128 → b < length c.plan.branches → parent_written c b < 65536
+parent-in : (c : CourseTold) (b : ℕ) → IsTree c.plan.branches c.plan.limit → length c.plan.branches ≤ 256 → b < length c.plan.branches → parent_written c b < 65536
 parent-in c b tree few l = elim (cases_eq b 0) [
   | inl e ↦ rw (eq-eqb b 0 e) (omega arith)
   | inr other ↦ rw (ne_eqb b 0 other) (omega (arith, tree.parents b (omega (arith, other)) l, few, l))
 ]
 
 frame-in : (c : CourseTold) (b : ℕ) → IsCourse c → All (λ (x : Branch). IsNameLength (length x.name)) c.plan.branches → b < length c.plan.branches
-    → InCourse c (frame.Branch (record { branch = b; parent = parent_written c b; stop = (branch_at c.plan.branches b).stop; name = (branch_at c.plan.branches b).name }))
+    → InCourse c (frame.Branch (record { branch = b; parent = parent_written c b; stop = stop_written c b; name = (branch_at c.plan.branches b).name }))
 frame-in c b is names l =
     let x = branch_at c.plan.branches b in
     let tree = course-tree c is in
     let few = course-few c is in
     let name : IsNameLength (length x.name) = All-get_or (λ (y : Branch). IsNameLength (length y.name)) c.plan.branches b no_branch l names in (
-      branch-in b (parent_written c b) x.stop x.name (omega (arith, few, l)) (parent-in c b tree few l)
-          (omega (arith, tree.limits b l, is.limit, is.opening.limit)) (omega (arith, name.few)),
+      branch-in b (parent_written c b) (stop_written c b) x.name (omega (arith, few, l)) (parent-in c b tree few l)
+          (omega (arith, stop-within c b is l, is.opening.limit)) (omega (arith, name.few)),
       name,
     )
 
@@ -82,7 +83,7 @@ branch-ranges c b is ranges states l =
     let o = c.opening in
     let r = full_run o c.plan b in
     let run = ranges.runs b l in
-    let first = frame.Branch (record { branch = b; parent = parent_written c b; stop = (branch_at c.plan.branches b).stop; name = (branch_at c.plan.branches b).name }) in
+    let first = frame.Branch (record { branch = b; parent = parent_written c b; stop = stop_written c b; name = (branch_at c.plan.branches b).name }) in
     let entries : All (InCourse c) (flat_map entry_list (as_read r.entries)) = subst (λ (fs : List Frame). All (InCourse c) fs) (sym (same-frames r.entries)) (entries-in (Some (length o.stocks)) r.entries (marked-full c b o.limit is l) run.events) in
     let time : r.state.time < 281474976710656 = omega (arith, (states b o.limit l).close, is.opening.close) in
     let last = frame.Message (system_event r.state.time 67) in

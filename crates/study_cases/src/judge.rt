@@ -70,7 +70,7 @@ fn ran<R: Threads + Wait + Sync>(
 ) -> Result<Ended, AllocError> {
     let words = words_of(alloc, line)?;
     let mut library = library_of(alloc, given)?;
-    let mut out = sink(alloc, 65_536)?;
+    let mut out = sink(alloc, 1_000_000)?;
     let mut notes = sink(alloc, 100)?;
     let mut probes: Vec<Box<dyn Probe>> = Vec::new(alloc);
     probes.push(Box::new(alloc, Volume::new())?)?;

@@ -14,6 +14,7 @@ fn main(rt: HostRuntime) -> Result<()> {
     let alloc = rt.alloc();
     tell_cases(&rt, alloc, "cases.tsv")?;
     tell_cases(&rt, alloc, "drawn.tsv")?;
+    tell_cases(&rt, alloc, "times.tsv")?;
     tell_cuts(&rt, alloc, "small.toml")?;
     tell_turns(&rt, alloc, "small.toml")
 }

@@ -14,9 +14,9 @@ use Rattle.study_market.specs.Forms.{top_keys, exchange_keys, latency_keys}
 abbrev pub top_keys_broken : Members → Option ℕ
 top_keys_broken t = broken_key [] top_keys t
 
--- the version is 1
+-- the version is 1 or 2
 abbrev pub version_broken : Members → Option ℕ
-version_broken t = broken_unless (has_between (pos 1) (pos 1) (codes "version") t) 0
+version_broken t = broken_unless (has_between (pos 1) (pos 2) (codes "version") t) 0
 
 -- the key has 64 lower-case hexadecimal digits
 abbrev pub is_key : List ℕ → Bool

@@ -39,11 +39,11 @@ pub fn top_keys_broken(table: &Table) -> Option<u32>
     )
 }
 
-/// Whether the version isn't 1.
+/// Whether the version is neither 1 nor 2.
 pub fn version_broken(table: &Table) -> Option<u32>
     ensures { result ≡ rule_2 (table_view table.now) }
 {
-    broken_unless(has_between(table, "version", 1, 1), 0)
+    broken_unless(has_between(table, "version", 1, 2), 0)
 }
 
 // Whether a text has 64 digits of lower-case hexadecimal.

@@ -8,7 +8,9 @@ ghost use Rattle.study_market.specs.Opening.{opening_of, IsAccepted};
 use crate::SeriesTables;
 use crate::change_parts::dated_list;
 use crate::latencies::latencies;
-use crate::market_parts::{close, exchange_group, exchange_natural, key, limit, start, takes_hidden_orders};
+use crate::market_parts::{
+    close, exchange_group, exchange_natural, key, limit, start, takes_hidden_orders,
+};
 use crate::series::all_series;
 use crate::stock_parts::stock_rules;
 use crate::traders::all_traders;

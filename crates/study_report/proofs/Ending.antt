@@ -13,6 +13,7 @@ use Rattle.kernel_core.specs.Until.{Run, until}
 use Rattle.kernel_core.proofs.EditRuns.{edited-events}
 use Rattle.kernel_core.proofs.Runs.{going_below}
 use Rattle.kernel_core.proofs.Stops.{end_cases, going-events}
+use Rattle.kernel_copy.specs.UntilStop.{until_stop}
 use Rattle.kernel_copy.specs.Full.{opening_run, edited_by, forks_of, full_along, full}
 use Rattle.study_report.specs.Tables.{ending_of, lettered}
 
@@ -33,7 +34,7 @@ until-ends o r h = elim (end_cases (end_of o (until o o.limit r).state)) [
 along-ends : (o : Opening) (bs : List Branch) (cs : List ℕ) (r : Run) → r.state.events ≤ o.limit → IsSome (end_of o (full_along o bs o.limit cs r).state)
 along-ends o bs [] r h = until-ends o r h
 along-ends o bs (b ∷ cs) r h =
-    let t = until o (stop_at bs b) r in
+    let t = until_stop o (stop_at bs b) r in
     let keeps = edited-events b (branch_at bs b).edits t in
     elim (cases_lt o.limit t.state.events) [
       | inl past ↦ rw (lt-leb t.state.events o.limit past) (until-ends o r h)

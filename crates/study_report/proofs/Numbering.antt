@@ -8,13 +8,16 @@ use Rattle.market_types.specs.Told.{EventTold, EditTold, EntryTold, event, edit}
 use Rattle.market_rules.specs.declared.edit.Edit.{Edit}
 use Rattle.event_queue.specs.Waiting.{least}
 use Rattle.branch_tree.specs.declared.branch.Branch.{Branch}
+use Rattle.branch_tree.specs.declared.stop.Stop.{Stop}
 use Rattle.branch_tree.specs.Plan.{Plan, branch_at, stop_at}
 use Rattle.market_floor.specs.declared.opening.Opening.{Opening}
 use Rattle.kernel_core.specs.Step.{Happened, event_of, end_of}
 use Rattle.kernel_core.specs.Until.{Run, with_event, advanced, advanced_by, until}
 use Rattle.kernel_core.specs.Edited.{edited_one, edited_from}
 use Rattle.kernel_core.proofs.Runs.{event-number, event-events}
+use Rattle.kernel_copy.specs.UntilStop.{until_stop}
 use Rattle.kernel_copy.specs.Full.{opening_run, edited_by, forks_of, full_along, full}
+use Rattle.trace_bundle.proofs.Origins.{stop-some}
 use Rattle.study_report.specs.Difference.{events_in, AreNumbered}
 use Rattle.study_report.proofs.ReportParts.{events_in-append}
 
@@ -57,6 +60,9 @@ counted-by (suc n) o r c = counted-by n o (advanced o r) (counted-advanced o r c
 counted-until : (o : Opening) (stop : ℕ) (r : Run) → IsCounted r → IsCounted (until o stop r)
 counted-until o stop r c = counted-by (stop - r.state.events) o r c
 
+counted-stop : (o : Opening) (s : Stop) (r : Run) → IsCounted r → IsCounted (until_stop o s r)
+counted-stop o s r c = let p = stop-some o s r in subst IsCounted (sym p.1) (counted-by p.0 o r c)
+
 -- edits are no records
 counted-edit : (b i : ℕ) (e : Edit) (r : Run) → IsCounted r → IsCounted (edited_one b i e r)
 unfolding edited_one
@@ -74,8 +80,8 @@ counted-edits b i (e ∷ es) r c = counted-edits b (i + 1) es (edited_one b i e 
 counted-along : (o : Opening) (bs : List Branch) (n : ℕ) (cs : List ℕ) (r : Run) → IsCounted r → IsCounted (full_along o bs n cs r)
 counted-along o bs n [] r c = counted-until o n r c
 counted-along o bs n (b ∷ cs) r c =
-    let t = until o (stop_at bs b) r in
-    let more = counted-along o bs n cs (edited_by bs b t) (counted-edits b 0 (branch_at bs b).edits t (counted-until o (stop_at bs b) r c)) in
+    let t = until_stop o (stop_at bs b) r in
+    let more = counted-along o bs n cs (edited_by bs b t) (counted-edits b 0 (branch_at bs b).edits t (counted-stop o (stop_at bs b) r c)) in
     let stays = counted-until o n r c in
     elim (nat_le t.state.events n) as (λ x. IsCounted (if x then full_along o bs n cs (edited_by bs b t) else until o n r)) [ true ↦ more | false ↦ stays ]
 

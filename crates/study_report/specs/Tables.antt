@@ -2,11 +2,12 @@
 use Rattle.std.specs.Prelude.{ℕ, ℤ, zero, suc, ◌==◌, if◌then◌else◌, List, [], ◌∷◌, ◌++◌, length, map, Option, None, Some, unwrap_or}
 use Rattle.market_types.specs.declared.entry.End.{End}
 use Rattle.market_types.specs.declared.entry.End.TheVariants.{Quiet, Closed, EventLimit, QueueFull}
-use Rattle.branch_tree.specs.Plan.{branch_at, parent_at, stop_at}
+use Rattle.branch_tree.specs.Plan.{branch_at, parent_at}
 use Rattle.kernel_core.specs.Step.{end_of}
 use Rattle.kernel_core.specs.Until.{Run}
 use Rattle.kernel_copy.specs.Full.{full_run}
 use Rattle.kernel_copy.specs.Courses.{CourseTold}
+use Rattle.trace_bundle.specs.Bundle.{stop_written}
 use Rattle.probe_desk.specs.Probe.{Meaning, column_of}
 use Rattle.study_report.specs.declared.row.TableRow.{TableRow}
 use Rattle.study_report.specs.Difference.{first_difference_of}
@@ -43,7 +44,7 @@ abbrev pub row_of : CourseTold → List Meaning → ℕ → TableRow
 row_of c meanings b = record {
   name = (branch_at c.plan.branches b).name;
   parent = parent_name c b;
-  stop = stop_at c.plan.branches b;
+  stop = stop_written c b;
   events = (run_of c b).state.events;
   end = ending_of (end_of c.opening (run_of c b).state);
   difference = difference c b;

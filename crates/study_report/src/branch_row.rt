@@ -14,7 +14,8 @@ use kernel_copy::Course;
 use market_types::{End, Memory, Sequence};
 use probe_desk::{Probe, restart_all, values, watch};
 use std::alloc::Global;
-use trace_bundle::Ran;
+use trace_bundle::laws::listed_runs_are_runs;
+use trace_bundle::{Ran, stop_written};
 
 // What each probe says of the full run of a branch, which it sees in order from its opening on.
 fn columns<W: Ran>(
@@ -123,11 +124,13 @@ pub fn row<W: Ran>(
     let difference = first_difference(alloc, course, ran, branch)?;
     let values = columns(alloc, course, ran, branch, probes)?;
     let (events, end) = ended(course, ran, branch);
+    listed_runs_are_runs();
+    let stop = stop_written(course, ran, branch);
     let b = &course.plan().branches()[usize::from(branch)];
     Ok(TableRow {
         name: b.name.copy(),
         parent: left_name(course, branch),
-        stop: b.stop,
+        stop,
         events,
         end,
         difference,

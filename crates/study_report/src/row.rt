@@ -10,7 +10,7 @@ pub struct TableRow {
     pub name: Name,
     /// The name of the branch that it leaves; the root leaves none.
     pub parent: Option<Name>,
-    /// The event number at which it leaves.
+    /// The event number at which it leaves; where it leaves at a time, the number of events by which that time was reached.
     pub stop: u32,
     /// How many events its run has.
     pub events: u32,

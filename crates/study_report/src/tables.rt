@@ -34,8 +34,8 @@ fn rows<W: Ran>(
 
 /// The table of a study in comma-separated values, from a run of its segments that holds their entries themselves: a line of
 /// heads, and then a row for each branch in order. A row has the branch's name, that of the branch that it leaves, the event
-/// number at which it leaves, how many events its full run has and what ended it, the first event number at which the run
-/// differs from its parent's, and the number of each probe.
+/// number at which it leaves or how many events came by the time at which it does, how many events its full run has and what
+/// ended it, the first event number at which the run differs from its parent's, and the number of each probe.
 ///
 /// Each probe opens anew before each branch, the first too, and sees the records of the branch's full run in order, from
 /// the opening. Its meaning and its title stay, whatever is answered.

@@ -69,12 +69,3 @@ all-beside test ds h =
 abbrev pub Each : {X : Type 0} → (X → Type 0) → List X → Type 0
 Each P [] = Unit {0}
 Each P (x ∷ xs) = P x × Each P xs
-
-each-from : {X : Type 0} (test : X → Bool) (i : ℕ) (xs : List X) → position_from (λ x. not (test x)) i xs ≡ None → Each (λ x. test x ≡ true) xs
-each-from test i [] h = tt
-each-from test i (x ∷ xs) h =
-    let parts = none-if (not (test x)) i (position_from (λ y. not (test y)) (i + 1) xs) h in
-    (not-false (test x) parts.0, each-from test (i + 1) xs parts.1)
-
-pub each-passes : {X : Type 0} (test : X → Bool) (xs : List X) → position (λ x. not (test x)) xs ≡ None → Each (λ x. test x ≡ true) xs
-each-passes test xs h = each-from test 0 xs (sym (position_from-zero (λ x. not (test x)) xs) ∙ h)

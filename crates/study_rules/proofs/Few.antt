@@ -9,26 +9,37 @@ use Rattle.toml.specs.Data.{Data, Members, no_members, as_integer, as_table, get
 use Rattle.study_file.specs.Values.{is_between, string_at}
 use Rattle.study_market.specs.AgentRules.{agents, count_found, count_in, count_of, left_after, first_too_many, counts_broken}
 use Rattle.study_rules.specs.Entries.{entry_of, branch_entries}
-use Rattle.study_rules.specs.BranchRules.{is_branch, first_no_branch, branch_keys_broken}
+use Rattle.study_rules.specs.BranchRules.{has_times, most_branches, is_branch, first_no_branch, branch_keys_broken}
 use Rattle.study_rules.specs.Scope.{kinds_of}
 
-not-last : (place : ℕ) (b : Bool) → place ≤ 127 → (place == 127 || b) ≡ false → place + 1 ≤ 127
-not-last place true le h = grind (arith, nat_tests, le, h)
-not-last place false le h = grind (arith, nat_tests, le, h)
+pub most-few : (times : Bool) → most_branches times ≤ 255
+most-few true = omega arith
+most-few false = omega arith
 
-branches-if : (b : Bool) (place : ℕ) (d : Data) (ds : List Data) → place ≤ 127 → (place == 127 || not (is_branch d)) ≡ b
-    → ((place + 1 ≤ 127) → first_no_branch (place + 1) ds ≡ None → place + 1 + length ds ≤ 127)
-    → (if b then Some place else first_no_branch (place + 1) ds) ≡ None → place + suc (length ds) ≤ 127
-branches-if true place d ds le e more h = absurd (cc h)
-branches-if false place d ds le e more h = let fewer : place + 1 + length ds ≤ 127 = more (not-last place (not (is_branch d)) le e) h in omega (arith, fewer)
+not-last : (most place : ℕ) (b : Bool) → place ≤ most → (place == most || b) ≡ false → place + 1 ≤ most
+not-last most place true le h = grind (arith, nat_tests, le, h)
+not-last most place false le h = grind (arith, nat_tests, le, h)
 
-few-from : (place : ℕ) (ds : List Data) → place ≤ 127 → first_no_branch place ds ≡ None → place + length ds ≤ 127
-few-from place [] le h = omega (arith, le)
-few-from place (d ∷ ds) le h =
-    branches-if (place == 127 || not (is_branch d)) place d ds le refl (λ room none. few-from (place + 1) ds room none) h
+branches-if : (times b : Bool) (place : ℕ) (d : Data) (ds : List Data) → place ≤ most_branches times → (place == most_branches times || not (is_branch times d)) ≡ b
+    → ((place + 1 ≤ most_branches times) → first_no_branch times (place + 1) ds ≡ None → place + 1 + length ds ≤ most_branches times)
+    → (if b then Some place else first_no_branch times (place + 1) ds) ≡ None → place + suc (length ds) ≤ most_branches times
+branches-if times true place d ds le e more h = absurd (cc h)
+branches-if times false place d ds le e more h =
+    let fewer : place + 1 + length ds ≤ most_branches times = more (not-last (most_branches times) place (not (is_branch times d)) le e) h in
+    omega (arith, fewer)
 
-pub few-branches : (t : Members) → branch_keys_broken t ≡ None → length (branch_entries t) ≤ 127
-few-branches t h = let few : 0 + length (branch_entries t) ≤ 127 = few-from 0 (branch_entries t) (omega arith) h in omega (arith, few)
+few-from : (times : Bool) (place : ℕ) (ds : List Data) → place ≤ most_branches times → first_no_branch times place ds ≡ None
+    → place + length ds ≤ most_branches times
+few-from times place [] le h = omega (arith, le)
+few-from times place (d ∷ ds) le h =
+    branches-if times (place == most_branches times || not (is_branch times d)) place d ds le refl
+    (λ room none. few-from times (place + 1) ds room none) h
+
+pub few-branches : (t : Members) → branch_keys_broken t ≡ None → length (branch_entries t) ≤ 255
+few-branches t h =
+    let times : Bool = has_times t in
+    let few : 0 + length (branch_entries t) ≤ most_branches times = few-from times 0 (branch_entries t) (omega arith) h in
+    omega (arith, few, most-few times)
 
 -- the count of an entry, where it is a number
 count-found : (o : Option Data) (n : ℤ) → count_found o ≡ Some n → unsigned_abs (unwrap_or (option_and_then as_integer o) (pos 1)) ≡ unsigned_abs n

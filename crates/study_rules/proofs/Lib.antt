@@ -4,6 +4,10 @@ pub mod Beside
 pub mod Scopes
 pub mod Texts
 pub mod Held
+pub mod Tests
+pub mod Parents
+pub mod StopRanges
+pub mod StopKinds
 pub mod Single
 pub mod Planned
 pub mod Orders
@@ -11,3 +15,4 @@ pub mod Fits
 pub mod Making
 pub mod Accepting
 pub mod Editing
+pub mod FirstVersion

@@ -1,17 +1,17 @@
 -- What holds of each branch where the rules of branches hold.
-use Rattle.std.proofs.Common.{◌≡◌, ◌≤◌, ◌<◌, ◌++◌, ℕ, zero, suc, ℤ, pos, negsuc, nat_le, true, List, [], ◌∷◌, map, length, get_or, sym, arith, subst, Ok, Err}
-use Rattle.std.specs.Prelude.{not, int_le, Result, IfOk}
-use Rattle.std.proofs.lemmas.Bool.{and_parts, and_from}
-use Rattle.std.proofs.lemmas.Bool.Decides.{nat_tests}
+use Rattle.std.proofs.Common.{◌≡◌, ◌≤◌, ◌<◌, ◌++◌, ℕ, zero, suc, pos, true, List, [], ◌∷◌, map, length, get_or, sym, arith, subst, Ok, Err}
+use Rattle.std.specs.Prelude.{◌||◌, not, Result, IfOk}
+use Rattle.std.proofs.lemmas.Bool.{and_parts}
 use Rattle.toml.specs.Data.{Data, Members}
 use Rattle.toml.specs.View.{view}
 use Rattle.toml.specs.declared.value.Value.{Value}
 use Rattle.study_file.specs.Tables.{is_named}
 use Rattle.study_file.specs.Values.{is_between}
-use Rattle.study_rules.specs.Entries.{branch_entries, name_in, parent_in, stop_in}
-use Rattle.study_rules.specs.BranchRules.{is_name, names_of, has_new_name, has_stop, stop_named, events_of}
-use Rattle.study_rules.proofs.Beside.{AllBeside, Each, all-beside, each-passes}
+use Rattle.study_rules.specs.Entries.{branch_entries, name_in, is_timed, stop_in}
+use Rattle.study_rules.specs.BranchRules.{is_name, names_of, has_new_name, is_stop, has_stop, events_of}
+use Rattle.study_rules.proofs.Beside.{AllBeside, Each, all-beside}
 use Rattle.study_rules.proofs.Held.{AreHeld}
+use Rattle.study_rules.proofs.StopRanges.{each-stop, few-stop}
 
 each-at : (P : Data → Type 0) (vs : List Value) (i : ℕ) (v : Value) → i < length vs → Each P (map view vs) → P (view (get_or vs i v))
 each-at P [] i v within h = absurd (omega (arith, within))
@@ -29,23 +29,14 @@ name-at t held vs i v same within =
     each-at (λ d. is_name (name_in d) ≡ true) vs i v within
     (subst (λ ds. Each (λ d. is_name (name_in d) ≡ true) ds) (sym same) (each-name [] (branch_entries t) (all-beside has_new_name (branch_entries t) held.names)))
 
-wider : (z : ℤ) (low high : ℕ) → low ≤ high → is_between (pos 0) (pos low) z ≡ true → is_between (pos 0) (pos high) z ≡ true
-wider (pos n) low high le h =
-    let parts = and_parts (nat_le 0 n) (nat_le n low) h in
-    and_from (nat_le 0 n) (nat_le n high) parts.0 (grind (arith, nat_tests, parts.1, le))
-wider (negsuc n) low high le h = absurd (cc h)
-
 pub stop-within : (t : Members) → AreHeld t → (vs : List Value) (i : ℕ) (v : Value) → map view vs ≡ branch_entries t → i < length vs
-    → events_of t ≤ 1000000 → is_between (pos 0) (pos 1000000) (stop_in (view (get_or vs i v))) ≡ true
+    → events_of t ≤ 1000000 → (is_timed (view (get_or vs i v)) || is_between (pos 0) (pos 1000000) (stop_in (view (get_or vs i v)))) ≡ true
 stop-within t held vs i v same within few =
-    let all : Each (λ d. has_stop (events_of t) (branch_entries t) d ≡ true) (branch_entries t)
-    = each-passes (has_stop (events_of t) (branch_entries t)) (branch_entries t) held.stops in
-    let here : has_stop (events_of t) (branch_entries t) (view (get_or vs i v)) ≡ true
-    = each-at (λ d. has_stop (events_of t) (branch_entries t) d ≡ true) vs i v within
-    (subst (λ ds. Each (λ d. has_stop (events_of t) (branch_entries t) d ≡ true) ds) (sym same) all) in
-    let parts = and_parts (is_between (pos 0) (pos (events_of t)) (stop_in (view (get_or vs i v))))
-    (int_le (stop_named (branch_entries t) (parent_in (view (get_or vs i v)))) (stop_in (view (get_or vs i v)))) here in
-    wider (stop_in (view (get_or vs i v))) (events_of t) 1000000 few parts.0
+    let ds = branch_entries t in
+    let all : Each (λ d. is_stop t d ≡ true) ds = each-stop t ds [] ds (all-beside (has_stop t ds) ds held.stops) in
+    let here : is_stop t (view (get_or vs i v)) ≡ true
+    = each-at (λ d. is_stop t d ≡ true) vs i v within (subst (λ xs. Each (λ d. is_stop t d ≡ true) xs) (sym same) all) in
+    few-stop t (view (get_or vs i v)) 1000000 few here
 
 pub if-ok : {A E : Type 0} (r : Result A E) (P Q : A → Type 0) → ((a : A) → P a → Q a) → IfOk r P → IfOk r Q
 if-ok (Ok a) P Q f h = f a h

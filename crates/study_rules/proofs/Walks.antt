@@ -1,5 +1,5 @@
 -- Lemmas on walks over branches and their edits.
-use Rattle.std.proofs.Common.{◌≡◌, ◌≤◌, ◌<◌, ◌+◌, ℕ, zero, suc, ℤ, pos, get_or, Bool, true, false, List, [], ◌∷◌, map, length, Option, None, Some, IfSome, refl, ap, sym, ◌∙◌, arith, nat_le, if◌then◌else◌}
+use Rattle.std.proofs.Common.{◌≡◌, ◌≤◌, ◌<◌, ◌+◌, ℕ, zero, suc, get_or, Bool, true, false, List, [], ◌∷◌, map, length, Option, None, Some, IfSome, refl, ap, sym, ◌∙◌, arith, nat_le, if◌then◌else◌}
 use Rattle.std.specs.Prelude.{Result, Ok, Err, IfOk, not, option_map, slice_index_or}
 use Rattle.std.specs.Option.{option_or}
 use Rattle.std.proofs.lemmas.Bool.Decides.{nat_tests}
@@ -10,7 +10,7 @@ use Rattle.study_file.specs.Keys.{has_form, passes}
 use Rattle.study_file.specs.Values.{first_failing}
 use Rattle.study_file.proofs.KeyLists.{position-found}
 use Rattle.study_rules.specs.Forms.{edit_form}
-use Rattle.study_rules.specs.Entries.{edits_in, stop_in}
+use Rattle.study_rules.specs.Entries.{edits_in}
 use Rattle.study_rules.specs.BranchRules.{first_edit, forms_broken}
 use Rattle.study_rules.specs.Scope.{Scope}
 use Rattle.study_rules.specs.EditRules.{is_edit}
@@ -64,11 +64,12 @@ pub below-few : (r : Option ℕ) (n most : ℕ) → n ≤ most → IfSome r (λ 
 below-few None n most le h = tt
 below-few (Some k) n most le h = omega (arith, h, le)
 
-pub stop-here : (vs : List Value) (i : ℕ) (v : Value) (z : ℤ) → i < length vs → v ≡ get_or vs i v → z ≡ stop_in (view v)
-    → z ≡ slice_index_or (map stop_in (map view vs)) i (pos 0)
-stop-here [] i v z h is e = absurd (omega (arith, h))
-stop-here (x ∷ xs) zero v z h is e = e ∙ ap (λ u. stop_in (view u)) is
-stop-here (x ∷ xs) (suc i) v z h is e = stop-here xs i v z (omega (arith, h)) is e
+-- what is read of the entry at a place
+pub read-here : {X : Type 0} (read : Data → X) (default : X) (vs : List Value) (i : ℕ) (v : Value) (z : X) → i < length vs → v ≡ get_or vs i v
+    → z ≡ read (view v) → z ≡ slice_index_or (map read (map view vs)) i default
+read-here read default [] i v z h is e = absurd (omega (arith, h))
+read-here read default (x ∷ xs) zero v z h is e = e ∙ ap (λ u. read (view u)) is
+read-here read default (x ∷ xs) (suc i) v z h is e = read-here read default xs i v z (omega (arith, h)) is e
 
 below-found : (scope : Scope) (es : List Data) (r : Option ℕ) → length es ≤ 16 → r ≡ first_failing (is_edit scope) es → IfSome r (λ at. at < 16)
 below-found scope es r few e =

@@ -3,11 +3,12 @@ use Rattle.std.specs.Prelude.{ℕ, List, [], ◌∷◌, codes}
 use Rattle.study_file.specs.Keys.{KeyRule, Form, needed, spare, own}
 use Rattle.study_file.specs.declared.keys.Kind.TheVariants.{Number, Text, HexText, Tables, Pairs}
 
-abbrev pub branch_keys : List KeyRule
-branch_keys =
+-- the keys of a branch whose stop stands at a key
+abbrev pub branch_keys : List ℕ → List KeyRule
+branch_keys stop =
     needed (codes "name") Text
     ∷ needed (codes "parent") Text
-    ∷ needed (codes "at") Number
+    ∷ needed stop Number
     ∷ spare (codes "edit") Tables
     ∷ []
 

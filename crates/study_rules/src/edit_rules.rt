@@ -401,7 +401,7 @@ fn first_edit_broken(
     place: u32,
     branches: &[Value],
 ) -> Result<Option<u32>, Memory>
-    requires room { place + 16 * length branches.now ≤ 2048 }
+    requires room { place + 16 * length branches.now ≤ 4096 }
     requires forms { first_edit forms_of place (map view branches.now) ≡ None }
     ensures { IfOk result (λ found. found ≡ first_edit (first_failing_of (edit_among rule.now.scope)) place (map view branches.now)) }
 {

@@ -5,16 +5,24 @@ ghost use Rattle.toml.specs.View.{table_view, view};
 ghost use Rattle.study_file.specs.Keys.{has_keys as keys_in, has_form as form_in};
 ghost use Rattle.study_rules.specs.Forms.{branch_keys, edit_form};
 ghost use Rattle.study_rules.specs.Entries.{branch_entries as entries_of};
-ghost use Rattle.study_rules.specs.BranchRules.{is_branch as branch_in, first_no_branch as no_branch_from, branch_keys_broken as rule_30, edit_keys_broken as rule_34, forms_broken as forms_of, first_edit};
+ghost use Rattle.study_rules.specs.BranchRules.{has_times as times_in, most_branches as most_of, has_branch_keys as branch_keys_in, is_branch as branch_in, first_no_branch as no_branch_from, branch_keys_broken as rule_30, edit_keys_broken as rule_34, forms_broken as forms_of, first_edit};
 
 use crate::entries::{branch_edits, branch_entries};
 use study_file::{
-    EntryRule, Kind, Table, Value, first_failing, has_form, has_keys, needed, own, spare,
+    EntryRule, Kind, Table, Value, first_failing, has_between, has_form, has_keys, needed, own,
+    spare,
 };
 
-// Whether a branch has its keys with their types and no other.
-fn has_branch_keys(branch: &Table) -> bool
-    ensures { result ≡ keys_in [] branch_keys (table_view branch.now) }
+// Whether a study is of version 2, in which branches may leave their parents at times.
+fn has_times(table: &Table) -> bool
+    ensures { result ≡ times_in (table_view table.now) }
+{
+    has_between(table, "version", 2, 2)
+}
+
+// Whether a branch whose stop stands at this key has its keys with their types and no other.
+fn has_keys_with(branch: &Table, stop: &str) -> bool
+    ensures { result ≡ keys_in [] (branch_keys stop.now) (table_view branch.now) }
 {
     has_keys(
         branch,
@@ -22,51 +30,67 @@ fn has_branch_keys(branch: &Table) -> bool
         &[
             needed("name", Kind::Text),
             needed("parent", Kind::Text),
-            needed("at", Kind::Number),
+            needed(stop, Kind::Number),
             spare("edit", Kind::Tables),
         ],
     )
 }
 
+// Whether a branch has its keys with their types and no other: `at`, or `when` in its place where a stop may be a time.
+fn has_branch_keys(times: bool, branch: &Table) -> bool
+    ensures { result ≡ branch_keys_in times (table_view branch.now) }
+{
+    has_keys_with(branch, "at") || (times && has_keys_with(branch, "when"))
+}
+
 // Whether a value is such a branch.
-fn is_branch(value: &Value) -> bool
-    ensures { result ≡ branch_in (view value.now) }
+fn is_branch(times: bool, value: &Value) -> bool
+    ensures { result ≡ branch_in times (view value.now) }
 {
     match value.as_table() {
-        Some(branch) => has_branch_keys(branch),
+        Some(branch) => has_branch_keys(times, branch),
         None => false,
     }
 }
 
-// The place of the first value that is no branch, where the first one stands at a place; the one after 127 is one too many.
-fn first_no_branch(place: u32, values: &[Value]) -> Option<u32>
-    requires { place ≤ 127 }
-    ensures { result ≡ no_branch_from place (map view values.now) }
+// The most branches of a study beside the root: more where a stop may be a time.
+fn most_branches(times: bool) -> u32
+    ensures value { result ≡ most_of times }
+    ensures few { result ≤ 255 }
+{
+    if times { 255 } else { 127 }
+}
+
+// The place of the first value that is no branch, where the first one stands at a place; one more than the most is one too
+// many.
+fn first_no_branch(times: bool, place: u32, values: &[Value]) -> Option<u32>
+    requires { place ≤ most_of times }
+    ensures { result ≡ no_branch_from times place (map view values.now) }
 {
     match values.split_first() {
         Some((value, rest)) => {
-            if place == 127 || !is_branch(value) {
+            if place == most_branches(times) || !is_branch(times, value) {
                 Some(place)
             } else {
-                first_no_branch(place + 1, rest)
+                first_no_branch(times, place + 1, rest)
             }
         }
         None => None,
     }
 }
 
-/// The first branch that hasn't its keys with their types and no other; 127 for too many.
+/// The first branch that hasn't its keys with their types and no other; for too many 127 in version 1 and 255 in version 2.
 pub fn branch_keys_broken(table: &Table) -> Option<u32>
     ensures { result ≡ rule_30 (table_view table.now) }
 {
-    first_no_branch(0, branch_entries(table))
+    first_no_branch(has_times(table), 0, branch_entries(table))
 }
 
-/// The entries of the branches, of which there are at most 127.
+/// The entries of the branches, of which there are at most 255.
 pub fn few_branches(table: &Table) -> &[Value]
     requires { rule_30 (table_view table.now) ≡ None }
     ensures entries { map view result.now ≡ entries_of (table_view table.now) }
-    ensures few { length result.now ≤ 127 }
+    ensures few { length result.now ≤ 255 }
 {
     branch_entries(table)
 }
@@ -133,7 +157,7 @@ fn forms_broken(edits: &[Value]) -> Option<u32>
 
 // The same over branches, the edits of the first of which stand from a place on.
 fn first_form_broken(place: u32, branches: &[Value]) -> Option<u32>
-    requires room { place + 16 * length branches.now ≤ 2048 }
+    requires room { place + 16 * length branches.now ≤ 4096 }
     ensures { result ≡ first_edit forms_of place (map view branches.now) }
 {
     match branches.split_first() {

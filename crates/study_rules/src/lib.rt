@@ -4,6 +4,7 @@
 mod edit_rules;
 mod entries;
 mod keys;
+pub mod laws;
 mod made;
 mod names;
 mod refusal;

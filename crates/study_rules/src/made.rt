@@ -1,6 +1,6 @@
 //! The branches of a study.
 
-ghost use Rattle.std.specs.Prelude.{◌≡◌, ◌≤◌, ◌++◌, true, pos, List, [], map, length, None, IfOk, OnOk, All};
+ghost use Rattle.std.specs.Prelude.{◌≡◌, ◌≤◌, ◌++◌, ◌||◌, true, pos, List, [], map, length, None, IfOk, OnOk, All};
 ghost use Rattle.std.specs.List.{filter_map, cons_option};
 ghost use Rattle.toml.specs.View.{table_view, view};
 ghost use Rattle.branch_tree.specs.declared.branch.Branch.{Branch};
@@ -11,20 +11,20 @@ ghost use Rattle.study_market.specs.MarketRules.{size_of, limits_broken as rule_
 ghost use Rattle.study_market.specs.StockRules.{stocks, stock_count_broken as rule_10};
 ghost use Rattle.study_market.specs.FirstBroken.{first_of_rules};
 ghost use Rattle.study_market.specs.AgentRules.{agents, counts_broken as rule_25};
-ghost use Rattle.study_rules.specs.Entries.{entry_of, name_in, stop_in};
+ghost use Rattle.study_rules.specs.Entries.{entry_of, name_in, is_timed as timed_in, stop_in};
 ghost use Rattle.study_rules.specs.BranchRules.{is_name as name_text, events_of};
 ghost use Rattle.study_rules.specs.EditRules.{edit_in as edit_of};
 ghost use Rattle.study_rules.specs.FirstBroken.{branch_rules};
-ghost use Rattle.study_rules.specs.Branches.{root_branch, number_named as number_of, branch_of, branches_of};
+ghost use Rattle.study_rules.specs.Branches.{root_branch, number_named as number_of, stop_of, branch_of, branches_of};
 ghost use Rattle.study_rules.specs.Scope.{kinds_of};
 ghost use Rattle.study_rules.specs.Fitting.{word_of, AreEditsAmong};
 
 use crate::edit_rules::edit_in;
-use crate::entries::{branch_edits, branch_name, branch_stop, parent_name};
+use crate::entries::{branch_edits, branch_name, branch_stop, is_timed, parent_name};
 use crate::keys::few_branches;
 use crate::names::place_named;
 use crate::scope::{Scope, study_scope};
-use branch_tree::{Branch, Name};
+use branch_tree::{Branch, Name, Stop};
 use market_rules::Edit;
 use market_types::{Memory, Sequence};
 use std::alloc::Global;
@@ -40,7 +40,7 @@ fn root(alloc: Global) -> Branch
     Branch {
         name,
         parent: 0,
-        stop: 0,
+        stop: Stop::At(0),
         edits: Sequence::empty(alloc),
     }
 }
@@ -58,12 +58,25 @@ fn read_name(branch: &Value) -> Name
 
 // The number of the branch of a name; the root is 0.
 fn number_named(branches: &[Value], name: &str) -> u16
-    requires few { length branches.now ≤ 127 }
+    requires few { length branches.now ≤ 255 }
     ensures { result ≡ number_of (map view branches.now) name.now }
 {
     match place_named(branches, name) {
         Some(at) => at as u16 + 1,
         None => 0,
+    }
+}
+
+// Where a branch leaves its parent: at a time, or at an event number of at most 1,000,000.
+fn read_stop(branch: &Value) -> Stop
+    requires { (timed_in (view branch.now) || is_between (pos 0) (pos 1000000) (stop_in (view branch.now))) ≡ true }
+    ensures { result ≡ stop_of (view branch.now) }
+{
+    let number = branch_stop(branch).unsigned_abs();
+    if is_timed(branch) {
+        Stop::When(number)
+    } else {
+        Stop::At(number as u32)
     }
 }
 
@@ -105,16 +118,16 @@ fn read_branch(
     branches: &[Value],
     branch: &Value,
 ) -> Result<Branch, Memory>
-    requires few { length branches.now ≤ 127 }
+    requires few { length branches.now ≤ 255 }
     requires name { name_text (name_in (view branch.now)) ≡ true }
-    requires stop { is_between (pos 0) (pos 1000000) (stop_in (view branch.now)) ≡ true }
+    requires stop { (timed_in (view branch.now) || is_between (pos 0) (pos 1000000) (stop_in (view branch.now))) ≡ true }
     ensures { IfOk result (λ b. b ≡ branch_of scope.now (map view branches.now) (view branch.now)) }
 {
     let edits = read_edits(alloc, scope, branch_edits(branch))?;
     Ok(Branch {
         name: read_name(branch),
         parent: number_named(branches, parent_name(branch)),
-        stop: branch_stop(branch).unsigned_abs() as u32,
+        stop: read_stop(branch),
         edits: Sequence::new(edits),
     })
 }

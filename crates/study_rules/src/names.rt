@@ -100,9 +100,9 @@ fn parent_place(branches: &[Value]) -> Option<usize>
     place_of_parent(branches)
 }
 
-// The first of at most 127 branches whose name is none, or is the root's or one's before it.
+// The first of at most 255 branches whose name is none, or is the root's or one's before it.
 fn first_bad_name(branches: &[Value]) -> Option<u32>
-    requires { length branches.now ≤ 127 }
+    requires { length branches.now ≤ 255 }
     ensures { result ≡ failing_beside new_name (map view branches.now) }
 {
     match name_place(branches) {
@@ -111,9 +111,9 @@ fn first_bad_name(branches: &[Value]) -> Option<u32>
     }
 }
 
-// The first of at most 127 branches whose parent is neither the root nor before it.
+// The first of at most 255 branches whose parent is neither the root nor before it.
 fn first_bad_parent(branches: &[Value]) -> Option<u32>
-    requires { length branches.now ≤ 127 }
+    requires { length branches.now ≤ 255 }
     ensures { result ≡ failing_beside parent_among (map view branches.now) }
 {
     match parent_place(branches) {

@@ -1,14 +1,15 @@
 //! The rules of where branches leave their parents, and of how many events all have.
 
-ghost use Rattle.std.specs.Prelude.{◌≡◌, ◌≤◌, ◌<◌, not, map, length, pos, position, slice_index_or, None, IfSome};
+ghost use Rattle.std.specs.Prelude.{◌≡◌, ◌≤◌, ◌<◌, ℕ, not, false, map, take, length, pos, position, slice_index_or, None, IfSome};
+ghost use Rattle.std.specs.List.{list_any, enumerate_from};
 ghost use Rattle.toml.specs.View.{table_view, view};
-ghost use Rattle.study_rules.specs.Entries.{stop_in};
-ghost use Rattle.study_rules.specs.BranchRules.{events_of, has_stop as stop_among, stop_named as named_stop, branch_keys_broken as rule_30, stops_broken as rule_33, work_broken as rule_36};
+ghost use Rattle.study_rules.specs.Entries.{is_timed as timed_in, stop_in};
+ghost use Rattle.study_rules.specs.BranchRules.{events_of, is_stop as stop_of, timed_named as named_timed, stop_named as named_stop, is_alike as alike, is_from_parent as from_parent, is_unlike as unlike, has_kind as kind_among, has_stop as stop_among, first_failing_beside as failing_beside, branch_keys_broken as rule_30, stops_broken as rule_33, work_broken as rule_36};
 
-use crate::entries::{branch_stop, parent_name};
+use crate::entries::{branch_stop, is_timed, parent_name};
 use crate::keys::few_branches;
 use crate::names::place_named;
-use study_file::{Table, Value, broken_unless, is_at_most, number_at};
+use study_file::{Table, Value, broken_unless, is_at_most, is_between, number_at};
 
 // The most events of a run.
 fn events(table: &Table) -> u64
@@ -17,7 +18,27 @@ fn events(table: &Table) -> u64
     number_at(table, "events").unsigned_abs()
 }
 
-// The event number at which the branch at a place leaves its parent.
+// Whether a branch leaves its parent at an event number up to the most of a run, or at a time from the open to the close.
+fn is_stop(table: &Table, branch: &Value) -> bool
+    ensures { result ≡ stop_of (table_view table.now) (view branch.now) }
+{
+    let stop = branch_stop(branch);
+    if is_timed(branch) {
+        0 <= stop && is_between(number_at(table, "open"), number_at(table, "close"), stop)
+    } else {
+        is_at_most(events(table), stop)
+    }
+}
+
+// Whether the branch at a place leaves its parent at a time.
+fn timed_at(branches: &[Value], at: usize) -> bool
+    requires { at < length branches.now }
+    ensures { result ≡ slice_index_or (map timed_in (map view branches.now)) at false }
+{
+    is_timed(&branches[at])
+}
+
+// The time or the event number at which the branch at a place leaves its parent.
 fn stop_at(branches: &[Value], at: usize) -> i64
     requires { at < length branches.now }
     ensures { result ≡ slice_index_or (map stop_in (map view branches.now)) at (pos 0) }
@@ -25,7 +46,17 @@ fn stop_at(branches: &[Value], at: usize) -> i64
     branch_stop(&branches[at])
 }
 
-// The event number at which the branch of a name leaves its parent; the root's is 0.
+// Whether the branch of a name leaves its parent at a time; the root doesn't.
+fn timed_named(branches: &[Value], name: &str) -> bool
+    ensures { result ≡ named_timed (map view branches.now) name.now }
+{
+    match place_named(branches, name) {
+        Some(at) => timed_at(branches, at),
+        None => false,
+    }
+}
+
+// The time or the event number at which the branch of a name leaves its parent; the root's is 0.
 fn stop_named(branches: &[Value], name: &str) -> i64
     ensures { result ≡ named_stop (map view branches.now) name.now }
 {
@@ -35,48 +66,91 @@ fn stop_named(branches: &[Value], name: &str) -> i64
     }
 }
 
-// Whether a branch leaves its parent within the events and not below where the parent leaves its own.
-fn has_stop(events: u64, branches: &[Value], branch: &Value) -> bool
-    ensures { result ≡ stop_among events (map view branches.now) (view branch.now) }
+// Whether two stops are both times or both event numbers.
+fn is_alike(one: bool, other: bool) -> bool
+    ensures { result ≡ alike one other }
 {
-    let stop = branch_stop(branch);
-    is_at_most(events, stop) && stop_named(branches, parent_name(branch)) <= stop
+    if one { other } else { !other }
 }
 
-// The place of the first branch that doesn't.
-fn place_of_stop(events: u64, branches: &[Value]) -> Option<usize>
-    ensures { result ≡ position (λ v. not (stop_among events (map view branches.now) (view v))) branches.now }
+// Whether a branch doesn't leave its parent below where the parent leaves its own, or the two stops are of two kinds.
+fn is_from_parent(branches: &[Value], branch: &Value) -> bool
+    ensures { result ≡ from_parent (map view branches.now) (view branch.now) }
+{
+    let parent = parent_name(branch);
+    !is_alike(timed_named(branches, parent), is_timed(branch))
+        || stop_named(branches, parent) <= branch_stop(branch)
+}
+
+// Whether another branch leaves the parent of a branch at a stop of another kind.
+fn is_unlike(branch: &Value, other: &Value) -> bool
+    ensures { result ≡ unlike (view branch.now) (view other.now) }
+{
+    parent_name(other) == parent_name(branch) && !is_alike(is_timed(other), is_timed(branch))
+}
+
+// Whether one of the first so many branches leaves the parent of a branch at a stop of another kind.
+fn is_mixed(branches: &[Value], count: usize, branch: &Value) -> bool
+    ensures { result ≡ list_any (λ v. unlike (view branch.now) (view v)) (take count branches.now) }
 {
     branches
         .iter()
-        .position(|branch| !has_stop(events, branches, branch))
+        .take(count)
+        .any(|other| is_unlike(branch, other))
+}
+
+// Whether none of the first so many branches does.
+fn has_kind(branches: &[Value], count: usize, branch: &Value) -> bool
+    ensures { result ≡ kind_among (map view (take count branches.now)) (view branch.now) }
+{
+    !is_mixed(branches, count, branch)
+}
+
+// Whether a branch has a stop that a run can have, no lower than the parent's of the same kind, and of the kind of those of
+// the first so many branches that have its parent.
+fn has_stop(table: &Table, branches: &[Value], count: usize, branch: &Value) -> bool
+    ensures { result ≡ stop_among (table_view table.now) (map view branches.now) (map view (take count branches.now)) (view branch.now) }
+{
+    is_stop(table, branch) && is_from_parent(branches, branch) && has_kind(branches, count, branch)
+}
+
+// The place of the first branch that hasn't, beside those before it.
+fn place_of_stop(table: &Table, branches: &[Value]) -> Option<usize>
+    ensures { result ≡ position (λ (p : ℕ × _). not (stop_among (table_view table.now) (map view branches.now) (map view (take p.0 branches.now)) (view p.1))) (enumerate_from 0 branches.now) }
+{
+    branches
+        .iter()
+        .enumerate()
+        .position(|(at, branch)| !has_stop(table, branches, at, branch))
 }
 
 // The same, which is a place of the list.
-fn stop_place(events: u64, branches: &[Value]) -> Option<usize>
-    ensures place { result ≡ position (λ d. not (stop_among events (map view branches.now) d)) (map view branches.now) }
+fn stop_place(table: &Table, branches: &[Value]) -> Option<usize>
+    ensures place { result ≡ failing_beside (stop_among (table_view table.now) (map view branches.now)) (map view branches.now) }
     ensures within { IfSome result (λ at. at < length branches.now) }
 {
-    place_of_stop(events, branches)
+    place_of_stop(table, branches)
 }
 
-// The first of at most 127 branches that doesn't.
-fn first_bad_stop(events: u64, branches: &[Value]) -> Option<u32>
-    requires { length branches.now ≤ 127 }
-    ensures { result ≡ position (λ d. not (stop_among events (map view branches.now) d)) (map view branches.now) }
+// The first of at most 255 branches that hasn't.
+fn first_bad_stop(table: &Table, branches: &[Value]) -> Option<u32>
+    requires { length branches.now ≤ 255 }
+    ensures { result ≡ failing_beside (stop_among (table_view table.now) (map view branches.now)) (map view branches.now) }
 {
-    match stop_place(events, branches) {
+    match stop_place(table, branches) {
         Some(at) => Some(at as u32),
         None => None,
     }
 }
 
-/// The first branch that leaves its parent below where the parent leaves its own, or above the most events of a run.
+/// The first branch that leaves its parent at an event number above the most of a run, at a time outside the market's day,
+/// below where the parent leaves its own at a stop of the same kind, or at a stop of another kind than an earlier branch with
+/// the same parent.
 pub fn stops_broken(table: &Table) -> Option<u32>
     requires { rule_30 (table_view table.now) ≡ None }
     ensures { result ≡ rule_33 (table_view table.now) }
 {
-    first_bad_stop(events(table), few_branches(table))
+    first_bad_stop(table, few_branches(table))
 }
 
 /// Whether the branches with the root have more than 4,000,000 events.

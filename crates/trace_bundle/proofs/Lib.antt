@@ -1,4 +1,5 @@
 pub mod Feeds
+pub mod Origins
 pub mod Entries
 pub mod Kept
 pub mod Held

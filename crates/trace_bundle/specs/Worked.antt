@@ -1,18 +1,32 @@
 -- The bundle of a course of two branches, byte by byte: one watcher would first wake after the close, so that no event comes.
 use Rattle.std.specs.Prelude.{ℕ, List, [], ◌∷◌, ◌++◌, replicate, codes}
+use Rattle.market_floor.specs.declared.opening.Opening.{Opening}
 use Rattle.market_floor.specs.OpeningWorked.{market, watcher}
 use Rattle.market_types.specs.Told.{EntryTold, edit}
+use Rattle.branch_tree.specs.declared.stop.Stop.{Stop}
+use Rattle.branch_tree.specs.declared.stop.Stop.TheVariants.{At, When}
 use Rattle.kernel_copy.specs.Courses.{CourseTold}
 
--- the root, and a branch from it before the first event that changes nothing
-abbrev pub quiet_course : CourseTold
-quiet_course = record {
-  opening = market 1000 0 (watcher 2000 ∷ []);
+-- the root, and a branch from it at this stop that changes nothing
+abbrev pub forked_course : Opening → Stop → CourseTold
+forked_course opening stop = record {
+  opening = opening;
   plan = record {
-    branches = record { name = codes "root"; parent = 0; stop = 0; edits = [] } ∷ record { name = codes "x"; parent = 0; stop = 0; edits = [] } ∷ [];
+    branches = record { name = codes "root"; parent = 0; stop = At 0; edits = [] } ∷ record { name = codes "x"; parent = 0; stop = stop; edits = [] } ∷ [];
     limit = 100;
   };
 }
+
+-- a branch before the first event, and one at a time by which no event came
+abbrev pub quiet_course : CourseTold
+quiet_course = forked_course (market 1000 0 (watcher 2000 ∷ [])) (At 0)
+
+abbrev pub quiet_course_by_time : CourseTold
+quiet_course_by_time = forked_course (market 1000 0 (watcher 2000 ∷ [])) (When 1000)
+
+-- two watchers wake at 1000 and ask for quotes, which the exchange hears at 1005
+abbrev pub two_watchers : Opening
+two_watchers = market 2000 0 (watcher 1000 ∷ watcher 1000 ∷ [])
 
 -- the header: two agents with the exchange, one stock, two branches
 abbrev pub header_bytes : List ℕ

@@ -11,6 +11,7 @@ ghost use Rattle.trace_bundle.specs.Bundle.{end_of_trace, head_of, header_of, op
 ghost use Rattle.trace_bundle.specs.Ran.{IsRunOf};
 
 use crate::feed::{put_opening, system_event};
+use crate::forks::stop_written;
 use crate::ran::Ran;
 use bundle_frames::{Written, put_branch, put_header};
 use kernel_copy::Course;
@@ -55,20 +56,21 @@ pub fn put_branch_head(
 }
 
 // Appends the frame of a branch.
-fn put_head(out: &mut Vec<u8>, course: &Course, branch: u16) -> Result<(), Memory>
-    requires { branch < length course.now.plan.branches }
+fn put_head<W: Ran>(out: &mut Vec<u8>, course: &Course, ran: &W, branch: u16) -> Result<(), Memory>
+    requires branch { branch < length course.now.plan.branches }
+    requires ran { IsRunOf course.now (W.count ran.now) (W.kept_of ran.now) (W.closing_of ran.now) }
     ensures { OnOk result (out.new.items ≡ out.old.items ++ head_of course.now branch) }
 {
-    let stop = course.plan().branches()[usize::from(branch)].stop;
-    put_branch_head(out, course, branch, stop)
+    put_branch_head(out, course, branch, stop_written(course, ran, branch))
 }
 
 // Appends what stands in the trace of a branch before the entries.
-fn put_start(out: &mut Vec<u8>, course: &Course, branch: u16) -> Result<(), Memory>
-    requires { branch < length course.now.plan.branches }
+fn put_start<W: Ran>(out: &mut Vec<u8>, course: &Course, ran: &W, branch: u16) -> Result<(), Memory>
+    requires branch { branch < length course.now.plan.branches }
+    requires ran { IsRunOf course.now (W.count ran.now) (W.kept_of ran.now) (W.closing_of ran.now) }
     ensures { OnOk result (out.new.items ≡ out.old.items ++ opening_of_trace course.now branch) }
 {
-    put_head(out, course, branch)?;
+    put_head(out, course, ran, branch)?;
     put_opening(out, course.opening())
 }
 
@@ -76,12 +78,18 @@ fn put_start(out: &mut Vec<u8>, course: &Course, branch: u16) -> Result<(), Memo
 ///
 /// # Errors
 /// Want of memory alone.
-pub fn opening_bytes(alloc: Global, course: &Course, branch: u16) -> Result<Vec<u8>, Memory>
-    requires { branch < length course.now.plan.branches }
+pub fn opening_bytes<W: Ran>(
+    alloc: Global,
+    course: &Course,
+    ran: &W,
+    branch: u16,
+) -> Result<Vec<u8>, Memory>
+    requires branch { branch < length course.now.plan.branches }
+    requires ran { IsRunOf course.now (W.count ran.now) (W.kept_of ran.now) (W.closing_of ran.now) }
     ensures { IfOk result (λ v. v.items ≡ opening_of_trace course.now branch) }
 {
     let mut bytes = Vec::new(alloc);
-    put_start(&mut bytes, course, branch)?;
+    put_start(&mut bytes, course, ran, branch)?;
     Ok(bytes)
 }
 
@@ -159,7 +167,7 @@ fn put_trace<W: Ran>(out: &mut Vec<u8>, course: &Course, ran: &W, branch: u16) -
 {
     let _ = course.opening();
     let last = course.last_segment(branch);
-    put_start(out, course, branch)?;
+    put_start(out, course, ran, branch)?;
     put_entries(out, course, ran, last)?;
     put_ending(out, course, ran, last)?;
     Ok(())

@@ -4,6 +4,7 @@
 mod bundle;
 mod events;
 mod feed;
+mod forks;
 mod large_bundle;
 pub mod large_worked;
 pub mod laws;
@@ -15,6 +16,7 @@ mod tally;
 pub mod worked;
 
 pub use bundle::{ending_bytes, opening_bytes, put_branch_head, write_branch, write_header};
+pub use forks::stop_written;
 pub use lines::big_lines;
 pub use listed::trace_of_segment;
 pub use ran::Ran;

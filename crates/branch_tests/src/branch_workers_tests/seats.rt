@@ -10,6 +10,7 @@ ghost use Rattle.branch_workers.specs.Runs.{IsShelfOf};
 
 use super::entries_of;
 use super::market::course;
+use branch_tree::Stop;
 use branch_workers::{open_shelf, run_segment};
 use checkpoint_shelf::{Begun, Found, Key, PlaceWord, Shelf, ShelfSeat, Turn};
 use kernel_copy::laws::segments_have_few_events;
@@ -104,7 +105,7 @@ fn two_seats<R: Wait>(rt: &R, alloc: Global, course: &Arc<Course>) -> Result<Opt
 
 #[test]
 fn a_child_by_a_seat_without_the_parents_state(rt: HostRuntime) -> Result<(), Fail> {
-    let course = course(rt.alloc())?;
+    let course = course(rt.alloc(), Stop::At(2))?;
     let Some(told) = two_seats(&rt, rt.alloc(), &course)? else {
         return Err(Fail::from("no seats"));
     };
@@ -267,7 +268,7 @@ fn beside_a_turn<R: Wait>(
 // A seat finds the place of its own key taken: its run goes on without a copy there, and tells what it tells.
 #[test]
 fn a_run_beside_anothers_turn(rt: HostRuntime) -> Result<(), Fail> {
-    let course = course(rt.alloc())?;
+    let course = course(rt.alloc(), Stop::At(2))?;
     let first = Key {
         segment: 1,
         event: 5,

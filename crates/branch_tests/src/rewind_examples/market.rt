@@ -1,4 +1,4 @@
-//! A small course: a market of two watchers, and a root that two branches leave at event 2.
+//! A small course: a market of two watchers, and a root that two branches leave at one stop.
 
 ghost use Rattle.std.specs.Prelude.{◌≡◌, ◌≤◌, IfOk, OnOk};
 ghost use Rattle.branch_tree.specs.declared.branch.Branch.{Branch};
@@ -8,7 +8,7 @@ ghost use Rattle.kernel_copy.specs.Courses.{AreEdits};
 ghost use Rattle.branch_workers.specs.Example.{AreBranches, small, two_watchers};
 
 use agent_shell::{Kind, TraderSetting};
-use branch_tree::{Branch, Name, plan};
+use branch_tree::{Branch, Name, Stop, plan};
 use kernel_copy::Course;
 use market_floor::Opening;
 use market_floor::opening_worked::{markets_are_openings, opening};
@@ -66,7 +66,7 @@ fn root(alloc: Global) -> Result<Vec<Branch>, Memory>
     branches.push(Branch {
         name,
         parent: 0,
-        stop: 0,
+        stop: Stop::At(0),
         edits: Sequence::new(Vec::new(alloc)),
     })?;
     Ok(branches)
@@ -87,8 +87,8 @@ fn latency(alloc: Global, base: u64) -> Result<Vec<Edit>, Memory>
     Ok(edits)
 }
 
-// A branch of the root at event 2 more.
-fn fork(branches: &mut Vec<Branch>, name: u8, edits: Vec<Edit>) -> Result<(), Memory>
+// A branch of the root more.
+fn fork(branches: &mut Vec<Branch>, name: u8, stop: Stop, edits: Vec<Edit>) -> Result<(), Memory>
     requires before { AreBranches branches.old.items }
     requires edits { AreEdits small edits.items }
     ensures { OnOk result (AreBranches branches.new.items) }
@@ -99,17 +99,17 @@ fn fork(branches: &mut Vec<Branch>, name: u8, edits: Vec<Edit>) -> Result<(), Me
     branches.push(Branch {
         name,
         parent: 0,
-        stop: 2,
+        stop,
         edits: Sequence::new(edits),
     })?;
     Ok(())
 }
 
-// A root and two branches that leave it at event 2: one makes the latency 50, and one makes it 7. Each runs to event 6.
-pub(super) fn course(alloc: Global) -> Result<Arc<Course>, Fail> {
+// A root and two branches that leave it at one stop: one makes the latency 50, and one makes it 7. Each runs to event 6.
+pub(super) fn course(alloc: Global, stop: Stop) -> Result<Arc<Course>, Fail> {
     let mut branches = root(alloc)?;
-    fork(&mut branches, b'x', latency(alloc, 50)?)?;
-    fork(&mut branches, b'y', latency(alloc, 7)?)?;
+    fork(&mut branches, b'x', stop, latency(alloc, 50)?)?;
+    fork(&mut branches, b'y', stop, latency(alloc, 7)?)?;
     let opening = market(alloc)?;
     let Ok(plan) = plan(alloc, branches, 100) else {
         return Err(Fail::from("no plan"));

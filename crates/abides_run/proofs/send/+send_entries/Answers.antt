@@ -38,7 +38,7 @@ returns-in-None g n c =
     let own = frames_of (kept_told c.kept-kept.result.now) in
     let told = ap frames_of (c.kept-kept.ensures ∙ c.requires.ran.kept s c.requires.segment) ∙ frames_as c.requires.ran.keep (segment_entries k.opening k.plan x) in
     let none : x.parent ≡ None = sym (ap (λ (y : Segment). y.parent) c.segment.ensures.value) ∙ c.in-None.is in
-    let copy = segment-copy k.opening k.plan s (course-tree k c.segment.ensures.course) c.requires.segment in
+    let copy = segment-copy k.opening k.plan s (course-tree k c.segment.ensures.course) c.segment.ensures.course.limit c.requires.segment in
     let before : [] ≡ flat_map entry_frames (parent_end k.opening k.plan x.parent).entries =
     sym (ap (λ (y : Option ℕ). flat_map entry_frames (parent_end k.opening k.plan y).entries) none) in
     subst (λ (bytes : List ℕ). Sent bytes (g.O.Sink.faults c.args.out.now) (g.O.Sink.faults c.send_kept.new.out) (g.O.Sink.taken c.args.out.now) (g.O.Sink.taken c.send_kept.new.out) c.send_kept.result)
@@ -53,7 +53,7 @@ returns-in_err-send_entries-in-Some g n c =
     let own = frames_of (kept_told c.kept-kept.result.now) in
     let told = ap frames_of (c.kept-kept.ensures ∙ c.requires.ran.kept s c.requires.segment) ∙ frames_as c.requires.ran.keep (segment_entries k.opening k.plan x) in
     let some : x.parent ≡ Some q = sym (ap (λ (y : Segment). y.parent) c.segment.ensures.value) ∙ c.in-Some.is in
-    let copy = segment-copy k.opening k.plan s (course-tree k c.segment.ensures.course) c.requires.segment in
+    let copy = segment-copy k.opening k.plan s (course-tree k c.segment.ensures.course) c.segment.ensures.course.limit c.requires.segment in
     let prefix = flat_map entry_frames (segment_end k.opening k.plan (segment_at k.plan q)).entries in
     let before : prefix ≡ flat_map entry_frames (parent_end k.opening k.plan x.parent).entries =
     sym (ap (λ (y : Option ℕ). flat_map entry_frames (parent_end k.opening k.plan y).entries) some) in
@@ -73,7 +73,7 @@ returns-in_ok-send_entries-in-Some g n c =
     let own = frames_of (kept_told c.kept-kept.result.now) in
     let told = ap frames_of (c.kept-kept.ensures ∙ c.requires.ran.kept s c.requires.segment) ∙ frames_as c.requires.ran.keep (segment_entries k.opening k.plan x) in
     let some : x.parent ≡ Some q = sym (ap (λ (y : Segment). y.parent) c.segment.ensures.value) ∙ c.in-Some.is in
-    let copy = segment-copy k.opening k.plan s (course-tree k c.segment.ensures.course) c.requires.segment in
+    let copy = segment-copy k.opening k.plan s (course-tree k c.segment.ensures.course) c.segment.ensures.course.limit c.requires.segment in
     let prefix = flat_map entry_frames (segment_end k.opening k.plan (segment_at k.plan q)).entries in
     let before : prefix ≡ flat_map entry_frames (parent_end k.opening k.plan x.parent).entries =
     sym (ap (λ (y : Option ℕ). flat_map entry_frames (parent_end k.opening k.plan y).entries) some) in

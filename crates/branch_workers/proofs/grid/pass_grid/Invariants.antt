@@ -1,7 +1,8 @@
-use Rattle.std.proofs.Common.{◌≡◌, ◌≤◌, ◌+◌, ◌-◌, []}
+use Rattle.std.proofs.Common.{◌≡◌, ◌<◌, ◌≤◌, ◌+◌, ◌-◌, []}
 use Rattle.branch_tree.specs.Segments.{segment_at}
 use Rattle.shelf_core.specs.Made.{Stays}
 use Rattle.kernel_copy.specs.Ran.{ran_told}
+use Rattle.kernel_copy.specs.Segmentwise.{from_count}
 use Rattle.branch_workers.specs.Runs.{IsUnderway}
 use Rattle.branch_workers.proofs.Underway.{KnowsBefore}
 use Rattle.branch_workers.proofs.grid.pass_grid.Given as goal
@@ -11,8 +12,8 @@ invariant-loop-event g l = record {
   same : l.seat.shelf ≡ l.initial.seat.shelf;
   stays : Stays l.initial.seat.view l.seat.view;
   turns : l.seat.view.turns ≡ [];
-  within : l.event ≤ (segment_at l.course.value.plan l.segment).stop + 1;
-  from : (segment_at l.course.value.plan l.segment).start + 1 ≤ l.event;
+  begins : from_count l.course.value.opening l.course.value.plan (segment_at l.course.value.plan l.segment) < l.event;
+  within : l.event ≤ l.course.value.opening.limit + 1;
   underway : IsUnderway l.course.value l.keep l.segment (l.event - 1) (ran_told l.ran);
   ticks : l.steps + l.initial.ran.kernel.events ≡ l.initial.steps + l.ran.kernel.events;
   grows : l.initial.ran.kernel.events ≤ l.ran.kernel.events;

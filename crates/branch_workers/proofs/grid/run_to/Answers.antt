@@ -1,56 +1,62 @@
 use Rattle.std.proofs.Common.{◌≤◌, ap, sym, ◌∙◌, subst, arith}
+use Rattle.branch_tree.specs.declared.segment.Segment.{Segment}
 use Rattle.market_floor.specs.declared.opening.Opening.{Opening}
 use Rattle.kernel_core.specs.Step.{Fits}
-use Rattle.kernel_core.specs.Until.{until}
 use Rattle.kernel_copy.specs.Courses.{CourseTold}
 use Rattle.kernel_copy.specs.Ran.{RanTold, ran_told, ran_with}
 use Rattle.kernel_copy.specs.Segmentwise.{afresh}
+use Rattle.kernel_copy.specs.UntilStop.{until_part}
 use Rattle.branch_workers.proofs.Underway.{goes_few, goes_to, goes_on, stop_within, underway_fits}
 use Rattle.branch_workers.proofs.grid.run_to.Goals as goal
 
-pub run_until-requires-clause-fits : goal.run_until-requires-clause-fits
-run_until-requires-clause-fits g c =
+pub run_to-requires-clause-fits : goal.run_to-requires-clause-fits
+run_to-requires-clause-fits g c =
     let before : RanTold = ran_told c.args.ran.now in
     subst (λ (o : Opening). Fits o c.args.ran.now.kernel) (sym c.opening.ensures.value)
-    (underway_fits c.args.course.now c.args.keep c.args.key.segment c.args.key.event before c.requires.underway)
+    (underway_fits c.args.course.now c.args.keep c.args.segment c.args.most before c.requires.underway)
 
-pub run_until-requires-clause-count : goal.run_until-requires-clause-count
-run_until-requires-clause-count g c =
-    let k : CourseTold = c.args.course.now in
-    let stop = stop_within k c.args.key.segment c.opening.ensures.course c.requires.segment in
-    omega (arith, c.requires.count, c.requires.within)
+pub run_to-requires-clause-count : goal.run_to-requires-clause-count
+run_to-requires-clause-count g c = omega (arith, c.requires.count, c.requires.most)
 
-pub returns-in_err-run_until-clause-few : goal.returns-in_err-run_until-clause-few
-returns-in_err-run_until-clause-few g c =
+pub returns-in_err-run_to-clause-few : goal.returns-in_err-run_to-clause-few
+returns-in_err-run_to-clause-few g c =
     let k : CourseTold = c.args.course.now in
-    let e = c.args.key.event in
+    let e = c.args.most in
     let before : RanTold = ran_told c.args.ran.now in
-    goes_few k c.args.keep c.args.key.segment e before before c.requires.within c.requires.underway c.run_until.new.self.kernel.events
-    (subst (λ (o : Opening). c.run_until.new.self.kernel.events ≤ (until o e (afresh before.state)).state.events) c.opening.ensures.value c.run_until.ensures.within)
+    let n = c.run_to.new.self.kernel.events in
+    goes_few k c.args.keep c.args.segment e before before (stop_within k c.args.segment c.segment-stop.ensures.course c.requires.segment) c.requires.most c.requires.underway n
+    (subst (λ (x : Segment). n ≤ (until_part k.opening x.stop e (afresh before.state)).state.events) c.segment-stop.ensures.value
+    (subst (λ (o : Opening). n ≤ (until_part o c.segment-stop.result.stop e (afresh before.state)).state.events) c.opening.ensures.value c.run_to.ensures.within))
 
 pub returns-clause-ran : goal.returns-clause-ran
 returns-clause-ran g c =
     let k : CourseTold = c.args.course.now in
-    let e = c.args.key.event in
+    let e = c.args.most in
     let before : RanTold = ran_told c.args.ran.now in
-    let after : RanTold = ran_told c.run_until.new.self in
-    goes_to k c.args.keep c.args.key.segment e before after c.requires.within c.requires.underway
-    (c.in_ok-run_until.ensures.ran ∙ ap (λ (o : Opening). ran_with before (until o e (afresh before.state))) c.opening.ensures.value)
+    let after : RanTold = ran_told c.run_to.new.self in
+    goes_to k c.args.keep c.args.segment e before after (stop_within k c.args.segment c.segment-stop.ensures.course c.requires.segment) c.requires.most c.requires.underway
+    (c.in_ok-run_to.ensures.ran
+    ∙ ap (λ (o : Opening). ran_with before (until_part o c.segment-stop.result.stop e (afresh before.state))) c.opening.ensures.value
+    ∙ ap (λ (x : Segment). ran_with before (until_part k.opening x.stop e (afresh before.state))) c.segment-stop.ensures.value)
 
 pub returns-clause-underway : goal.returns-clause-underway
 returns-clause-underway g c =
     let k : CourseTold = c.args.course.now in
-    let e = c.args.key.event in
+    let e = c.args.most in
     let before : RanTold = ran_told c.args.ran.now in
-    let after : RanTold = ran_told c.run_until.new.self in
-    goes_on k c.args.keep c.args.key.segment e before after c.requires.within c.requires.underway
-    (c.in_ok-run_until.ensures.ran ∙ ap (λ (o : Opening). ran_with before (until o e (afresh before.state))) c.opening.ensures.value)
-    (subst (λ (o : Opening). Fits o after.state) c.opening.ensures.value c.run_until.ensures.fitting)
+    let after : RanTold = ran_told c.run_to.new.self in
+    goes_on k c.args.keep c.args.segment e before after (stop_within k c.args.segment c.segment-stop.ensures.course c.requires.segment) c.requires.most c.requires.underway
+    (c.in_ok-run_to.ensures.ran
+    ∙ ap (λ (o : Opening). ran_with before (until_part o c.segment-stop.result.stop e (afresh before.state))) c.opening.ensures.value
+    ∙ ap (λ (x : Segment). ran_with before (until_part k.opening x.stop e (afresh before.state))) c.segment-stop.ensures.value)
+    (subst (λ (o : Opening). Fits o after.state) c.opening.ensures.value c.run_to.ensures.fitting)
 
 pub returns-clause-few : goal.returns-clause-few
 returns-clause-few g c =
     let k : CourseTold = c.args.course.now in
-    let e = c.args.key.event in
+    let e = c.args.most in
     let before : RanTold = ran_told c.args.ran.now in
-    goes_few k c.args.keep c.args.key.segment e before before c.requires.within c.requires.underway c.run_until.new.self.kernel.events
-    (subst (λ (o : Opening). c.run_until.new.self.kernel.events ≤ (until o e (afresh before.state)).state.events) c.opening.ensures.value c.run_until.ensures.within)
+    let n = c.run_to.new.self.kernel.events in
+    goes_few k c.args.keep c.args.segment e before before (stop_within k c.args.segment c.segment-stop.ensures.course c.requires.segment) c.requires.most c.requires.underway n
+    (subst (λ (x : Segment). n ≤ (until_part k.opening x.stop e (afresh before.state)).state.events) c.segment-stop.ensures.value
+    (subst (λ (o : Opening). n ≤ (until_part o c.segment-stop.result.stop e (afresh before.state)).state.events) c.opening.ensures.value c.run_to.ensures.within))

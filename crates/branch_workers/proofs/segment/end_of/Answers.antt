@@ -7,13 +7,13 @@ use Rattle.branch_workers.proofs.segment.end_of.Goals as goal
 pub wait_for-requires-clause-place : goal.wait_for-requires-clause-place
 wait_for-requires-clause-place g c =
     let k : CourseTold = c.args.course.now in
-    (has_place k c.args.shelf.now c.args.segment (record { segment = c.args.segment; event = c.segment-event.result.stop }) c.requires.shelf c.requires.segment c.requires.unfinished
-    (key_is k c.args.segment c.segment-event.result c.segment-event.ensures.value)).0
+    (has_place k c.args.shelf.now c.args.segment (record { segment = c.args.segment; event = c.number_of_end-event.result }) c.requires.shelf c.requires.segment c.requires.unfinished
+    (key_is k c.args.segment c.number_of_end-event.result c.segment-stop.result c.segment-stop.ensures.value c.number_of_end-event.ensures)).0
 
 pub returns-clause-state : goal.returns-clause-state
 returns-clause-state g c =
     let k : CourseTold = c.args.course.now in
     let f = c.in_ok-end.ensures.found in
-    let key = key_is k c.args.segment c.segment-event.result c.segment-event.ensures.value in
-    let state = end_state_of k c.args.segment c.in_ok-end.end.value c.segment-event.ensures.course c.requires.segment (f.0 ∙ key) (f.1 ∙ c.requires.shelf.0) in
+    let key = key_is k c.args.segment c.number_of_end-event.result c.segment-stop.result c.segment-stop.ensures.value c.number_of_end-event.ensures in
+    let state = end_state_of k c.args.segment c.in_ok-end.end.value (f.0 ∙ key) (f.1 ∙ c.requires.shelf.0) in
     subst (λ (y : State). IfOk c.resume.result (λ (z : State). z ≡ y)) (ap (λ (t : CheckpointTold). state_at t.course t.key) c.deref.ensures ∙ state) c.resume.ensures.state

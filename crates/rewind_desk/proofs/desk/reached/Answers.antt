@@ -1,7 +1,6 @@
 use Rattle.std.proofs.Common.{◌≡◌, ◌≤◌, ℕ, IfSome, sym, ap, ◌∙◌, arith, subst}
 use Rattle.std.specs.Prelude.{min}
 use Rattle.branch_tree.specs.Segments.{segment_at}
-use Rattle.branch_tree.proofs.PartLemmas.{last-at}
 use Rattle.market_floor.specs.declared.opening.Opening.{Opening}
 use Rattle.kernel_copy.specs.Courses.{CourseTold}
 use Rattle.kernel_copy.specs.Segmentwise.{segment_end}
@@ -13,13 +12,7 @@ use Rattle.rewind_desk.proofs.desk.reached.Goals as goal
 
 pub reach-requires-clause-within : goal.reach-requires-clause-within
 reach-requires-clause-within g c =
-    let k : CourseTold = c.args.course.now in
-    let b = c.args.branch in
-    let course = c.opening.ensures.course in
-    let limit = ap (λ (o : Opening). o.limit) c.opening.ensures.value in
-    let stop = (last-at k.plan b c.requires.branch).1.stop in
-    let same = ap (λ (s : ℕ). (segment_at k.plan s).stop) c.last_segment-last.ensures.last in
-    omega (arith, stop, same, limit, course.limit, c.lesser-most.ensures)
+    omega (arith, ap (λ (o : Opening). o.limit) c.opening.ensures.value, c.lesser-most.ensures)
 
 pub reach-requires-clause-held : goal.reach-requires-clause-held
 reach-requires-clause-held g c =
@@ -47,8 +40,8 @@ reach-requires-clause-count g c =
     let best = best-is c.args.shelf.now c.args.course.now c.args.branch c.args.event c.last_segment-last.result _ c.requires.shelf c.last_segment-last.ensures.last c.nearest_to-near.ensures.most in
     omega (arith, best, c.requires.count, c.lesser-most.ensures)
 
-pub returns-in_err-kernel-clause-most : goal.returns-in_err-kernel-clause-most
-returns-in_err-kernel-clause-most g c =
+pub returns-in_err-arrival-clause-most : goal.returns-in_err-arrival-clause-most
+returns-in_err-arrival-clause-most g c =
     let best = best-is c.args.shelf.now c.args.course.now c.args.branch c.args.event c.last_segment-last.result _ c.requires.shelf c.last_segment-last.ensures.last c.nearest_to-near.ensures.most in
     omega (arith, best, c.reach.ensures.most, c.lesser-most.ensures)
 
@@ -63,38 +56,38 @@ returns-clause-from g c =
     ∙ best-is c.args.shelf.now c.args.course.now c.args.branch c.args.event c.last_segment-last.result _ c.requires.shelf c.last_segment-last.ensures.last c.nearest_to-near.ensures.most
 
 pub returns-clause-ticks : goal.returns-clause-ticks
-returns-clause-ticks g c = omega (arith, c.events_of.ensures, c.in_ok-kernel.ensures.ticks)
+returns-clause-ticks g c = omega (arith, c.events_of.ensures, c.in_ok-arrival.ensures.ticks)
 
 pub returns-clause-whole : goal.returns-clause-whole
 returns-clause-whole g c =
     let k : CourseTold = c.args.course.now in
     let limit = ap (λ (o : Opening). o.limit) c.opening.ensures.value in
-    (arrived k c.args.branch c.args.event c.lesser-most.result c.in_ok-kernel.kernel c.opening.ensures.course c.requires.branch (omega (arith, limit, c.lesser-most.ensures))
-    (subst (λ (s : ℕ). IsAt k s c.lesser-most.result c.in_ok-kernel.kernel) c.last_segment-last.ensures.last c.in_ok-kernel.ensures.at)).whole
+    (arrived k c.args.branch c.args.event c.lesser-most.result c.in_ok-arrival.arrival.kernel c.in_ok-arrival.arrival.has_more c.opening.ensures.course c.requires.branch (omega (arith, limit, c.lesser-most.ensures))
+    (subst (λ (s : ℕ). IsAt k s c.lesser-most.result c.in_ok-arrival.arrival.kernel c.in_ok-arrival.arrival.has_more) c.last_segment-last.ensures.last c.in_ok-arrival.ensures.at)).whole
 
 pub returns-clause-state : goal.returns-clause-state
 returns-clause-state g c =
     let k : CourseTold = c.args.course.now in
     let limit = ap (λ (o : Opening). o.limit) c.opening.ensures.value in
-    (arrived k c.args.branch c.args.event c.lesser-most.result c.in_ok-kernel.kernel c.opening.ensures.course c.requires.branch (omega (arith, limit, c.lesser-most.ensures))
-    (subst (λ (s : ℕ). IsAt k s c.lesser-most.result c.in_ok-kernel.kernel) c.last_segment-last.ensures.last c.in_ok-kernel.ensures.at)).state
+    (arrived k c.args.branch c.args.event c.lesser-most.result c.in_ok-arrival.arrival.kernel c.in_ok-arrival.arrival.has_more c.opening.ensures.course c.requires.branch (omega (arith, limit, c.lesser-most.ensures))
+    (subst (λ (s : ℕ). IsAt k s c.lesser-most.result c.in_ok-arrival.arrival.kernel c.in_ok-arrival.arrival.has_more) c.last_segment-last.ensures.last c.in_ok-arrival.ensures.at)).state
 
 pub returns-clause-exists : goal.returns-clause-exists
 returns-clause-exists g c =
     let k : CourseTold = c.args.course.now in
     let limit = ap (λ (o : Opening). o.limit) c.opening.ensures.value in
-    (arrived k c.args.branch c.args.event c.lesser-most.result c.in_ok-kernel.kernel c.opening.ensures.course c.requires.branch (omega (arith, limit, c.lesser-most.ensures))
-    (subst (λ (s : ℕ). IsAt k s c.lesser-most.result c.in_ok-kernel.kernel) c.last_segment-last.ensures.last c.in_ok-kernel.ensures.at)).exists
+    (arrived k c.args.branch c.args.event c.lesser-most.result c.in_ok-arrival.arrival.kernel c.in_ok-arrival.arrival.has_more c.opening.ensures.course c.requires.branch (omega (arith, limit, c.lesser-most.ensures))
+    (subst (λ (s : ℕ). IsAt k s c.lesser-most.result c.in_ok-arrival.arrival.kernel c.in_ok-arrival.arrival.has_more) c.last_segment-last.ensures.last c.in_ok-arrival.ensures.at)).exists
 
 pub returns-clause-within : goal.returns-clause-within
 returns-clause-within g c =
     let k : CourseTold = c.args.course.now in
     let limit = ap (λ (o : Opening). o.limit) c.opening.ensures.value in
-    (arrived k c.args.branch c.args.event c.lesser-most.result c.in_ok-kernel.kernel c.opening.ensures.course c.requires.branch (omega (arith, limit, c.lesser-most.ensures))
-    (subst (λ (s : ℕ). IsAt k s c.lesser-most.result c.in_ok-kernel.kernel) c.last_segment-last.ensures.last c.in_ok-kernel.ensures.at)).within
+    (arrived k c.args.branch c.args.event c.lesser-most.result c.in_ok-arrival.arrival.kernel c.in_ok-arrival.arrival.has_more c.opening.ensures.course c.requires.branch (omega (arith, limit, c.lesser-most.ensures))
+    (subst (λ (s : ℕ). IsAt k s c.lesser-most.result c.in_ok-arrival.arrival.kernel c.in_ok-arrival.arrival.has_more) c.last_segment-last.ensures.last c.in_ok-arrival.ensures.at)).within
 
-pub returns-in_err-kernel-clause-keys : goal.returns-in_err-kernel-clause-keys
-returns-in_err-kernel-clause-keys g c = c.nearest_to-near.ensures.of
+pub returns-in_err-arrival-clause-keys : goal.returns-in_err-arrival-clause-keys
+returns-in_err-arrival-clause-keys g c = c.nearest_to-near.ensures.of
 
 pub returns-clause-keys : goal.returns-clause-keys
 returns-clause-keys g c = c.nearest_to-near.ensures.of

@@ -1,14 +1,32 @@
-use Rattle.std.proofs.Common.{◌≡◌, ap, ◌∙◌}
+use Rattle.std.proofs.Common.{ap, ◌∙◌, subst, arith}
 use Rattle.market_floor.specs.declared.opening.Opening.{Opening}
 use Rattle.kernel_core.specs.Open.{opened}
+use Rattle.kernel_core.specs.State.{State}
+use Rattle.kernel_core.specs.Step.{Fits}
 use Rattle.kernel_copy.specs.Courses.{CourseTold}
-use Rattle.rewind_desk.proofs.Arrivals.{at-opening, run-made}
+use Rattle.rewind_desk.proofs.Arrivals.{from-opening}
 use Rattle.rewind_desk.proofs.reach.from_opening.Goals as goal
 
-pub returns-clause-at : goal.returns-clause-at
-returns-clause-at g c =
+pub arrive-requires-clause-fits : goal.arrive-requires-clause-fits
+arrive-requires-clause-fits g c = subst (λ (o : Opening). Fits o c.in_ok-kernel.kernel) c.opening.ensures.value c.in_ok-kernel.ensures.fitting
+
+pub arrive-requires-clause-on : goal.arrive-requires-clause-on
+arrive-requires-clause-on g c =
     let k : CourseTold = c.args.course.now in
-    let kernel : c.in_ok-kernel.kernel ≡ opened k.opening = c.in_ok-kernel.ensures.opened ∙ ap (λ (o : Opening). opened o) c.opening.ensures.value in
-    at-opening k c.args.segment c.args.event c.in_ok-reached.reached c.opening.ensures.course c.requires.segment c.requires.first c.requires.within
-    (run-made c.opening-2.result.now k.opening c.args.event c.in_ok-kernel.kernel (opened k.opening) c.new-trace.result.list c.in_ok-reached.reached
-    c.opening-2.ensures.value kernel (ap (λ t. t.list) c.new-trace.ensures) c.in_ok-reached.ensures.state)
+    from-opening k c.args.segment c.in_ok-kernel.kernel c.opening.ensures.course c.requires.segment c.requires.first
+    (c.in_ok-kernel.ensures.opened ∙ ap (λ (o : Opening). opened o) c.opening.ensures.value)
+
+pub arrive-requires-clause-early : goal.arrive-requires-clause-early
+arrive-requires-clause-early g c = omega (arith, ap (λ (s : State). s.events) c.in_ok-kernel.ensures.opened)
+
+pub arrive-requires-clause-count : goal.arrive-requires-clause-count
+arrive-requires-clause-count g c = omega (arith, c.requires.count)
+
+pub returns-in_err-arrival-clause-most : goal.returns-in_err-arrival-clause-most
+returns-in_err-arrival-clause-most g c = omega (arith, c.arrive.ensures.most)
+
+pub returns-clause-ticks : goal.returns-clause-ticks
+returns-clause-ticks g c = omega (arith, c.in_ok-arrival.ensures.ticks, ap (λ (s : State). s.events) c.in_ok-kernel.ensures.opened)
+
+pub returns-clause-most : goal.returns-clause-most
+returns-clause-most g c = omega (arith, c.arrive.ensures.most)

@@ -18,7 +18,7 @@ returns-in-None g n c =
     let told = c.as_slice.ensures ∙ c.trace_of_segment.ensures in
     let none : (segment_at k.plan s).parent ≡ None = sym (ap (λ (y : Segment). y.parent) c.segment.ensures.value) ∙ c.in-None.is in
     let before = subst (λ (y : Option ℕ). All IsTyped (parent_end k.opening k.plan y).entries) (sym none) (All-nil IsTyped) in
-    entries-behind k s (segment-copy k.opening k.plan s (course-tree k c.segment.ensures.course) c.requires.segment) before
+    entries-behind k s (segment-copy k.opening k.plan s (course-tree k c.segment.ensures.course) c.segment.ensures.course.limit c.requires.segment) before
     (subst (λ (es : List EntryTold). All IsTyped es) told c.entries_fit.ensures)
 
 pub returns-in-Some : goal.returns-in-Some
@@ -28,7 +28,7 @@ returns-in-Some g n c =
     let told = c.as_slice.ensures ∙ c.trace_of_segment.ensures in
     let some : (segment_at k.plan s).parent ≡ Some c.in-Some.parent = sym (ap (λ (y : Segment). y.parent) c.segment.ensures.value) ∙ c.in-Some.is in
     let before = subst (λ (y : Option ℕ). All IsTyped (parent_end k.opening k.plan y).entries) (sym some) c.segments_fit.ensures in
-    entries-behind k s (segment-copy k.opening k.plan s (course-tree k c.segment.ensures.course) c.requires.segment) before
+    entries-behind k s (segment-copy k.opening k.plan s (course-tree k c.segment.ensures.course) c.segment.ensures.course.limit c.requires.segment) before
     (subst (λ (es : List EntryTold). All IsTyped es) told c.entries_fit.ensures)
 
 pub segments_fit-requires : goal.segments_fit-requires

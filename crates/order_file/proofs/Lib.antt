@@ -1,0 +1,4 @@
+pub mod OneByOne
+pub mod Filed
+pub mod Joins
+pub mod Told

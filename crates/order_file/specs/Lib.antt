@@ -1,0 +1,4 @@
+pub mod Fields
+pub mod Orders
+pub mod Filed
+pub mod Told

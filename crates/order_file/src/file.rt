@@ -1,0 +1,109 @@
+//! Reading a file of orders.
+
+ghost use Rattle.std.specs.Prelude.{◌≡◌, ◌++◌, None, Some, Ok, Err, ℕ, true, if◌then◌else◌, IfOk, IfErr, OnOk, option_map};
+ghost use Rattle.csv.specs.Reading.{ReadRecord, Ready, is_flexible, reader_trim, took_first};
+ghost use Rattle.csv.specs.Records.{fields_of};
+ghost use Rattle.csv.specs.declared.reader.Trim.TheVariants as trim;
+ghost use Rattle.order_file.specs.Filed.{AreFiled};
+ghost use Rattle.order_file.specs.Orders.{at_end, before, orders_of, said_by};
+
+use crate::fields::{is_header, read_order};
+use csv::{ByteRecord, ErrorKind, Reader, ReaderBuilder};
+use market_types::Memory;
+use reopen_cross::Interest;
+use std::alloc::Global;
+use thiserror::Error;
+
+/// Why a file gives no orders.
+#[derive(Clone, Copy, PartialEq, Eq, Debug, Error)]
+pub enum OrdersError {
+    /// The number of the first record that breaks a rule, from 0, the header's.
+    #[error("record {0} is refused")]
+    Refused(u32),
+    #[error("out of memory")]
+    Memory,
+}
+
+// Reads the next record, of any length, into the line; whether there was one.
+fn next_record(reader: &mut Reader<&[u8]>, line: &mut ByteRecord) -> Result<bool, Memory>
+    requires flexible { is_flexible reader.old ≡ true }
+    requires untrimmed { reader_trim reader.old ≡ trim.None }
+    requires ready { Ready reader.old }
+    ensures reads { IfOk result (λ found. ReadRecord (λ s. Some s.now) reader.old reader.new found (fields_of line.new)) }
+    ensures ready { OnOk result (took_first reader.new ≡ true) }
+    ensures flexible { OnOk result (is_flexible reader.new ≡ true) }
+{
+    match reader.read_byte_record(line) {
+        Ok(found) => Ok(found),
+        Err(error) => match error.kind() {
+            // Reading a slice never fails, but csv's contract rules out no failure of its source.
+            ErrorKind::OutOfMemory | ErrorKind::Io(_) => Err(Memory),
+            _ => unreachable!(),
+        },
+    }
+}
+
+// Puts what the record of a number says behind the orders, if it isn't refused; whether it is taken.
+fn take_record(
+    traders: usize,
+    number: u32,
+    orders: &mut Vec<Interest>,
+    line: &ByteRecord,
+) -> Result<bool, Memory>
+    ensures { IfOk result (λ taken. option_map (λ more. orders.old.items ++ more) (said_by traders number (fields_of line.now)) ≡ (if taken then Some orders.new.items else None)) }
+{
+    if number == 0 {
+        return Ok(is_header(line));
+    }
+    if 16_384 < number {
+        return Ok(false);
+    }
+    match read_order(traders, number, line) {
+        Some(order) => {
+            orders.push(order)?;
+            Ok(true)
+        }
+        None => Ok(false),
+    }
+}
+
+// What the file says where it ends before the record of a number.
+fn finished(number: u32, orders: Vec<Interest>) -> Result<Vec<Interest>, OrdersError>
+    ensures orders { IfOk result (λ v. before orders.items (at_end number) ≡ Ok v.items) }
+    ensures refused { IfErr result (λ e. (refused : ℕ) → e ≡ OrdersError.Refused refused → before orders.items (at_end number) ≡ Err refused) }
+{
+    if number == 0 {
+        return Err(OrdersError::Refused(0));
+    }
+    Ok(orders)
+}
+
+/// The orders that the text of a file says, in a study with so many traders: prices in dollars with four implied
+/// decimals, all displayed, the reference of each the number of its record. The text is read one record at a time.
+pub fn read_orders(alloc: Global, traders: usize, text: &[u8]) -> Result<Vec<Interest>, OrdersError>
+    ensures orders { IfOk result (λ orders. orders_of traders text.now ≡ Ok orders.items) }
+    ensures filed { IfOk result (λ orders. AreFiled orders.items) }
+    ensures refused { IfErr result (λ e. (number : ℕ) → e ≡ OrdersError.Refused number → orders_of traders text.now ≡ Err number) }
+{
+    let mut reader = ReaderBuilder::new()
+        .has_headers(false)
+        .flexible(true)
+        .from_reader(alloc, text);
+    let mut line = ByteRecord::new(alloc);
+    let mut orders = Vec::new(alloc);
+    for number in 0..16_386 {
+        let Ok(found) = next_record(&mut reader, &mut line) else {
+            return Err(OrdersError::Memory);
+        };
+        if !found {
+            return finished(number, orders);
+        }
+        let Ok(taken) = take_record(traders, number, &mut orders, &line) else {
+            return Err(OrdersError::Memory);
+        };
+        if !taken {
+            return Err(OrdersError::Refused(number));
+        }
+    }
+    unreachable!()
+}

@@ -1,0 +1,14 @@
+use Rattle.std.proofs.Common.{refl}
+use Rattle.rand_core.specs.Steps.{u32_at}
+use Rattle.rand_chacha.specs.Block.{block_word, column_round, diagonal_round, double_rounds, quarter_round}
+use Rattle.market_floor.specs.Reaction.{reaction}
+use Rattle.market_floor.specs.Ruled.{ruled}
+use Rattle.kernel_core.specs.Step.{event_of}
+use Rattle.kernel_core.specs.Until.{advanced}
+use Rattle.kernel_copy.specs.Full.{begun}
+use Rattle.kernel_copy.specs.Segmentwise.{segment_end}
+use Rattle.trace_bundle.proofs.worked.stops_that_are_written.Goals as goal
+
+pub returns : goal.returns
+unfolding begun segment_end event_of advanced reaction ruled u32_at block_word double_rounds column_round diagonal_round quarter_round
+returns c = record { root = refl; between = refl; heard = refl; all = refl; number = refl }
