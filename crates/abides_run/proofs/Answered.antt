@@ -25,15 +25,15 @@ study_is_ok (no_file name) s = absurd s
 study_is_ok (file_too_long name) s = absurd s
 study_is_ok (refused rule place) s = absurd s
 study_is_ok (no_branch word) s = absurd s
-study_is_ok (no_event word last study) s = absurd s
-study_is_ok (accepted task study) s = refl
+study_is_ok (no_event word last study past) s = absurd s
+study_is_ok (accepted due) s = refl
 
 -- another status says that there is no study
 no_study : (come : Verdict) (st : Status) → status_of come ≡ st → ¬ (st ≡ status.Ok) → ¬ IsStudy come
 no_study come st is other s = other (sym is ∙ study_is_ok come s)
 
 -- a refusal that words and files give
-refusal : (come : Verdict) (bytes : List ℕ) (events more old new writes steps : ℕ) (taken : Option (List ℕ)) (st : Status)
+pub refusal : (come : Verdict) (bytes : List ℕ) (events more old new writes steps : ℕ) (taken : Option (List ℕ)) (st : Status)
     → status_of come ≡ st → ¬ (st ≡ status.Ok) → Cause come st → Counts events more steps steps taken taken st
     → Fulfilled come bytes events more (record { reads = old; writes = writes; taken = taken; steps = steps }) (record { reads = new; writes = writes; taken = taken; steps = steps }) st
 refusal come bytes events more old new writes steps taken st is other cause counts = record {
@@ -178,7 +178,7 @@ turned_counter events more old new before after (status.Refused rule place) othe
 turned_counter events more old new before after status.ReadFault other still h = (omega (arith, h), omega (arith, h), λ n. absurd (n (still tt)))
 turned_counter events more old new before after status.WriteFault other still h = (omega (arith, h.0), h.1, λ n. h.0)
 turned_counter events more old new before after status.NoBranch other still h = (omega (arith, h), omega (arith, h), λ n. absurd (n (still tt)))
-turned_counter events more old new before after status.NoEvent other still h = (omega (arith, h), omega (arith, h), λ n. absurd (n (still tt)))
+turned_counter events more old new before after status.NoEvent other still h = (omega (arith, h.0), h.1, λ n. h.0)
 turned_counter events more old new before after status.Memory other still h = h
 
 turned_told : (files : Option Files) (words : List (List ℕ)) (probes : Probes) (before after : Seen) (st : Status) → ¬ (st ≡ status.Ok) → (IsRefusal st → after.taken ≡ before.taken)

@@ -1,4 +1,5 @@
 pub mod Aiming
+pub mod Among
 pub mod Answered
 pub mod Bundles
 pub mod Come

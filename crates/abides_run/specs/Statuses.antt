@@ -15,8 +15,8 @@ status_of (no_file name) = NoStudy
 status_of (file_too_long name) = TooLong
 status_of (refused rule place) = Refused rule place
 status_of (no_branch word) = NoBranch
-status_of (no_event word last study) = NoEvent
-status_of (accepted task study) = Ok
+status_of (no_event word last study past) = NoEvent
+status_of (accepted due) = Ok
 
 -- What words and files say of each status. Only want of memory may always come.
 abbrev pub Cause : Verdict → Status → Type 0
@@ -36,7 +36,8 @@ pub record IsPast (come : Verdict) (name : List ℕ) : Type 0 where
   pub word : List ℕ
   pub last : ℕ
   pub study : StudyTold
-  pub is : come ≡ no_event word last study
+  pub past : ℕ
+  pub is : come ≡ no_event word last study past
   pub said : name ≡ past_event word last
 
 -- What a status's line names, where words and files come to this verdict and these files are fetched: a file or an argument.
@@ -66,8 +67,8 @@ Speaks files NoBranch name = Unit {0}
 Speaks files NoEvent name = Unit {0}
 Speaks files Memory name = Unit {0}
 
--- The file is the study that the words ask for, or the series file that a study of some bytes names: so it is for each
--- library, whether it tells its files or not.
+-- The file is the study that the words ask for, the series file that a study of some bytes names, or the further file that the
+-- words name: so it is for each library, whether it tells its files or not.
 abbrev pub SpeaksFor : List (List ℕ) → Status → List ℕ → Type 0
 SpeaksFor words status name = (bytes : List ℕ) × Speaks (files_of (asked_of words) bytes) status name
 
@@ -102,7 +103,7 @@ Counts least more old new took_before took (Refused rule place) = new ≡ old
 Counts least more old new took_before took ReadFault = new ≡ old
 Counts least more old new took_before took WriteFault = (old + least ≤ new) × (new ≤ old + least + more)
 Counts least more old new took_before took NoBranch = new ≡ old
-Counts least more old new took_before took NoEvent = new ≡ old + least
+Counts least more old new took_before took NoEvent = (old + least ≤ new) × (new ≤ old + least + more)
 Counts least more old new took_before took Memory =
     (old ≤ new) × (new ≤ old + least + more) × (¬ (took ≡ took_before) → old + least ≤ new)
 

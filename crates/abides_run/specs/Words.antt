@@ -38,6 +38,14 @@ asked_of words = option_map (λ (asked : Asked). request_of asked.command asked.
 abbrev pub workers_of : List (List ℕ) → Option ℕ
 workers_of words = option_map (λ (asked : Asked). asked.workers) (line.asked_of words)
 
+-- the file that a task names besides the study's
+abbrev pub further_of : Task → Option (List ℕ)
+further_of task.Run = None
+further_of task.Check = None
+further_of task.Table = None
+further_of (task.Lines bytes) = None
+further_of (task.Rewind marks places) = None
+
 -- the ranges of a task: those of a rewind's marks, and at most 128 grid places
 abbrev pub IsTask : Task → Type 0
 IsTask task.Run = Unit {0}

@@ -8,6 +8,7 @@ use Rattle.branch_tree.specs.declared.stop.Stop.TheVariants.{At, When}
 use Rattle.kernel_copy.specs.Courses.{CourseTold}
 use Rattle.study_rules.specs.Accepted.{StudyTold}
 use Rattle.command_words.specs.declared.mark.Mark.{Mark}
+use Rattle.rewind_desk.specs.declared.target.Target.{Target}
 
 abbrev pub root : Branch
 root = record { name = codes "root"; parent = 0; stop = At 0; edits = [] }
@@ -53,6 +54,10 @@ three_branches_study = record { course = three_branches; stride = 10000 }
 -- a mark that is written so
 abbrev pub mark_at : List ℕ → List ℕ → ℕ → Mark
 mark_at word branch event = record { word = word; branch = branch; event = event }
+
+-- the state of a branch after so many events
+abbrev pub target_at : ℕ → ℕ → Target
+target_at branch event = record { branch = branch; event = event }
 
 -- a study file that names a series file
 abbrev pub study_with_series : List ℕ

@@ -1,11 +1,11 @@
 //! What is done with a study.
 
-ghost use Rattle.std.specs.Prelude.{◌≡◌, ◌+◌, ◌++◌, ◌∷◌, ◌<◌, ◌≤◌, ◌^◌, [], ℕ, IfOk, codes, map, string_bytes};
+ghost use Rattle.std.specs.Prelude.{◌≡◌, ◌+◌, ◌++◌, ◌∷◌, ◌<◌, ◌≤◌, ◌^◌, [], ℕ, IfOk, codes, map, option_map, string_bytes};
 ghost use Rattle.std.specs.Fmt.{decimal};
 ghost use Rattle.abides_run.specs.Fetched.{arguments_of};
 ghost use Rattle.abides_run.specs.Output.{counts_line, study_bundle, study_events, study_lines, study_table};
 ghost use Rattle.abides_run.specs.Performed.{Finished, IsStride, Performed};
-ghost use Rattle.abides_run.specs.Verdict.{verdict_on_task};
+ghost use Rattle.abides_run.specs.Verdict.{verdict_on_found};
 ghost use Rattle.abides_run.specs.Words.{IsTask};
 ghost use Rattle.study_rules.specs.Accepted.{study_told};
 
@@ -232,7 +232,7 @@ pub fn perform<R: Threads + Wait + Sync, O: Sink, G: Gate + Sync, D: Ledger + Se
     requires task { IsTask found.now.task }
     requires workers { (0 < found.now.workers) × (found.now.workers ≤ 64) }
     requires steps { steps.old ≤ 2 ^ 63 }
-    ensures { (reads : ℕ) → Finished (verdict_on_task found.now.task (study_told found.now.study))
+    ensures { (reads : ℕ) → Finished (verdict_on_found found.now.task (option_map (λ bytes. bytes.items) found.now.further) (study_told found.now.study))
         (record { meanings = map (λ p. meaning p) probes.old; titles = map (λ p. title p) probes.old })
         (arguments_of found.now.task)
         (record { reads = reads; writes = O.faults out.old; taken = O.taken out.old; steps = steps.old })

@@ -2,12 +2,12 @@
 
 ghost use Rattle.std.specs.Prelude.{◌≡◌, ◌∷◌, [], ℕ, Some, None, codes, length};
 ghost use Rattle.outside.specs.Files.{absent, too_long};
-ghost use Rattle.abides_run.specs.Output.{counts_line, study_bundle, study_events};
+ghost use Rattle.abides_run.specs.Output.{counts_line, rewound, study_bundle, study_events};
 ghost use Rattle.branch_tree.specs.declared.stop.Stop.TheVariants.{When};
-ghost use Rattle.abides_run.specs.Worked.{empty_course, empty_run, late_parent, mark_at, slower_at_a_time, three_branches, three_branches_at, three_branches_study, study_with_series};
+ghost use Rattle.abides_run.specs.Worked.{empty_course, empty_run, late_parent, mark_at, slower_at_a_time, target_at, three_branches, three_branches_at, three_branches_study, study_with_series};
 ghost use Rattle.abides_run.specs.Rewinds.{lasts_of};
 ghost use Rattle.abides_run.specs.Words.{asked_of};
-ghost use Rattle.abides_run.specs.Verdict.{verdict, usage, no_file, file_too_long, refused, no_branch, no_event, accepted, verdict_on_study, verdict_on_task};
+ghost use Rattle.abides_run.specs.Verdict.{verdict, usage, no_file, file_too_long, refused, no_branch, no_event, accepted, verdict_on_study, verdict_on_found};
 ghost use Rattle.abides_run.specs.Fetched.{fetched};
 ghost use Rattle.abides_run.specs.Notes.{note, past_event};
 ghost use Rattle.abides_run.specs.declared.request.Request.TheVariants.{File, Large};
@@ -75,11 +75,11 @@ pub fn order_of_refusals()
 /// and the last event itself is there.
 pub fn marks_of_three_branches()
     ensures lasts { lasts_of three_branches ≡ 6 ∷ 6 ∷ 6 ∷ 6 ∷ [] }
-    ensures past { verdict_on_task (task.Rewind (mark_at (codes "root:6") (codes "root") 6 ∷ mark_at (codes "z:7") (codes "z") 7 ∷ mark_at (codes "y:8") (codes "y") 8 ∷ []) 16) three_branches_study
-        ≡ no_event (codes "z:7") 6 three_branches_study }
-    ensures unnamed { verdict_on_task (task.Rewind (mark_at (codes "z:7") (codes "z") 7 ∷ mark_at (codes "w:1") (codes "w") 1 ∷ []) 16) three_branches_study ≡ no_branch (codes "w:1") }
-    ensures there { verdict_on_task (task.Rewind (mark_at (codes "root:6") (codes "root") 6 ∷ []) 16) three_branches_study
-        ≡ accepted (task.Rewind (mark_at (codes "root:6") (codes "root") 6 ∷ []) 16) three_branches_study }
+    ensures past { verdict_on_found (task.Rewind (mark_at (codes "root:6") (codes "root") 6 ∷ mark_at (codes "z:7") (codes "z") 7 ∷ mark_at (codes "y:8") (codes "y") 8 ∷ []) 16) None three_branches_study
+        ≡ no_event (codes "z:7") 6 three_branches_study 0 }
+    ensures unnamed { verdict_on_found (task.Rewind (mark_at (codes "z:7") (codes "z") 7 ∷ mark_at (codes "w:1") (codes "w") 1 ∷ []) 16) None three_branches_study ≡ no_branch (codes "w:1") }
+    ensures there { verdict_on_found (task.Rewind (mark_at (codes "root:6") (codes "root") 6 ∷ []) 16) None three_branches_study
+        ≡ accepted (rewound (target_at 0 6 ∷ []) 16 three_branches_study) }
 {}
 
 /// The lines of refused rewinds.
