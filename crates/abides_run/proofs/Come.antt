@@ -1,5 +1,5 @@
 -- What words and files come to, by what the library answered.
-use Rattle.std.proofs.Common.{◌≡◌, ◌⊎◌, ℕ, List, [], ◌∷◌, ◌++◌, option_map, vec_items, Option, Some, None, IfSome, Result, Ok, Err, IfOk, IfErr, OnOk, IsErr, IsErrAnd, string_bytes, length, refl, sym, ap, ◌∙◌, subst, inl, inr}
+use Rattle.std.proofs.Common.{◌≡◌, ◌⊎◌, ℕ, List, [], ◌∷◌, ◌++◌, option_map, unwrap_or, vec_items, Option, Some, None, IfSome, Result, Ok, Err, IfOk, IfErr, OnOk, IsErr, IsErrAnd, string_bytes, length, refl, sym, ap, ◌∙◌, subst, inl, inr}
 use Rattle.toml.specs.Data.{Members}
 use Rattle.outside.specs.Files.{Content, absent, too_long, whole, held, content}
 use Rattle.study_file.specs.Tables.{table_of}
@@ -11,16 +11,21 @@ use Rattle.rewind_desk.specs.declared.aimed.Aimed.{Aimed}
 use Rattle.rewind_desk.specs.declared.aimed.Aimed.TheVariants.{At, NoBranch}
 use Rattle.rewind_desk.specs.declared.past.Past.{Past}
 use Rattle.rewind_desk.specs.declared.target.Target.{Target}
-use Rattle.rewind_desk.specs.Targets.{aimed_at, past_of}
+use Rattle.rewind_desk.specs.Targets.{aimed_at, past_of, target_of}
+use Rattle.command_words.specs.declared.asked.Crossing.{Crossing}
+use Rattle.reopen_cross.specs.declared.cross.Interest.{Interest}
+use Rattle.order_file.specs.Orders.{orders_of}
+use Rattle.reopening_desk.specs.declared.stock.StockNamed.{StockNamed}
+use Rattle.reopening_desk.specs.Stocks.{stock_of}
 use Rattle.study_file.specs.LargeStudy.{large_study}
 use Rattle.abides_run.specs.declared.ending.Ending.{Ending}
 use Rattle.abides_run.specs.declared.found.Found.{Found}
 use Rattle.abides_run.specs.declared.request.Request.{Request}
 use Rattle.abides_run.specs.declared.request.Request.TheVariants.{File, Large}
 use Rattle.abides_run.specs.declared.request.Task.{Task}
-use Rattle.abides_run.specs.declared.request.Task.TheVariants.{Run, Check, Table, Lines, Rewind}
+use Rattle.abides_run.specs.declared.request.Task.TheVariants.{Run, Check, Table, Lines, Rewind, Cross}
 use Rattle.abides_run.specs.Words.{asked_of, further_of, IsLarge}
-use Rattle.abides_run.specs.Verdict.{Verdict, Files, no_file, file_too_long, verdict_on_past, verdict_on_aimed, verdict_on_found, verdict_on_file, verdict_on_further, most_bytes, series_of, judged, verdict_on_series, verdict_on_table, verdict_on_bytes, verdict_on_study, verdict_on_text, verdict_on_large, verdict_for, verdict, IsAsked, large_limit}
+use Rattle.abides_run.specs.Verdict.{Verdict, Files, no_file, file_too_long, verdict_on_past, verdict_on_aimed, verdict_on_late, verdict_on_orders, verdict_on_stock, verdict_on_branch, verdict_on_found, verdict_on_file, verdict_on_further, most_bytes, series_of, judged, verdict_on_series, verdict_on_table, verdict_on_bytes, verdict_on_study, verdict_on_text, verdict_on_large, verdict_for, verdict, IsAsked, large_limit}
 use Rattle.abides_run.specs.Rewinds.{lasts_of}
 use Rattle.abides_run.specs.Fetched.{IsAmong, named, series_after, behind_rules, behind_series, behind_table, behind_bytes, behind_study, fetched_for, fetched}
 use Rattle.abides_run.specs.Statuses.{status_of, Names}
@@ -37,12 +42,29 @@ aimed_asked : (marks : List Mark) (places : ℕ) (s : StudyTold) (aimed : Aimed)
 aimed_asked marks places s (NoBranch i) = tt
 aimed_asked marks places s (At targets) = past_asked marks targets places s (past_of (lasts_of s.course) targets)
 
+late_asked : (word : List ℕ) (target : Target) (stock : StockNamed) (orders : List Interest) (places : ℕ) (s : StudyTold) (past : Option Past) → IsAsked (verdict_on_late word target stock orders places s past)
+late_asked word target stock orders places s None = tt
+late_asked word target stock orders places s (Some past) = tt
+
+orders_asked : (word : List ℕ) (target : Target) (stock : StockNamed) (places : ℕ) (s : StudyTold) (orders : Result (List Interest) ℕ) → IsAsked (verdict_on_orders word target stock places s orders)
+orders_asked word target stock places s (Err number) = tt
+orders_asked word target stock places s (Ok orders) = late_asked word target stock orders places s (past_of (lasts_of s.course) (target ∷ []))
+
+stock_asked : (crossing : Crossing) (target : Target) (places : ℕ) (text : List ℕ) (s : StudyTold) (stock : Option StockNamed) → IsAsked (verdict_on_stock crossing target places text s stock)
+stock_asked crossing target places text s None = tt
+stock_asked crossing target places text s (Some stock) = orders_asked crossing.mark.word target stock places s (orders_of (length s.course.opening.traders) text)
+
+branch_asked : (crossing : Crossing) (places : ℕ) (text : List ℕ) (s : StudyTold) (target : Option Target) → IsAsked (verdict_on_branch crossing places text s target)
+branch_asked crossing places text s None = tt
+branch_asked crossing places text s (Some target) = stock_asked crossing target places text s (stock_of s.course.opening.stocks crossing.symbol)
+
 found_asked : (task : Task) (further : Option (List ℕ)) (s : StudyTold) → IsAsked (verdict_on_found task further s)
 found_asked Run further s = tt
 found_asked Check further s = tt
 found_asked Table further s = tt
 found_asked (Lines bytes) further s = tt
 found_asked (Rewind marks places) further s = aimed_asked marks places s (aimed_at s.course.plan.branches marks)
+found_asked (Cross crossing places) further s = branch_asked crossing places (unwrap_or further []) s (target_of s.course.plan.branches crossing.mark)
 
 file_asked : (task : Task) (s : StudyTold) (name : List ℕ) (answer : Content) → IsAsked (verdict_on_file task s name answer)
 file_asked task s name absent = tt
@@ -93,6 +115,8 @@ file_ends task s name answer (status.Refused rule place) told f = absurd f
 file_ends task s name answer status.ReadFault told f = record { cause = file_asked task s name answer; named = inl f }
 file_ends task s name answer status.WriteFault told f = absurd f
 file_ends task s name answer status.NoBranch told f = absurd f
+file_ends task s name answer status.NoStock told f = absurd f
+file_ends task s name answer (status.BadOrders number) told f = absurd f
 file_ends task s name answer status.NoEvent told f = absurd f
 file_ends task s name answer status.Memory told f = record { cause = tt; named = tt }
 
@@ -135,6 +159,8 @@ series_ends library task table name answer (status.Refused rule place) told f = 
 series_ends library task table name answer status.ReadFault told f = record { cause = series_asked library task table name answer; named = inl f }
 series_ends library task table name answer status.WriteFault told f = absurd f
 series_ends library task table name answer status.NoBranch told f = absurd f
+series_ends library task table name answer status.NoStock told f = absurd f
+series_ends library task table name answer (status.BadOrders number) told f = absurd f
 series_ends library task table name answer status.NoEvent told f = absurd f
 series_ends library task table name answer status.Memory told f = record { cause = tt; named = tt }
 
@@ -268,6 +294,8 @@ study_ends library task study answer (status.Refused rule place) told f = absurd
 study_ends library task study answer status.ReadFault told f = record { cause = study_asked library task study answer; named = inl f }
 study_ends library task study answer status.WriteFault told f = absurd f
 study_ends library task study answer status.NoBranch told f = absurd f
+study_ends library task study answer status.NoStock told f = absurd f
+study_ends library task study answer (status.BadOrders number) told f = absurd f
 study_ends library task study answer status.NoEvent told f = absurd f
 study_ends library task study answer status.Memory told f = record { cause = tt; named = tt }
 
@@ -297,6 +325,8 @@ names_more come some more (status.Refused rule place) name among n = tt
 names_more come some more status.ReadFault name among n = among n
 names_more come some more status.WriteFault name among n = tt
 names_more come some more status.NoBranch name among n = n
+names_more come some more status.NoStock name among n = n
+names_more come some more (status.BadOrders number) name among n = tt
 names_more come some more status.NoEvent name among n = n
 names_more come some more status.Memory name among n = tt
 

@@ -66,6 +66,8 @@ still-counts events more steps taken (status.Refused rule place) still = refl
 still-counts events more steps taken status.ReadFault still = refl
 still-counts events more steps taken status.WriteFault still = absurd still
 still-counts events more steps taken status.NoBranch still = refl
+still-counts events more steps taken status.NoStock still = refl
+still-counts events more steps taken (status.BadOrders number) still = refl
 still-counts events more steps taken status.NoEvent still = absurd still
 still-counts events more steps taken status.Memory still = absurd still
 
@@ -79,6 +81,8 @@ still-cause come (status.Refused rule place) still final is = is
 still-cause come status.ReadFault still final is = absurd final
 still-cause come status.WriteFault still final is = absurd still
 still-cause come status.NoBranch still final is = is
+still-cause come status.NoStock still final is = is
+still-cause come (status.BadOrders number) still final is = is
 still-cause come status.NoEvent still final is = absurd still
 still-cause come status.Memory still final is = absurd still
 

@@ -31,6 +31,8 @@ speaks_itself (status.Refused rule place) name = tt
 speaks_itself status.ReadFault name = inl refl
 speaks_itself status.WriteFault name = tt
 speaks_itself status.NoBranch name = tt
+speaks_itself status.NoStock name = tt
+speaks_itself (status.BadOrders number) name = tt
 speaks_itself status.NoEvent name = tt
 speaks_itself status.Memory name = tt
 
@@ -74,6 +76,8 @@ speaks_more some more (status.Refused rule place) name among s = tt
 speaks_more some more status.ReadFault name among s = among s
 speaks_more some more status.WriteFault name among s = tt
 speaks_more some more status.NoBranch name among s = tt
+speaks_more some more status.NoStock name among s = tt
+speaks_more some more (status.BadOrders number) name among s = tt
 speaks_more some more status.NoEvent name among s = tt
 speaks_more some more status.Memory name among s = tt
 
@@ -129,6 +133,8 @@ final_speaks files (status.Refused rule place) name f = tt
 final_speaks files status.ReadFault name f = absurd f
 final_speaks files status.WriteFault name f = tt
 final_speaks files status.NoBranch name f = tt
+final_speaks files status.NoStock name f = tt
+final_speaks files (status.BadOrders number) name f = tt
 final_speaks files status.NoEvent name f = tt
 final_speaks files status.Memory name f = tt
 
@@ -152,6 +158,8 @@ sought_one arguments (status.Refused rule place) name s = tt
 sought_one arguments status.ReadFault name s = tt
 sought_one arguments status.WriteFault name s = tt
 sought_one arguments status.NoBranch name s = absurd s
+sought_one arguments status.NoStock name s = absurd s
+sought_one arguments (status.BadOrders number) name s = tt
 sought_one arguments status.NoEvent name s = absurd s
 sought_one arguments status.Memory name s = tt
 

@@ -9,7 +9,7 @@ use Rattle.study_rules.specs.Accepted.{StudyTold, study_of}
 use Rattle.abides_run.specs.declared.request.Request.{Request}
 use Rattle.abides_run.specs.declared.request.Request.TheVariants.{File, Large}
 use Rattle.abides_run.specs.declared.request.Task.{Task}
-use Rattle.abides_run.specs.declared.request.Task.TheVariants.{Run, Check, Table, Lines, Rewind}
+use Rattle.abides_run.specs.declared.request.Task.TheVariants.{Run, Check, Table, Lines, Rewind, Cross}
 use Rattle.abides_run.specs.Words.{asked_of, further_of}
 use Rattle.abides_run.specs.Verdict.{Files, most_bytes, series_of}
 
@@ -65,13 +65,14 @@ files_of None bytes = []
 files_of (Some (File task study)) bytes = study ∷ (series_after (table_of bytes) ++ named (further_of task))
 files_of (Some (Large number)) bytes = []
 
--- the arguments of a rewind, as they are written; another task has none
+-- the arguments of a rewind, or the state and the stock of a cross, as they are written; another task has none
 abbrev pub arguments_of : Task → List (List ℕ)
 arguments_of Run = []
 arguments_of Check = []
 arguments_of Table = []
 arguments_of (Lines bytes) = []
 arguments_of (Rewind marks places) = map (λ (m : Mark). m.word) marks
+arguments_of (Cross crossing places) = crossing.mark.word ∷ crossing.symbol ∷ []
 
 abbrev pub arguments_in : Option Request → List (List ℕ)
 arguments_in None = []

@@ -10,7 +10,10 @@ use Rattle.probe_desk.specs.Probe.{Meaning}
 use Rattle.study_report.specs.Tables as tables
 use Rattle.trace_bundle.specs.Report.{big_lines_of}
 use Rattle.rewind_desk.specs.declared.target.Target.{Target}
-use Rattle.abides_run.specs.Rewinds.{rewinds_of, steps_to_all}
+use Rattle.reopen_cross.specs.declared.cross.Interest.{Interest}
+use Rattle.reopening_desk.specs.declared.stock.StockNamed.{StockNamed}
+use Rattle.reopening_desk.specs.Reopened.{reopened}
+use Rattle.abides_run.specs.Rewinds.{rewinds_of, steps_to, steps_to_all, target_state}
 
 -- the bundle of a study: the trace of each branch
 unfoldable pub study_bundle : CourseTold → List ℕ
@@ -42,13 +45,15 @@ unfoldable pub study_events : CourseTold → ℕ
 study_events c = segmentwise.distinct c.opening c.plan
 
 -- What is due of a study once all that the words name was found: its bundle, the line with its counts, the table that compares its
--- branches, the lines that tell of its run, whose text has so many bytes, or states, while so many grid places keep some.
+-- branches, the lines that tell of its run, whose text has so many bytes, states, or what the reopening of a stock would come to in
+-- a state with these orders of a file, while so many grid places keep states.
 pub data Due : Type 0 where
   bundled : StudyTold → Due
   counted : StudyTold → Due
   compared : StudyTold → Due
   described : ℕ → StudyTold → Due
   rewound : List Target → ℕ → StudyTold → Due
+  crossed : Target → StockNamed → List Interest → ℕ → StudyTold → Due
 
 abbrev pub written : Probes → Due → List ℕ
 written probes (bundled s) = study_bundle s.course
@@ -56,6 +61,7 @@ written probes (counted s) = counts_line s.course
 written probes (compared s) = study_table probes s.course
 written probes (described bytes s) = study_lines bytes s.course
 written probes (rewound targets places s) = rewinds_of s.course targets
+written probes (crossed target stock orders places s) = reopened (target_state s.course target) stock orders
 
 -- a check simulates nothing
 abbrev pub simulated : Due → ℕ
@@ -64,11 +70,13 @@ simulated (counted s) = 0
 simulated (compared s) = study_events s.course
 simulated (described bytes s) = study_events s.course
 simulated (rewound targets places s) = study_events s.course
+simulated (crossed target stock orders places s) = study_events s.course
 
--- how many steps may be made besides: those of a rewind from kept states on
+-- how many steps may be made besides: those from kept states on
 abbrev pub allowed : Due → ℕ
 allowed (bundled s) = 0
 allowed (counted s) = 0
 allowed (compared s) = 0
 allowed (described bytes s) = 0
 allowed (rewound targets places s) = steps_to_all s places targets
+allowed (crossed target stock orders places s) = steps_to s places target

@@ -9,6 +9,7 @@ ghost use Rattle.abides_run.specs.Verdict.{verdict_on_found};
 ghost use Rattle.abides_run.specs.Words.{IsTask};
 ghost use Rattle.study_rules.specs.Accepted.{study_told};
 
+use crate::crosses::{cross_study, further_text};
 use crate::ending::{Ending, nameless};
 use crate::found::Found;
 use crate::request::Task;
@@ -29,7 +30,7 @@ use study_rules::Study;
 use trace_bundle::big_lines;
 use trace_bundle::laws::outcomes_are_a_run;
 
-// Nothing that is asked for here but a rewind goes on from a state on the way.
+// Nothing that is asked for here but a rewind and a cross goes on from a state on the way.
 const NO_PLACES: u32 = 0;
 
 // Has workers simulate each segment of a study once, and then writes the bundle.
@@ -258,6 +259,12 @@ pub fn perform<R: Threads + Wait + Sync, O: Sink, G: Gate + Sync, D: Ledger + Se
         Task::Rewind(marks, places) => {
             let marks = marks.as_slice();
             rewind_study(rt, alloc, study, marks, *places, workers, out, gate, steps)
+        }
+        Task::Cross(crossing, places) => {
+            let text = further_text(&found.further);
+            cross_study(
+                rt, alloc, study, crossing, text, *places, workers, out, gate, steps,
+            )
         }
     }
 }

@@ -176,8 +176,8 @@ fn past_text(alloc: Global, word: &str, last: u32) -> Result<String, AllocError>
     format!(in alloc; "{word}, last event {last}")
 }
 
-// The end of a rewind to an event that its branch hasn't.
-fn no_event(alloc: Global, word: &str, last: u32) -> Ending
+/// The end where a branch hasn't the event that an argument names.
+pub fn no_event(alloc: Global, word: &str, last: u32) -> Ending
     ensures { (result.status ≡ Status.Memory) ⊎ ((result.status ≡ Status.NoEvent) × (string_bytes result.name ≡ past_event word.now last)) }
 {
     match past_text(alloc, word, last) {
@@ -197,18 +197,18 @@ fn word_of<'a>(marks: &[Mark<'a>], index: usize) -> &'a str
     marks[index].word.as_str()
 }
 
-// A study whose segments were simulated.
+/// A study whose segments were simulated.
 #[derive(Drop)]
-struct Simulated {
-    // The states that were kept on the way.
-    shelf: ClosedShelf<Checkpoint>,
-    // The number of the last event of each branch.
-    lasts: Vec<u32>,
+pub struct Simulated {
+    /// The states that were kept on the way.
+    pub shelf: ClosedShelf<Checkpoint>,
+    /// The number of the last event of each branch.
+    pub lasts: Vec<u32>,
 }
 
-// Has workers simulate each segment of a study once, while so many grid places keep states. No more steps lead to a target from
-// the states that were kept than from those that are sure to be.
-fn simulate_kept<R: Threads + Wait + Sync, G: Gate + Sync, D: Ledger + Send>(
+/// Has workers simulate each segment of a study once, while so many grid places keep states. No more steps lead to a target from
+/// the states that were kept than from those that are sure to be.
+pub fn simulate_kept<R: Threads + Wait + Sync, G: Gate + Sync, D: Ledger + Send>(
     rt: &R,
     alloc: Global,
     study: &Study,

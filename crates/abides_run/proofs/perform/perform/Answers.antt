@@ -1,8 +1,8 @@
 use Rattle.std.proofs.Common.{◌≡◌, option_map, refl, rules, vec_items}
 use Rattle.study_rules.specs.Accepted.{study_told}
-use Rattle.abides_run.specs.declared.request.Task.TheVariants.{Run, Check, Table, Lines, Rewind}
+use Rattle.abides_run.specs.declared.request.Task.TheVariants.{Run, Check, Table, Lines, Rewind, Cross}
 use Rattle.abides_run.specs.Output.{bundled, compared, counted, described}
-use Rattle.abides_run.proofs.Performing.{rewind_finishes, task_finishes}
+use Rattle.abides_run.proofs.Performing.{cross_finishes, rewind_finishes, task_finishes}
 use Rattle.abides_run.proofs.perform.perform.Goals as goal
 
 pub returns-in-Run : goal.returns-in-Run
@@ -39,3 +39,10 @@ returns-in-Rewind g c =
     let is : f.task ≡ Rewind c.in-Rewind.marks c.in-Rewind.places = search rules in
     rewind_finishes _ f.task (option_map vec_items f.further) c.in-Rewind.marks c.as_slice-marks.result.now c.in-Rewind.places (study_told f.study) (g.O.Sink.faults c.args.out.now) (g.O.Sink.faults c.rewind_study.new.out) c.args.steps.now c.rewind_study.new.steps (g.O.Sink.taken c.args.out.now) (g.O.Sink.taken c.rewind_study.new.out) c.rewind_study.result.status _
     is c.as_slice-marks.ensures c.rewind_study.ensures
+
+pub returns-in-Cross : goal.returns-in-Cross
+returns-in-Cross g c =
+    let f = c.args.found.now in
+    let is : f.task ≡ Cross c.in-Cross.crossing c.in-Cross.places = search rules in
+    cross_finishes _ f.task (option_map vec_items f.further) c.in-Cross.crossing c.in-Cross.crossing c.in-Cross.places c.further_text-text.result.now (study_told f.study) (g.O.Sink.faults c.args.out.now) (g.O.Sink.faults c.cross_study.new.out) c.args.steps.now c.cross_study.new.steps (g.O.Sink.taken c.args.out.now) (g.O.Sink.taken c.cross_study.new.out) c.cross_study.result.status _
+    is refl c.further_text-text.ensures c.cross_study.ensures
