@@ -1,0 +1,6 @@
+pub mod MessageFound
+pub mod BodyFound
+pub mod TwosComplement
+pub mod HeadedFound
+pub mod FrameFound
+pub mod AsRead
