@@ -20,7 +20,7 @@ use Rattle.bundle_reader.proofs.Runs.{none_some}
 use Rattle.bundle_reader.proofs.Sound.{IsSo, step}
 use Rattle.bundle_reader.proofs.Reached.{IsAhead, ahead_first, ahead_step, ahead_end}
 use Rattle.bundle_reading.specs.Frames.{frame_in}
-use Rattle.bundle_reading.specs.Reading.{Read, read, cut, bad_frame, bad_order, read_whole, at_end, placed, framed as framed_at, parted, reading_from, reading_of, IsRefusedAs, IsReadAs}
+use Rattle.bundle_reading.specs.Reading.{Read, read, cut, bad_frame, bad_order, read_whole, at_end, placed, with_frame, parted, reading_from, reading_of, IsRefusedAs, IsReadAs}
 use Rattle.bundle_reading.proofs.FrameFound.{frame_found, frame_none}
 
 -- ---- before the end
@@ -49,7 +49,7 @@ no_end (closing w b es m c) e = refl
 no_end (end b) e = absurd cc
 
 -- what was read so far, and what is ahead, by the parts of the bytes
-abbrev later : ℕ → ℕ → List ℕ → List ℕ → ReadingTold → Read
+abbrev pub later : ℕ → ℕ → List ℕ → List ℕ → ReadingTold → Read
 later n at first rest next = reading_from n (at + (2 + length first)) next rest
 
 before_end : (n at : ℕ) (r : ReadingTold) (bytes : List ℕ) → whole_bundle r ≡ None → reading_from (suc n) at r bytes ≡ parted bytes at r (unframed bytes) (later n at)
@@ -63,14 +63,14 @@ frame_there n at r bytes after f none begins =
     let found : frame_in (stocks_known r) (payload f) ≡ Some f = frame_found (stocks_known r) (payload f) f (record { same = refl; ranges = begins.ranges }) in
     before_end n at r bytes none
     ∙ ap (λ (p : Result (List ℕ × List ℕ) CodecError). parted bytes at r p (later n at)) parts
-    ∙ ap (λ (o : Option Frame). framed_at at r o (later n at (payload f) after)) found
+    ∙ ap (λ (o : Option Frame). with_frame at r o (later n at (payload f) after)) found
 
 one_more : (n at : ℕ) (r next : ReadingTold) (bytes after : List ℕ) (f : Frame) → Begins (stocks_known r) bytes f after → taken r f ≡ Some next
     → reading_from (suc n) at r bytes ≡ reading_from n (at + (2 + length (payload f))) next after
 one_more n at r next bytes after f begins one =
     frame_there n at r bytes after f (not_end r next f one) begins ∙ ap (λ (o : Option ReadingTold). placed at o (later n at (payload f) after)) one
 
-framed_long : (bytes after : List ℕ) (stocks : Option ℕ) (f : Frame) → Begins stocks bytes f after → length bytes ≡ 2 + length (payload f) + length after
+pub framed_long : (bytes after : List ℕ) (stocks : Option ℕ) (f : Frame) → Begins stocks bytes f after → length bytes ≡ 2 + length (payload f) + length after
 framed_long bytes after stocks f begins =
     omega (arith, ap length begins.same, length-append (framed (payload f)) after, length-append (number_bytes 2 (length (payload f))) (payload f), length-number_bytes 2 (length (payload f)))
 
@@ -103,7 +103,7 @@ goes_on (suc n) at r last bytes rest (f ∷ fs) reads enough =
 from_start : (bytes rest : List ℕ) (r : ReadingTold) → Reached bytes r rest → GoesOn (1 + length bytes) 0 start bytes r rest
 from_start bytes rest r reached = goes_on (1 + length bytes) 0 start r bytes rest reached.frames reached.reads (omega arith)
 
-read_from : (bytes : List ℕ) → reading_of bytes ≡ reading_from (1 + length bytes) 0 start bytes
+pub read_from : (bytes : List ℕ) → reading_of bytes ≡ reading_from (1 + length bytes) 0 start bytes
 unfolding reading_of
 read_from bytes = refl
 
@@ -119,7 +119,7 @@ bad_there zero at r rest enough goes is = absurd (omega (arith, enough))
 bad_there (suc n) at r rest enough goes is =
     before_end n at r rest (no_end r goes)
     ∙ ap (λ (p : Result (List ℕ × List ℕ) CodecError). parted rest at r p (later n at)) is.whole
-    ∙ ap (λ (o : Option Frame). framed_at at r o (later n at is.first is.rest)) (frame_none (stocks_known r) is.first is.no_frame)
+    ∙ ap (λ (o : Option Frame). with_frame at r o (later n at is.first is.rest)) (frame_none (stocks_known r) is.first is.no_frame)
 
 more_behind : (at : ℕ) (b : BundleTold) (rest : List ℕ) → rest ≢ [] → read_whole at b rest ≡ bad_order at
 more_behind at b [] some = absurd (some refl)

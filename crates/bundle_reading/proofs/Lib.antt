@@ -4,3 +4,4 @@ pub mod TwosComplement
 pub mod HeadedFound
 pub mod FrameFound
 pub mod AsRead
+pub mod AsTold

@@ -8,6 +8,8 @@ use Rattle.bundle_reader.specs.declared.bundle.BundleError.{BundleError}
 use Rattle.bundle_reader.specs.declared.bundle.BundleError.TheVariants.{Cut, BadFrame, BadOrder, Memory}
 use Rattle.bundle_reader.specs.Told.{BundleTold, ReadingTold, start, bundle_told}
 use Rattle.bundle_reader.specs.Order.{taken, stocks_known, whole_bundle}
+use Rattle.bundle_reader.specs.Bundle.{IsBundle, bundle_bytes}
+use Rattle.bundle_reader.specs.Reads.{Stops}
 use Rattle.bundle_reading.specs.Frames.{frame_in}
 
 -- What bytes are read as: a bundle, or the first reason why they are none. A frame is cut, with so many bytes left from its
@@ -34,14 +36,14 @@ placed at None later = bad_order at
 placed at (Some r) later = later r
 
 -- behind a frame, where there is one
-abbrev pub framed : ℕ → ReadingTold → Option Frame → (ReadingTold → Read) → Read
-framed at r None later = bad_frame at
-framed at r (Some f) later = placed at (taken r f) later
+abbrev pub with_frame : ℕ → ReadingTold → Option Frame → (ReadingTold → Read) → Read
+with_frame at r None later = bad_frame at
+with_frame at r (Some f) later = placed at (taken r f) later
 
 -- behind the first length and what it counts, where these are whole
 abbrev pub parted : List ℕ → ℕ → ReadingTold → Result (List ℕ × List ℕ) CodecError → (List ℕ → List ℕ → ReadingTold → Read) → Read
 parted bytes at r (Err e) later = cut (length bytes)
-parted bytes at r (Ok parts) later = framed at r (frame_in (stocks_known r) parts.0) (later parts.0 parts.1)
+parted bytes at r (Ok parts) later = with_frame at r (frame_in (stocks_known r) parts.0) (later parts.0 parts.1)
 
 -- What bytes that stand at an offset are read as behind what was read. The first number is above that of the bytes: each
 -- frame has some.
@@ -66,3 +68,10 @@ IsRefusedAs Memory r = Unit {0}
 abbrev pub IsReadAs : Result Bundle BundleError → Read → Type 0
 IsReadAs (Ok b) r = r ≡ read (bundle_told b)
 IsReadAs (Err e) r = IsRefusedAs e r
+
+-- What is read of bytes is told by the reader's relations.
+abbrev pub IsTold : List ℕ → Read → Type 0
+IsTold bytes (read b) = (bytes ≡ bundle_bytes b) × IsBundle b
+IsTold bytes (cut left) = Stops bytes (Cut left)
+IsTold bytes (bad_frame at) = Stops bytes (BadFrame at)
+IsTold bytes (bad_order at) = Stops bytes (BadOrder at)
