@@ -1,7 +1,7 @@
 """traces.py FILE: each branch of a bundle, or each state of a rewind, as text.
 
 Writes NAME.trace for each branch, into the folder where it runs: a line for each event and edit, and then what stands at the
-end: stocks, agents, and of a rewind also live orders and the messages that wait. Prices have four implied decimals, times
+end: stocks, live orders, agents, and of a rewind also the messages that wait. Prices have four implied decimals, times
 are in nanoseconds past midnight, money is in millionths of a dollar. What the frames have is in docs/FORMATS.md.
 """
 
@@ -27,6 +27,7 @@ def line(f):
     if kind == "c": return f"end {chr(f[1])} after event {number(f, 2, 4)}"
     if kind == "s": return f"stock {number(f, 1, 2)}: {number(f, 8, 8)} shares, fees {number(f, 16, 16, True)}"
     if kind == "l": return f"order of agent {number(f, 9, 2)}: {chr(f[25])} {number(f, 30, 4)} at {number(f, 36, 4)}"
+    if kind == "n": return "hidden " + line(b"l" + f[1:])
     if kind == "w": return f"waits for {number(f, 1, 8)}: {number(f, 17, 2)}->{number(f, 19, 2)} {chr(f[21])}"
     if kind == "a": return f"agent {number(f, 1, 2)}: cash {number(f, 24, 16, True)}"
 

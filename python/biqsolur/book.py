@@ -11,7 +11,7 @@ import pandas
 
 from biqsolur.check import Part
 from biqsolur.errors import BundleError, LevelsError
-from biqsolur.feed import feed_frame, feed_rows
+from biqsolur.feed import feed_frame, feed_rows, sides_of_orders
 from biqsolur.frames import Frames
 
 
@@ -64,7 +64,8 @@ class Rebuilt:
     """The feed of one stock with the book after each message.
 
     feed: the messages, as rows of the feed's data frame. side, price, shares: of the order that the message changed
-    (of a delete the shares that were open). bids, asks: a row a message, price and shares of each level in turn.
+    (of a delete the shares that were open), of a Trade those of the match and the hidden order's side. bids, asks: a
+    row a message, price and shares of each level in turn.
     """
 
     feed: pandas.DataFrame
@@ -80,16 +81,18 @@ def rebuild(frames: Frames, part: Part, symbols: list[str], levels: int) -> list
     if levels < 1:
         raise LevelsError(f"levels = {levels}: a book has at least one level")
     feed = feed_frame(frames, part, symbols)
-    return [rebuild_stock(frames, part, feed[feed.stock == stock], levels) for stock in range(len(symbols))]
+    sides = sides_of_orders(frames, part, feed)
+    of_stocks = [feed.stock == stock for stock in range(len(symbols))]
+    return [rebuild_stock(frames, part, feed[own], sides[own], levels) for own in of_stocks]
 
 
-def rebuild_stock(frames: Frames, part: Part, feed: pandas.DataFrame, levels: int) -> Rebuilt:
-    """The book of one stock after each of its messages."""
+def rebuild_stock(frames: Frames, part: Part, feed: pandas.DataFrame, order_sides: pandas.Series, levels: int) -> Rebuilt:
+    """The book of one stock after each of its messages; `order_sides` has the side of each message's order."""
     sides = {"B": Snapshots(True, levels), "S": Snapshots(False, levels)}
     orders: dict[int, tuple[str, int, int]] = {}       # by reference: side, price, open shares
     changed: list[tuple[str, int, int]] = []
     bid_places, ask_places = array("q"), array("q")
-    messages = zip(feed.kind, feed.reference.tolist(), feed.side, feed.shares.tolist(), feed.price.tolist())
+    messages = zip(feed.kind, feed.reference.tolist(), order_sides, feed.shares.tolist(), feed.price.tolist())
     for row, (kind, reference, side, shares, price) in enumerate(messages):
         if kind == "A":
             orders[reference] = (side, price, shares)

@@ -107,14 +107,16 @@ class Branch:
         """A row a feed message, in order: event (the one that it came with; 0 at the opening, of an edit the number
         of events before it), time (ns), source ("opening", "event", "change", "edit", "close"), kind (ITCH's letter:
         S R H A E X D P Q), stock, symbol, reference, side, shares, price (of A, P and Q), price_dollars, match,
-        state (of H; of S its code)."""
+        state (of H; of S its code). P is a Trade, the match of a hidden order: its reference is 0 and its side "B",
+        whatever the hidden order's side was."""
         return feed.feed_frame(self.bundle.frames, self.part, self.symbols)
 
     @cached_property
     def trades(self) -> pandas.DataFrame:
-        """A row a match, in order: event, time (ns), stock, symbol, side (the aggressor's, "B" or "S"), price,
-        price_dollars, shares, match (its number), aggressor, resting (agents; -1 where the feed never added the
-        resting order), reference (of the resting order), fees (both sides' together, millionths of a dollar)."""
+        """A row a match, in order: event, time (ns), stock, symbol, side (the aggressor's, "B" or "S", from the order
+        that came with the event), price, price_dollars, shares, match (its number), aggressor, resting (agents; of a
+        hidden resting order from the reply to its agent, -1 where that reply had not come up by the end), reference
+        (of the resting order; 0 of a hidden one), fees (both sides' together, millionths of a dollar)."""
         return feed.trades_frame(self.bundle.frames, self.part, self.symbols)
 
     @cached_property
@@ -140,7 +142,7 @@ class Branch:
         return read_closing(self.bundle.frames, self.part, self.bundle.tokens, self.symbols)
 
     def book(self, levels: int = 10) -> pandas.DataFrame:
-        """The displayed book after each feed message of a stock, from the feed alone.
+        """The displayed book after each feed message of a stock, from the feed alone: no hidden order is in it.
 
         Columns: event, time (ns), kind, stock, symbol, and for each level from 1 on bid_1, bid_shares_1, ask_1,
         ask_shares_1 (prices with four implied decimals; 0 and 0 where the level is empty). The row labels are
@@ -149,7 +151,7 @@ class Branch:
 
     def displayed_orders(self) -> pandas.DataFrame:
         """The orders that rest at the end, from the feed alone, by stock and then by arrival: reference, side, open
-        (shares), stock, symbol, price, price_dollars. They are those of `closing.orders`."""
+        (shares), stock, symbol, price, price_dollars. They are those of `closing.orders` that are not hidden."""
         return feed.displayed_frame(self.bundle.frames, self.part, self.symbols)
 
     @cached_property

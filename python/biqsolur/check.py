@@ -16,6 +16,7 @@ from biqsolur.errors import BundleError
 from biqsolur.frames import Frames, bytes_at
 
 BLOCK = 1 << 18             # frames whose fields are looked at together, which bounds the memory
+LIVE_ORDERS = "ln"          # letters of the live orders of a closing: one that is shown, one that is hidden
 
 LETTER, TEXT, ALNUM = 1, 2, 4
 CLASSES = numpy.zeros(256, numpy.uint8)
@@ -70,7 +71,8 @@ def layouts_of_frames(stocks: int | None) -> Iterator[tuple[str, int, list[tuple
     yield "h", 9, [(1, b"\0"), (2, b"\1")], []
     for letter, size in [("d", 18), ("c", 66), ("s", 44), ("z", 3)]:
         yield letter, size, [], []
-    yield "l", 44, [], [(25, 1, "side")]
+    for letter in LIVE_ORDERS:
+        yield letter, 44, [], [(25, 1, "side")]
     for count in range(8184) if stocks is None else [stocks]:
         yield "a", 70 + 8 * count, [(3, b"YN")], []
     for letter, layout in layouts.FEED.items():
@@ -186,16 +188,18 @@ class Order:
         self.at = first + end + 1
         return first, first + end
 
-    def run(self, kind: str) -> int:
-        """How many frames of this kind stand here, one after another."""
-        other = self.frames.kinds[self.at:self.good] != ord(kind)
+    def run(self, kinds: str) -> int:
+        """How many frames of these kinds stand here, one after another."""
+        other = ~numpy.isin(self.frames.kinds[self.at:self.good], numpy.frombuffer(kinds.encode(), numpy.uint8))
         return int(other.argmax()) if other.any() else len(other)
 
     def closing(self, part: Part, stocks: int | None = None, agents: int | None = None) -> None:
-        """A closing: `c`, the stocks, the live orders, the agents. A number that is not known is as many as come."""
+        """A closing: `c`, the stocks, the live orders, shown and hidden ones as they come, the agents. A number that is
+        not known is as many as come."""
         part.counts = self.ask("c")
         part.stocks = self.ask_numbered("s", self.run("s") if stocks is None else stocks, layouts.STOCK, "stock")
-        part.orders = self.ask("l", self.run("l"))
+        part.orders = self.at
+        self.at += self.run(LIVE_ORDERS)
         part.agents = self.ask_numbered("a", self.run("a") if agents is None else agents, layouts.AGENT, "agent")
         part.waiting = part.end = self.at
 

@@ -24,9 +24,10 @@ class Closing:
     counts: dict with end ("Closed", "Quiet", "EventLimit", "QueueFull", or "-" where a rewind's run goes on),
         events, time (ns), next_message, waiting, dropped, ignored_enters, ignored_cancels, orders, matches
     stocks: a row a stock: stock, symbol, state ("T" or "H"), last, last_dollars, matched (shares),
-        fees (Python integers, millionths of a dollar), offset, live (orders)
+        fees (Python integers, millionths of a dollar), offset, live (orders, hidden ones too)
     orders: a row a resting order, by stock and then by arrival: reference, agent, token, side ("B" or "S"),
-        intended, open (shares), stock, symbol, price, price_dollars, time_in_force
+        intended, open (shares), stock, symbol, price, price_dollars, time_in_force, hidden (bool: the feed and the
+        quotes tell nothing of it)
     agents: a row an agent, the exchange first: agent, silenced, own_time (ns), tokens, draws,
         cash (settled; Python integers, millionths of a dollar), own_cash (Python integers), own_position (shares),
         orders (in its own list), quotes (heard), and for each stock position_SYMBOL (settled, shares)
@@ -85,6 +86,7 @@ def orders_frame(frames: Frames, indexes: numpy.ndarray, tokens: Tokens, symbols
         "price": price,
         "price_dollars": columns.dollars(price),
         "time_in_force": columns.whole(orders["time_in_force"]),
+        "hidden": frames.kinds[indexes] == ord("n"),
     })
 
 

@@ -136,7 +136,7 @@ class Tokens:
 
 
 # Where frames have tokens: letter, size, offset in the payload.
-TOKEN_FIELDS = [("l", 44, 11)] + [
+TOKEN_FIELDS = [("l", 44, 11), ("n", 44, 11)] + [
     (letter, head + size, head + offset)
     for letter, head in [("e", 43), ("w", 22)]
     for size, offset in [(49, 1), (19, 1), (66, 9), (28, 9), (40, 9), (24, 9)]

@@ -110,8 +110,41 @@ def find_references(wanted: numpy.ndarray, among: numpy.ndarray) -> numpy.ndarra
     return numpy.where(among[place] == wanted, place, -1)
 
 
+def entered_sides(frames: Frames, events: numpy.ndarray) -> numpy.ndarray:
+    """Of these events' frames the side of the order that came with each; 0 where none did."""
+    sides = numpy.zeros(len(events), numpy.uint8)
+    enters = numpy.flatnonzero(frames.sizes[events] == layouts.EVENT.itemsize + layouts.ENTER.itemsize)
+    sides[enters] = frames.records(events[enters], layouts.ENTER, skip=layouts.EVENT.itemsize)["side"]
+    return sides
+
+
+def sides_of_orders(frames: Frames, part: Part, feed: pandas.DataFrame) -> pandas.Series:
+    """The side of each message's order, of a branch's whole feed. It is the feed's own but for a Trade, which says `B`
+    whatever the hidden order's side was: that is the other side than the one of the order that met it."""
+    trades = numpy.flatnonzero(feed.kind == "P")
+    if len(trades) == 0:
+        return feed.side
+    sides = feed.side.copy()
+    came = entered_sides(frames, feed_rows(frames, part).event_frame[trades])
+    sides.iloc[trades] = columns.words(opposite(came), columns.SIDES)
+    return sides
+
+
+def told_agents(frames: Frames, part: Part, matches: numpy.ndarray) -> numpy.ndarray:
+    """For each number of a match the agent that is told that its resting order traded; -1 where no such reply is
+    among the branch's events."""
+    kinds, sizes = (of[part.entries:part.entries_end] for of in (frames.kinds, frames.sizes))
+    replies = (kinds == ord("e")) & (sizes == layouts.EVENT.itemsize + layouts.EXECUTED.itemsize)
+    events = part.entries + numpy.flatnonzero(replies)
+    executed = frames.records(events, layouts.EXECUTED, skip=layouts.EVENT.itemsize)
+    added = executed["flag"] == ord("A")
+    agents = numpy.append(frames.records(events[added], layouts.EVENT)["receiver"].astype(numpy.int32), -1)
+    return agents[find_references(matches, executed["match"][added].astype(numpy.uint64))]
+
+
 def trades_frame(frames: Frames, part: Part, symbols: list[str]) -> pandas.DataFrame:
-    """A row a match: an Order Executed of the feed, with the resting order that the feed once added, and a Trade."""
+    """A row a match: an Order Executed of the feed, with the resting order that the feed once added, and a Trade, with
+    the agent of the hidden order from the replies. The aggressor is who sent the order that came with the event."""
     rows = feed_rows(frames, part)
     adds = numpy.flatnonzero((rows.kinds == ord("A")) & (rows.source == EVENT))
     added = frames.records(rows.indexes[adds], layouts.FEED_ADD)
@@ -134,8 +167,11 @@ def trades_frame(frames: Frames, part: Part, symbols: list[str]) -> pandas.DataF
     resting_side[known] = added["side"][place[known]]
     resting[known] = owners[place[known]]
     trades = frames.records(rows.indexes[matches[hidden]], layouts.FEED_TRADE)
-    for column, name in [(shares, "shares"), (match, "match"), (price, "price"), (resting_side, "side")]:
+    for column, name in [(shares, "shares"), (match, "match"), (price, "price")]:
         column[hidden] = trades[name]
+    resting[hidden] = told_agents(frames, part, match[hidden])
+    came = entered_sides(frames, rows.event_frame[matches])
+    side = numpy.where(came == 0, opposite(resting_side), came)
 
     stock = head["locate"].astype(numpy.int32) - 1
     # The event has the fees of all its matches together, which have one fee a share.
@@ -148,7 +184,7 @@ def trades_frame(frames: Frames, part: Part, symbols: list[str]) -> pandas.DataF
         "time": feed_time(head),
         "stock": stock,
         "symbol": columns.stock_symbols(stock, symbols),
-        "side": columns.words(opposite(resting_side), columns.SIDES),
+        "side": columns.words(side, columns.SIDES),
         "price": price,
         "price_dollars": columns.dollars(price),
         "shares": shares,
@@ -161,7 +197,7 @@ def trades_frame(frames: Frames, part: Part, symbols: list[str]) -> pandas.DataF
 
 
 def displayed_frame(frames: Frames, part: Part, symbols: list[str]) -> pandas.DataFrame:
-    """A row an order that the feed says is resting at the end, by stock and then by arrival."""
+    """A row an order that the feed says is resting at the end, by stock and then by arrival: no hidden one."""
     feed = feed_frame(frames, part, symbols)
     orders = feed.loc[feed.kind == "A", ["reference", "side", "shares", "stock", "symbol", "price", "price_dollars"]]
     orders = orders.rename(columns={"shares": "open"})

@@ -23,7 +23,9 @@ def to_lobster(folder: str | Path, branch: Branch, levels: int = 10) -> None:
     Columns of a message: time (seconds after midnight, nine decimals), type, order's reference, shares, price (four
     implied decimals), direction (1 buy, -1 sell: of the resting order). Columns of a book: for each level ask price,
     ask shares, bid price, bid shares. Each message that the feed has for the stock gives a row, at whatever level; the
-    trading state at the opening gives none, as nothing was halted before.
+    trading state at the opening gives none, as nothing was halted before. The match of a hidden order is of type 5,
+    with reference 0 and the hidden order's direction, which the feed does not tell: the bundle has the order that met
+    it.
     """
     books = rebuild(branch.bundle.frames, branch.part, branch.symbols, levels)
     folder = new_folder(folder)

@@ -18,13 +18,14 @@ POLICY = ("default-src 'none'; script-src 'unsafe-inline'; style-src 'unsafe-inl
           "base-uri 'none'; form-action 'none'")
 
 FIGURES = [
-    ("mid", "Mid price", "Half of best bid and best ask. A line breaks off where a side of the book is empty. A branch "
-     "is drawn from where it leaves its parent. ▲ is the first event that differs from the parent."),
+    ("mid", "Mid price", "Half of best bid and best ask of the displayed book. No hidden order is in this picture, nor in "
+     "the next two. A line breaks off where a side of the book is empty. A branch is drawn from where it leaves its parent. "
+     "▲ is the first event that differs from the parent."),
     ("spread", "Spread", "Best ask less best bid."),
     ("depth", "Depth by level", "Shares displayed at the best five prices of each side, the best one nearest to zero: "
      "asks above, bids below. The first branch is filled; of the second one level 1 and all five together are lines."),
-    ("volume", "Traded volume", "Shares of all trades up to that time."),
-    ("fees", "Fees", "Fees of both sides of all trades up to that time. Below zero the venue has paid."),
+    ("volume", "Traded volume", "Shares of all trades up to that time, those with hidden orders too."),
+    ("fees", "Fees", "Fees of both sides of all these trades. Below zero the venue has paid."),
 ]
 
 

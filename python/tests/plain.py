@@ -80,7 +80,7 @@ def frame_is_right(payload, stocks):
         return size >= 43 and payload[25:26] in (b"D", b"P") and body_is_right(payload[42:43], payload[43:])
     if kind == b"w":
         return size >= 22 and body_is_right(payload[21:22], payload[22:])
-    if kind == b"l":
+    if kind in (b"l", b"n"):
         return size == 44 and payload[25:26] in (b"B", b"S")
     if kind == b"a":
         return (size >= 70 and (size - 70) % 8 == 0 and payload[3:4] in (b"Y", b"N")
@@ -117,7 +117,7 @@ class Reader:
 
 
 class PlainBranch:
-    """One branch: its `b` frame, opening, entries, System Event, `c`, `s`, `l` and `a` frames, all as bytes.
+    """One branch: its `b` frame, opening, entries, System Event, `c`, `s`, `l` and `n`, and `a` frames, all as bytes.
 
     entries: a list of (frame, feed before it, feed behind it), of events and edits.
     """
@@ -140,8 +140,8 @@ def read_plain(data):
         branch.counts = reader.ask(b"c")
         branch.stocks = [numbered(reader, b"s", stock) for stock in range(stocks)]
         branch.orders, branch.agents = [], []
-        while reader.data[reader.at + 2:reader.at + 3] == b"l":
-            branch.orders.append(reader.ask(b"l"))
+        while reader.data[reader.at + 2:reader.at + 3] in (b"l", b"n"):
+            branch.orders.append(reader.ask(reader.data[reader.at + 2:reader.at + 3]))
         branch.agents = [numbered(reader, b"a", agent) for agent in range(agents)]
         branches.append(branch)
     if number(reader.ask(b"z"), 1, 2) != count:

@@ -1,4 +1,5 @@
-"""Random small studies: every kind of trader, edit, dated change and value series, in markets that trade."""
+"""Random small studies: every kind of trader, edit, dated change and value series, in markets that trade. Those of
+version 2 have hidden orders, which version 1 rejects."""
 
 import random
 
@@ -140,7 +141,8 @@ class Generator:
             branches.append({
                 "name": f"{self.random.choice(['b', '-', '_', 'wide'])}{place}", "parent": name,
                 key: self.stop(key, parent or {"at": 0}),
-                "edit": [self.edit() for _ in range(self.random.choice([0, 1, 3, 8]))] + self.part_cancel(place),
+                "edit": [self.edit() for _ in range(self.random.choice([0, 1, 3, 8]))] + self.part_cancel(place)
+                + (self.hidden_orders(place) if self.version == 2 else []),
             })
         return branches
 
@@ -168,16 +170,35 @@ class Generator:
         return {"kind": kind, "agent": trader, "after": between(0, 3 * self.pace), "message": self.message(trader)}
 
     def part_cancel(self, place):
-        """An order at the market or far below it, and a cancel that leaves a part of it."""
+        """An order at the market or far below it, shown or hidden, and a cancel that leaves a part of it."""
         choose = self.random.choice
         trader, token = self.random.randint(1, len(self.traders)), (b"PART%d" % place).ljust(14)
         step = 15 * self.tick               # a multiple of each tick that holds below the market
         price = step * choose([1, max(1, self.price // step)])
+        display = choose([b"Y", b"N"]) if self.version == 2 else b"Y"
         order = (b"O" + token + choose([b"B", b"B", b"S"]) + (900).to_bytes(4, "big") + choose(self.symbols).encode().ljust(8)
-                 + price.to_bytes(4, "big") + (99_999).to_bytes(4, "big") + b"ABIDYPN" + bytes(4) + b"NN")
+                 + price.to_bytes(4, "big") + (99_999).to_bytes(4, "big") + b"ABID" + display + b"PN" + bytes(4) + b"NN")
         cancel = b"X" + token + choose([400, 899]).to_bytes(4, "big")
         return [{"kind": "inject", "agent": trader, "after": after, "message": message.hex()}
                 for after, message in ((0, order), (choose([0, self.pace // 2, 3 * self.pace]), cancel))]
+
+    def hidden_orders(self, place):
+        """Hidden orders on both sides of the market, which the traders meet, and a cancel that leaves a part of one."""
+        choose = self.random.choice
+        edits = []
+        for number in range(5):
+            trader, token = self.random.randint(1, len(self.traders)), (b"HIDE%d%d" % (place, number)).ljust(14)
+            step = choose([1, 5, 15, 15]) * self.tick           # not each is a multiple of each tick that holds
+            way = choose([-1, 1])
+            price = max(1, (self.price // step + way * choose([0, 1, 1, 2])) * step)
+            order = (b"O" + token + (b"B" if way < 0 else b"S") + choose([50, 50, 700]).to_bytes(4, "big")
+                     + choose(self.symbols).encode().ljust(8) + price.to_bytes(4, "big") + (99_998).to_bytes(4, "big")
+                     + b"ABIDNPN" + bytes(4) + b"NN")
+            edits.append((trader, self.random.randint(0, self.pace), order))
+        trader, after, order = choose(edits)
+        edits.append((trader, after + choose([0, self.pace]), b"X" + order[1:15] + choose([20, 49]).to_bytes(4, "big")))
+        return [{"kind": "inject", "agent": trader, "after": after, "message": message.hex()}
+                for trader, after, message in edits]
 
     def message(self, trader):
         """An order or a cancel, some of which the exchange ignores or rejects."""
@@ -189,7 +210,7 @@ class Generator:
         symbol = choose(self.symbols + ["NOSUCH"]).encode().ljust(8)
         price = max(1, self.price + self.random.randint(-6, 6) * self.tick)
         shares = choose([1, 50, 700, 999_999, 0])
-        display = choose([b"Y", b"Y", b"Y", b"N" if self.version == 1 else b"Y"])
+        display = choose([b"Y", b"N" if self.version == 2 else b"Y", b"Y", b"N"])
         return (b"O" + self.tokens[-1] + choose([b"B", b"S"]) + shares.to_bytes(4, "big") + symbol
                 + price.to_bytes(4, "big") + choose([0, 99_998, 99_999]).to_bytes(4, "big") + b"ABID" + display + b"PN"
                 + bytes(4) + b"NN").hex()

@@ -122,12 +122,48 @@ def test_edits_are_those_of_the_plain_reader(bundle, plain_branches):
 
 
 def test_trades_are_the_matches_of_the_feed(bundle, plain_branches):
+    """Each match comes with the event of an order, whose sender and side are the aggressor's."""
     for branch, told in pairs(bundle, plain_branches):
-        matches = [(frame, message) for frame, _, behind in told.entries for message in behind if message[:1] == b"E"]
-        columns = ["event", "time", "stock", "reference", "shares", "match", "aggressor"]
+        matches = [(frame, plain.feed_row(message)) for frame, _, behind in told.entries for message in behind
+                   if message[:1] in (b"E", b"P")]
+        assert {frame[42:44] for frame, _ in matches} <= {b"iO"}
+        columns = ["event", "time", "stock", "reference", "side", "shares", "match", "aggressor"]
         assert rows(branch.trades, columns) == [
-            (plain.number(e, 1, 4), plain.number(m, 5, 6), plain.number(m, 1, 2) - 1, plain.number(m, 11, 8),
-             plain.number(m, 19, 4), plain.number(m, 23, 8), plain.number(e, 21, 2)) for e, m in matches]
+            (plain.number(e, 1, 4), time, stock, reference, chr(e[43 + 15]), shares, match, plain.number(e, 21, 2))
+            for e, (time, _, stock, reference, _, shares, _, match, _) in matches]
+
+
+def test_trades_are_against_the_orders_that_the_feed_added(bundle):
+    for branch in bundle.branches.values():
+        added = {row.reference: row for row in branch.feed[branch.feed.kind == "A"].itertuples()}
+        senders = dict(rows(branch.events, ["number", "sender"]))
+        columns = ["reference", "side", "price", "resting", "stock"]
+        for reference, side, price, resting, stock in rows(branch.trades[branch.trades.reference > 0], columns):
+            order = added[reference]
+            assert (side, price, resting, stock) == (
+                {"B": "S", "S": "B"}[order.side], order.price, senders[order.event], order.stock)
+        hidden = branch.feed[branch.feed.kind == "P"]
+        columns = ["event", "time", "stock", "price", "shares", "match"]
+        assert rows(branch.trades[branch.trades.reference == 0], columns) == rows(hidden, columns)
+        assert set(hidden.side) <= {"B"} and set(hidden.reference) <= {0}
+
+
+def test_trades_are_those_of_the_replies(bundle):
+    """Agents, sides, shares and prices, of hidden orders too: what a reply says of a match, the match says."""
+    for branch in bundle.branches.values():
+        trades = {row.match: row for row in branch.trades.itertuples()}
+        accepted = branch.replies[branch.replies.kind == "accepted"]
+        sides = {(row.agent, row.token): row.side for row in accepted.itertuples()}
+        executed = branch.replies[branch.replies.kind == "executed"]
+        for row in executed.itertuples():
+            trade = trades[row.match]
+            agent, side = {"R": (trade.aggressor, trade.side), "A": (trade.resting, {"B": "S", "S": "B"}[trade.side])}[row.flag]
+            assert (row.shares, row.price, row.handled, row.agent) == (trade.shares, trade.price, trade.time, agent)
+            # Replies overtake each other, so at the end an order's acceptance may still be on its way.
+            assert sides.get((row.agent, row.token), side) == side
+        told = set(executed.match[executed.flag == "A"])
+        waits = branch.trades[~branch.trades.match.isin(told)]
+        assert branch.closing.counts["end"] != "Quiet" or len(waits) == 0
 
 
 def test_closing_is_that_of_the_plain_reader(bundle, plain_branches):
@@ -145,6 +181,8 @@ def test_closing_is_that_of_the_plain_reader(bundle, plain_branches):
             (plain.number(o, 1, 8), plain.number(o, 9, 2), plain.text(o[11:25]), chr(o[25]), plain.number(o, 26, 4),
              plain.number(o, 30, 4), plain.number(o, 34, 2), plain.number(o, 36, 4), plain.number(o, 40, 4))
             for o in told.orders]
+        assert closing.orders.hidden.tolist() == [o[:1] == b"n" for o in told.orders]
+        assert Counter(closing.orders.stock) == Counter(dict(rows(closing.stocks[closing.stocks.live > 0], ["stock", "live"])))
         columns = ["agent", "silenced", "own_time", "tokens", "draws", "cash", "own_cash", "own_position", "orders", "quotes"]
         columns += [f"position_{symbol}" for symbol in bundle.symbols]
         assert rows(closing.agents, columns) == [
@@ -166,10 +204,13 @@ def test_dollars_are_the_nearest_to_the_prices(bundle):
                 assert (dollars[price > 0] == price[price > 0] / 10000).all()
 
 
-def test_feed_leaves_the_orders_of_the_closing(bundle):
+def test_feed_leaves_the_shown_orders_of_the_closing(bundle):
     for branch in bundle.branches.values():
         columns = ["reference", "side", "open", "stock", "symbol", "price", "price_dollars"]
-        assert rows(branch.displayed_orders(), columns) == rows(branch.closing.orders, columns)
+        shown = branch.closing.orders[~branch.closing.orders.hidden]
+        assert rows(branch.displayed_orders(), columns) == rows(shown, columns)
+        hidden = branch.closing.orders.reference[branch.closing.orders.hidden]
+        assert not branch.feed.reference.isin(hidden).any()
 
 
 def plain_levels(orders, levels):
@@ -223,7 +264,7 @@ def test_last_row_of_the_book_is_the_closing(bundle):
     for branch in bundle.branches.values():
         book = branch.book()
         for stock in range(len(bundle.symbols)):
-            resting = branch.closing.orders[branch.closing.orders.stock == stock]
+            resting = branch.closing.orders[(branch.closing.orders.stock == stock) & ~branch.closing.orders.hidden]
             last = book[book.stock == stock].iloc[-1]
             assert tuple(last[level_columns(10)]) == plain_levels(rows(resting, ["side", "price", "open"]), 10)
 
@@ -250,9 +291,10 @@ def fees_in_force(market, branch):
 
 
 def test_trades_give_the_settled_accounts(market, bundle):
+    """Where nobody has been told yet that a hidden order traded, the account of agent -1 is what its owners lack."""
     for branch in bundle.branches.values():
         fees = fees_in_force(market, branch)
-        cash = [0] + [entry.get("cash", 0) for entry in market.traders[1:]]
+        cash = Counter({agent: entry.get("cash", 0) for agent, entry in enumerate(market.traders) if agent})
         position = Counter()
         stock_fees, matched, last = Counter(), Counter(), Counter()
         columns = ["event", "symbol", "side", "price", "shares", "aggressor", "resting", "fees"]
@@ -270,9 +312,13 @@ def test_trades_give_the_settled_accounts(market, bundle):
             matched[symbol] += shares
             last[symbol] = price
         agents, stocks = branch.closing.agents, branch.closing.stocks
-        assert agents.cash.tolist() == cash
+        unknown = branch.trades[branch.trades.resting == -1]
+        assert set(unknown.reference) <= {0}
+        lack = numpy.array([settled - cash[agent] for agent, settled in enumerate(agents.cash)], object)
+        assert lack.sum() == cash[-1] and (lack != 0).sum() <= len(unknown)
         for symbol in bundle.symbols:
-            assert agents[f"position_{symbol}"].tolist() == [position[agent, symbol] for agent in range(bundle.agents)]
+            lack = agents[f"position_{symbol}"] - [position[agent, symbol] for agent in range(bundle.agents)]
+            assert lack.sum() == position[-1, symbol] and (lack != 0).sum() <= len(unknown)
         assert rows(stocks, ["fees", "matched", "last"]) == [
             (stock_fees[symbol], matched[symbol], last[symbol]) for symbol in bundle.symbols]
         assert branch.trades.match.tolist() == list(range(1, len(branch.trades) + 1))
@@ -301,23 +347,30 @@ def test_table_counts_what_the_frames_have(market, bundle, tmp_path):
 
 def test_the_studies_have_all_that_is_compared(program, tmp_path):
     """The tests above say nothing of what no study has."""
-    feed, edits, put_back, messages = set(), set(), set(), set()
+    feed, edits, put_back, messages, resting, met_hidden = set(), set(), set(), set(), set(), set()
     for seed in SEEDS:
         study, series = studies.make_study(seed)
         (tmp_path / "study.toml").write_text(studies.toml(study))
         if series is not None:
             (tmp_path / study["series"]).write_text(series)
         data = subprocess.run([program, "run", "study.toml"], cwd=tmp_path, capture_output=True, check=True).stdout
+        event = b""
         for payload in plain.split_frames(data):
+            event = payload if payload[:1] == b"e" else event
             if payload[:1].isupper():
                 feed.add(payload[:1])
+                met_hidden |= {event[58:59]} if payload[:1] == b"P" else set()
             elif payload[:1] == b"d":
                 edits.add(payload[17:18])
+            elif payload[:1] in (b"l", b"n"):
+                resting.add((payload[:1], payload[25:26], payload[26:30] == payload[30:34]))
             elif payload[:1] == b"e" and payload[25:26] == b"P":
                 put_back.add(payload[42:43])
             elif payload[:1] == b"e":
                 messages.add(payload[42:44])
-    assert feed == {b"S", b"R", b"H", b"A", b"E", b"X", b"D"}
+    assert feed == {b"S", b"R", b"H", b"A", b"E", b"X", b"D", b"P"}
+    assert met_hidden == {b"B", b"S"}
+    assert resting == {(kind, side, whole) for kind in (b"l", b"n") for side in (b"B", b"S") for whole in (False, True)}
     assert edits == {b"t", b"f", b"h", b"r", b"l", b"p", b"s", b"i", b"v"}
     assert put_back == {b"w", b"i", b"o", b"a", b"q"}
     assert messages >= {b"w", b"iO", b"iX", b"oA", b"oC", b"oE", b"oJ"}

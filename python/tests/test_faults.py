@@ -15,7 +15,9 @@ def verdict(path):
     try:
         biqsolur.read(path)
     except biqsolur.BundleError as error:
-        return error.offset, error.cause.split(":")[0]
+        # A frame `b` at the beginning is told as what it is, a rewind.
+        cause = "bad order" if error.cause.startswith("this is a rewind") else error.cause
+        return error.offset, cause.split(":")[0]
     return None
 
 

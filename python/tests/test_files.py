@@ -1,12 +1,15 @@
 """The files that the package writes, and the rewinds that it reads, against plain readers."""
 
 import csv
+import subprocess
+import sys
 from collections import defaultdict
 
 import numpy
 import pandas
 import plain
 import pytest
+from conftest import ROOT
 
 import biqsolur
 
@@ -49,13 +52,13 @@ def test_lobster_rows_are_the_feed_and_the_book(bundle, tmp_path):
             name = lobster_name(symbol, stock)
             messages = table_of(folder / f"{name}_message_{LEVELS}.csv")
             books = table_of(folder / f"{name}_orderbook_{LEVELS}.csv")
-            mine = branch.feed.kind.isin(list("AXDEH")) & (branch.feed.stock == stock) & (branch.feed.source != "opening")
+            mine = branch.feed.kind.isin(list("AXDEPH")) & (branch.feed.stock == stock) & (branch.feed.source != "opening")
             feed = branch.feed[mine]
             assert len(messages) == len(books) == len(feed)
             for row, message in zip(feed.itertuples(), messages):
                 seconds, nanoseconds = message[0].split(".")
                 assert len(nanoseconds) == 9 and int(seconds) * 10**9 + int(nanoseconds) == row.time
-                assert int(message[1]) == {"A": 1, "X": 2, "D": 3, "E": 4, "H": 7}[row.kind]
+                assert int(message[1]) == {"A": 1, "X": 2, "D": 3, "E": 4, "P": 5, "H": 7}[row.kind]
                 assert int(message[2]) == row.reference
                 if row.kind == "H":
                     assert message[3:] == ["0", {"H": "-1", "T": "1"}[row.state], "-1"]
@@ -73,7 +76,8 @@ def test_lobster_rows_are_the_feed_and_the_book(bundle, tmp_path):
 
 
 def test_lobster_messages_replay_to_the_book(bundle, tmp_path):
-    """The two files alone: each message changes the book before it to the book behind it."""
+    """The two files alone: each message changes the book before it to the book behind it. The match of a hidden order and
+    a trading state change none."""
     for branch in bundle.branches.values():
         folder = tmp_path / str(branch.number)
         biqsolur.to_lobster(folder, branch, LEVELS)
@@ -81,7 +85,7 @@ def test_lobster_messages_replay_to_the_book(bundle, tmp_path):
             totals = {1: defaultdict(int), -1: defaultdict(int)}
             books = table_of(str(path).replace("_message_", "_orderbook_"))
             for (_, kind, _, shares, price, direction), line in zip(table_of(path), books):
-                if kind != "7":
+                if kind not in "57":
                     totals[int(direction)][int(price)] += int(shares) if kind == "1" else -int(shares)
                 asks = sorted((p, n) for p, n in totals[-1].items() if n)
                 bids = sorted(((p, n) for p, n in totals[1].items() if n), reverse=True)
@@ -93,39 +97,67 @@ def test_lobster_messages_replay_to_the_book(bundle, tmp_path):
                 assert list(map(int, line)) == expected
 
 
+def hidden_matches(told):
+    """Of a branch each Trade of the feed, with the side of the order that its event's frame has and the sender of it."""
+    return [(plain.feed_row(message), chr(event[43 + 15]), plain.number(event, 21, 2))
+            for event, _, behind in told.entries for message in behind if message[:1] == b"P"]
+
+
 def test_hidden_executions(market, bundle, tmp_path):
-    """The program rests no hidden order so far, so Trades are put among the feed: they change no book, and are rows of
-    type 5 without an order."""
-    payloads, sides, own = [], {}, []
-    for payload in plain.split_frames(market.bundle.read_bytes()):
-        payloads.append(payload)
-        if payload[:1] == b"A":
-            sides[payload[11:19]] = payload[19:36]
-        if payload[:1] == b"E":
-            own.append(10**6 + len(own))
-            payloads.append(b"P" + payload[1:11] + own[-1].to_bytes(8, "big") + sides[payload[11:19]] + own[-1].to_bytes(8, "big"))
-    path = tmp_path / "hidden.bundle"
-    path.write_bytes(b"".join(len(payload).to_bytes(2, "big") + payload for payload in payloads))
-    for branch, shown in zip(biqsolur.read(path).branches.values(), bundle.branches.values()):
-        feed, trades = branch.feed[branch.feed.kind == "P"], branch.trades[branch.trades.reference >= 10**6]
-        assert len(trades) == len(feed) == len(shown.trades)
-        columns = ["event", "time", "stock", "reference", "price", "shares", "match"]
-        assert trades[columns].values.tolist() == feed[columns].values.tolist()
-        assert [{"B": "S", "S": "B"}[side] for side in trades.side] == feed.side.tolist()
-        assert set(trades.resting) <= {-1} and trades.aggressor.tolist() == shown.trades.aggressor.tolist()
-        for one, name in ((branch, "with"), (shown, "without")):
-            biqsolur.to_lobster(tmp_path / f"{name}{one.number}", one, LEVELS)
+    """They are LOBSTER's rows of type 5, with the side that the feed hides."""
+    for branch, told in zip(bundle.branches.values(), plain.read_plain(market.bundle.read_bytes())[2]):
+        biqsolur.to_lobster(tmp_path / str(branch.number), branch, LEVELS)
+        matches = hidden_matches(told)
+        assert {(row[3], row[4]) for row, _, _ in matches} <= {(0, "B")}
         for stock, symbol in enumerate(bundle.symbols):
-            name = lobster_name(symbol, stock)
-            (messages, old), (books, old_books) = ([table_of(tmp_path / f"{which}{branch.number}" / f"{name}_{kind}_{LEVELS}.csv")
-                                                    for which in ("with", "without")] for kind in ("message", "orderbook"))
+            messages, books = (table_of(tmp_path / str(branch.number) / f"{lobster_name(symbol, stock)}_{kind}_{LEVELS}.csv")
+                               for kind in ("message", "orderbook"))
             hidden = [place for place, message in enumerate(messages) if message[1] == "5"]
-            assert [message for message in messages if message[1] != "5"] == old
-            assert [books[place] for place in range(len(books)) if place not in set(hidden)] == old_books
-            assert all(books[place] == books[place - 1] for place in hidden)
+            assert all(books[place] == (books[place - 1] if place else empty_book()) for place in hidden)
             assert [messages[place][2:] for place in hidden] == [
-                ["0", str(row.shares), str(row.price), {"B": "1", "S": "-1"}[row.side]]
-                for row in feed[feed.stock == stock].itertuples()]
+                ["0", str(shares), str(price), {"B": "-1", "S": "1"}[came]]
+                for (_, _, own, _, _, shares, price, _, _), came, _ in matches if own == stock]
+
+
+def empty_book():
+    return ["9999999999", "0", "-9999999999", "0"] * LEVELS
+
+
+def test_trades_of_hidden_orders(market, bundle):
+    """Who met the hidden order, on which side, and whose it was: the replies tell it in their own frames."""
+    for branch, told in zip(bundle.branches.values(), plain.read_plain(market.bundle.read_bytes())[2]):
+        owners = {plain.number(event, 43 + 32, 8): plain.number(event, 23, 2) for event, _, _ in told.entries
+                  if event[:1] == b"e" and event[42:44] == b"oE" and event[43 + 31:43 + 32] == b"A"}
+        expected = [(match, came, sender, owners.get(match, -1), shares, price)
+                    for (_, _, _, _, _, shares, price, match, _), came, sender in hidden_matches(told)]
+        trades = branch.trades[branch.trades.reference == 0]
+        names = ["match", "side", "aggressor", "resting", "shares", "price"]
+        assert list(zip(*(trades[name].tolist() for name in names))) == expected
+
+
+def test_a_trade_whose_event_has_no_order(market, bundle, tmp_path):
+    """A bundle by its frames alone, which the program never writes: sides that nothing tells are empty."""
+    payloads = plain.split_frames(market.bundle.read_bytes())
+    event = next(payload for payload in payloads if payload[:1] == b"e" and payload[42:43] == b"w")
+    after = payloads.index(event) + 1
+    match = (10**6).to_bytes(8, "big")
+    payloads.insert(after, b"P\0\1" + bytes(8) + bytes(8) + b"B" + bytes(3) + b"\7" + b"ABM     " + bytes(3) + b"\1" + match)
+    path = tmp_path / "odd.bundle"
+    path.write_bytes(b"".join(len(payload).to_bytes(2, "big") + payload for payload in payloads))
+    root = biqsolur.read(path).branches["root"]
+    (trade,) = root.trades[root.trades.match == 10**6].itertuples()
+    assert (trade.side, trade.resting, trade.reference, trade.shares, trade.price) == ("", -1, 0, 7, 1)
+    assert trade.aggressor == plain.number(event, 21, 2)
+    assert len(root.trades) == len(bundle.branches["root"].trades) + 1
+
+
+def test_traces_have_the_resting_orders(market, bundle, tmp_path):
+    subprocess.run([sys.executable, ROOT / "examples" / "traces.py", market.bundle], cwd=tmp_path, check=True)
+    for branch in bundle.branches.values():
+        lines = (tmp_path / f"{branch.name}.trace").read_text().splitlines()
+        assert [line for line in lines if "order of agent" in line] == [
+            f"{'hidden ' if row.hidden else ''}order of agent {row.agent}: {row.side} {row.open} at {row.price}"
+            for row in branch.closing.orders.itertuples()]
 
 
 def test_csv_files_have_each_frame(bundle, tmp_path):
@@ -167,13 +199,15 @@ def test_rewinds_are_those_of_the_plain_reader(market, bundle, tmp_path):
     for state in rewind.states:
         assert payloads.pop(0)[:1] == b"b"
         of_kind = defaultdict(list)
-        while payloads[0][:1] in (b"c", b"s", b"l", b"a", b"w"):
+        while payloads[0][:1] in (b"c", b"s", b"l", b"n", b"a", b"w"):
             payload = payloads.pop(0)
-            of_kind[payload[:1]].append(payload)
+            of_kind[payload[:1].replace(b"n", b"l")].append(payload)
         (counts,) = of_kind[b"c"]
         assert state.closing.counts["events"] == plain.number(counts, 2, 4)
         assert state.closing.agents.cash.tolist() == [plain.number(a, 24, 16, True) for a in of_kind[b"a"]]
-        assert state.closing.orders.reference.tolist() == [plain.number(o, 1, 8) for o in of_kind[b"l"]]
+        orders = state.closing.orders
+        assert list(zip(orders.reference, rewind.tokens.texts(orders.token), orders.open, orders.hidden)) == [
+            (plain.number(o, 1, 8), plain.text(o[11:25]), plain.number(o, 30, 4), o[:1] == b"n") for o in of_kind[b"l"]]
         waiting = state.waiting
         assert len(waiting) == state.closing.counts["waiting"]
         columns = ["time", "message", "sender", "receiver"]
@@ -204,7 +238,7 @@ def test_rewind_to_the_last_event_is_the_closing(market, bundle, tmp_path):
         assert state.closing.counts == branch.closing.counts
         one, other = state.closing.agents, branch.closing.agents
         pandas.testing.assert_frame_equal(one.set_axis(list(other), axis=1), other)
-        numbers = ["reference", "agent", "intended", "open", "stock", "price", "time_in_force"]
+        numbers = ["reference", "agent", "intended", "open", "stock", "price", "time_in_force", "hidden"]
         pandas.testing.assert_frame_equal(state.closing.orders[numbers], branch.closing.orders[numbers])
         numbers = ["stock", "last", "matched", "fees", "offset", "live"]
         pandas.testing.assert_frame_equal(state.closing.stocks[numbers], branch.closing.stocks[numbers])

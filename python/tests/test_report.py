@@ -186,6 +186,29 @@ def test_a_branch_is_cut_where_it_left(tmp_path):
     assert [row[2] for row in rows] == ["–", "2", "2", "6"]
 
 
+def test_hidden_orders_are_in_no_picture_of_the_book(tmp_path):
+    """While one rests that is better than each shown order of its side; what it trades is in the other pictures."""
+    study = ROOT / "examples" / "hidden.toml"
+    for command, more in (("run", []), ("rewind", ["hidden:3000"])):
+        with open(tmp_path / command, "wb") as file:
+            subprocess.run([program(), command, study, *more], stdout=file, check=True)
+    bundle = biqsolur.read(tmp_path / "run")
+    orders = biqsolur.read_rewind(tmp_path / "rewind").state("hidden", 3000).closing.orders
+    (hidden,) = orders[orders.hidden].itertuples()
+    shown = orders[(orders.side == "S") & ~orders.hidden]
+    assert (hidden.side, hidden.agent, bundle.tokens.text(hidden.token)) == ("S", 5, "S") and hidden.price < shown.price.min()
+    branch = bundle.branches["hidden"]
+    (series,) = report_data.branch_data(bundle, branch).stocks
+    state = series.at(branch.events.time[branch.events.number == 3000])[0]
+    levels = shown.groupby("price").open.sum()[:report_series.LEVELS].tolist()
+    assert series.ask[state] == shown.price.min()
+    assert series.ask_shares[state].tolist() == levels + [0] * (report_series.LEVELS - len(levels))
+    trades = branch.trades[branch.trades.reference == 0]
+    assert set(trades.resting) == {5} and set(trades.side) == {"B"} and len(trades) > 0
+    assert series.volume[-1] == branch.closing.stocks.matched[0] == branch.trades.shares.sum()
+    assert series.trade_fees[-1] == branch.closing.stocks.fees[0]
+
+
 # ---- thinning
 
 def drawn_at(times, values, instants):

@@ -3,7 +3,7 @@ use Rattle.std.proofs.Common.{◌≡◌, ◌⊎◌, ◌≤◌, ℕ, List, [], Op
 use Rattle.outside.specs.Rose.{Rose}
 use Rattle.outside.specs.Taken.{TookPrefix}
 use Rattle.abides_run.specs.Words.{asked_of, IsLarge}
-use Rattle.abides_run.specs.Verdict.{Verdict, Files, usage, no_file, file_too_long, refused, no_branch, no_event, accepted, verdict, IsStudy, output, distinct, allowance}
+use Rattle.abides_run.specs.Verdict.{Verdict, Files, usage, no_file, file_too_long, refused, no_branch, no_stock, bad_orders, no_event, accepted, verdict, IsStudy, output, distinct, allowance}
 use Rattle.abides_run.specs.Output.{Probes}
 use Rattle.abides_run.specs.Fetched.{fetched}
 use Rattle.abides_run.specs.Statuses.{Cause, Counts, IsRefusal, Names, status_of}
@@ -25,15 +25,17 @@ study_is_ok (no_file name) s = absurd s
 study_is_ok (file_too_long name) s = absurd s
 study_is_ok (refused rule place) s = absurd s
 study_is_ok (no_branch word) s = absurd s
-study_is_ok (no_event word last study) s = absurd s
-study_is_ok (accepted task study) s = refl
+study_is_ok (no_stock word) s = absurd s
+study_is_ok (bad_orders number) s = absurd s
+study_is_ok (no_event word last study past) s = absurd s
+study_is_ok (accepted due) s = refl
 
 -- another status says that there is no study
 no_study : (come : Verdict) (st : Status) → status_of come ≡ st → ¬ (st ≡ status.Ok) → ¬ IsStudy come
 no_study come st is other s = other (sym is ∙ study_is_ok come s)
 
 -- a refusal that words and files give
-refusal : (come : Verdict) (bytes : List ℕ) (events more old new writes steps : ℕ) (taken : Option (List ℕ)) (st : Status)
+pub refusal : (come : Verdict) (bytes : List ℕ) (events more old new writes steps : ℕ) (taken : Option (List ℕ)) (st : Status)
     → status_of come ≡ st → ¬ (st ≡ status.Ok) → Cause come st → Counts events more steps steps taken taken st
     → Fulfilled come bytes events more (record { reads = old; writes = writes; taken = taken; steps = steps }) (record { reads = new; writes = writes; taken = taken; steps = steps }) st
 refusal come bytes events more old new writes steps taken st is other cause counts = record {
@@ -74,6 +76,10 @@ fulfilled come bytes events more old new writes steps taken status.WriteFault (i
 fulfilled come bytes events more old new writes steps taken status.WriteFault (inr early) cause fault = absurd early
 fulfilled come bytes events more old new writes steps taken status.NoBranch (inl early) cause fault = cc
 fulfilled come bytes events more old new writes steps taken status.NoBranch (inr early) cause fault = absurd early
+fulfilled come bytes events more old new writes steps taken status.NoStock (inl early) cause fault = cc
+fulfilled come bytes events more old new writes steps taken status.NoStock (inr early) cause fault = absurd early
+fulfilled come bytes events more old new writes steps taken (status.BadOrders number) (inl early) cause fault = cc
+fulfilled come bytes events more old new writes steps taken (status.BadOrders number) (inr early) cause fault = absurd early
 fulfilled come bytes events more old new writes steps taken status.NoEvent (inl early) cause fault = cc
 fulfilled come bytes events more old new writes steps taken status.NoEvent (inr early) cause fault = absurd early
 fulfilled come bytes events more old new writes steps taken status.Memory early cause fault = record {
@@ -178,7 +184,9 @@ turned_counter events more old new before after (status.Refused rule place) othe
 turned_counter events more old new before after status.ReadFault other still h = (omega (arith, h), omega (arith, h), λ n. absurd (n (still tt)))
 turned_counter events more old new before after status.WriteFault other still h = (omega (arith, h.0), h.1, λ n. h.0)
 turned_counter events more old new before after status.NoBranch other still h = (omega (arith, h), omega (arith, h), λ n. absurd (n (still tt)))
-turned_counter events more old new before after status.NoEvent other still h = (omega (arith, h), omega (arith, h), λ n. absurd (n (still tt)))
+turned_counter events more old new before after status.NoStock other still h = (omega (arith, h), omega (arith, h), λ n. absurd (n (still tt)))
+turned_counter events more old new before after (status.BadOrders number) other still h = (omega (arith, h), omega (arith, h), λ n. absurd (n (still tt)))
+turned_counter events more old new before after status.NoEvent other still h = (omega (arith, h.0), h.1, λ n. h.0)
 turned_counter events more old new before after status.Memory other still h = h
 
 turned_told : (files : Option Files) (words : List (List ℕ)) (probes : Probes) (before after : Seen) (st : Status) → ¬ (st ≡ status.Ok) → (IsRefusal st → after.taken ≡ before.taken)

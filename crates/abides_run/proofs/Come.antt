@@ -1,5 +1,5 @@
 -- What words and files come to, by what the library answered.
-use Rattle.std.proofs.Common.{◌≡◌, ◌⊎◌, ℕ, List, [], ◌∷◌, Option, Some, None, IfSome, Result, Ok, Err, IfOk, IfErr, OnOk, IsErr, IsErrAnd, string_bytes, length, refl, sym, ap, ◌∙◌, subst, inl, inr}
+use Rattle.std.proofs.Common.{◌≡◌, ◌⊎◌, ℕ, List, [], ◌∷◌, ◌++◌, option_map, unwrap_or, vec_items, Option, Some, None, IfSome, Result, Ok, Err, IfOk, IfErr, OnOk, IsErr, IsErrAnd, string_bytes, length, refl, sym, ap, ◌∙◌, subst, inl, inr}
 use Rattle.toml.specs.Data.{Members}
 use Rattle.outside.specs.Files.{Content, absent, too_long, whole, held, content}
 use Rattle.study_file.specs.Tables.{table_of}
@@ -10,51 +10,84 @@ use Rattle.command_words.specs.declared.mark.Mark.{Mark}
 use Rattle.rewind_desk.specs.declared.aimed.Aimed.{Aimed}
 use Rattle.rewind_desk.specs.declared.aimed.Aimed.TheVariants.{At, NoBranch}
 use Rattle.rewind_desk.specs.declared.past.Past.{Past}
-use Rattle.rewind_desk.specs.Targets.{aimed_at, past_of}
+use Rattle.rewind_desk.specs.declared.target.Target.{Target}
+use Rattle.rewind_desk.specs.Targets.{aimed_at, past_of, target_of}
+use Rattle.command_words.specs.declared.asked.Crossing.{Crossing}
+use Rattle.reopen_cross.specs.declared.cross.Interest.{Interest}
+use Rattle.order_file.specs.Orders.{orders_of}
+use Rattle.reopening_desk.specs.declared.stock.StockNamed.{StockNamed}
+use Rattle.reopening_desk.specs.Stocks.{stock_of}
 use Rattle.study_file.specs.LargeStudy.{large_study}
 use Rattle.abides_run.specs.declared.ending.Ending.{Ending}
 use Rattle.abides_run.specs.declared.found.Found.{Found}
 use Rattle.abides_run.specs.declared.request.Request.{Request}
 use Rattle.abides_run.specs.declared.request.Request.TheVariants.{File, Large}
 use Rattle.abides_run.specs.declared.request.Task.{Task}
-use Rattle.abides_run.specs.declared.request.Task.TheVariants.{Run, Check, Table, Lines, Rewind}
-use Rattle.abides_run.specs.Words.{asked_of, IsLarge}
-use Rattle.abides_run.specs.Verdict.{Verdict, Files, no_file, file_too_long, verdict_on_past, verdict_on_aimed, verdict_on_task, most_bytes, series_of, judged, verdict_on_series, verdict_on_table, verdict_on_bytes, verdict_on_study, verdict_on_text, verdict_on_large, verdict_for, verdict, IsAsked, large_limit}
+use Rattle.abides_run.specs.declared.request.Task.TheVariants.{Run, Check, Table, Lines, Rewind, Cross}
+use Rattle.abides_run.specs.Words.{asked_of, further_of, IsLarge}
+use Rattle.abides_run.specs.Verdict.{Verdict, Files, no_file, file_too_long, verdict_on_past, verdict_on_aimed, verdict_on_late, verdict_on_orders, verdict_on_stock, verdict_on_branch, verdict_on_found, verdict_on_file, verdict_on_further, most_bytes, series_of, judged, verdict_on_series, verdict_on_table, verdict_on_bytes, verdict_on_study, verdict_on_text, verdict_on_large, verdict_for, verdict, IsAsked, large_limit}
 use Rattle.abides_run.specs.Rewinds.{lasts_of}
-use Rattle.abides_run.specs.Fetched.{named, series_after, series_behind, fetched_for, fetched}
+use Rattle.abides_run.specs.Fetched.{IsAmong, named, series_after, behind_rules, behind_series, behind_table, behind_bytes, behind_study, fetched_for, fetched}
 use Rattle.abides_run.specs.Statuses.{status_of, Names}
 use Rattle.abides_run.specs.Ends.{Ends, Fetches, IsSought}
 use Rattle.abides_run.specs.declared.status.Status.{Status}
 use Rattle.abides_run.specs.declared.status.Status.TheVariants as status
+use Rattle.abides_run.proofs.Among.{among_behind}
 
-past_asked : (marks : List Mark) (places : ℕ) (s : StudyTold) (past : Option Past) → IsAsked (verdict_on_past marks places s past)
-past_asked marks places s None = tt
-past_asked marks places s (Some past) = tt
+past_asked : (marks : List Mark) (targets : List Target) (places : ℕ) (s : StudyTold) (past : Option Past) → IsAsked (verdict_on_past marks targets places s past)
+past_asked marks targets places s None = tt
+past_asked marks targets places s (Some past) = tt
 
 aimed_asked : (marks : List Mark) (places : ℕ) (s : StudyTold) (aimed : Aimed) → IsAsked (verdict_on_aimed marks places s aimed)
 aimed_asked marks places s (NoBranch i) = tt
-aimed_asked marks places s (At targets) = past_asked marks places s (past_of (lasts_of s.course) targets)
+aimed_asked marks places s (At targets) = past_asked marks targets places s (past_of (lasts_of s.course) targets)
 
-task_asked : (task : Task) (s : StudyTold) → IsAsked (verdict_on_task task s)
-task_asked Run s = tt
-task_asked Check s = tt
-task_asked Table s = tt
-task_asked (Lines bytes) s = tt
-task_asked (Rewind marks places) s = aimed_asked marks places s (aimed_at s.course.plan.branches marks)
+late_asked : (word : List ℕ) (target : Target) (stock : StockNamed) (orders : List Interest) (places : ℕ) (s : StudyTold) (past : Option Past) → IsAsked (verdict_on_late word target stock orders places s past)
+late_asked word target stock orders places s None = tt
+late_asked word target stock orders places s (Some past) = tt
+
+orders_asked : (word : List ℕ) (target : Target) (stock : StockNamed) (places : ℕ) (s : StudyTold) (orders : Result (List Interest) ℕ) → IsAsked (verdict_on_orders word target stock places s orders)
+orders_asked word target stock places s (Err number) = tt
+orders_asked word target stock places s (Ok orders) = late_asked word target stock orders places s (past_of (lasts_of s.course) (target ∷ []))
+
+stock_asked : (crossing : Crossing) (target : Target) (places : ℕ) (text : List ℕ) (s : StudyTold) (stock : Option StockNamed) → IsAsked (verdict_on_stock crossing target places text s stock)
+stock_asked crossing target places text s None = tt
+stock_asked crossing target places text s (Some stock) = orders_asked crossing.mark.word target stock places s (orders_of (length s.course.opening.traders) text)
+
+branch_asked : (crossing : Crossing) (places : ℕ) (text : List ℕ) (s : StudyTold) (target : Option Target) → IsAsked (verdict_on_branch crossing places text s target)
+branch_asked crossing places text s None = tt
+branch_asked crossing places text s (Some target) = stock_asked crossing target places text s (stock_of s.course.opening.stocks crossing.symbol)
+
+found_asked : (task : Task) (further : Option (List ℕ)) (s : StudyTold) → IsAsked (verdict_on_found task further s)
+found_asked Run further s = tt
+found_asked Check further s = tt
+found_asked Table further s = tt
+found_asked (Lines bytes) further s = tt
+found_asked (Rewind marks places) further s = aimed_asked marks places s (aimed_at s.course.plan.branches marks)
+found_asked (Cross crossing places) further s = branch_asked crossing places (unwrap_or further []) s (target_of s.course.plan.branches crossing.mark)
+
+file_asked : (task : Task) (s : StudyTold) (name : List ℕ) (answer : Content) → IsAsked (verdict_on_file task s name answer)
+file_asked task s name absent = tt
+file_asked task s name too_long = tt
+file_asked task s name (whole bytes) = found_asked task (Some bytes) s
+
+further_asked : (library : Files) (task : Task) (s : StudyTold) (name : Option (List ℕ)) → IsAsked (verdict_on_further library task s name)
+further_asked library task s None = found_asked task None s
+further_asked library task s (Some name) = file_asked task s name (content (held library name) most_bytes)
 
 -- whatever the files hold, the words asked for them
-judged_asked : (task : Task) (r : Result StudyTold Refusal) → IsAsked (judged task r)
-judged_asked task (Err r) = tt
-judged_asked task (Ok s) = task_asked task s
+judged_asked : (library : Files) (task : Task) (r : Result StudyTold Refusal) → IsAsked (judged library task r)
+judged_asked library task (Err r) = tt
+judged_asked library task (Ok s) = further_asked library task s (further_of task)
 
-series_asked : (task : Task) (table : Members) (name : List ℕ) (answer : Content) → IsAsked (verdict_on_series task table name answer)
-series_asked task table name absent = tt
-series_asked task table name too_long = tt
-series_asked task table name (whole bytes) = judged_asked task (study_of table (Some bytes))
+series_asked : (library : Files) (task : Task) (table : Members) (name : List ℕ) (answer : Content) → IsAsked (verdict_on_series library task table name answer)
+series_asked library task table name absent = tt
+series_asked library task table name too_long = tt
+series_asked library task table name (whole bytes) = judged_asked library task (study_of table (Some bytes))
 
 table_asked : (library : Files) (task : Task) (table : Members) (series : Option (List ℕ)) → IsAsked (verdict_on_table library task table series)
-table_asked library task table None = judged_asked task (study_of table None)
-table_asked library task table (Some name) = series_asked task table name (content (held library name) most_bytes)
+table_asked library task table None = judged_asked library task (study_of table None)
+table_asked library task table (Some name) = series_asked library task table name (content (held library name) most_bytes)
 
 bytes_asked : (library : Files) (task : Task) (table : Option Members) → IsAsked (verdict_on_bytes library task table)
 bytes_asked library task None = tt
@@ -65,77 +98,159 @@ study_asked library task study absent = tt
 study_asked library task study too_long = tt
 study_asked library task study (whole bytes) = bytes_asked library task (table_of bytes)
 
+-- the fetch of the further file that gave no bytes
+file_ends : (task : Task) (s : StudyTold) (name : List ℕ) (answer : Content) (st : Status) (told : List ℕ)
+    → Fetches answer name st told → Ends (verdict_on_file task s name answer) (name ∷ []) st told
+file_ends task s name answer status.Ok told f = absurd f
+file_ends task s name answer status.Usage told f = absurd f
+file_ends task s name answer status.NoStudy told f = record {
+  cause = ap (λ (a : Content). status_of (verdict_on_file task s name a)) f.0;
+  named = ap (λ (a : Content). verdict_on_file task s name a) f.0 ∙ ap no_file (sym f.1);
+}
+file_ends task s name answer status.TooLong told f = record {
+  cause = ap (λ (a : Content). status_of (verdict_on_file task s name a)) f.0;
+  named = ap (λ (a : Content). verdict_on_file task s name a) f.0 ∙ ap file_too_long (sym f.1);
+}
+file_ends task s name answer (status.Refused rule place) told f = absurd f
+file_ends task s name answer status.ReadFault told f = record { cause = file_asked task s name answer; named = inl f }
+file_ends task s name answer status.WriteFault told f = absurd f
+file_ends task s name answer status.NoBranch told f = absurd f
+file_ends task s name answer status.NoStock told f = absurd f
+file_ends task s name answer (status.BadOrders number) told f = absurd f
+file_ends task s name answer status.NoEvent told f = absurd f
+file_ends task s name answer status.Memory told f = record { cause = tt; named = tt }
+
+pub further_unfetched : (files : Option Files) (task : Task) (name : List ℕ) (st : Status) (told : List ℕ) → Some name ≡ further_of task
+    → IfSome files (λ library. Fetches (content (held library name) most_bytes) name st told)
+    → IfSome files (λ library. (s : StudyTold) → Ends (verdict_on_further library task s (further_of task)) (named (further_of task)) st told)
+further_unfetched None task name st told is f = tt
+further_unfetched (Some library) task name st told is f =
+    λ s. subst (λ (further : Option (List ℕ)). Ends (verdict_on_further library task s further) (named further) st told) is
+    (file_ends task s name (content (held library name) most_bytes) st told f)
+
+pub further_fetched : (files : Option Files) (task : Task) (name bytes : List ℕ) → Some name ≡ further_of task
+    → IfSome files (λ library. content (held library name) most_bytes ≡ whole bytes)
+    → IfSome files (λ library. (s : StudyTold) → verdict_on_further library task s (further_of task) ≡ verdict_on_found task (Some bytes) s)
+further_fetched None task name bytes is has = tt
+further_fetched (Some library) task name bytes is has =
+    λ s. subst (λ (further : Option (List ℕ)). verdict_on_further library task s further ≡ verdict_on_found task (Some bytes) s) is
+    (ap (λ (a : Content). verdict_on_file task s name a) has)
+
+pub further_unnamed : (files : Option Files) (task : Task) → None ≡ further_of task
+    → IfSome files (λ library. (s : StudyTold) → verdict_on_further library task s (further_of task) ≡ verdict_on_found task None s)
+further_unnamed None task is = tt
+further_unnamed (Some library) task is =
+    λ s. subst (λ (further : Option (List ℕ)). verdict_on_further library task s further ≡ verdict_on_found task None s) is refl
+
 -- the fetch of a series file that gave no bytes
-series_ends : (task : Task) (table : Members) (name : List ℕ) (answer : Content) (st : Status) (told : List ℕ)
-    → Fetches answer name st told → Ends (verdict_on_series task table name answer) (name ∷ []) st told
-series_ends task table name answer status.Ok told f = absurd f
-series_ends task table name answer status.Usage told f = absurd f
-series_ends task table name answer status.NoStudy told f = record {
-  cause = ap (λ (a : Content). status_of (verdict_on_series task table name a)) f.0;
-  named = ap (λ (a : Content). verdict_on_series task table name a) f.0 ∙ ap no_file (sym f.1);
+series_ends : (library : Files) (task : Task) (table : Members) (name : List ℕ) (answer : Content) (st : Status) (told : List ℕ)
+    → Fetches answer name st told → Ends (verdict_on_series library task table name answer) (name ∷ behind_series task table answer) st told
+series_ends library task table name answer status.Ok told f = absurd f
+series_ends library task table name answer status.Usage told f = absurd f
+series_ends library task table name answer status.NoStudy told f = record {
+  cause = ap (λ (a : Content). status_of (verdict_on_series library task table name a)) f.0;
+  named = ap (λ (a : Content). verdict_on_series library task table name a) f.0 ∙ ap no_file (sym f.1);
 }
-series_ends task table name answer status.TooLong told f = record {
-  cause = ap (λ (a : Content). status_of (verdict_on_series task table name a)) f.0;
-  named = ap (λ (a : Content). verdict_on_series task table name a) f.0 ∙ ap file_too_long (sym f.1);
+series_ends library task table name answer status.TooLong told f = record {
+  cause = ap (λ (a : Content). status_of (verdict_on_series library task table name a)) f.0;
+  named = ap (λ (a : Content). verdict_on_series library task table name a) f.0 ∙ ap file_too_long (sym f.1);
 }
-series_ends task table name answer (status.Refused rule place) told f = absurd f
-series_ends task table name answer status.ReadFault told f = record { cause = series_asked task table name answer; named = inl f }
-series_ends task table name answer status.WriteFault told f = absurd f
-series_ends task table name answer status.NoBranch told f = absurd f
-series_ends task table name answer status.NoEvent told f = absurd f
-series_ends task table name answer status.Memory told f = record { cause = tt; named = tt }
+series_ends library task table name answer (status.Refused rule place) told f = absurd f
+series_ends library task table name answer status.ReadFault told f = record { cause = series_asked library task table name answer; named = inl f }
+series_ends library task table name answer status.WriteFault told f = absurd f
+series_ends library task table name answer status.NoBranch told f = absurd f
+series_ends library task table name answer status.NoStock told f = absurd f
+series_ends library task table name answer (status.BadOrders number) told f = absurd f
+series_ends library task table name answer status.NoEvent told f = absurd f
+series_ends library task table name answer status.Memory told f = record { cause = tt; named = tt }
 
 pub series_unfetched : (files : Option Files) (table : Members) (name : List ℕ) (st : Status) (told : List ℕ) → Some name ≡ series_of table
     → IfSome files (λ library. Fetches (content (held library name) most_bytes) name st told)
-    → IfSome files (λ library. (task : Task) → Ends (verdict_on_table library task table (series_of table)) (named (series_of table)) st told)
+    → IfSome files (λ library. (task : Task) → Ends (verdict_on_table library task table (series_of table)) (behind_table library task table (series_of table)) st told)
 series_unfetched None table name st told is f = tt
 series_unfetched (Some library) table name st told is f =
-    λ task. subst (λ (series : Option (List ℕ)). Ends (verdict_on_table library task table series) (named series) st told) is
-    (series_ends task table name (content (held library name) most_bytes) st told f)
+    λ task. subst (λ (series : Option (List ℕ)). Ends (verdict_on_table library task table series) (behind_table library task table series) st told) is
+    (series_ends library task table name (content (held library name) most_bytes) st told f)
 
 pub series_fetched : (files : Option Files) (table : Members) (name bytes : List ℕ) → Some name ≡ series_of table
     → IfSome files (λ library. content (held library name) most_bytes ≡ whole bytes)
-    → IfSome files (λ library. (task : Task) → verdict_on_table library task table (series_of table) ≡ judged task (study_of table (Some bytes)))
+    → IfSome files (λ library. (task : Task) → verdict_on_table library task table (series_of table) ≡ judged library task (study_of table (Some bytes)))
 series_fetched None table name bytes is has = tt
 series_fetched (Some library) table name bytes is has =
-    λ task. subst (λ (series : Option (List ℕ)). verdict_on_table library task table series ≡ judged task (study_of table (Some bytes))) is
-    (ap (λ (a : Content). verdict_on_series task table name a) has)
+    λ task. subst (λ (series : Option (List ℕ)). verdict_on_table library task table series ≡ judged library task (study_of table (Some bytes))) is
+    (ap (λ (a : Content). verdict_on_series library task table name a) has)
 
 pub series_unnamed : (files : Option Files) (table : Members) → None ≡ series_of table
-    → IfSome files (λ library. (task : Task) → verdict_on_table library task table (series_of table) ≡ judged task (study_of table None))
+    → IfSome files (λ library. (task : Task) → verdict_on_table library task table (series_of table) ≡ judged library task (study_of table None))
 series_unnamed None table is = tt
 series_unnamed (Some library) table is =
-    λ task. subst (λ (series : Option (List ℕ)). verdict_on_table library task table series ≡ judged task (study_of table None)) is refl
+    λ task. subst (λ (series : Option (List ℕ)). verdict_on_table library task table series ≡ judged library task (study_of table None)) is refl
+
+-- what is fetched behind a table
+pub series_before : (files : Option Files) (table : Members) (name bytes : List ℕ) → Some name ≡ series_of table
+    → IfSome files (λ library. content (held library name) most_bytes ≡ whole bytes)
+    → IfSome files (λ library. (task : Task) → behind_table library task table (series_of table) ≡ named (series_of table) ++ behind_rules task (study_of table (Some bytes)))
+series_before None table name bytes is has = tt
+series_before (Some library) table name bytes is has =
+    λ task. subst (λ (series : Option (List ℕ)). behind_table library task table series ≡ named series ++ behind_rules task (study_of table (Some bytes))) is
+    (ap (λ (a : Content). name ∷ behind_series task table a) has)
+
+pub nothing_before : (files : Option Files) (table : Members) → None ≡ series_of table
+    → IfSome files (λ library. (task : Task) → behind_table library task table (series_of table) ≡ named (series_of table) ++ behind_rules task (study_of table None))
+nothing_before None table is = tt
+nothing_before (Some library) table is =
+    λ task. subst (λ (series : Option (List ℕ)). behind_table library task table series ≡ named series ++ behind_rules task (study_of table None)) is refl
+
+-- what the rules say of a study
+pub rules_held : (library : Files) (task : Task) (r : Result StudyTold Refusal) (s : StudyTold) → r ≡ Ok s → judged library task r ≡ verdict_on_further library task s (further_of task)
+rules_held library task r s is = ap (λ (x : Result StudyTold Refusal). judged library task x) is
+
+pub rules_before : (task : Task) (r : Result StudyTold Refusal) (s : StudyTold) → r ≡ Ok s → behind_rules task r ≡ named (further_of task)
+rules_before task r s is = ap (λ (x : Result StudyTold Refusal). behind_rules task x) is
 
 -- the study that the tables say, with the bytes of its series file
-pub study_read : (files : Option Files) (bytes : List ℕ) (table : Members) (series : Option (List ℕ)) (s : StudyTold) → table_of bytes ≡ Some table
-    → IfSome files (λ library. (task : Task) → verdict_on_table library task table (series_of table) ≡ judged task (study_of table series))
-    → ((task : Task) → judged task (study_of table series) ≡ verdict_on_task task s)
-    → IfSome files (λ library. (task : Task) → verdict_on_bytes library task (table_of bytes) ≡ verdict_on_task task s)
-study_read None bytes table series s has with_series says = tt
-study_read (Some library) bytes table series s has with_series says =
-    λ task. ap (λ (t : Option Members). verdict_on_bytes library task t) has ∙ with_series task ∙ says task
+pub study_read : (files : Option Files) (bytes : List ℕ) (table : Members) (series shown : Option (List ℕ)) (s : StudyTold) → table_of bytes ≡ Some table
+    → IfSome files (λ library. (task : Task) → verdict_on_table library task table (series_of table) ≡ judged library task (study_of table series))
+    → shown ≡ series
+    → ((library : Files) (task : Task) → judged library task (study_of table shown) ≡ verdict_on_further library task s (further_of task))
+    → IfSome files (λ library. (task : Task) → verdict_on_bytes library task (table_of bytes) ≡ verdict_on_further library task s (further_of task))
+study_read None bytes table series shown s has with_series same says = tt
+study_read (Some library) bytes table series shown s has with_series same says =
+    λ task. ap (λ (t : Option Members). verdict_on_bytes library task t) has ∙ with_series task
+    ∙ ap (λ (x : Option (List ℕ)). judged library task (study_of table x)) (sym same) ∙ says library task
+
+-- what is fetched behind its bytes
+pub bytes_before : (files : Option Files) (bytes : List ℕ) (table : Members) (series shown : Option (List ℕ)) → table_of bytes ≡ Some table
+    → IfSome files (λ library. (task : Task) → behind_table library task table (series_of table) ≡ named (series_of table) ++ behind_rules task (study_of table series))
+    → shown ≡ series
+    → ((task : Task) → behind_rules task (study_of table shown) ≡ named (further_of task))
+    → IfSome files (λ library. (task : Task) → behind_bytes library task (table_of bytes) ≡ series_after (table_of bytes) ++ named (further_of task))
+bytes_before None bytes table series shown has with_series same says = tt
+bytes_before (Some library) bytes table series shown has with_series same says =
+    λ task. subst (λ (t : Option Members). behind_bytes library task t ≡ series_after t ++ named (further_of task)) (sym has)
+    (with_series task ∙ ap (λ (names : List (List ℕ)). named (series_of table) ++ names)
+    (ap (λ (x : Option (List ℕ)). behind_rules task (study_of table x)) (sym same) ∙ says task))
 
 pub study_refused : (files : Option Files) (bytes : List ℕ) (table : Members) (series : Option (List ℕ)) (st : Status) (name : List ℕ) → table_of bytes ≡ Some table
-    → IfSome files (λ library. (task : Task) → verdict_on_table library task table (series_of table) ≡ judged task (study_of table series))
-    → ((task : Task) (names : List (List ℕ)) (name : List ℕ) → Ends (judged task (study_of table series)) names st name)
-    → IfSome files (λ library. (task : Task) → Ends (verdict_on_bytes library task (table_of bytes)) (series_after (table_of bytes)) st name)
+    → IfSome files (λ library. (task : Task) → verdict_on_table library task table (series_of table) ≡ judged library task (study_of table series))
+    → ((library : Files) (task : Task) (names : List (List ℕ)) (name : List ℕ) → Ends (judged library task (study_of table series)) names st name)
+    → IfSome files (λ library. (task : Task) → Ends (verdict_on_bytes library task (table_of bytes)) (behind_bytes library task (table_of bytes)) st name)
 study_refused None bytes table series st name has with_series ends = tt
 study_refused (Some library) bytes table series st name has with_series ends =
-    λ task. subst (λ (v : Verdict). Ends v (series_after (table_of bytes)) st name)
+    λ task. subst (λ (v : Verdict). Ends v (behind_bytes library task (table_of bytes)) st name)
     (sym (ap (λ (t : Option Members). verdict_on_bytes library task t) has ∙ with_series task))
-    (ends task (series_after (table_of bytes)) name)
+    (ends library task (behind_bytes library task (table_of bytes)) name)
 
 -- what the rules refuse, over the same bytes of a series file
 pub rules_refused : (r : Result Study Ending) (files : Option Files) (bytes : List ℕ) (table : Members) (series shown : Option (List ℕ)) → table_of bytes ≡ Some table
-    → IfSome files (λ library. (task : Task) → verdict_on_table library task table (series_of table) ≡ judged task (study_of table series))
+    → IfSome files (λ library. (task : Task) → verdict_on_table library task table (series_of table) ≡ judged library task (study_of table series))
     → shown ≡ series
-    → IfErr r (λ e. (task : Task) (names : List (List ℕ)) (name : List ℕ) → Ends (judged task (study_of table shown)) names e.status name)
-    → IfErr r (λ e. IfSome files (λ library. (task : Task) → Ends (verdict_on_bytes library task (table_of bytes)) (series_after (table_of bytes)) e.status (string_bytes e.name)))
+    → IfErr r (λ e. (library : Files) (task : Task) (names : List (List ℕ)) (name : List ℕ) → Ends (judged library task (study_of table shown)) names e.status name)
+    → IfErr r (λ e. IfSome files (λ library. (task : Task) → Ends (verdict_on_bytes library task (table_of bytes)) (behind_bytes library task (table_of bytes)) e.status (string_bytes e.name)))
 rules_refused (Ok s) files bytes table series shown has with_series same ends = tt
 rules_refused (Err e) files bytes table series shown has with_series same ends =
     study_refused files bytes table series e.status (string_bytes e.name) has with_series
-    (subst (λ (o : Option (List ℕ)). (task : Task) (names : List (List ℕ)) (name : List ℕ) → Ends (judged task (study_of table o)) names e.status name) same ends)
+    (subst (λ (o : Option (List ℕ)). (library : Files) (task : Task) (names : List (List ℕ)) (name : List ℕ) → Ends (judged library task (study_of table o)) names e.status name) same ends)
 
 -- an end that is handed on
 pub handed_on : {X : Type 0} (r : Result X Ending) (e : Ending) (P : Ending → Type 0) → IsErr r × IsErrAnd r (λ f. f ≡ e) → P e → IfErr r P
@@ -144,27 +259,27 @@ handed_on (Err f) e P is p = subst P (sym is.1) p
 
 -- the series file gave no bytes
 pub series_missed : (files : Option Files) (bytes : List ℕ) (table : Members) (st : Status) (name : List ℕ) → table_of bytes ≡ Some table
-    → IfSome files (λ library. (task : Task) → Ends (verdict_on_table library task table (series_of table)) (named (series_of table)) st name)
-    → IfSome files (λ library. (task : Task) → Ends (verdict_on_bytes library task (table_of bytes)) (series_after (table_of bytes)) st name)
+    → IfSome files (λ library. (task : Task) → Ends (verdict_on_table library task table (series_of table)) (behind_table library task table (series_of table)) st name)
+    → IfSome files (λ library. (task : Task) → Ends (verdict_on_bytes library task (table_of bytes)) (behind_bytes library task (table_of bytes)) st name)
 series_missed None bytes table st name has ends = tt
 series_missed (Some library) bytes table st name has ends =
-    λ task. subst (λ (t : Option Members). Ends (verdict_on_bytes library task t) (series_after t) st name) (sym has) (ends task)
+    λ task. subst (λ (t : Option Members). Ends (verdict_on_bytes library task t) (behind_bytes library task t) st name) (sym has) (ends task)
 
 -- the bytes are the text of no table, or memory was wanting to read it
 pub table_missed : (files : Option Files) (bytes : List ℕ) (st : Status) (name : List ℕ)
     → (st ≡ status.Memory) ⊎ ((st ≡ status.Refused 0 0) × (table_of bytes ≡ None))
-    → IfSome files (λ library. (task : Task) → Ends (verdict_on_bytes library task (table_of bytes)) (series_after (table_of bytes)) st name)
+    → IfSome files (λ library. (task : Task) → Ends (verdict_on_bytes library task (table_of bytes)) (behind_bytes library task (table_of bytes)) st name)
 table_missed None bytes st name why = tt
 table_missed (Some library) bytes st name (inl wanting) =
-    λ task. subst (λ (x : Status). Ends (verdict_on_bytes library task (table_of bytes)) (series_after (table_of bytes)) x name) (sym wanting)
+    λ task. subst (λ (x : Status). Ends (verdict_on_bytes library task (table_of bytes)) (behind_bytes library task (table_of bytes)) x name) (sym wanting)
     (record { cause = tt; named = tt })
 table_missed (Some library) bytes st name (inr why) =
-    λ task. subst (λ (x : Status). Ends (verdict_on_bytes library task (table_of bytes)) (series_after (table_of bytes)) x name) (sym why.0)
+    λ task. subst (λ (x : Status). Ends (verdict_on_bytes library task (table_of bytes)) (behind_bytes library task (table_of bytes)) x name) (sym why.0)
     (record { cause = ap (λ (t : Option Members). status_of (verdict_on_bytes library task t)) why.1; named = tt })
 
 -- the fetch of a study file that gave no bytes
 study_ends : (library : Files) (task : Task) (study : List ℕ) (answer : Content) (st : Status) (told : List ℕ)
-    → Fetches answer study st told → Ends (verdict_on_study library task study answer) (study ∷ series_behind answer) st told
+    → Fetches answer study st told → Ends (verdict_on_study library task study answer) (study ∷ behind_study library task answer) st told
 study_ends library task study answer status.Ok told f = absurd f
 study_ends library task study answer status.Usage told f = absurd f
 study_ends library task study answer status.NoStudy told f = record {
@@ -179,51 +294,84 @@ study_ends library task study answer (status.Refused rule place) told f = absurd
 study_ends library task study answer status.ReadFault told f = record { cause = study_asked library task study answer; named = inl f }
 study_ends library task study answer status.WriteFault told f = absurd f
 study_ends library task study answer status.NoBranch told f = absurd f
+study_ends library task study answer status.NoStock told f = absurd f
+study_ends library task study answer (status.BadOrders number) told f = absurd f
 study_ends library task study answer status.NoEvent told f = absurd f
 study_ends library task study answer status.Memory told f = record { cause = tt; named = tt }
 
 pub study_unfetched : (files : Option Files) (task : Task) (study : List ℕ) (st : Status) (told : List ℕ)
     → IfSome files (λ library. Fetches (content (held library study) most_bytes) study st told)
-    → IfSome files (λ library. Ends (verdict_on_study library task study (content (held library study) most_bytes)) (study ∷ series_behind (content (held library study) most_bytes)) st told)
+    → IfSome files (λ library. Ends (verdict_on_study library task study (content (held library study) most_bytes)) (study ∷ behind_study library task (content (held library study) most_bytes)) st told)
 study_unfetched None task study st told f = tt
 study_unfetched (Some library) task study st told f = study_ends library task study (content (held library study) most_bytes) st told f
 
-pub study_found : (files : Option Files) (task : Task) (study bytes : List ℕ) (s : StudyTold)
+pub study_found : (files : Option Files) (task : Task) (study bytes : List ℕ) (further : Option (List ℕ)) (s : StudyTold)
     → IfSome files (λ library. content (held library study) most_bytes ≡ whole bytes)
-    → IfSome files (λ library. (t : Task) → verdict_on_bytes library t (table_of bytes) ≡ verdict_on_task t s)
-    → IfSome files (λ library. verdict_on_study library task study (content (held library study) most_bytes) ≡ verdict_on_task task s)
-study_found None task study bytes s has says = tt
-study_found (Some library) task study bytes s has says = ap (λ (a : Content). verdict_on_study library task study a) has ∙ says task
+    → IfSome files (λ library. (t : Task) → verdict_on_bytes library t (table_of bytes) ≡ verdict_on_further library t s (further_of t))
+    → IfSome files (λ library. (x : StudyTold) → verdict_on_further library task x (further_of task) ≡ verdict_on_found task further x)
+    → IfSome files (λ library. verdict_on_study library task study (content (held library study) most_bytes) ≡ verdict_on_found task further s)
+study_found None task study bytes further s has says with_file = tt
+study_found (Some library) task study bytes further s has says with_file =
+    ap (λ (a : Content). verdict_on_study library task study a) has ∙ says task ∙ with_file s
 
--- one more file was fetched
-names_more : (come : Verdict) (other : List ℕ) (names : List (List ℕ)) (st : Status) (name : List ℕ) → Names come names st name → Names come (other ∷ names) st name
-names_more come other names status.Ok name n = tt
-names_more come other names status.Usage name n = tt
-names_more come other names status.NoStudy name n = n
-names_more come other names status.TooLong name n = n
-names_more come other names (status.Refused rule place) name n = tt
-names_more come other names status.ReadFault name n = inr n
-names_more come other names status.WriteFault name n = tt
-names_more come other names status.NoBranch name n = n
-names_more come other names status.NoEvent name n = n
-names_more come other names status.Memory name n = tt
+-- among more files that were fetched
+names_more : (come : Verdict) (some more : List (List ℕ)) (st : Status) (name : List ℕ) → (IsAmong name some → IsAmong name more)
+    → Names come some st name → Names come more st name
+names_more come some more status.Ok name among n = tt
+names_more come some more status.Usage name among n = tt
+names_more come some more status.NoStudy name among n = n
+names_more come some more status.TooLong name among n = n
+names_more come some more (status.Refused rule place) name among n = tt
+names_more come some more status.ReadFault name among n = among n
+names_more come some more status.WriteFault name among n = tt
+names_more come some more status.NoBranch name among n = n
+names_more come some more status.NoStock name among n = n
+names_more come some more (status.BadOrders number) name among n = tt
+names_more come some more status.NoEvent name among n = n
+names_more come some more status.Memory name among n = tt
 
 bytes_end : (library : Files) (task : Task) (study bytes : List ℕ) (st : Status) (name : List ℕ)
-    → Ends (verdict_on_bytes library task (table_of bytes)) (series_after (table_of bytes)) st name
-    → Ends (verdict_on_study library task study (whole bytes)) (study ∷ series_behind (whole bytes)) st name
-bytes_end library task study bytes st name e = record {
-  cause = e.cause;
-  named = names_more (verdict_on_bytes library task (table_of bytes)) study (series_after (table_of bytes)) st name e.named;
-}
+    → Ends (verdict_on_bytes library task (table_of bytes)) (behind_bytes library task (table_of bytes)) st name
+    → Ends (verdict_on_study library task study (whole bytes)) (study ∷ behind_study library task (whole bytes)) st name
+bytes_end library task study bytes st name e =
+    let names = behind_bytes library task (table_of bytes) in record {
+      cause = e.cause;
+      named = names_more (verdict_on_bytes library task (table_of bytes)) names (study ∷ names) st name (λ among. inr among) e.named;
+    }
 
 pub study_unfound : (files : Option Files) (task : Task) (study bytes : List ℕ) (st : Status) (name : List ℕ)
     → IfSome files (λ library. content (held library study) most_bytes ≡ whole bytes)
-    → IfSome files (λ library. (t : Task) → Ends (verdict_on_bytes library t (table_of bytes)) (series_after (table_of bytes)) st name)
-    → IfSome files (λ library. Ends (verdict_on_study library task study (content (held library study) most_bytes)) (study ∷ series_behind (content (held library study) most_bytes)) st name)
+    → IfSome files (λ library. (t : Task) → Ends (verdict_on_bytes library t (table_of bytes)) (behind_bytes library t (table_of bytes)) st name)
+    → IfSome files (λ library. Ends (verdict_on_study library task study (content (held library study) most_bytes)) (study ∷ behind_study library task (content (held library study) most_bytes)) st name)
 study_unfound None task study bytes st name has ends = tt
 study_unfound (Some library) task study bytes st name has ends =
-    subst (λ (a : Content). Ends (verdict_on_study library task study a) (study ∷ series_behind a) st name) (sym has)
+    subst (λ (a : Content). Ends (verdict_on_study library task study a) (study ∷ behind_study library task a) st name) (sym has)
     (bytes_end library task study bytes st name (ends task))
+
+-- the further file gave no bytes
+further_end : (library : Files) (task : Task) (bytes : List ℕ) (s : StudyTold) (st : Status) (name : List ℕ)
+    → verdict_on_bytes library task (table_of bytes) ≡ verdict_on_further library task s (further_of task)
+    → behind_bytes library task (table_of bytes) ≡ series_after (table_of bytes) ++ named (further_of task)
+    → Ends (verdict_on_further library task s (further_of task)) (named (further_of task)) st name
+    → Ends (verdict_on_bytes library task (table_of bytes)) (behind_bytes library task (table_of bytes)) st name
+further_end library task bytes s st name says before e =
+    let come = verdict_on_further library task s (further_of task) in
+    let file = named (further_of task) in
+    let series = series_after (table_of bytes) in
+    subst (λ (names : List (List ℕ)). Ends (verdict_on_bytes library task (table_of bytes)) names st name) (sym before)
+    (subst (λ (v : Verdict). Ends v (series ++ file) st name) (sym says)
+    (record { cause = e.cause; named = names_more come file (series ++ file) st name (among_behind name series file) e.named }))
+
+pub further_missed : (files : Option Files) (task : Task) (study bytes : List ℕ) (s : StudyTold) (st : Status) (name : List ℕ)
+    → IfSome files (λ library. content (held library study) most_bytes ≡ whole bytes)
+    → IfSome files (λ library. (t : Task) → verdict_on_bytes library t (table_of bytes) ≡ verdict_on_further library t s (further_of t))
+    → IfSome files (λ library. (t : Task) → behind_bytes library t (table_of bytes) ≡ series_after (table_of bytes) ++ named (further_of t))
+    → IfSome files (λ library. (x : StudyTold) → Ends (verdict_on_further library task x (further_of task)) (named (further_of task)) st name)
+    → IfSome files (λ library. Ends (verdict_on_study library task study (content (held library study) most_bytes)) (study ∷ behind_study library task (content (held library study) most_bytes)) st name)
+further_missed None task study bytes s st name has says before ends = tt
+further_missed (Some library) task study bytes s st name has says before ends =
+    subst (λ (a : Content). Ends (verdict_on_study library task study a) (study ∷ behind_study library task a) st name) (sym has)
+    (bytes_end library task study bytes st name (further_end library task bytes s st name (says task) (before task) (ends s)))
 
 -- the words asked for the study of a file
 pub file_found : (files : Option Files) (words : List (List ℕ)) (task : Task) (study : List ℕ) (come : Verdict) → Some (File task study) ≡ asked_of words
@@ -233,7 +381,7 @@ file_found None words task study come asks says = tt
 file_found (Some library) words task study come asks says = ap (λ (o : Option Request). verdict_for library o) (sym asks) ∙ says
 
 pub file_unfound : (files : Option Files) (words : List (List ℕ)) (task : Task) (study : List ℕ) (st : Status) (name : List ℕ) → Some (File task study) ≡ asked_of words
-    → IfSome files (λ library. Ends (verdict_on_study library task study (content (held library study) most_bytes)) (study ∷ series_behind (content (held library study) most_bytes)) st name)
+    → IfSome files (λ library. Ends (verdict_on_study library task study (content (held library study) most_bytes)) (study ∷ behind_study library task (content (held library study) most_bytes)) st name)
     → IfSome files (λ library. Ends (verdict library words) (fetched library words) st name)
 file_unfound None words task study st name asks ends = tt
 file_unfound (Some library) words task study st name asks ends =
@@ -268,26 +416,26 @@ text_missed text st (inr why) names name =
 
 -- the table of a text was read
 pub text_read : (text : List ℕ) (table : Members) → table_of text ≡ Some table
-    → verdict_on_large text ≡ judged (Lines (length text)) (study_of table None)
+    → verdict_on_large text ≡ judged [] (Lines (length text)) (study_of table None)
 text_read text table has = ap (λ (t : Option Members). verdict_on_text (Lines (length text)) t) has
 
 -- the search for a file's study, or for a large study, is the search for what the words ask for
 pub file_finds : (r : Result Found Ending) (files : Option Files) (words : List (List ℕ)) (task : Task) (study : List ℕ) → Some (File task study) ≡ asked_of words
-    → IfOk r (λ f. IfSome files (λ library. verdict_on_study library task study (content (held library study) most_bytes) ≡ verdict_on_task f.task (study_told f.study)))
-    → IfOk r (λ f. IfSome files (λ library. verdict library words ≡ verdict_on_task f.task (study_told f.study)))
-file_finds (Ok f) files words task study asks says = file_found files words task study (verdict_on_task f.task (study_told f.study)) asks says
+    → IfOk r (λ f. IfSome files (λ library. verdict_on_study library task study (content (held library study) most_bytes) ≡ verdict_on_found f.task (option_map vec_items f.further) (study_told f.study)))
+    → IfOk r (λ f. IfSome files (λ library. verdict library words ≡ verdict_on_found f.task (option_map vec_items f.further) (study_told f.study)))
+file_finds (Ok f) files words task study asks says = file_found files words task study (verdict_on_found f.task (option_map vec_items f.further) (study_told f.study)) asks says
 file_finds (Err e) files words task study asks says = tt
 
 pub file_misses : (r : Result Found Ending) (files : Option Files) (words : List (List ℕ)) (task : Task) (study : List ℕ) → Some (File task study) ≡ asked_of words
-    → IfErr r (λ e. IfSome files (λ library. Ends (verdict_on_study library task study (content (held library study) most_bytes)) (study ∷ series_behind (content (held library study) most_bytes)) e.status (string_bytes e.name)))
+    → IfErr r (λ e. IfSome files (λ library. Ends (verdict_on_study library task study (content (held library study) most_bytes)) (study ∷ behind_study library task (content (held library study) most_bytes)) e.status (string_bytes e.name)))
     → IfErr r (λ e. IfSome files (λ library. Ends (verdict library words) (fetched library words) e.status (string_bytes e.name)))
 file_misses (Ok f) files words task study asks ends = tt
 file_misses (Err e) files words task study asks ends = file_unfound files words task study e.status (string_bytes e.name) asks ends
 
 pub large_finds : (r : Result Found Ending) (files : Option Files) (words : List (List ℕ)) (number : ℕ) → Some (Large number) ≡ asked_of words
-    → IfOk r (λ f. verdict_on_large (large_study number large_limit) ≡ verdict_on_task f.task (study_told f.study))
-    → IfOk r (λ f. IfSome files (λ library. verdict library words ≡ verdict_on_task f.task (study_told f.study)))
-large_finds (Ok f) files words number asks says = large_found files words number (verdict_on_task f.task (study_told f.study)) asks says
+    → IfOk r (λ f. verdict_on_large (large_study number large_limit) ≡ verdict_on_found f.task (option_map vec_items f.further) (study_told f.study))
+    → IfOk r (λ f. IfSome files (λ library. verdict library words ≡ verdict_on_found f.task (option_map vec_items f.further) (study_told f.study)))
+large_finds (Ok f) files words number asks says = large_found files words number (verdict_on_found f.task (option_map vec_items f.further) (study_told f.study)) asks says
 large_finds (Err e) files words number asks says = tt
 
 pub large_misses : (r : Result Found Ending) (files : Option Files) (words : List (List ℕ)) (number : ℕ) → Some (Large number) ≡ asked_of words

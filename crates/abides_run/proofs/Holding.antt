@@ -1,5 +1,5 @@
 -- No more steps lead from the states that workers leave to targets than from those that are sure to be kept.
-use Rattle.std.proofs.Common.{◌≡◌, ◌≤◌, ℕ, List, sum_by, ap, ◌∙◌, arith}
+use Rattle.std.proofs.Common.{◌≡◌, ◌≤◌, ℕ, ap, ◌∙◌, arith}
 use Rattle.checkpoint_shelf.specs.Told.{ClosedTold}
 use Rattle.kernel_copy.specs.Courses.{CourseTold}
 use Rattle.shelf_core.specs.declared.plan.ShelfPlan.{ShelfPlan}
@@ -10,17 +10,15 @@ use Rattle.rewind_desk.specs.AfterWork.{IsAfterWork}
 use Rattle.rewind_desk.specs.declared.target.Target.{Target}
 use Rattle.study_rules.specs.Accepted.{StudyTold}
 use Rattle.abides_run.specs.Rewinds.{steps_from, steps_to}
-use Rattle.abides_run.proofs.Aiming.{sum-fewer}
 
-pub saved-steps : (shelf : ClosedTold CourseTold) (s : StudyTold) (places workers : ℕ) (ts : List Target)
+pub saved-each : (shelf : ClosedTold CourseTold) (s : StudyTold) (places workers : ℕ)
     → ((x : ClosedTold CourseTold) (b e : ℕ) → HoldsSure x → sure x.course x.plan b e ≤ best x b e)
     → ((c : CourseTold) (stride places workers : ℕ) (x : ClosedTold CourseTold) → IsAfterWork c stride places workers x → HoldsSure x)
     → IsAfterWork s.course s.stride places workers shelf
-    → sum_by (steps_from shelf) ts ≤ sum_by (steps_to s places) ts
-saved-steps shelf s places workers ts law leaves after =
+    → (t : Target) → steps_from shelf t ≤ steps_to s places t
+saved-each shelf s places workers law leaves after t =
     let held = leaves s.course s.stride places workers shelf after in
-    sum-fewer (steps_from shelf) (steps_to s places) ts (λ t.
     let least = law shelf t.branch t.event held in
     let told : sure shelf.course shelf.plan t.branch t.event ≡ sure s.course (layout s.course.plan s.stride places) t.branch t.event =
     ap (λ (c : CourseTold). sure c shelf.plan t.branch t.event) after.course ∙ ap (λ (p : ShelfPlan). sure s.course p t.branch t.event) after.plan in
-    omega (arith, least, told))
+    omega (arith, least, told)

@@ -1,7 +1,9 @@
 pub mod Aiming
+pub mod Among
 pub mod Answered
 pub mod Bundles
 pub mod Come
+pub mod Crossing
 pub mod Fetching
 pub mod Finishing
 pub mod Holding

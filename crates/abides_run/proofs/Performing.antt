@@ -1,14 +1,15 @@
 -- What is done with a study ends as its parts end.
-use Rattle.std.proofs.Common.{◌≡◌, ◌⊎◌, ◌≤◌, ◌+◌, ℕ, List, Option, Ok, Err, [], append-nil, refl, sym, ap, ◌∙◌, subst, inl, inr, arith}
+use Rattle.std.proofs.Common.{◌≡◌, ◌⊎◌, ◌≤◌, ◌+◌, ℕ, List, Option, None, unwrap_or, Ok, Err, [], append-nil, refl, sym, ap, ◌∙◌, subst, inl, inr, arith}
 use Rattle.command_words.specs.declared.mark.Mark.{Mark}
 use Rattle.outside.specs.Rose.{Rose}
 use Rattle.outside.specs.Taken.{appended, TookPrefix}
 use Rattle.study_rules.specs.Accepted.{StudyTold}
 use Rattle.abides_run.specs.declared.request.Task.{Task}
-use Rattle.abides_run.specs.declared.request.Task.TheVariants.{Rewind}
+use Rattle.command_words.specs.declared.asked.Crossing.{Crossing}
+use Rattle.abides_run.specs.declared.request.Task.TheVariants.{Rewind, Cross}
 use Rattle.abides_run.specs.Fetched.{arguments_of}
-use Rattle.abides_run.specs.Output.{Probes, written, simulated, allowed}
-use Rattle.abides_run.specs.Verdict.{Verdict, accepted, verdict_on_task, IsStudy}
+use Rattle.abides_run.specs.Output.{Probes, Due, written, simulated, allowed}
+use Rattle.abides_run.specs.Verdict.{Verdict, accepted, verdict_on_crossing, verdict_on_found, IsStudy}
 use Rattle.abides_run.specs.Statuses.{Cause, Counts, IsRefusal, IsStill, Names, NamesOne}
 use Rattle.abides_run.specs.Headline.{Seen, Fulfilled}
 use Rattle.abides_run.specs.Performed.{Finished, IsFinal, Performed, Sent, IsUnsent}
@@ -27,6 +28,8 @@ unsent_counts events more old new took_before took (status.Refused rule place) u
 unsent_counts events more old new took_before took status.ReadFault u least most = absurd u
 unsent_counts events more old new took_before took status.WriteFault u least most = (least, most)
 unsent_counts events more old new took_before took status.NoBranch u least most = absurd u
+unsent_counts events more old new took_before took status.NoStock u least most = absurd u
+unsent_counts events more old new took_before took (status.BadOrders number) u least most = absurd u
 unsent_counts events more old new took_before took status.NoEvent u least most = absurd u
 unsent_counts events more old new took_before took status.Memory u least most = (omega (arith, least), most, λ n. least)
 
@@ -88,6 +91,8 @@ unsent_cause come (status.Refused rule place) s u = absurd u
 unsent_cause come status.ReadFault s u = absurd u
 unsent_cause come status.WriteFault s u = s
 unsent_cause come status.NoBranch s u = absurd u
+unsent_cause come status.NoStock s u = absurd u
+unsent_cause come (status.BadOrders number) s u = absurd u
 unsent_cause come status.NoEvent s u = absurd u
 unsent_cause come status.Memory s u = tt
 
@@ -104,6 +109,8 @@ unsent_wanting (status.Refused rule place) old new u fault r = absurd u
 unsent_wanting status.ReadFault old new u fault r = absurd u
 unsent_wanting status.WriteFault old new u fault r = absurd (r (fault refl))
 unsent_wanting status.NoBranch old new u fault r = absurd u
+unsent_wanting status.NoStock old new u fault r = absurd u
+unsent_wanting (status.BadOrders number) old new u fault r = absurd u
 unsent_wanting status.NoEvent old new u fault r = absurd u
 unsent_wanting status.Memory old new u fault r = refl
 
@@ -112,13 +119,13 @@ performed_complete : (st : Status) (old new : ℕ) → (st ≡ status.Ok) ⊎ Is
 performed_complete st old new (inl ok) fault r = inl ok
 performed_complete st old new (inr u) fault r = inr (unsent_wanting st old new u fault r)
 
-performed_fulfils : (probes : Probes) (task : Task) (s : StudyTold) (before after : Seen) (st : Status)
-    → Performed (written probes task s) (simulated task s) (allowed task s) before after st
-    → Fulfilled (accepted task s) (written probes task s) (simulated task s) (allowed task s) before after st
-performed_fulfils probes task s before after st p = record {
+performed_fulfils : (probes : Probes) (due : Due) (before after : Seen) (st : Status)
+    → Performed (written probes due) (simulated due) (allowed due) before after st
+    → Fulfilled (accepted due) (written probes due) (simulated due) (allowed due) before after st
+performed_fulfils probes due before after st p = record {
   output = p.whole;
   counter = p.counter;
-  cause = performed_cause (accepted task s) st tt p.ended;
+  cause = performed_cause (accepted due) st tt p.ended;
   exact = λ n r. absurd (n tt);
   prefix = p.cut;
   complete = λ n r w. performed_complete st before.writes after.writes p.ended p.fault w;
@@ -141,6 +148,8 @@ unsent_done (status.Refused rule place) u = absurd u
 unsent_done status.ReadFault u = absurd u
 unsent_done status.WriteFault u = record { final = tt; going = λ r. r; moving = λ r. r; names = λ come fetched name. tt; argument = λ arguments name. tt }
 unsent_done status.NoBranch u = absurd u
+unsent_done status.NoStock u = absurd u
+unsent_done (status.BadOrders number) u = absurd u
 unsent_done status.NoEvent u = absurd u
 unsent_done status.Memory u = record { final = tt; going = λ r. r; moving = λ r. r; names = λ come fetched name. tt; argument = λ arguments name. tt }
 
@@ -149,15 +158,15 @@ performed_done st (inl ok) =
     subst IsDone (sym ok) (record { final = tt; going = λ r. r; moving = λ r. r; names = λ come fetched name. tt; argument = λ arguments name. tt })
 performed_done st (inr u) = unsent_done st u
 
--- what was done with an accepted study
-pub performed_finishes : (probes : Probes) (task : Task) (s : StudyTold) (arguments : List (List ℕ)) (before after : Seen) (st : Status) (name : List ℕ)
-    → Performed (written probes task s) (simulated task s) (allowed task s) before after st
-    → Finished (accepted task s) probes arguments before after st name
-performed_finishes probes task s arguments before after st name p =
+-- what is due was done
+pub performed_finishes : (probes : Probes) (due : Due) (arguments : List (List ℕ)) (before after : Seen) (st : Status) (name : List ℕ)
+    → Performed (written probes due) (simulated due) (allowed due) before after st
+    → Finished (accepted due) probes arguments before after st name
+performed_finishes probes due arguments before after st name p =
     let done = performed_done st p.ended in record {
       final = done.final;
-      fulfilled = performed_fulfils probes task s before after st p;
-      named = λ fetched. done.names (accepted task s) fetched name;
+      fulfilled = performed_fulfils probes due before after st p;
+      named = λ fetched. done.names (accepted due) fetched name;
       argument = done.argument arguments name;
       fault = p.fault;
       steady = p.steady;
@@ -167,26 +176,38 @@ performed_finishes probes task s arguments before after st name p =
       never_falls = p.never_falls;
     }
 
--- A task whose verdict is that the study is accepted was performed, and its status told with a name.
-pub task_finishes : (probes : Probes) (t u : Task) (s : StudyTold) (writes now old new : ℕ) (before after : Option (List ℕ)) (st told : Status) (name : List ℕ)
-    → t ≡ u → told ≡ st → verdict_on_task u s ≡ accepted u s
-    → ((reads : ℕ) → Performed (written probes u s) (simulated u s) (allowed u s) (record { reads = reads; writes = writes; taken = before; steps = old }) (record { reads = reads; writes = now; taken = after; steps = new }) st)
-    → (reads : ℕ) → Finished (verdict_on_task t s) probes (arguments_of t) (record { reads = reads; writes = writes; taken = before; steps = old }) (record { reads = reads; writes = now; taken = after; steps = new }) told name
-task_finishes probes t u s writes now old new before after st told name is same come p reads =
+-- A task of which this is due was performed, and its status told with a name.
+pub task_finishes : (probes : Probes) (t u : Task) (further : Option (List ℕ)) (due : Due) (s : StudyTold) (writes now old new : ℕ) (before after : Option (List ℕ)) (st told : Status) (name : List ℕ)
+    → t ≡ u → told ≡ st → verdict_on_found u further s ≡ accepted due
+    → ((reads : ℕ) → Performed (written probes due) (simulated due) (allowed due) (record { reads = reads; writes = writes; taken = before; steps = old }) (record { reads = reads; writes = now; taken = after; steps = new }) st)
+    → (reads : ℕ) → Finished (verdict_on_found t further s) probes (arguments_of t) (record { reads = reads; writes = writes; taken = before; steps = old }) (record { reads = reads; writes = now; taken = after; steps = new }) told name
+task_finishes probes t u further due s writes now old new before after st told name is same come p reads =
     let was : Seen = record { reads = reads; writes = writes; taken = before; steps = old } in
     let seen : Seen = record { reads = reads; writes = now; taken = after; steps = new } in
-    subst (λ (x : Task). Finished (verdict_on_task x s) probes (arguments_of x) was seen told name) (sym is)
+    subst (λ (x : Task). Finished (verdict_on_found x further s) probes (arguments_of x) was seen told name) (sym is)
     (subst (λ (v : Verdict). Finished v probes (arguments_of u) was seen told name) (sym come)
-    (subst (λ (x : Status). Finished (accepted u s) probes (arguments_of u) was seen x name) (sym same)
-    (performed_finishes probes u s (arguments_of u) was seen st name (p reads))))
+    (subst (λ (x : Status). Finished (accepted due) probes (arguments_of u) was seen x name) (sym same)
+    (performed_finishes probes due (arguments_of u) was seen st name (p reads))))
 
 -- the same of a rewind, which ends as its parts say
-pub rewind_finishes : (probes : Probes) (t : Task) (marks shown : List Mark) (places : ℕ) (s : StudyTold) (writes now old new : ℕ) (before after : Option (List ℕ)) (st : Status) (name : List ℕ)
+pub rewind_finishes : (probes : Probes) (t : Task) (further : Option (List ℕ)) (marks shown : List Mark) (places : ℕ) (s : StudyTold) (writes now old new : ℕ) (before after : Option (List ℕ)) (st : Status) (name : List ℕ)
     → t ≡ Rewind marks places → shown ≡ marks
-    → ((reads : ℕ) (given : Probes) → Finished (verdict_on_task (Rewind shown places) s) given (arguments_of (Rewind shown places)) (record { reads = reads; writes = writes; taken = before; steps = old }) (record { reads = reads; writes = now; taken = after; steps = new }) st name)
-    → (reads : ℕ) → Finished (verdict_on_task t s) probes (arguments_of t) (record { reads = reads; writes = writes; taken = before; steps = old }) (record { reads = reads; writes = now; taken = after; steps = new }) st name
-rewind_finishes probes t marks shown places s writes now old new before after st name is same f reads =
+    → ((reads : ℕ) (given : Probes) → Finished (verdict_on_found (Rewind shown places) None s) given (arguments_of (Rewind shown places)) (record { reads = reads; writes = writes; taken = before; steps = old }) (record { reads = reads; writes = now; taken = after; steps = new }) st name)
+    → (reads : ℕ) → Finished (verdict_on_found t further s) probes (arguments_of t) (record { reads = reads; writes = writes; taken = before; steps = old }) (record { reads = reads; writes = now; taken = after; steps = new }) st name
+rewind_finishes probes t further marks shown places s writes now old new before after st name is same f reads =
     let was : Seen = record { reads = reads; writes = writes; taken = before; steps = old } in
     let seen : Seen = record { reads = reads; writes = now; taken = after; steps = new } in
     let whole : Rewind shown places ≡ t = ap (λ (ms : List Mark). Rewind ms places) same ∙ sym is in
-    subst (λ (x : Task). Finished (verdict_on_task x s) probes (arguments_of x) was seen st name) whole (f reads probes)
+    subst (λ (x : Task). Finished (verdict_on_found x further s) probes (arguments_of x) was seen st name) whole (f reads probes)
+
+-- the same of a cross with the bytes of its file
+pub cross_finishes : (probes : Probes) (t : Task) (further : Option (List ℕ)) (crossing shown : Crossing) (places : ℕ) (text : List ℕ) (s : StudyTold) (writes now old new : ℕ) (before after : Option (List ℕ)) (st : Status) (name : List ℕ)
+    → t ≡ Cross crossing places → shown ≡ crossing → text ≡ unwrap_or further []
+    → ((reads : ℕ) (given : Probes) → Finished (verdict_on_crossing shown places text s) given (arguments_of (Cross shown places)) (record { reads = reads; writes = writes; taken = before; steps = old }) (record { reads = reads; writes = now; taken = after; steps = new }) st name)
+    → (reads : ℕ) → Finished (verdict_on_found t further s) probes (arguments_of t) (record { reads = reads; writes = writes; taken = before; steps = old }) (record { reads = reads; writes = now; taken = after; steps = new }) st name
+cross_finishes probes t further crossing shown places text s writes now old new before after st name is same read f reads =
+    let was : Seen = record { reads = reads; writes = writes; taken = before; steps = old } in
+    let seen : Seen = record { reads = reads; writes = now; taken = after; steps = new } in
+    let whole : Cross shown places ≡ t = ap (λ (x : Crossing). Cross x places) same ∙ sym is in
+    subst (λ (x : Task). Finished (verdict_on_found x further s) probes (arguments_of x) was seen st name) whole
+    (subst (λ (bytes : List ℕ). Finished (verdict_on_crossing shown places bytes s) probes (arguments_of (Cross shown places)) was seen st name) read (f reads probes))

@@ -1,5 +1,5 @@
 -- Which files the line of an end may name.
-use Rattle.std.proofs.Common.{◌≡◌, ◌⊎◌, ℕ, List, [], ◌∷◌, Option, Some, None, IfSome, Result, Ok, Err, IfErr, string_bytes, refl, sym, subst, inl, inr}
+use Rattle.std.proofs.Common.{◌≡◌, ◌⊎◌, ℕ, List, [], ◌∷◌, ◌++◌, Option, Some, None, IfSome, Result, Ok, Err, IfErr, string_bytes, refl, sym, subst, inl, inr}
 use Rattle.toml.specs.Data.{Members}
 use Rattle.study_file.specs.Tables.{table_of}
 use Rattle.abides_run.specs.declared.ending.Ending.{Ending}
@@ -7,16 +7,17 @@ use Rattle.abides_run.specs.declared.found.Found.{Found}
 use Rattle.abides_run.specs.declared.request.Request.{Request}
 use Rattle.abides_run.specs.declared.request.Request.TheVariants.{File, Large}
 use Rattle.abides_run.specs.declared.request.Task.{Task}
-use Rattle.abides_run.specs.Words.{asked_of}
+use Rattle.abides_run.specs.Words.{asked_of, further_of}
 use Rattle.abides_run.specs.Verdict.{Verdict, Files, series_of, verdict}
 use Rattle.abides_run.specs.Output.{Probes}
-use Rattle.abides_run.specs.Fetched.{named, series_after, fetched, files_of, arguments_in}
+use Rattle.abides_run.specs.Fetched.{IsAmong, named, series_after, fetched, files_of, arguments_in}
 use Rattle.abides_run.specs.Statuses.{NamesOne, Speaks, SpeaksFor}
 use Rattle.abides_run.specs.Ends.{Ends, IsSought}
 use Rattle.abides_run.specs.Headline.{Named, Seen}
 use Rattle.abides_run.specs.Performed.{Finished, IsFinal}
 use Rattle.abides_run.specs.declared.status.Status.{Status}
 use Rattle.abides_run.specs.declared.status.Status.TheVariants as status
+use Rattle.abides_run.proofs.Among.{among_before, among_behind, among_first}
 use Rattle.abides_run.proofs.Fetching.{IsNamedEnd}
 use Rattle.abides_run.proofs.Answered.{ended_named, finished_named, noted_named}
 
@@ -30,6 +31,8 @@ speaks_itself (status.Refused rule place) name = tt
 speaks_itself status.ReadFault name = inl refl
 speaks_itself status.WriteFault name = tt
 speaks_itself status.NoBranch name = tt
+speaks_itself status.NoStock name = tt
+speaks_itself (status.BadOrders number) name = tt
 speaks_itself status.NoEvent name = tt
 speaks_itself status.Memory name = tt
 
@@ -58,50 +61,53 @@ pub series_of_bytes : (bytes : List ℕ) (table : Members) (st : Status) (name :
     → Speaks (named (series_of table)) st name → Speaks (series_after (table_of bytes)) st name
 series_of_bytes bytes table st name has s = subst (λ (t : Option Members). Speaks (series_after t) st name) (sym has) s
 
--- a further file
-speaks_more : (other : List ℕ) (files : List (List ℕ)) (st : Status) (name : List ℕ) → Speaks files st name → Speaks (other ∷ files) st name
-speaks_more other files status.Ok name s = tt
-speaks_more other files status.Usage name s = tt
-speaks_more other files status.NoStudy name s = inr s
-speaks_more other files status.TooLong name s = inr s
-speaks_more other files (status.Refused rule place) name s = tt
-speaks_more other files status.ReadFault name s = inr s
-speaks_more other files status.WriteFault name s = tt
-speaks_more other files status.NoBranch name s = tt
-speaks_more other files status.NoEvent name s = tt
-speaks_more other files status.Memory name s = tt
+-- the further file that a task names
+pub further_speaks : (task : Task) (name : List ℕ) (st : Status) (told : List ℕ) → Some name ≡ further_of task
+    → Speaks (name ∷ []) st told → Speaks (named (further_of task)) st told
+further_speaks task name st told is s = subst (λ (further : Option (List ℕ)). Speaks (named further) st told) is s
 
--- further files behind the one
-speaks_first : (first : List ℕ) (files : List (List ℕ)) (st : Status) (name : List ℕ) → Speaks (first ∷ []) st name → Speaks (first ∷ files) st name
-speaks_first first files status.Ok name s = tt
-speaks_first first files status.Usage name s = tt
-speaks_first first files status.NoStudy name (inl is) = inl is
-speaks_first first files status.NoStudy name (inr none) = absurd none
-speaks_first first files status.TooLong name (inl is) = inl is
-speaks_first first files status.TooLong name (inr none) = absurd none
-speaks_first first files (status.Refused rule place) name s = tt
-speaks_first first files status.ReadFault name (inl is) = inl is
-speaks_first first files status.ReadFault name (inr none) = absurd none
-speaks_first first files status.WriteFault name s = tt
-speaks_first first files status.NoBranch name s = tt
-speaks_first first files status.NoEvent name s = tt
-speaks_first first files status.Memory name s = tt
+-- a file among more
+speaks_more : (some more : List (List ℕ)) (st : Status) (name : List ℕ) → (IsAmong name some → IsAmong name more) → Speaks some st name → Speaks more st name
+speaks_more some more status.Ok name among s = tt
+speaks_more some more status.Usage name among s = tt
+speaks_more some more status.NoStudy name among s = among s
+speaks_more some more status.TooLong name among s = among s
+speaks_more some more (status.Refused rule place) name among s = tt
+speaks_more some more status.ReadFault name among s = among s
+speaks_more some more status.WriteFault name among s = tt
+speaks_more some more status.NoBranch name among s = tt
+speaks_more some more status.NoStock name among s = tt
+speaks_more some more (status.BadOrders number) name among s = tt
+speaks_more some more status.NoEvent name among s = tt
+speaks_more some more status.Memory name among s = tt
 
--- a study's file, or the series file that it names where these are its bytes
-abbrev pub SpeaksOf : List ℕ → Status → List ℕ → Type 0
-SpeaksOf study st name = (bytes : List ℕ) × Speaks (study ∷ series_after (table_of bytes)) st name
+-- a study's file, the series file that it names where these are its bytes, or the further file of a task
+abbrev pub SpeaksOf : List ℕ → Task → Status → List ℕ → Type 0
+SpeaksOf study task st name = (bytes : List ℕ) × Speaks (study ∷ (series_after (table_of bytes) ++ named (further_of task))) st name
 
 -- the study's fetch gave no bytes
-pub study_speaks : (study : List ℕ) (st : Status) (name : List ℕ) → Speaks (study ∷ []) st name → SpeaksOf study st name
-study_speaks study st name s = ([], speaks_first study (series_after (table_of [])) st name s)
+pub study_speaks : (study : List ℕ) (task : Task) (st : Status) (name : List ℕ) → Speaks (study ∷ []) st name → SpeaksOf study task st name
+study_speaks study task st name s =
+    let files = series_after (table_of []) ++ named (further_of task) in
+    ([], speaks_more (study ∷ []) (study ∷ files) st name (among_first name study files) s)
 
 -- the study of these bytes was not found in them
-pub bytes_speak : (study bytes : List ℕ) (st : Status) (name : List ℕ) → Speaks (series_after (table_of bytes)) st name → SpeaksOf study st name
-bytes_speak study bytes st name s = (bytes, speaks_more study (series_after (table_of bytes)) st name s)
+pub bytes_speak : (study : List ℕ) (task : Task) (bytes : List ℕ) (st : Status) (name : List ℕ) → Speaks (series_after (table_of bytes)) st name → SpeaksOf study task st name
+bytes_speak study task bytes st name s =
+    let series = series_after (table_of bytes) in
+    let files = series ++ named (further_of task) in
+    (bytes, speaks_more series (study ∷ files) st name (λ among. inr (among_before name series (named (further_of task)) among)) s)
+
+-- the further file's fetch gave no bytes
+pub task_speaks : (study : List ℕ) (task : Task) (bytes : List ℕ) (st : Status) (name : List ℕ) → Speaks (named (further_of task)) st name → SpeaksOf study task st name
+task_speaks study task bytes st name s =
+    let file = named (further_of task) in
+    let series = series_after (table_of bytes) in
+    (bytes, speaks_more file (study ∷ (series ++ file)) st name (λ among. inr (among_behind name series file among)) s)
 
 -- the words asked for the study of a file
 pub file_speaks : (r : Result Found Ending) (words : List (List ℕ)) (task : Task) (study : List ℕ) → Some (File task study) ≡ asked_of words
-    → IfErr r (λ e. SpeaksOf study e.status (string_bytes e.name)) → IfErr r (λ e. SpeaksFor words e.status (string_bytes e.name))
+    → IfErr r (λ e. SpeaksOf study task e.status (string_bytes e.name)) → IfErr r (λ e. SpeaksFor words e.status (string_bytes e.name))
 file_speaks (Ok f) words task study asks s = tt
 file_speaks (Err e) words task study asks s =
     (s.0, subst (λ (o : Option Request). Speaks (files_of o s.0) e.status (string_bytes e.name)) asks s.1)
@@ -127,6 +133,8 @@ final_speaks files (status.Refused rule place) name f = tt
 final_speaks files status.ReadFault name f = absurd f
 final_speaks files status.WriteFault name f = tt
 final_speaks files status.NoBranch name f = tt
+final_speaks files status.NoStock name f = tt
+final_speaks files (status.BadOrders number) name f = tt
 final_speaks files status.NoEvent name f = tt
 final_speaks files status.Memory name f = tt
 
@@ -150,6 +158,8 @@ sought_one arguments (status.Refused rule place) name s = tt
 sought_one arguments status.ReadFault name s = tt
 sought_one arguments status.WriteFault name s = tt
 sought_one arguments status.NoBranch name s = absurd s
+sought_one arguments status.NoStock name s = absurd s
+sought_one arguments (status.BadOrders number) name s = tt
 sought_one arguments status.NoEvent name s = absurd s
 sought_one arguments status.Memory name s = tt
 

@@ -61,7 +61,7 @@ pub record Named (files : Option Files) (words : List (List ℕ)) (status : Stat
   -- where the library tells its files, the one that is missing or too long, or one that was fetched; the first argument whose
   -- branch isn't there, or whose event isn't, with the last event of its branch
   pub told : IfSome files (λ held. Names (verdict held words) (fetched held words) status name)
-  -- in any case the study's, or the series file's that a study names
+  -- in any case the study's, the series file's that a study names, or the further file's
   pub always : SpeaksFor words status name
   -- or one of the arguments
   pub argument : NamesOne (arguments_in (asked_of words)) status name

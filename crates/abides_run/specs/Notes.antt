@@ -2,13 +2,17 @@
 use Rattle.std.specs.Prelude.{ℕ, List, [], ◌∷◌, ◌++◌, codes}
 use Rattle.std.specs.Fmt.{decimal}
 use Rattle.abides_run.specs.declared.status.Status.{Status}
-use Rattle.abides_run.specs.declared.status.Status.TheVariants.{Ok, Usage, NoStudy, TooLong, Refused, ReadFault, WriteFault, NoBranch, NoEvent, Memory}
+use Rattle.abides_run.specs.declared.status.Status.TheVariants.{Ok, Usage, NoStudy, TooLong, Refused, ReadFault, WriteFault, NoBranch, NoStock, BadOrders, NoEvent, Memory}
 
 -- the line for a broken rule
 abbrev pub refused_line : ℕ → ℕ → List ℕ
 refused_line rule place = codes "study refused: rule " ++ decimal rule ++ codes ", place " ++ decimal place ++ 10 ∷ []
 
--- a rewind's argument, with the number of the last event of the branch that it names
+-- the line for the first record of a file of orders that breaks a rule
+abbrev pub orders_line : ℕ → List ℕ
+orders_line number = codes "orders refused: record " ++ decimal number ++ 10 ∷ []
+
+-- an argument, with the number of the last event of the branch that it names
 abbrev pub past_event : List ℕ → ℕ → List ℕ
 past_event word last = word ++ codes ", last event " ++ decimal last
 
@@ -23,5 +27,7 @@ note name (Refused rule place) = refused_line rule place
 note name ReadFault = codes "read failed: " ++ name ++ 10 ∷ []
 note name WriteFault = codes "write failed\n"
 note name NoBranch = codes "no branch: " ++ name ++ 10 ∷ []
+note name NoStock = codes "no stock: " ++ name ++ 10 ∷ []
+note name (BadOrders number) = orders_line number
 note name NoEvent = codes "no event: " ++ name ++ 10 ∷ []
 note name Memory = codes "out of memory\n"

@@ -9,9 +9,11 @@ use Rattle.study_rules.specs.Accepted.{StudyTold}
 use Rattle.probe_desk.specs.Probe.{Meaning}
 use Rattle.study_report.specs.Tables as tables
 use Rattle.trace_bundle.specs.Report.{big_lines_of}
-use Rattle.abides_run.specs.Rewinds.{rewinds_of, steps_to_all, targets_of}
-use Rattle.abides_run.specs.declared.request.Task.{Task}
-use Rattle.abides_run.specs.declared.request.Task.TheVariants.{Run, Check, Table, Lines, Rewind}
+use Rattle.rewind_desk.specs.declared.target.Target.{Target}
+use Rattle.reopen_cross.specs.declared.cross.Interest.{Interest}
+use Rattle.reopening_desk.specs.declared.stock.StockNamed.{StockNamed}
+use Rattle.reopening_desk.specs.Reopened.{reopened}
+use Rattle.abides_run.specs.Rewinds.{rewinds_of, steps_to, steps_to_all, target_state}
 
 -- the bundle of a study: the trace of each branch
 unfoldable pub study_bundle : CourseTold → List ℕ
@@ -42,25 +44,39 @@ study_lines bytes c = big_lines_of bytes c
 unfoldable pub study_events : CourseTold → ℕ
 study_events c = segmentwise.distinct c.opening c.plan
 
-abbrev pub written : Probes → Task → StudyTold → List ℕ
-written probes Run s = study_bundle s.course
-written probes Check s = counts_line s.course
-written probes Table s = study_table probes s.course
-written probes (Lines bytes) s = study_lines bytes s.course
-written probes (Rewind marks places) s = rewinds_of s.course (targets_of s.course marks)
+-- What is due of a study once all that the words name was found: its bundle, the line with its counts, the table that compares its
+-- branches, the lines that tell of its run, whose text has so many bytes, states, or what the reopening of a stock would come to in
+-- a state with these orders of a file, while so many grid places keep states.
+pub data Due : Type 0 where
+  bundled : StudyTold → Due
+  counted : StudyTold → Due
+  compared : StudyTold → Due
+  described : ℕ → StudyTold → Due
+  rewound : List Target → ℕ → StudyTold → Due
+  crossed : Target → StockNamed → List Interest → ℕ → StudyTold → Due
+
+abbrev pub written : Probes → Due → List ℕ
+written probes (bundled s) = study_bundle s.course
+written probes (counted s) = counts_line s.course
+written probes (compared s) = study_table probes s.course
+written probes (described bytes s) = study_lines bytes s.course
+written probes (rewound targets places s) = rewinds_of s.course targets
+written probes (crossed target stock orders places s) = reopened (target_state s.course target) stock orders
 
 -- a check simulates nothing
-abbrev pub simulated : Task → StudyTold → ℕ
-simulated Run s = study_events s.course
-simulated Check s = 0
-simulated Table s = study_events s.course
-simulated (Lines bytes) s = study_events s.course
-simulated (Rewind marks places) s = study_events s.course
+abbrev pub simulated : Due → ℕ
+simulated (bundled s) = study_events s.course
+simulated (counted s) = 0
+simulated (compared s) = study_events s.course
+simulated (described bytes s) = study_events s.course
+simulated (rewound targets places s) = study_events s.course
+simulated (crossed target stock orders places s) = study_events s.course
 
--- how many steps may be made besides: those of a rewind from kept states on
-abbrev pub allowed : Task → StudyTold → ℕ
-allowed Run s = 0
-allowed Check s = 0
-allowed Table s = 0
-allowed (Lines bytes) s = 0
-allowed (Rewind marks places) s = steps_to_all s places (targets_of s.course marks)
+-- how many steps may be made besides: those from kept states on
+abbrev pub allowed : Due → ℕ
+allowed (bundled s) = 0
+allowed (counted s) = 0
+allowed (compared s) = 0
+allowed (described bytes s) = 0
+allowed (rewound targets places s) = steps_to_all s places targets
+allowed (crossed target stock orders places s) = steps_to s places target

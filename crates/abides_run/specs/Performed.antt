@@ -7,7 +7,7 @@ use Rattle.abides_run.specs.Verdict.{Verdict, output, distinct, allowance}
 use Rattle.abides_run.specs.Statuses.{Counts, IsRefusal, IsStill, Names, NamesOne}
 use Rattle.abides_run.specs.Headline.{Fulfilled, Seen}
 use Rattle.abides_run.specs.declared.status.Status.{Status}
-use Rattle.abides_run.specs.declared.status.Status.TheVariants.{Ok, Usage, NoStudy, TooLong, Refused, ReadFault, WriteFault, NoBranch, NoEvent, Memory}
+use Rattle.abides_run.specs.declared.status.Status.TheVariants.{Ok, Usage, NoStudy, TooLong, Refused, ReadFault, WriteFault, NoBranch, NoStock, BadOrders, NoEvent, Memory}
 
 -- a study's stride: a copy is kept each so many events
 abbrev pub IsStride : ℕ → Type 0
@@ -23,6 +23,8 @@ IsUnsent (Refused rule place) = ⊥
 IsUnsent ReadFault = ⊥
 IsUnsent WriteFault = Unit {0}
 IsUnsent NoBranch = ⊥
+IsUnsent NoStock = ⊥
+IsUnsent (BadOrders number) = ⊥
 IsUnsent NoEvent = ⊥
 IsUnsent Memory = Unit {0}
 
@@ -56,6 +58,8 @@ IsFinal (Refused rule place) = ⊥
 IsFinal ReadFault = ⊥
 IsFinal WriteFault = Unit {0}
 IsFinal NoBranch = Unit {0}
+IsFinal NoStock = Unit {0}
+IsFinal (BadOrders number) = Unit {0}
 IsFinal NoEvent = Unit {0}
 IsFinal Memory = Unit {0}
 

@@ -11,9 +11,6 @@ use Rattle.trace_bundle.specs.Bundle.{parent_written}
 use Rattle.kernel_copy.specs.States.{state_frames_of}
 use Rattle.study_rules.specs.Accepted.{StudyTold}
 use Rattle.rewind_desk.specs.declared.target.Target.{Target}
-use Rattle.rewind_desk.specs.declared.aimed.Aimed.{Aimed}
-use Rattle.rewind_desk.specs.declared.aimed.Aimed.TheVariants.{At, NoBranch}
-use Rattle.rewind_desk.specs.Targets.{aimed_at}
 use Rattle.checkpoint_shelf.specs.Told.{ClosedTold}
 use Rattle.rewind_desk.specs.Best.{best}
 use Rattle.rewind_desk.specs.Rewinds.{last_event}
@@ -23,14 +20,6 @@ use Rattle.branch_workers.specs.Layout.{layout}
 -- a mark's argument as it is written
 abbrev pub argument_at : List Mark → ℕ → List ℕ
 argument_at marks i = slice_index_or (map (λ (m : Mark). m.word) marks) i []
-
-abbrev pub targets_in : Aimed → List Target
-targets_in (At targets) = targets
-targets_in (NoBranch i) = []
-
--- the targets of marks each of which names a branch
-abbrev pub targets_of : CourseTold → List Mark → List Target
-targets_of c marks = targets_in (aimed_at c.plan.branches marks)
 
 -- the numbers of the last events of the full runs of the branches before this one
 abbrev pub lasts_before : CourseTold → ℕ → List ℕ

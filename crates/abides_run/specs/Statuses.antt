@@ -1,12 +1,12 @@
 -- What each status of a run says.
 use Rattle.std.specs.Prelude.{◌≡◌, ℕ, ◌+◌, ◌≤◌, List, Option}
 use Rattle.study_rules.specs.Accepted.{StudyTold}
-use Rattle.abides_run.specs.Verdict.{Verdict, usage, no_file, file_too_long, refused, no_branch, no_event, accepted, IsStudy, IsAsked}
+use Rattle.abides_run.specs.Verdict.{Verdict, usage, no_file, file_too_long, refused, no_branch, no_stock, bad_orders, no_event, accepted, IsStudy, IsAsked}
 use Rattle.abides_run.specs.Words.{asked_of}
 use Rattle.abides_run.specs.Fetched.{IsAmong, files_of}
 use Rattle.abides_run.specs.Notes.{past_event}
 use Rattle.abides_run.specs.declared.status.Status.{Status}
-use Rattle.abides_run.specs.declared.status.Status.TheVariants.{Ok, Usage, NoStudy, TooLong, Refused, ReadFault, WriteFault, NoBranch, NoEvent, Memory}
+use Rattle.abides_run.specs.declared.status.Status.TheVariants.{Ok, Usage, NoStudy, TooLong, Refused, ReadFault, WriteFault, NoBranch, NoStock, BadOrders, NoEvent, Memory}
 
 -- the status where nothing fails and memory is there
 abbrev pub status_of : Verdict → Status
@@ -15,8 +15,10 @@ status_of (no_file name) = NoStudy
 status_of (file_too_long name) = TooLong
 status_of (refused rule place) = Refused rule place
 status_of (no_branch word) = NoBranch
-status_of (no_event word last study) = NoEvent
-status_of (accepted task study) = Ok
+status_of (no_stock word) = NoStock
+status_of (bad_orders number) = BadOrders number
+status_of (no_event word last study past) = NoEvent
+status_of (accepted due) = Ok
 
 -- What words and files say of each status. Only want of memory may always come.
 abbrev pub Cause : Verdict → Status → Type 0
@@ -28,6 +30,8 @@ Cause come (Refused rule place) = status_of come ≡ Refused rule place
 Cause come ReadFault = IsAsked come
 Cause come WriteFault = IsStudy come
 Cause come NoBranch = status_of come ≡ NoBranch
+Cause come NoStock = status_of come ≡ NoStock
+Cause come (BadOrders number) = status_of come ≡ BadOrders number
 Cause come NoEvent = status_of come ≡ NoEvent
 Cause come Memory = Unit {0}
 
@@ -36,7 +40,8 @@ pub record IsPast (come : Verdict) (name : List ℕ) : Type 0 where
   pub word : List ℕ
   pub last : ℕ
   pub study : StudyTold
-  pub is : come ≡ no_event word last study
+  pub past : ℕ
+  pub is : come ≡ no_event word last study past
   pub said : name ≡ past_event word last
 
 -- What a status's line names, where words and files come to this verdict and these files are fetched: a file or an argument.
@@ -50,6 +55,8 @@ Names come fetched (Refused rule place) name = Unit {0}
 Names come fetched ReadFault name = IsAmong name fetched
 Names come fetched WriteFault name = Unit {0}
 Names come fetched NoBranch name = come ≡ no_branch name
+Names come fetched NoStock name = come ≡ no_stock name
+Names come fetched (BadOrders number) name = Unit {0}
 Names come fetched NoEvent name = IsPast come name
 Names come fetched Memory name = Unit {0}
 
@@ -63,11 +70,13 @@ Speaks files (Refused rule place) name = Unit {0}
 Speaks files ReadFault name = IsAmong name files
 Speaks files WriteFault name = Unit {0}
 Speaks files NoBranch name = Unit {0}
+Speaks files NoStock name = Unit {0}
+Speaks files (BadOrders number) name = Unit {0}
 Speaks files NoEvent name = Unit {0}
 Speaks files Memory name = Unit {0}
 
--- The file is the study that the words ask for, or the series file that a study of some bytes names: so it is for each
--- library, whether it tells its files or not.
+-- The file is the study that the words ask for, the series file that a study of some bytes names, or the further file that the
+-- words name: so it is for each library, whether it tells its files or not.
 abbrev pub SpeaksFor : List (List ℕ) → Status → List ℕ → Type 0
 SpeaksFor words status name = (bytes : List ℕ) × Speaks (files_of (asked_of words) bytes) status name
 
@@ -88,6 +97,8 @@ NamesOne words (Refused rule place) name = Unit {0}
 NamesOne words ReadFault name = Unit {0}
 NamesOne words WriteFault name = Unit {0}
 NamesOne words NoBranch name = IsAmong name words
+NamesOne words NoStock name = IsAmong name words
+NamesOne words (BadOrders number) name = Unit {0}
 NamesOne words NoEvent name = IsPastAmong words name
 NamesOne words Memory name = Unit {0}
 
@@ -102,7 +113,9 @@ Counts least more old new took_before took (Refused rule place) = new ≡ old
 Counts least more old new took_before took ReadFault = new ≡ old
 Counts least more old new took_before took WriteFault = (old + least ≤ new) × (new ≤ old + least + more)
 Counts least more old new took_before took NoBranch = new ≡ old
-Counts least more old new took_before took NoEvent = new ≡ old + least
+Counts least more old new took_before took NoStock = new ≡ old
+Counts least more old new took_before took (BadOrders number) = new ≡ old
+Counts least more old new took_before took NoEvent = (old + least ≤ new) × (new ≤ old + least + more)
 Counts least more old new took_before took Memory =
     (old ≤ new) × (new ≤ old + least + more) × (¬ (took ≡ took_before) → old + least ≤ new)
 
@@ -116,6 +129,8 @@ IsRefusal (Refused rule place) = Unit {0}
 IsRefusal ReadFault = Unit {0}
 IsRefusal WriteFault = ⊥
 IsRefusal NoBranch = Unit {0}
+IsRefusal NoStock = Unit {0}
+IsRefusal (BadOrders number) = Unit {0}
 IsRefusal NoEvent = Unit {0}
 IsRefusal Memory = ⊥
 
@@ -129,5 +144,7 @@ IsStill (Refused rule place) = Unit {0}
 IsStill ReadFault = Unit {0}
 IsStill WriteFault = ⊥
 IsStill NoBranch = Unit {0}
+IsStill NoStock = Unit {0}
+IsStill (BadOrders number) = Unit {0}
 IsStill NoEvent = ⊥
 IsStill Memory = ⊥

@@ -1,5 +1,5 @@
 -- What words and files come to, before anything is simulated. The order of refusals is the order of this computation.
-use Rattle.std.specs.Prelude.{ℕ, List, [], Option, Some, None, Result, Ok, Err, codes, length}
+use Rattle.std.specs.Prelude.{ℕ, List, [], ◌∷◌, Option, Some, None, Result, Ok, Err, codes, length, unwrap_or}
 use Rattle.toml.specs.Data.{Members}
 use Rattle.outside.specs.Files.{Content, absent, too_long, whole, held, content}
 use Rattle.study_file.specs.Tables.{table_of, text_at}
@@ -9,26 +9,36 @@ use Rattle.command_words.specs.declared.mark.Mark.{Mark}
 use Rattle.rewind_desk.specs.declared.aimed.Aimed.{Aimed}
 use Rattle.rewind_desk.specs.declared.aimed.Aimed.TheVariants.{At, NoBranch}
 use Rattle.rewind_desk.specs.declared.past.Past.{Past}
-use Rattle.rewind_desk.specs.Targets.{aimed_at, past_of}
+use Rattle.rewind_desk.specs.declared.target.Target.{Target}
+use Rattle.rewind_desk.specs.Targets.{aimed_at, past_of, target_of}
+use Rattle.command_words.specs.declared.asked.Crossing.{Crossing}
+use Rattle.reopen_cross.specs.declared.cross.Interest.{Interest}
+use Rattle.order_file.specs.Orders.{orders_of}
+use Rattle.reopening_desk.specs.declared.stock.StockNamed.{StockNamed}
+use Rattle.reopening_desk.specs.Stocks.{stock_of}
 use Rattle.study_file.specs.LargeStudy.{large_study}
 use Rattle.abides_run.specs.declared.request.Request.{Request}
 use Rattle.abides_run.specs.declared.request.Request.TheVariants.{File, Large}
 use Rattle.abides_run.specs.declared.request.Task.{Task}
-use Rattle.abides_run.specs.declared.request.Task.TheVariants.{Run, Check, Table, Lines, Rewind}
-use Rattle.abides_run.specs.Words.{asked_of}
+use Rattle.abides_run.specs.declared.request.Task.TheVariants.{Run, Check, Table, Lines, Rewind, Cross}
+use Rattle.abides_run.specs.Words.{asked_of, further_of}
 use Rattle.abides_run.specs.Rewinds.{lasts_of, argument_at}
-use Rattle.abides_run.specs.Output.{Probes, written, simulated, allowed, study_events}
+use Rattle.abides_run.specs.Output.{Probes, Due, bundled, counted, compared, described, rewound, crossed, written, simulated, allowed, study_events}
 
+-- That an event isn't there is told with the last event of its branch, the study, and how many steps may have been made besides
+-- those of the study's segments.
 pub data Verdict : Type 0 where
   usage : Verdict
   no_file : List ℕ → Verdict
   file_too_long : List ℕ → Verdict
   refused : ℕ → ℕ → Verdict
   no_branch : List ℕ → Verdict
-  no_event : List ℕ → ℕ → StudyTold → Verdict
-  accepted : Task → StudyTold → Verdict
+  no_stock : List ℕ → Verdict
+  bad_orders : ℕ → Verdict
+  no_event : List ℕ → ℕ → StudyTold → ℕ → Verdict
+  accepted : Due → Verdict
 
--- a study file or a series file may have so many bytes
+-- each file may have so many bytes
 abbrev pub most_bytes : ℕ
 most_bytes = 16777216
 
@@ -41,38 +51,77 @@ abbrev pub series_of : Members → Option (List ℕ)
 series_of table = text_at (codes "series") table
 
 -- a target may be the first that is past its branch's last event
-abbrev pub verdict_on_past : List Mark → ℕ → StudyTold → Option Past → Verdict
-verdict_on_past marks places study None = accepted (Rewind marks places) study
-verdict_on_past marks places study (Some past) = no_event (argument_at marks past.index) past.last study
+abbrev pub verdict_on_past : List Mark → List Target → ℕ → StudyTold → Option Past → Verdict
+verdict_on_past marks targets places study None = accepted (rewound targets places study)
+verdict_on_past marks targets places study (Some past) = no_event (argument_at marks past.index) past.last study 0
 
 -- a mark may be the first that names no branch, or each has a target
 abbrev pub verdict_on_aimed : List Mark → ℕ → StudyTold → Aimed → Verdict
 verdict_on_aimed marks places study (NoBranch i) = no_branch (argument_at marks i)
-verdict_on_aimed marks places study (At targets) = verdict_on_past marks places study (past_of (lasts_of study.course) targets)
+verdict_on_aimed marks places study (At targets) = verdict_on_past marks targets places study (past_of (lasts_of study.course) targets)
 
--- a study that breaks no rule may lack what a rewind's marks name
-abbrev pub verdict_on_task : Task → StudyTold → Verdict
-verdict_on_task Run study = accepted Run study
-verdict_on_task Check study = accepted Check study
-verdict_on_task Table study = accepted Table study
-verdict_on_task (Lines bytes) study = accepted (Lines bytes) study
-verdict_on_task (Rewind marks places) study = verdict_on_aimed marks places study (aimed_at study.course.plan.branches marks)
+-- the state of a cross may be past its branch's last event
+abbrev pub verdict_on_late : List ℕ → Target → StockNamed → List Interest → ℕ → StudyTold → Option Past → Verdict
+verdict_on_late word target stock orders places study None = accepted (crossed target stock orders places study)
+verdict_on_late word target stock orders places study (Some past) = no_event word past.last study 0
+
+-- its file may break a rule
+abbrev pub verdict_on_orders : List ℕ → Target → StockNamed → ℕ → StudyTold → Result (List Interest) ℕ → Verdict
+verdict_on_orders word target stock places study (Err number) = bad_orders number
+verdict_on_orders word target stock places study (Ok orders) =
+    verdict_on_late word target stock orders places study (past_of (lasts_of study.course) (target ∷ []))
+
+-- no stock may have its symbol
+abbrev pub verdict_on_stock : Crossing → Target → ℕ → List ℕ → StudyTold → Option StockNamed → Verdict
+verdict_on_stock crossing target places text study None = no_stock crossing.symbol
+verdict_on_stock crossing target places text study (Some stock) =
+    verdict_on_orders crossing.mark.word target stock places study (orders_of (length study.course.opening.traders) text)
+
+-- no branch may have its name
+abbrev pub verdict_on_branch : Crossing → ℕ → List ℕ → StudyTold → Option Target → Verdict
+verdict_on_branch crossing places text study None = no_branch crossing.mark.word
+verdict_on_branch crossing places text study (Some target) =
+    verdict_on_stock crossing target places text study (stock_of study.course.opening.stocks crossing.symbol)
+
+-- a cross of a study that breaks no rule, with the bytes of its file
+abbrev pub verdict_on_crossing : Crossing → ℕ → List ℕ → StudyTold → Verdict
+verdict_on_crossing crossing places text study = verdict_on_branch crossing places text study (target_of study.course.plan.branches crossing.mark)
+
+-- A study that breaks no rule may lack what the words name. The bytes are those of the further file, where the task names one.
+abbrev pub verdict_on_found : Task → Option (List ℕ) → StudyTold → Verdict
+verdict_on_found Run further study = accepted (bundled study)
+verdict_on_found Check further study = accepted (counted study)
+verdict_on_found Table further study = accepted (compared study)
+verdict_on_found (Lines bytes) further study = accepted (described bytes study)
+verdict_on_found (Rewind marks places) further study = verdict_on_aimed marks places study (aimed_at study.course.plan.branches marks)
+verdict_on_found (Cross crossing places) further study = verdict_on_crossing crossing places (unwrap_or further []) study
+
+-- the further file was asked for under its name
+abbrev pub verdict_on_file : Task → StudyTold → List ℕ → Content → Verdict
+verdict_on_file task study name absent = no_file name
+verdict_on_file task study name too_long = file_too_long name
+verdict_on_file task study name (whole bytes) = verdict_on_found task (Some bytes) study
+
+-- the study breaks no rule, and the task may name a further file
+abbrev pub verdict_on_further : Files → Task → StudyTold → Option (List ℕ) → Verdict
+verdict_on_further files task study None = verdict_on_found task None study
+verdict_on_further files task study (Some name) = verdict_on_file task study name (content (held files name) most_bytes)
 
 -- the first broken rule of all, or a study
-abbrev pub judged : Task → Result StudyTold Refusal → Verdict
-judged task (Err refusal) = refused refusal.rule refusal.place
-judged task (Ok study) = verdict_on_task task study
+abbrev pub judged : Files → Task → Result StudyTold Refusal → Verdict
+judged files task (Err refusal) = refused refusal.rule refusal.place
+judged files task (Ok study) = verdict_on_further files task study (further_of task)
 
 -- the series file was asked for under its name
-abbrev pub verdict_on_series : Task → Members → List ℕ → Content → Verdict
-verdict_on_series task table name absent = no_file name
-verdict_on_series task table name too_long = file_too_long name
-verdict_on_series task table name (whole bytes) = judged task (study_of table (Some bytes))
+abbrev pub verdict_on_series : Files → Task → Members → List ℕ → Content → Verdict
+verdict_on_series files task table name absent = no_file name
+verdict_on_series files task table name too_long = file_too_long name
+verdict_on_series files task table name (whole bytes) = judged files task (study_of table (Some bytes))
 
 -- the table is there, and may name a series file
 abbrev pub verdict_on_table : Files → Task → Members → Option (List ℕ) → Verdict
-verdict_on_table files task table None = judged task (study_of table None)
-verdict_on_table files task table (Some name) = verdict_on_series task table name (content (held files name) most_bytes)
+verdict_on_table files task table None = judged files task (study_of table None)
+verdict_on_table files task table (Some name) = verdict_on_series files task table name (content (held files name) most_bytes)
 
 -- the study's bytes may be the text of a table: without one they break rule 0
 abbrev pub verdict_on_bytes : Files → Task → Option Members → Verdict
@@ -88,7 +137,7 @@ verdict_on_study files task study (whole bytes) = verdict_on_bytes files task (t
 -- a text that is in no file and has no series file is judged by the same rules
 abbrev pub verdict_on_text : Task → Option Members → Verdict
 verdict_on_text task None = refused 0 0
-verdict_on_text task (Some table) = judged task (study_of table None)
+verdict_on_text task (Some table) = judged [] task (study_of table None)
 
 -- each branch of the large study has at most so many events
 abbrev pub large_limit : ℕ
@@ -106,15 +155,17 @@ verdict_for files (Some (Large number)) = verdict_on_large (large_study number l
 abbrev pub verdict : Files → List (List ℕ) → Verdict
 verdict files words = verdict_for files (asked_of words)
 
--- they come to a study, and to what is asked for of it
+-- they come to what is due
 abbrev pub IsStudy : Verdict → Type 0
 IsStudy usage = ⊥
 IsStudy (no_file name) = ⊥
 IsStudy (file_too_long name) = ⊥
 IsStudy (refused rule place) = ⊥
 IsStudy (no_branch word) = ⊥
-IsStudy (no_event word last study) = ⊥
-IsStudy (accepted task study) = Unit {0}
+IsStudy (no_stock word) = ⊥
+IsStudy (bad_orders number) = ⊥
+IsStudy (no_event word last study past) = ⊥
+IsStudy (accepted due) = Unit {0}
 
 -- the words ask for a study
 abbrev pub IsAsked : Verdict → Type 0
@@ -123,18 +174,22 @@ IsAsked (no_file name) = Unit {0}
 IsAsked (file_too_long name) = Unit {0}
 IsAsked (refused rule place) = Unit {0}
 IsAsked (no_branch word) = Unit {0}
-IsAsked (no_event word last study) = Unit {0}
-IsAsked (accepted task study) = Unit {0}
+IsAsked (no_stock word) = Unit {0}
+IsAsked (bad_orders number) = Unit {0}
+IsAsked (no_event word last study past) = Unit {0}
+IsAsked (accepted due) = Unit {0}
 
--- what is to be written, which is nothing where there is no study
+-- what is to be written, which is nothing where nothing is due
 abbrev pub output : Probes → Verdict → List ℕ
 output probes usage = []
 output probes (no_file name) = []
 output probes (file_too_long name) = []
 output probes (refused rule place) = []
 output probes (no_branch word) = []
-output probes (no_event word last study) = []
-output probes (accepted task study) = written probes task study
+output probes (no_stock word) = []
+output probes (bad_orders number) = []
+output probes (no_event word last study past) = []
+output probes (accepted due) = written probes due
 
 -- How many steps are to be counted: that a branch lacks an event is seen once its study was simulated.
 abbrev pub distinct : Verdict → ℕ
@@ -143,8 +198,10 @@ distinct (no_file name) = 0
 distinct (file_too_long name) = 0
 distinct (refused rule place) = 0
 distinct (no_branch word) = 0
-distinct (no_event word last study) = study_events study.course
-distinct (accepted task study) = simulated task study
+distinct (no_stock word) = 0
+distinct (bad_orders number) = 0
+distinct (no_event word last study past) = study_events study.course
+distinct (accepted due) = simulated due
 
 -- how many more may be
 abbrev pub allowance : Verdict → ℕ
@@ -153,5 +210,7 @@ allowance (no_file name) = 0
 allowance (file_too_long name) = 0
 allowance (refused rule place) = 0
 allowance (no_branch word) = 0
-allowance (no_event word last study) = 0
-allowance (accepted task study) = allowed task study
+allowance (no_stock word) = 0
+allowance (bad_orders number) = 0
+allowance (no_event word last study past) = past
+allowance (accepted due) = allowed due

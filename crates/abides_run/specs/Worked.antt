@@ -8,6 +8,9 @@ use Rattle.branch_tree.specs.declared.stop.Stop.TheVariants.{At, When}
 use Rattle.kernel_copy.specs.Courses.{CourseTold}
 use Rattle.study_rules.specs.Accepted.{StudyTold}
 use Rattle.command_words.specs.declared.mark.Mark.{Mark}
+use Rattle.command_words.specs.declared.asked.Crossing.{Crossing}
+use Rattle.reopening_desk.specs.declared.stock.StockNamed.{StockNamed}
+use Rattle.rewind_desk.specs.declared.target.Target.{Target}
 
 abbrev pub root : Branch
 root = record { name = codes "root"; parent = 0; stop = At 0; edits = [] }
@@ -53,6 +56,22 @@ three_branches_study = record { course = three_branches; stride = 10000 }
 -- a mark that is written so
 abbrev pub mark_at : List ℕ → List ℕ → ℕ → Mark
 mark_at word branch event = record { word = word; branch = branch; event = event }
+
+-- the state of a branch after so many events
+abbrev pub target_at : ℕ → ℕ → Target
+target_at branch event = record { branch = branch; event = event }
+
+-- a question for a stock's reopening, with a file that is called f
+abbrev pub crossing_at : List ℕ → List ℕ → ℕ → List ℕ → Crossing
+crossing_at word branch event symbol = record { mark = mark_at word branch event; symbol = symbol; file = codes "f" }
+
+-- the one stock of the worked markets
+abbrev pub first_stock : StockNamed
+first_stock = record { number = 0; symbol = record { 0 = codes "ABM     " } }
+
+-- a file of no orders
+abbrev pub header_alone : List ℕ
+header_alone = codes "agent,side,shares,price\n"
 
 -- a study file that names a series file
 abbrev pub study_with_series : List ℕ

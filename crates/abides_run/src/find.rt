@@ -1,16 +1,16 @@
 //! From words and a library to a study.
 
-ghost use Rattle.std.specs.Prelude.{◌≡◌, ◌⊎◌, ◌<◌, ◌≤◌, ◌∷◌, [], ℕ, List, None, Some, IfOk, IfErr, IfSome, OnOk, option_map, string_bytes};
+ghost use Rattle.std.specs.Prelude.{◌≡◌, ◌⊎◌, ◌<◌, ◌≤◌, ◌∷◌, ◌++◌, [], ℕ, List, None, Some, IfOk, IfErr, IfSome, OnOk, option_map, string_bytes};
 ghost use Rattle.toml.specs.View.{table_view};
 ghost use Rattle.outside.specs.Rose.{Rose};
 ghost use Rattle.outside.specs.Files.{whole, held, content};
 ghost use Rattle.study_file.specs.Tables.{table_of};
-ghost use Rattle.study_rules.specs.Accepted.{study_told, study_of};
+ghost use Rattle.study_rules.specs.Accepted.{StudyTold, study_told, study_of};
 ghost use Rattle.abides_run.specs.declared.request.Task.{Task as TaskTold};
 ghost use Rattle.study_file.specs.LargeStudy.{large_study};
-ghost use Rattle.abides_run.specs.Words.{texts, asked_of, workers_of, IsLarge, IsTask};
-ghost use Rattle.abides_run.specs.Verdict.{verdict, verdict_on_study, verdict_on_bytes, verdict_on_table, verdict_on_large, verdict_on_task, judged, large_limit, most_bytes, series_of};
-ghost use Rattle.abides_run.specs.Fetched.{arguments_in, arguments_of, fetched as fetched_names, series_after, series_behind, named as named_file};
+ghost use Rattle.abides_run.specs.Words.{texts, asked_of, workers_of, further_of, IsLarge, IsTask};
+ghost use Rattle.abides_run.specs.Verdict.{verdict, verdict_on_study, verdict_on_bytes, verdict_on_table, verdict_on_large, verdict_on_further, verdict_on_found, judged, Files, large_limit, most_bytes, series_of};
+ghost use Rattle.abides_run.specs.Fetched.{arguments_in, arguments_of, behind_bytes, behind_rules, behind_study, behind_table, fetched as fetched_names, series_after, named as named_file};
 ghost use Rattle.abides_run.specs.Statuses.{Speaks, SpeaksFor};
 ghost use Rattle.abides_run.specs.Ends.{Ends, Fetches, IsSought};
 ghost use Rattle.abides_run.specs.Performed.{IsStride};
@@ -26,17 +26,22 @@ use std::alloc::Global;
 use study_file::{RawStudy, StudyError, read_tables, series_name, study_text};
 use study_rules::{AcceptError, Study, accept};
 
-// A study file or a series file may have so many bytes.
+// Each file may have so many bytes.
 const MOST_BYTES: u64 = 16_777_216;
 
 // Each branch of the large study has at most so many events.
 const LARGE_LIMIT: u32 = 20_000;
 
-// The bytes that the library holds under a name.
-fn fetch_file<L: Library>(alloc: Global, name: &str, library: &mut L) -> Result<Vec<u8>, Ending>
-    ensures bytes { IfOk result (λ bytes. IfSome (L.files library.old) (λ files. content (held files name.now) most_bytes ≡ whole bytes.items)) }
+// The bytes that the library holds under a name, of which there may be so many.
+fn fetch_file<L: Library>(
+    alloc: Global,
+    name: &str,
+    most: u64,
+    library: &mut L,
+) -> Result<Vec<u8>, Ending>
+    ensures bytes { IfOk result (λ bytes. IfSome (L.files library.old) (λ files. content (held files name.now) most ≡ whole bytes.items)) }
     ensures ended { IfErr result (λ e. IfSome (L.files library.old) (λ files.
-        Fetches (content (held files name.now) most_bytes) name.now e.status (string_bytes e.name))) }
+        Fetches (content (held files name.now) most) name.now e.status (string_bytes e.name))) }
     ensures speaks { IfErr result (λ e. Speaks (name.now ∷ []) e.status (string_bytes e.name)) }
     ensures sought { IfErr result (λ e. IsSought e.status) }
     ensures fault { IfErr result (λ e. e.status ≡ Status.ReadFault → Rose (L.faults library.old) (L.faults library.new)) }
@@ -44,7 +49,7 @@ fn fetch_file<L: Library>(alloc: Global, name: &str, library: &mut L) -> Result<
     ensures rises { L.faults library.old ≤ L.faults library.new }
     ensures files { L.files library.new ≡ L.files library.old }
 {
-    match library.fetch(alloc, name, MOST_BYTES) {
+    match library.fetch(alloc, name, most) {
         Ok(Fetched::Whole(bytes)) => Ok(bytes),
         Ok(Fetched::Absent) => Err(named(alloc, Status::NoStudy, name)),
         Ok(Fetched::TooLong) => Err(named(alloc, Status::TooLong, name)),
@@ -61,10 +66,13 @@ fn fetch_series<L: Library>(
 ) -> Result<Option<Vec<u8>>, Ending>
     ensures bytes { IfOk result (λ series. IfSome (L.files library.old) (λ files. (task : TaskTold) →
         verdict_on_table files task (table_view raw.now.table) (series_of (table_view raw.now.table))
-        ≡ judged task (study_of (table_view raw.now.table) (option_map (λ bytes. bytes.items) series)))) }
+        ≡ judged files task (study_of (table_view raw.now.table) (option_map (λ bytes. bytes.items) series)))) }
+    ensures behind { IfOk result (λ series. IfSome (L.files library.old) (λ files. (task : TaskTold) →
+        behind_table files task (table_view raw.now.table) (series_of (table_view raw.now.table))
+        ≡ named_file (series_of (table_view raw.now.table)) ++ behind_rules task (study_of (table_view raw.now.table) (option_map (λ bytes. bytes.items) series)))) }
     ensures ended { IfErr result (λ e. IfSome (L.files library.old) (λ files. (task : TaskTold) →
         Ends (verdict_on_table files task (table_view raw.now.table) (series_of (table_view raw.now.table)))
-        (named_file (series_of (table_view raw.now.table))) e.status (string_bytes e.name))) }
+        (behind_table files task (table_view raw.now.table) (series_of (table_view raw.now.table))) e.status (string_bytes e.name))) }
     ensures speaks { IfErr result (λ e. Speaks (named_file (series_of (table_view raw.now.table))) e.status (string_bytes e.name)) }
     ensures sought { IfErr result (λ e. IsSought e.status) }
     ensures fault { IfErr result (λ e. e.status ≡ Status.ReadFault → Rose (L.faults library.old) (L.faults library.new)) }
@@ -73,7 +81,7 @@ fn fetch_series<L: Library>(
     ensures files { L.files library.new ≡ L.files library.old }
 {
     match series_name(raw) {
-        Some(name) => match fetch_file(alloc, name, library) {
+        Some(name) => match fetch_file(alloc, name, MOST_BYTES, library) {
             Ok(bytes) => Ok(Some(bytes)),
             Err(ending) => Err(ending),
         },
@@ -83,11 +91,13 @@ fn fetch_series<L: Library>(
 
 // The study that a table says, with the bytes of its series file where it names one.
 fn accept_study(alloc: Global, raw: &RawStudy, series: Option<&[u8]>) -> Result<Study, Ending>
-    ensures study { IfOk result (λ s. (task : TaskTold) →
-        judged task (study_of (table_view raw.now.table) (option_map (λ text. text.now) series.entry)) ≡ verdict_on_task task (study_told s)) }
+    ensures study { IfOk result (λ s. (files : Files) (task : TaskTold) →
+        judged files task (study_of (table_view raw.now.table) (option_map (λ text. text.now) series.entry)) ≡ verdict_on_further files task (study_told s) (further_of task)) }
+    ensures behind { OnOk result ((task : TaskTold) →
+        behind_rules task (study_of (table_view raw.now.table) (option_map (λ text. text.now) series.entry)) ≡ named_file (further_of task)) }
     ensures stride { IfOk result (λ s. IsStride s.stride) }
-    ensures ended { IfErr result (λ e. (task : TaskTold) (fetched : List (List ℕ)) (name : List ℕ) →
-        Ends (judged task (study_of (table_view raw.now.table) (option_map (λ text. text.now) series.entry))) fetched e.status name) }
+    ensures ended { IfErr result (λ e. (files : Files) (task : TaskTold) (fetched : List (List ℕ)) (name : List ℕ) →
+        Ends (judged files task (study_of (table_view raw.now.table) (option_map (λ text. text.now) series.entry))) fetched e.status name) }
     ensures speaks { IfErr result (λ e. (files : List (List ℕ)) (name : List ℕ) → Speaks files e.status name) }
     ensures sought { IfErr result (λ e. IsSought e.status) }
     ensures silent { IfErr result (λ e. ¬ (e.status ≡ Status.ReadFault)) }
@@ -120,10 +130,12 @@ fn tables(alloc: Global, bytes: &[u8]) -> Result<RawStudy, Ending>
 // The study that bytes say, with its series file from the library where they name one.
 fn read_study<L: Library>(alloc: Global, bytes: &[u8], library: &mut L) -> Result<Study, Ending>
     ensures study { IfOk result (λ s. IfSome (L.files library.old) (λ files. (task : TaskTold) →
-        verdict_on_bytes files task (table_of bytes.now) ≡ verdict_on_task task (study_told s))) }
+        verdict_on_bytes files task (table_of bytes.now) ≡ verdict_on_further files task (study_told s) (further_of task))) }
+    ensures behind { OnOk result (IfSome (L.files library.old) (λ files. (task : TaskTold) →
+        behind_bytes files task (table_of bytes.now) ≡ series_after (table_of bytes.now) ++ named_file (further_of task))) }
     ensures stride { IfOk result (λ s. IsStride s.stride) }
     ensures ended { IfErr result (λ e. IfSome (L.files library.old) (λ files. (task : TaskTold) →
-        Ends (verdict_on_bytes files task (table_of bytes.now)) (series_after (table_of bytes.now)) e.status (string_bytes e.name))) }
+        Ends (verdict_on_bytes files task (table_of bytes.now)) (behind_bytes files task (table_of bytes.now)) e.status (string_bytes e.name))) }
     ensures speaks { IfErr result (λ e. Speaks (series_after (table_of bytes.now)) e.status (string_bytes e.name)) }
     ensures sought { IfErr result (λ e. IsSought e.status) }
     ensures fault { IfErr result (λ e. e.status ≡ Status.ReadFault → Rose (L.faults library.old) (L.faults library.new)) }
@@ -136,7 +148,44 @@ fn read_study<L: Library>(alloc: Global, bytes: &[u8], library: &mut L) -> Resul
     accept_study(alloc, &raw, series.as_deref())
 }
 
-// The study that a file says and what is to be done with it, or how the search ends without one.
+// The name of the file that a task names besides the study's.
+fn further_name<'b>(task: &'b Task<'_>) -> Option<&'b str>
+    ensures { option_map (λ name. name.now) result ≡ further_of task.now }
+{
+    match task {
+        Task::Run | Task::Check | Task::Table | Task::Lines(_) | Task::Rewind(..) => None,
+        Task::Cross(crossing, _) => Some(crossing.file.as_str()),
+    }
+}
+
+// The bytes of the further file, where the task names one: the verdict on a study that breaks no rule is then that of the task and
+// these bytes.
+fn fetch_further<L: Library>(
+    alloc: Global,
+    task: &Task<'_>,
+    library: &mut L,
+) -> Result<Option<Vec<u8>>, Ending>
+    ensures bytes { IfOk result (λ further. IfSome (L.files library.old) (λ files. (study : StudyTold) →
+        verdict_on_further files task.now study (further_of task.now) ≡ verdict_on_found task.now (option_map (λ bytes. bytes.items) further) study)) }
+    ensures ended { IfErr result (λ e. IfSome (L.files library.old) (λ files. (study : StudyTold) →
+        Ends (verdict_on_further files task.now study (further_of task.now)) (named_file (further_of task.now)) e.status (string_bytes e.name))) }
+    ensures speaks { IfErr result (λ e. Speaks (named_file (further_of task.now)) e.status (string_bytes e.name)) }
+    ensures sought { IfErr result (λ e. IsSought e.status) }
+    ensures fault { IfErr result (λ e. e.status ≡ Status.ReadFault → Rose (L.faults library.old) (L.faults library.new)) }
+    ensures steady { OnOk result (L.faults library.new ≡ L.faults library.old) }
+    ensures rises { L.faults library.old ≤ L.faults library.new }
+    ensures files { L.files library.new ≡ L.files library.old }
+{
+    match further_name(task) {
+        Some(name) => match fetch_file(alloc, name, MOST_BYTES, library) {
+            Ok(bytes) => Ok(Some(bytes)),
+            Err(ending) => Err(ending),
+        },
+        None => Ok(None),
+    }
+}
+
+// The study that a file says, what is to be done with it and the file that it is done with, or how the search ends without one.
 fn find_file<'a, L: Library>(
     alloc: Global,
     task: Task<'a>,
@@ -145,25 +194,27 @@ fn find_file<'a, L: Library>(
     library: &mut L,
 ) -> Result<Found<'a>, Ending>
     ensures study { IfOk result (λ f. IfSome (L.files library.old) (λ files.
-        verdict_on_study files task.entry name.now (content (held files name.now) most_bytes) ≡ verdict_on_task f.task (study_told f.study))) }
+        verdict_on_study files task.entry name.now (content (held files name.now) most_bytes) ≡ verdict_on_found f.task (option_map (λ bytes. bytes.items) f.further) (study_told f.study))) }
     ensures task { IfOk result (λ f. f.task ≡ task.entry) }
     ensures stride { IfOk result (λ f. IsStride f.study.stride) }
     ensures workers { IfOk result (λ f. f.workers ≡ workers) }
     ensures ended { IfErr result (λ e. IfSome (L.files library.old) (λ files.
         Ends (verdict_on_study files task.entry name.now (content (held files name.now) most_bytes))
-        (name.now ∷ series_behind (content (held files name.now) most_bytes)) e.status (string_bytes e.name))) }
-    ensures speaks { IfErr result (λ e. (bytes : List ℕ) × Speaks (name.now ∷ series_after (table_of bytes)) e.status (string_bytes e.name)) }
+        (name.now ∷ behind_study files task.entry (content (held files name.now) most_bytes)) e.status (string_bytes e.name))) }
+    ensures speaks { IfErr result (λ e. (bytes : List ℕ) × Speaks (name.now ∷ (series_after (table_of bytes) ++ named_file (further_of task.entry))) e.status (string_bytes e.name)) }
     ensures sought { IfErr result (λ e. IsSought e.status) }
     ensures fault { IfErr result (λ e. e.status ≡ Status.ReadFault → Rose (L.faults library.old) (L.faults library.new)) }
     ensures steady { OnOk result (L.faults library.new ≡ L.faults library.old) }
     ensures rises { L.faults library.old ≤ L.faults library.new }
     ensures files { L.files library.new ≡ L.files library.old }
 {
-    let bytes = fetch_file(alloc, name, library)?;
+    let bytes = fetch_file(alloc, name, MOST_BYTES, library)?;
     let study = read_study(alloc, &bytes, library)?;
+    let further = fetch_further(alloc, &task, library)?;
     Ok(Found {
         task,
         study,
+        further,
         workers,
     })
 }
@@ -181,7 +232,7 @@ fn large_text(alloc: Global, number: u32) -> Result<String, Ending>
 
 // The study of a text that is in no file, and that its lines are to be told; or how the search ends without one.
 fn read_text<'a>(alloc: Global, workers: u32, text: &str) -> Result<Found<'a>, Ending>
-    ensures study { IfOk result (λ f. verdict_on_large text.now ≡ verdict_on_task f.task (study_told f.study)) }
+    ensures study { IfOk result (λ f. verdict_on_large text.now ≡ verdict_on_found f.task (option_map (λ bytes. bytes.items) f.further) (study_told f.study)) }
     ensures task { IfOk result (λ f. (arguments_of f.task ≡ []) × IsTask f.task) }
     ensures stride { IfOk result (λ f. IsStride f.study.stride) }
     ensures workers { IfOk result (λ f. f.workers ≡ workers) }
@@ -195,13 +246,14 @@ fn read_text<'a>(alloc: Global, workers: u32, text: &str) -> Result<Found<'a>, E
     Ok(Found {
         task: Task::Lines(text.len()),
         study,
+        further: None,
         workers,
     })
 }
 
 // The large study of a number, or how the search ends without one. No file is fetched.
 fn find_large<'a>(alloc: Global, workers: u32, number: u32) -> Result<Found<'a>, Ending>
-    ensures study { IfOk result (λ f. verdict_on_large (large_study number large_limit) ≡ verdict_on_task f.task (study_told f.study)) }
+    ensures study { IfOk result (λ f. verdict_on_large (large_study number large_limit) ≡ verdict_on_found f.task (option_map (λ bytes. bytes.items) f.further) (study_told f.study)) }
     ensures task { IfOk result (λ f. (arguments_of f.task ≡ []) × IsTask f.task) }
     ensures stride { IfOk result (λ f. IsStride f.study.stride) }
     ensures workers { IfOk result (λ f. f.workers ≡ workers) }
@@ -220,7 +272,7 @@ pub fn find_study<'a, L: Library>(
     words: &'a [String],
     library: &mut L,
 ) -> Result<Found<'a>, Ending>
-    ensures study { IfOk result (λ f. IfSome (L.files library.old) (λ files. verdict files (texts words.entry.now) ≡ verdict_on_task f.task (study_told f.study))) }
+    ensures study { IfOk result (λ f. IfSome (L.files library.old) (λ files. verdict files (texts words.entry.now) ≡ verdict_on_found f.task (option_map (λ bytes. bytes.items) f.further) (study_told f.study))) }
     ensures asked { OnOk result (¬ (asked_of (texts words.entry.now) ≡ None)) }
     ensures stride { IfOk result (λ f. IsStride f.study.stride) }
     ensures workers { IfOk result (λ f. workers_of (texts words.entry.now) ≡ Some f.workers) }

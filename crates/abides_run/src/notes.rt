@@ -2,7 +2,7 @@
 
 ghost use Rattle.std.specs.Prelude.{◌≡◌, ◌⊎◌, IfOk, IsOk, string_bytes};
 ghost use Rattle.abides_run.specs.Headline.{Noted};
-ghost use Rattle.abides_run.specs.Notes.{note, refused_line};
+ghost use Rattle.abides_run.specs.Notes.{note, orders_line, refused_line};
 
 use crate::status::Status;
 use outside::{Sink, write_all};
@@ -13,6 +13,13 @@ fn refused_text(alloc: Global, rule: u32, place: u32) -> Result<String, AllocErr
     ensures { IfOk result (λ text. string_bytes text ≡ refused_line rule place) }
 {
     format!(in alloc; "study refused: rule {rule}, place {place}\n")
+}
+
+// The line for a record that breaks a rule.
+fn orders_text(alloc: Global, number: u32) -> Result<String, AllocError>
+    ensures { IfOk result (λ text. string_bytes text ≡ orders_line number) }
+{
+    format!(in alloc; "orders refused: record {number}\n")
 }
 
 /// The line as text.
@@ -32,6 +39,8 @@ pub fn note_text(alloc: Global, name: &str, status: Status) -> Result<String, Al
         Status::ReadFault => format!(in alloc; "read failed: {name}\n"),
         Status::WriteFault => String::from_str(alloc, "write failed\n"),
         Status::NoBranch => format!(in alloc; "no branch: {name}\n"),
+        Status::NoStock => format!(in alloc; "no stock: {name}\n"),
+        Status::BadOrders { number } => orders_text(alloc, number),
         Status::NoEvent => format!(in alloc; "no event: {name}\n"),
         Status::Memory => String::from_str(alloc, "out of memory\n"),
     }

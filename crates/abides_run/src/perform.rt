@@ -1,14 +1,15 @@
 //! What is done with a study.
 
-ghost use Rattle.std.specs.Prelude.{◌≡◌, ◌+◌, ◌++◌, ◌∷◌, ◌<◌, ◌≤◌, ◌^◌, [], ℕ, IfOk, codes, map, string_bytes};
+ghost use Rattle.std.specs.Prelude.{◌≡◌, ◌+◌, ◌++◌, ◌∷◌, ◌<◌, ◌≤◌, ◌^◌, [], ℕ, IfOk, codes, map, option_map, string_bytes};
 ghost use Rattle.std.specs.Fmt.{decimal};
 ghost use Rattle.abides_run.specs.Fetched.{arguments_of};
 ghost use Rattle.abides_run.specs.Output.{counts_line, study_bundle, study_events, study_lines, study_table};
 ghost use Rattle.abides_run.specs.Performed.{Finished, IsStride, Performed};
-ghost use Rattle.abides_run.specs.Verdict.{verdict_on_task};
+ghost use Rattle.abides_run.specs.Verdict.{verdict_on_found};
 ghost use Rattle.abides_run.specs.Words.{IsTask};
 ghost use Rattle.study_rules.specs.Accepted.{study_told};
 
+use crate::crosses::{cross_study, further_text};
 use crate::ending::{Ending, nameless};
 use crate::found::Found;
 use crate::request::Task;
@@ -29,7 +30,7 @@ use study_rules::Study;
 use trace_bundle::big_lines;
 use trace_bundle::laws::outcomes_are_a_run;
 
-// Nothing that is asked for here but a rewind goes on from a state on the way.
+// Nothing that is asked for here but a rewind and a cross goes on from a state on the way.
 const NO_PLACES: u32 = 0;
 
 // Has workers simulate each segment of a study once, and then writes the bundle.
@@ -232,7 +233,7 @@ pub fn perform<R: Threads + Wait + Sync, O: Sink, G: Gate + Sync, D: Ledger + Se
     requires task { IsTask found.now.task }
     requires workers { (0 < found.now.workers) × (found.now.workers ≤ 64) }
     requires steps { steps.old ≤ 2 ^ 63 }
-    ensures { (reads : ℕ) → Finished (verdict_on_task found.now.task (study_told found.now.study))
+    ensures { (reads : ℕ) → Finished (verdict_on_found found.now.task (option_map (λ bytes. bytes.items) found.now.further) (study_told found.now.study))
         (record { meanings = map (λ p. meaning p) probes.old; titles = map (λ p. title p) probes.old })
         (arguments_of found.now.task)
         (record { reads = reads; writes = O.faults out.old; taken = O.taken out.old; steps = steps.old })
@@ -258,6 +259,12 @@ pub fn perform<R: Threads + Wait + Sync, O: Sink, G: Gate + Sync, D: Ledger + Se
         Task::Rewind(marks, places) => {
             let marks = marks.as_slice();
             rewind_study(rt, alloc, study, marks, *places, workers, out, gate, steps)
+        }
+        Task::Cross(crossing, places) => {
+            let text = further_text(&found.further);
+            cross_study(
+                rt, alloc, study, crossing, text, *places, workers, out, gate, steps,
+            )
         }
     }
 }

@@ -1,6 +1,6 @@
 //! What a command line asks for.
 
-use command_words::{Mark, Sequence, Text};
+use command_words::{Crossing, Mark, Sequence, Text};
 
 /// What is to be done with a study.
 #[derive(Drop)]
@@ -15,6 +15,8 @@ pub enum Task<'a> {
     Lines(usize),
     /// The states at these marks are written, 1 to 64 of them, while so many grid places, 0 to 128, keep states.
     Rewind(Sequence<Mark<'a>>, u32),
+    /// What a stock's reopening would come to is written, while so many grid places, 0 to 128, keep states.
+    Cross(Crossing<'a>, u32),
 }
 
 /// A study, and what is to be done with it.

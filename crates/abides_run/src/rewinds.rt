@@ -7,14 +7,15 @@ ghost use Rattle.trace_bundle.specs.Ran.{IsRunOf};
 ghost use Rattle.command_words.specs.Ranges.{AreMarks};
 ghost use Rattle.kernel_copy.specs.Courses.{IsCourse};
 ghost use Rattle.rewind_desk.specs.Rewinds.{last_event};
-ghost use Rattle.rewind_desk.specs.Targets.{aimed_at, past_of};
+ghost use Rattle.rewind_desk.specs.Targets.{aimed_at};
+ghost use Rattle.rewind_desk.specs.declared.target.Target.{Target as TargetTold};
 ghost use Rattle.study_rules.specs.Accepted.{study_told};
 ghost use Rattle.abides_run.specs.Fetched.{arguments_of};
 ghost use Rattle.abides_run.specs.Notes.{past_event};
-ghost use Rattle.abides_run.specs.Output.{Probes};
+ghost use Rattle.abides_run.specs.Output.{Probes, study_events};
 ghost use Rattle.abides_run.specs.Performed.{Finished, IsStride, Sent};
-ghost use Rattle.abides_run.specs.Rewinds.{IsThere, lasts_of, rewinds_of, steps_from, target_frames, target_state, argument_at};
-ghost use Rattle.abides_run.specs.Verdict.{verdict_on_task};
+ghost use Rattle.abides_run.specs.Rewinds.{IsThere, lasts_of, rewinds_of, steps_from, steps_to, target_frames, target_state, argument_at};
+ghost use Rattle.abides_run.specs.Verdict.{verdict_on_found};
 ghost use Rattle.abides_run.specs.declared.request.Task.TheVariants as task;
 
 use crate::ending::{Ending, named, nameless};
@@ -175,8 +176,8 @@ fn past_text(alloc: Global, word: &str, last: u32) -> Result<String, AllocError>
     format!(in alloc; "{word}, last event {last}")
 }
 
-// The end of a rewind to an event that its branch hasn't.
-fn no_event(alloc: Global, word: &str, last: u32) -> Ending
+/// The end where a branch hasn't the event that an argument names.
+pub fn no_event(alloc: Global, word: &str, last: u32) -> Ending
     ensures { (result.status ≡ Status.Memory) ⊎ ((result.status ≡ Status.NoEvent) × (string_bytes result.name ≡ past_event word.now last)) }
 {
     match past_text(alloc, word, last) {
@@ -196,6 +197,61 @@ fn word_of<'a>(marks: &[Mark<'a>], index: usize) -> &'a str
     marks[index].word.as_str()
 }
 
+/// A study whose segments were simulated.
+#[derive(Drop)]
+pub struct Simulated {
+    /// The states that were kept on the way.
+    pub shelf: ClosedShelf<Checkpoint>,
+    /// The number of the last event of each branch.
+    pub lasts: Vec<u32>,
+}
+
+/// Has workers simulate each segment of a study once, while so many grid places keep states. No more steps lead to a target from
+/// the states that were kept than from those that are sure to be.
+pub fn simulate_kept<R: Threads + Wait + Sync, G: Gate + Sync, D: Ledger + Send>(
+    rt: &R,
+    alloc: Global,
+    study: &Study,
+    places: u32,
+    workers: u32,
+    gate: &G,
+    steps: &mut Steps<D>,
+) -> Result<Simulated, Memory>
+    requires stride { IsStride study.now.stride }
+    requires places { places ≤ 128 }
+    requires workers { (0 < workers) × (workers ≤ 64) }
+    requires steps { steps.old ≤ 2 ^ 63 }
+    ensures shelf { IfOk result (λ s. s.shelf.course ≡ study.now.course.value) }
+    ensures lasts { IfOk result (λ s. s.lasts.items ≡ lasts_of study.now.course.value) }
+    ensures near { IfOk result (λ s. (t : TargetTold) → steps_from s.shelf t ≤ steps_to (study_told study.now) places t) }
+    ensures few { study_events study.now.course.value < 2 ^ 52 }
+    ensures rose { OnOk result (steps.new ≡ steps.old + study_events study.now.course.value) }
+    ensures least { steps.old ≤ steps.new }
+    ensures most { steps.new ≤ steps.old + study_events study.now.course.value }
+{
+    outcomes_are_a_run();
+    sure_states_are_held();
+    rewinds_after_work();
+    let course = &study.course;
+    segments_have_few_events(course);
+    let worked = work(
+        rt,
+        alloc,
+        course,
+        study.stride,
+        places,
+        Keep::Frames,
+        workers,
+        gate,
+        steps,
+    )?;
+    let lasts = last_events(alloc, course, &worked.outcomes)?;
+    Ok(Simulated {
+        shelf: worked.shelf,
+        lasts,
+    })
+}
+
 // Has workers simulate each segment of a study once, while so many grid places keep states, and then writes the states of
 // these targets of the marks.
 fn reach_and_write<R: Threads + Wait + Sync, O: Sink, G: Gate + Sync, D: Ledger + Send>(
@@ -210,46 +266,27 @@ fn reach_and_write<R: Threads + Wait + Sync, O: Sink, G: Gate + Sync, D: Ledger 
     gate: &G,
     steps: &mut Steps<D>,
 ) -> Ending
-    requires course { IsCourse study.now.course.value }
     requires stride { IsStride study.now.stride }
     requires marks { AreMarks marks.now }
     requires targets { aimed_at study.now.course.value.plan.branches marks.now ≡ Aimed.At targets.now }
     requires places { places ≤ 128 }
     requires workers { (0 < workers) × (workers ≤ 64) }
     requires steps { steps.old ≤ 2 ^ 63 }
-    ensures { (reads : ℕ) (probes : Probes) → Finished (verdict_on_task (task.Rewind marks.now places) (study_told study.now)) probes
+    ensures { (reads : ℕ) (probes : Probes) → Finished (verdict_on_found (task.Rewind marks.now places) None (study_told study.now)) probes
         (arguments_of (task.Rewind marks.now places))
         (record { reads = reads; writes = O.faults out.old; taken = O.taken out.old; steps = steps.old })
         (record { reads = reads; writes = O.faults out.new; taken = O.taken out.new; steps = steps.new })
         result.status (string_bytes result.name) }
 {
-    outcomes_are_a_run();
-    sure_states_are_held();
-    rewinds_after_work();
-    let course = &study.course;
-    segments_have_few_events(course);
-    let worked = match work(
-        rt,
-        alloc,
-        course,
-        study.stride,
-        places,
-        Keep::Frames,
-        workers,
-        gate,
-        steps,
-    ) {
-        Ok(worked) => worked,
+    let simulated = match simulate_kept(rt, alloc, study, places, workers, gate, steps) {
+        Ok(simulated) => simulated,
         Err(Memory) => return nameless(alloc, Status::Memory),
     };
-    let lasts = match last_events(alloc, course, &worked.outcomes) {
-        Ok(lasts) => lasts,
-        Err(Memory) => return nameless(alloc, Status::Memory),
-    };
-    if let Some(past) = first_past(&lasts, targets) {
+    if let Some(past) = first_past(&simulated.lasts, targets) {
         return no_event(alloc, word_of(marks, past.index), past.last);
     }
-    match send_rewinds(alloc, course, &worked.shelf, targets, out, steps) {
+    let shelf = &simulated.shelf;
+    match send_rewinds(alloc, &study.course, shelf, targets, out, steps) {
         Ok(()) => nameless(alloc, Status::Ok),
         Err(status) => nameless(alloc, status),
     }
@@ -274,7 +311,7 @@ pub fn rewind_study<R: Threads + Wait + Sync, O: Sink, G: Gate + Sync, D: Ledger
     requires places { places ≤ 128 }
     requires workers { (0 < workers) × (workers ≤ 64) }
     requires steps { steps.old ≤ 2 ^ 63 }
-    ensures { (reads : ℕ) (probes : Probes) → Finished (verdict_on_task (task.Rewind marks.now places) (study_told study.now)) probes
+    ensures { (reads : ℕ) (probes : Probes) → Finished (verdict_on_found (task.Rewind marks.now places) None (study_told study.now)) probes
         (arguments_of (task.Rewind marks.now places))
         (record { reads = reads; writes = O.faults out.old; taken = O.taken out.old; steps = steps.old })
         (record { reads = reads; writes = O.faults out.new; taken = O.taken out.new; steps = steps.new })

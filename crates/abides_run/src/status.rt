@@ -10,6 +10,8 @@ pub enum Status {
     ReadFault,
     WriteFault,
     NoBranch,
+    NoStock,
+    BadOrders { number: u32 },
     NoEvent,
     Memory,
 }
@@ -33,6 +35,8 @@ impl Status {
             Status::NoBranch => 8,
             Status::NoEvent => 9,
             Status::Memory => 10,
+            Status::NoStock => 11,
+            Status::BadOrders { .. } => 12,
         }
     }
 }

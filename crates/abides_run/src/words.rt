@@ -21,6 +21,7 @@ fn request<'a>(command: Command<'a>, places: u32) -> Request<'a>
         Command::Table(study) => Request::File(Task::Table, study),
         Command::Rewind(study, marks) => Request::File(Task::Rewind(marks, places), study),
         Command::Big(number) => Request::Large(number),
+        Command::Cross(study, crossing) => { Request::File(Task::Cross(crossing, places), study) }
     }
 }
 

@@ -2,12 +2,12 @@
 
 ghost use Rattle.std.specs.Prelude.{◌≡◌, ◌∷◌, [], ℕ, Some, None, codes, length};
 ghost use Rattle.outside.specs.Files.{absent, too_long};
-ghost use Rattle.abides_run.specs.Output.{counts_line, study_bundle, study_events};
+ghost use Rattle.abides_run.specs.Output.{counts_line, crossed, rewound, study_bundle, study_events};
 ghost use Rattle.branch_tree.specs.declared.stop.Stop.TheVariants.{When};
-ghost use Rattle.abides_run.specs.Worked.{empty_course, empty_run, late_parent, mark_at, slower_at_a_time, three_branches, three_branches_at, three_branches_study, study_with_series};
+ghost use Rattle.abides_run.specs.Worked.{crossing_at, first_stock, header_alone, empty_course, empty_run, late_parent, mark_at, slower_at_a_time, target_at, three_branches, three_branches_at, three_branches_study, study_with_series};
 ghost use Rattle.abides_run.specs.Rewinds.{lasts_of};
 ghost use Rattle.abides_run.specs.Words.{asked_of};
-ghost use Rattle.abides_run.specs.Verdict.{verdict, usage, no_file, file_too_long, refused, no_branch, no_event, accepted, verdict_on_study, verdict_on_task};
+ghost use Rattle.abides_run.specs.Verdict.{verdict, usage, no_file, file_too_long, refused, no_branch, no_stock, bad_orders, no_event, accepted, verdict_on_study, verdict_on_found};
 ghost use Rattle.abides_run.specs.Fetched.{fetched};
 ghost use Rattle.abides_run.specs.Notes.{note, past_event};
 ghost use Rattle.abides_run.specs.declared.request.Request.TheVariants.{File, Large};
@@ -53,12 +53,14 @@ pub fn asked_words()
     ensures rewind { asked_of (codes "rewind" ∷ codes "s" ∷ codes "root:1" ∷ codes "--places=3" ∷ [])
         ≡ Some (File (task.Rewind (record { word = codes "root:1"; branch = codes "root"; event = 1 } ∷ []) 3) (codes "s")) }
     ensures big { asked_of (codes "big" ∷ codes "7" ∷ []) ≡ Some (Large 7) }
+    ensures cross { asked_of (codes "cross" ∷ codes "s" ∷ codes "root:1" ∷ codes "ABM" ∷ codes "f" ∷ [])
+        ≡ Some (File (task.Cross (crossing_at (codes "root:1") (codes "root") 1 (codes "ABM")) 16) (codes "s")) }
     ensures big_words { asked_of (codes "big" ∷ codes "seven" ∷ []) ≡ None }
     ensures many_workers { asked_of (codes "run" ∷ codes "s" ∷ codes "--workers=65" ∷ []) ≡ None }
 {}
 
 /// Faulty words come first, then the study's file, then whether it is the text of a table, then the series file that it
-/// names, and then the other rules.
+/// names, and then the other rules. The file of a cross is not asked for where a rule is broken.
 pub fn order_of_refusals()
     ensures faulty { verdict [] [] ≡ usage }
     ensures missing { verdict [] (codes "run" ∷ codes "s" ∷ []) ≡ no_file (codes "s") }
@@ -68,6 +70,7 @@ pub fn order_of_refusals()
     ensures no_series { verdict ((codes "s", study_with_series) ∷ []) (codes "run" ∷ codes "s" ∷ []) ≡ no_file (codes "t") }
     ensures large { fetched ((codes "7", study_with_series) ∷ []) (codes "big" ∷ codes "7" ∷ []) ≡ [] }
     ensures fetched { fetched ((codes "s", study_with_series) ∷ []) (codes "run" ∷ codes "s" ∷ []) ≡ codes "s" ∷ codes "t" ∷ [] }
+    ensures rules_first { fetched ((codes "s", study_with_series) ∷ (codes "t", []) ∷ []) (codes "cross" ∷ codes "s" ∷ codes "root:1" ∷ codes "ABM" ∷ codes "f" ∷ []) ≡ codes "s" ∷ codes "t" ∷ [] }
     ensures first_rule { verdict ((codes "s", study_with_series) ∷ (codes "t", []) ∷ []) (codes "run" ∷ codes "s" ∷ []) ≡ refused 1 1 }
 {}
 
@@ -75,11 +78,29 @@ pub fn order_of_refusals()
 /// and the last event itself is there.
 pub fn marks_of_three_branches()
     ensures lasts { lasts_of three_branches ≡ 6 ∷ 6 ∷ 6 ∷ 6 ∷ [] }
-    ensures past { verdict_on_task (task.Rewind (mark_at (codes "root:6") (codes "root") 6 ∷ mark_at (codes "z:7") (codes "z") 7 ∷ mark_at (codes "y:8") (codes "y") 8 ∷ []) 16) three_branches_study
-        ≡ no_event (codes "z:7") 6 three_branches_study }
-    ensures unnamed { verdict_on_task (task.Rewind (mark_at (codes "z:7") (codes "z") 7 ∷ mark_at (codes "w:1") (codes "w") 1 ∷ []) 16) three_branches_study ≡ no_branch (codes "w:1") }
-    ensures there { verdict_on_task (task.Rewind (mark_at (codes "root:6") (codes "root") 6 ∷ []) 16) three_branches_study
-        ≡ accepted (task.Rewind (mark_at (codes "root:6") (codes "root") 6 ∷ []) 16) three_branches_study }
+    ensures past { verdict_on_found (task.Rewind (mark_at (codes "root:6") (codes "root") 6 ∷ mark_at (codes "z:7") (codes "z") 7 ∷ mark_at (codes "y:8") (codes "y") 8 ∷ []) 16) None three_branches_study
+        ≡ no_event (codes "z:7") 6 three_branches_study 0 }
+    ensures unnamed { verdict_on_found (task.Rewind (mark_at (codes "z:7") (codes "z") 7 ∷ mark_at (codes "w:1") (codes "w") 1 ∷ []) 16) None three_branches_study ≡ no_branch (codes "w:1") }
+    ensures there { verdict_on_found (task.Rewind (mark_at (codes "root:6") (codes "root") 6 ∷ []) 16) None three_branches_study
+        ≡ accepted (rewound (target_at 0 6 ∷ []) 16 three_branches_study) }
+{}
+
+/// A cross that names no branch comes before one that names no stock, that before a file that breaks a rule, and that before an
+/// event past the last.
+pub fn crosses_of_three_branches()
+    ensures unnamed { verdict_on_found (task.Cross (crossing_at (codes "w:1") (codes "w") 1 (codes "XYZ")) 16) (Some []) three_branches_study ≡ no_branch (codes "w:1") }
+    ensures stockless { verdict_on_found (task.Cross (crossing_at (codes "root:7") (codes "root") 7 (codes "XYZ")) 16) (Some []) three_branches_study ≡ no_stock (codes "XYZ") }
+    ensures refused { verdict_on_found (task.Cross (crossing_at (codes "root:7") (codes "root") 7 (codes "ABM")) 16) (Some []) three_branches_study ≡ bad_orders 0 }
+    ensures past { verdict_on_found (task.Cross (crossing_at (codes "root:7") (codes "root") 7 (codes "ABM")) 16) (Some header_alone) three_branches_study
+        ≡ no_event (codes "root:7") 6 three_branches_study 0 }
+    ensures there { verdict_on_found (task.Cross (crossing_at (codes "root:6") (codes "root") 6 (codes "ABM")) 16) (Some header_alone) three_branches_study
+        ≡ accepted (crossed (target_at 0 6) first_stock [] 16 three_branches_study) }
+{}
+
+/// The lines of refused crosses.
+pub fn lines_of_refused_crosses()
+    ensures no_stock { note (codes "XYZ") Status.NoStock ≡ codes "no stock: XYZ\n" }
+    ensures bad_orders { note [] (Status.BadOrders 3) ≡ codes "orders refused: record 3\n" }
 {}
 
 /// The lines of refused rewinds.

@@ -10,7 +10,16 @@ fn told(alloc: Global, asked: &Asked<'_>) -> Result<String, Fail> {
         Command::Check(study) => format!(in alloc; "check {}", study.as_str())?,
         Command::Rewind(study, _) => format!(in alloc; "rewind {}", study.as_str())?,
         Command::Big(number) => format!(in alloc; "big {number}")?,
+        Command::Cross(study, crossing) => {
+            let (symbol, file) = (crossing.symbol.as_str(), crossing.file.as_str());
+            format!(in alloc; "cross {} {symbol} {file}", study.as_str())?
+        }
     };
+    if let Command::Cross(_, crossing) = &asked.command {
+        let mark = &crossing.mark;
+        let (word, branch) = (mark.word.as_str(), mark.branch.as_str());
+        text = format!(in alloc; "{text} {word}={branch}@{}", mark.event)?;
+    }
     if let Command::Rewind(_, marks) = &asked.command {
         for mark in marks.as_slice() {
             let (word, branch) = (mark.word.as_str(), mark.branch.as_str());
@@ -63,6 +72,14 @@ fn lines_that_are_taken(rt: HostRuntime) -> Result<(), Fail> {
         ),
         ("big 0007", "big 7, 1 workers, 16 places"),
         ("big 9999", "big 9999, 1 workers, 16 places"),
+        (
+            "cross s x:07 ABM --places 2 f",
+            "cross s ABM f x:07=x@7, 1 workers, 2 places",
+        ),
+        (
+            "cross s root:0  f --workers=3",
+            "cross s  f root:0=root@0, 3 workers, 16 places",
+        ),
     ];
     for (line, wanted) in rows.iter() {
         assert_eq!(rt; answer(alloc, line)?.as_str(), *wanted);
@@ -115,6 +132,11 @@ fn lines_that_are_refused(rt: HostRuntime) -> Result<(), Fail> {
         "rewind s a.b:1",
         "rewind s a:1 b:x",
         "rewind s abcdefghijklmnopqrstuvwxyz0123456:1",
+        "cross s root:0 ABM",
+        "cross s root:0 ABM ",
+        "cross s root ABM f",
+        "cross s root:0 ABM f g",
+        "cross  root:0 ABM f",
         "rewind s -- a:1 --places",
         "big ",
         "big 10000",

@@ -1,6 +1,6 @@
 -- What is asked for lies in its ranges.
 use Rattle.std.proofs.Common.{ℕ, suc, ◌<◌, ◌≤◌, ◌^◌, Bool, true, false, ◌==◌, List, [], ◌∷◌, ◌≡◌, ◌≢◌, Option, Some, None, option_map, option_and_then, if◌then◌else◌, length, codes, bytes_eq, refl, sym, ap, subst, arith}
-use Rattle.std.specs.Prelude.{All, IfSome}
+use Rattle.std.specs.Prelude.{All, IfSome, slice_index_or}
 use Rattle.std.specs.Int.{is_in_range}
 use Rattle.std.specs.Str.Parse.{digits_value}
 use Rattle.std.proofs.lemmas.Bool.Decides.{nat_tests}
@@ -9,10 +9,11 @@ use Rattle.command_words.specs.Line.{Parts}
 use Rattle.command_words.specs.Numbers.{number_of, count_of}
 use Rattle.command_words.specs.Marks.{IsSpelled, mark_before, mark_of, marks_of}
 use Rattle.command_words.specs.Asked.{alone, command_of, asked_from, asked_in}
+use Rattle.command_words.specs.declared.asked.Crossing.{Crossing}
 use Rattle.command_words.specs.Ranges.{IsMark, AreMarks, IsCommand, IsInRange}
 use Rattle.command_words.specs.declared.mark.Mark.{Mark}
 use Rattle.command_words.specs.declared.asked.Command.{Command}
-use Rattle.command_words.specs.declared.asked.Command.TheVariants.{Run, Table, Check, Rewind, Big}
+use Rattle.command_words.specs.declared.asked.Command.TheVariants.{Run, Table, Check, Rewind, Big, Cross}
 use Rattle.command_words.specs.declared.asked.Asked.{Asked}
 use Rattle.command_words.proofs.Numbers.{digits_are_short, number_is_short, count_is_in_range}
 use Rattle.command_words.proofs.Spelled.{is_spelled}
@@ -69,6 +70,34 @@ counted : (study : List ℕ) (o : Option ℕ) (more : List (List ℕ)) (c : Comm
 counted study None more c h short = cc
 counted study (Some n) more c h short = stands_alone (Big n) more c h (short n refl)
 
+-- a text that has some bytes
+filled : (text : List ℕ) → (length text == 0) ≡ false → text ≢ []
+filled [] h = λ e. cc
+filled (b ∷ bs) h = λ e. cc
+
+-- a crossing's mark is one, and its file has a name
+abbrev IsCrossing : Crossing → Type 0
+IsCrossing x = IsMark x.mark × (x.file ≢ [])
+
+marked : (symbol file : List ℕ) (o : Option Mark) (x : Crossing) → option_map (λ (mark : Mark). record { mark = mark; symbol = symbol; file = file }) o ≡ Some x
+    → ((m : Mark) → o ≡ Some m → IsMark m) → file ≢ [] → IsCrossing x
+marked symbol file None x h is some = cc
+marked symbol file (Some m) x h is some =
+    let same : record { mark = m; symbol = symbol; file = file } ≡ x = cc in
+    subst IsCrossing same (is m refl, some)
+
+named : (word symbol file : List ℕ) (empty : Bool) (x : Crossing) → (length file == 0) ≡ empty
+    → (if empty then None else option_map (λ (mark : Mark). record { mark = mark; symbol = symbol; file = file }) (mark_of word)) ≡ Some x → IsCrossing x
+named word symbol file true x is h = cc
+named word symbol file false x is h = marked symbol file (mark_of word) x h (is_mark word) (filled file is)
+
+crosses : (study : List ℕ) (o : Option Crossing) (c : Command) → option_map (Cross study) o ≡ Some c → study ≢ []
+    → ((x : Crossing) → o ≡ Some x → IsCrossing x) → IsCommand c
+crosses study None c h some are = cc
+crosses study (Some x) c h some are =
+    let same : Cross study x ≡ c = cc in
+    subst IsCommand same (some, (are x refl).0, (are x refl).1)
+
 is_command : (name study : List ℕ) (more : List (List ℕ)) (c : Command) → study ≢ [] → command_of name study more ≡ Some c → IsCommand c
 is_command name study more c some h =
     let marks : is_in_range 1 64 (length more) ≡ true → (ms : List Mark) → marks_of more ≡ Some ms → AreMarks ms = λ few ms e.
@@ -82,7 +111,9 @@ is_command name study more c some h =
     either IsCommand (is_in_range 1 64 (length more)) _ _ c e (λ few e. rewinds study (marks_of more) c e some (marks few)) (λ e. cc)) (λ h.
     either IsCommand (bytes_eq name (codes "big")) _ _ c h (λ _ e. counted study (number_of 4 study) more c e (λ n e.
     let short : n < 10 ^ 4 = number_is_short 4 study n e in
-    omega arith)) (λ e. cc)))))
+    omega arith)) (λ h.
+    either IsCommand (bytes_eq name (codes "cross")) _ _ c h (λ _ e.
+    either IsCommand (length more == 3) _ _ c e (λ three e. crosses study _ c e some (λ x e. named (slice_index_or more 0 []) (slice_index_or more 1 []) (slice_index_or more 2 []) _ x refl e)) (λ e. cc)) (λ e. cc))))))
 
 ranged : (command : Option Command) (workers places : Option ℕ) (asked : Asked) → asked_from command workers places ≡ Some asked
     → ((c : Command) → command ≡ Some c → IsCommand c)
@@ -97,11 +128,6 @@ ranged (Some command) (Some workers) (Some places) asked h c w p =
     let some = w workers refl in
     let few = p places refl in
     subst IsInRange same (record { command = c command refl; some_workers = some.0; few_workers = some.1; few_places = few.1 })
-
--- a text that has some bytes
-filled : (text : List ℕ) → (length text == 0) ≡ false → text ≢ []
-filled [] h = λ e. cc
-filled (b ∷ bs) h = λ e. cc
 
 unless_empty : (empty : Bool) (answer : Option Asked) (asked : Asked) → (if empty then None else answer) ≡ Some asked
     → (empty ≡ false → answer ≡ Some asked → IsInRange asked) → IsInRange asked

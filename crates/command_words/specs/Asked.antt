@@ -1,11 +1,12 @@
 -- What the words of a command line ask for.
-use Rattle.std.specs.Prelude.{ℕ, ◌==◌, if◌then◌else◌, List, [], ◌∷◌, length, codes, bytes_eq, Option, Some, None, option_map, option_and_then}
+use Rattle.std.specs.Prelude.{ℕ, ◌==◌, if◌then◌else◌, List, [], ◌∷◌, length, slice_index_or, codes, bytes_eq, Option, Some, None, option_map, option_and_then}
 use Rattle.std.specs.Int.{is_in_range}
 use Rattle.command_words.specs.Line.{Parts, line_of}
 use Rattle.command_words.specs.Numbers.{number_of, count_of}
-use Rattle.command_words.specs.Marks.{marks_of}
+use Rattle.command_words.specs.Marks.{mark_of, marks_of}
+use Rattle.command_words.specs.declared.asked.Crossing.{Crossing}
 use Rattle.command_words.specs.declared.asked.Command.{Command}
-use Rattle.command_words.specs.declared.asked.Command.TheVariants.{Run, Table, Check, Rewind, Big}
+use Rattle.command_words.specs.declared.asked.Command.TheVariants.{Run, Table, Check, Rewind, Big, Cross}
 use Rattle.command_words.specs.declared.asked.Asked.{Asked}
 
 -- a command that takes no further words
@@ -21,6 +22,19 @@ rewind_of study more = if is_in_range 1 64 (length more) then option_map (Rewind
 abbrev pub big_of : List ℕ → List (List ℕ) → Option Command
 big_of study more = option_and_then (λ number. alone (Big number) more) (number_of 4 study)
 
+-- a stock, a state and a file of orders, where the first word is a mark and the last is not empty
+abbrev pub crossing_of : List ℕ → List ℕ → List ℕ → Option Crossing
+crossing_of word symbol file =
+    if length file == 0 then None
+    else option_map (λ mark. record { mark = mark; symbol = symbol; file = file }) (mark_of word)
+
+-- `cross STUDY B:E SYMBOL FILE`
+abbrev pub cross_of : List ℕ → List (List ℕ) → Option Command
+cross_of study more =
+    if length more == 3
+    then option_map (Cross study) (crossing_of (slice_index_or more 0 []) (slice_index_or more 1 []) (slice_index_or more 2 []))
+    else None
+
 -- the command of this name, with its study or number and its further words
 abbrev pub command_of : List ℕ → List ℕ → List (List ℕ) → Option Command
 command_of name study more =
@@ -29,6 +43,7 @@ command_of name study more =
     else if bytes_eq name (codes "check") then alone (Check study) more
     else if bytes_eq name (codes "rewind") then rewind_of study more
     else if bytes_eq name (codes "big") then big_of study more
+    else if bytes_eq name (codes "cross") then cross_of study more
     else None
 
 abbrev pub asked_from : Option Command → Option ℕ → Option ℕ → Option Asked

@@ -3,7 +3,7 @@ use Rattle.std.specs.Prelude.{◌≡◌, ◌≢◌, ◌≤◌, List, [], length,
 use Rattle.command_words.specs.Marks.{is_branch_name}
 use Rattle.command_words.specs.declared.mark.Mark.{Mark}
 use Rattle.command_words.specs.declared.asked.Command.{Command}
-use Rattle.command_words.specs.declared.asked.Command.TheVariants.{Run, Table, Check, Rewind, Big}
+use Rattle.command_words.specs.declared.asked.Command.TheVariants.{Run, Table, Check, Rewind, Big, Cross}
 use Rattle.command_words.specs.declared.asked.Asked.{Asked}
 
 -- a mark's branch has the form of a name, and its event at most 7 digits
@@ -24,6 +24,7 @@ IsCommand (Table study) = study ≢ []
 IsCommand (Check study) = study ≢ []
 IsCommand (Rewind study marks) = (study ≢ []) × AreMarks marks
 IsCommand (Big number) = number ≤ 9999
+IsCommand (Cross study crossing) = (study ≢ []) × IsMark crossing.mark × (crossing.file ≢ [])
 
 pub record IsInRange (asked : Asked) : Type 0 where
   pub command : IsCommand asked.command

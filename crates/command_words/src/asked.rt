@@ -1,16 +1,27 @@
 //! What the words ask for.
 
-ghost use Rattle.std.specs.Prelude.{◌≡◌, IfOk, IfSome, map, string_bytes};
+ghost use Rattle.std.specs.Prelude.{◌≡◌, [], IfOk, IfSome, map, slice_index_or, string_bytes};
 ghost use Rattle.command_words.specs.Line.{parts_seen};
-ghost use Rattle.command_words.specs.Asked.{alone, rewind_of, big_of, command_of, asked_in, asked_of};
+ghost use Rattle.command_words.specs.Asked.{alone, rewind_of, big_of, cross_of, crossing_of, command_of, asked_in, asked_of};
 ghost use Rattle.command_words.specs.Ranges.{IsInRange};
 
 use crate::line::{Line, read_line};
-use crate::mark::{Mark, read_marks};
+use crate::mark::{Mark, read_mark, read_marks};
 use crate::number::{read_count, read_number};
 use crate::text::Text;
 use plain_lists::{Memory, Sequence};
 use std::alloc::Global;
+
+/// Which stock would reopen, at which state, and with whose orders.
+#[derive(Drop)]
+pub struct Crossing<'a> {
+    /// The branch and the event of the state.
+    pub mark: Mark<'a>,
+    /// The stock's symbol as it was given, which may be empty.
+    pub symbol: Text<'a>,
+    /// The name of the file of orders, which is not empty.
+    pub file: Text<'a>,
+}
 
 /// A command with its study or number. The name of a study is not empty.
 #[derive(Drop)]
@@ -25,6 +36,8 @@ pub enum Command<'a> {
     Rewind(Text<'a>, Sequence<Mark<'a>>),
     /// `big NUMBER`, of 1 to 4 digits.
     Big(u32),
+    /// `cross STUDY B:E SYMBOL FILE`.
+    Cross(Text<'a>, Crossing<'a>),
 }
 
 /// What a command line asks for.
@@ -71,6 +84,31 @@ fn big<'a>(study: &'a str, more: &[&'a str]) -> Option<Command<'a>>
     alone(Command::Big(number), more)
 }
 
+// A stock, a state and a file of orders, where the first word is a mark and the last is not empty.
+fn read_crossing<'a>(word: &'a str, symbol: &'a str, file: &'a str) -> Option<Crossing<'a>>
+    ensures { result ≡ crossing_of word.now symbol.now file.now }
+{
+    if file.is_empty() {
+        return None;
+    }
+    Some(Crossing {
+        mark: read_mark(word)?,
+        symbol: Text::new(symbol),
+        file: Text::new(file),
+    })
+}
+
+// A cross with its three words.
+fn cross<'a>(study: &'a str, more: &[&'a str]) -> Option<Command<'a>>
+    ensures { result ≡ cross_of study.now (map (λ word. word.now) more.now) }
+{
+    if more.len() != 3 {
+        return None;
+    }
+    let crossing = read_crossing(more[0], more[1], more[2])?;
+    Some(Command::Cross(Text::new(study), crossing))
+}
+
 // The command of this name.
 fn command_named<'a>(
     alloc: Global,
@@ -86,6 +124,7 @@ fn command_named<'a>(
         "check" => Ok(alone(Command::Check(Text::new(study)), more)),
         "rewind" => rewind(alloc, study, more),
         "big" => Ok(big(study, more)),
+        "cross" => Ok(cross(study, more)),
         _ => Ok(None),
     }
 }

@@ -9,7 +9,7 @@ mod number;
 mod text;
 pub mod worked;
 
-pub use asked::{Asked, Command, ask};
+pub use asked::{Asked, Command, Crossing, ask};
 pub use laws::marks_are_spelled;
 pub use mark::Mark;
 pub use plain_lists::{Memory, Sequence};

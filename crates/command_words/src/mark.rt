@@ -39,7 +39,7 @@ fn is_branch_name(text: &str) -> bool
 }
 
 // The mark that a word writes.
-fn read_mark<'a>(word: &'a str) -> Option<Mark<'a>>
+pub fn read_mark<'a>(word: &'a str) -> Option<Mark<'a>>
     ensures { result ≡ mark_of word.now }
 {
     let (branch, event) = word.split_once(':')?;

@@ -21,6 +21,18 @@ pub fn taken_lines()
         }) }
     ensures big { asked_of (codes "big" ∷ codes "0107" ∷ [])
         ≡ Some (record { command = Command.Big 107; workers = 1; places = 16 }) }
+    ensures cross { asked_of (codes "cross" ∷ codes "s" ∷ codes "x-1:27" ∷ codes "ABM" ∷ codes "--places=2" ∷ codes "orders.csv" ∷ [])
+        ≡ Some (record {
+          command = Command.Cross (codes "s") (record { mark = record { word = codes "x-1:27"; branch = codes "x-1"; event = 27 }; symbol = codes "ABM"; file = codes "orders.csv" });
+          workers = 1;
+          places = 2;
+        }) }
+    ensures no_symbol { asked_of (codes "cross" ∷ codes "s" ∷ codes "root:0" ∷ [] ∷ codes "f" ∷ [])
+        ≡ Some (record {
+          command = Command.Cross (codes "s") (record { mark = record { word = codes "root:0"; branch = codes "root"; event = 0 }; symbol = []; file = codes "f" });
+          workers = 1;
+          places = 16;
+        }) }
 {}
 
 /// Lines that are none.
@@ -40,5 +52,9 @@ pub fn refused_lines()
     ensures no_marks { asked_of (codes "rewind" ∷ codes "s" ∷ []) ≡ None }
     ensures no_event { asked_of (codes "rewind" ∷ codes "s" ∷ codes "root:" ∷ []) ≡ None }
     ensures eight_digits { asked_of (codes "rewind" ∷ codes "s" ∷ codes "root:00000001" ∷ []) ≡ None }
+    ensures no_file { asked_of (codes "cross" ∷ codes "s" ∷ codes "root:0" ∷ codes "ABM" ∷ []) ≡ None }
+    ensures empty_file { asked_of (codes "cross" ∷ codes "s" ∷ codes "root:0" ∷ codes "ABM" ∷ [] ∷ []) ≡ None }
+    ensures no_mark { asked_of (codes "cross" ∷ codes "s" ∷ codes "root" ∷ codes "ABM" ∷ codes "f" ∷ []) ≡ None }
+    ensures second_file { asked_of (codes "cross" ∷ codes "s" ∷ codes "root:0" ∷ codes "ABM" ∷ codes "f" ∷ codes "g" ∷ []) ≡ None }
     ensures large_number { asked_of (codes "big" ∷ codes "10000" ∷ []) ≡ None }
 {}

@@ -4,7 +4,7 @@ use Rattle.study_file.specs.Tables.{table_of}
 use Rattle.abides_run.specs.declared.ending.Ending.{Ending}
 use Rattle.abides_run.specs.declared.request.Task.{Task}
 use Rattle.abides_run.specs.Verdict.{verdict_on_bytes}
-use Rattle.abides_run.specs.Fetched.{series_after}
+use Rattle.abides_run.specs.Fetched.{behind_bytes, series_after}
 use Rattle.abides_run.specs.Statuses.{Speaks}
 use Rattle.abides_run.specs.Ends.{Ends}
 use Rattle.abides_run.proofs.Come.{handed_on, rules_refused, series_missed}
@@ -15,7 +15,7 @@ pub returns-in_err-series-clause-ended : goal.returns-in_err-series-clause-ended
 returns-in_err-series-clause-ended g c =
     let e = c.in_err-series.field-0.0 in
     handed_on c.from_residual-in_err-series.result e
-    (λ (e : Ending). IfSome (g.L.Library.files c.args.library.now) (λ files. (task : Task) → Ends (verdict_on_bytes files task (table_of c.args.bytes.now)) (series_after (table_of c.args.bytes.now)) e.status (string_bytes e.name)))
+    (λ (e : Ending). IfSome (g.L.Library.files c.args.library.now) (λ files. (task : Task) → Ends (verdict_on_bytes files task (table_of c.args.bytes.now)) (behind_bytes files task (table_of c.args.bytes.now)) e.status (string_bytes e.name)))
     c.from_residual-in_err-series.ensures
     (series_missed (g.L.Library.files c.args.library.now) c.args.bytes.now (table_view c.in_ok-raw.raw.table) e.status (string_bytes e.name) c.in_ok-raw.ensures.table c.in_err-series.ensures.ended)
 

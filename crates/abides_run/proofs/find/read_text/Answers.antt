@@ -1,4 +1,4 @@
-use Rattle.std.proofs.Common.{◌≡◌, ◌∙◌, Some, List, ℕ, Option, length, sym, ap, subst}
+use Rattle.std.proofs.Common.{◌≡◌, ◌∙◌, [], Some, List, ℕ, Option, length, sym, ap, subst}
 use Rattle.toml.specs.Data.{Members}
 use Rattle.toml.specs.View.{table_view}
 use Rattle.study_file.specs.Tables.{table_of}
@@ -18,4 +18,4 @@ returns-in_err-study-clause-ended c =
     (λ (e : Ending). (fetched : List (List ℕ)) (name : List ℕ) → Ends (verdict_on_large text) fetched e.status name)
     c.from_residual-in_err-study.ensures
     (λ fetched name. subst (λ (table : Option Members). Ends (verdict_on_text (Lines (length text)) table) fetched e.status name) (sym has)
-    (c.in_err-study.ensures.ended (Lines (length text)) fetched name))
+    (c.in_err-study.ensures.ended [] (Lines (length text)) fetched name))

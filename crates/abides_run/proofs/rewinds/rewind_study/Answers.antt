@@ -1,4 +1,4 @@
-use Rattle.std.proofs.Common.{◌≡◌, ◌∙◌, sym, ap}
+use Rattle.std.proofs.Common.{◌≡◌, ◌∙◌, None, sym, ap}
 use Rattle.branch_tree.specs.Plan.{Plan}
 use Rattle.kernel_copy.specs.Courses.{CourseTold}
 use Rattle.rewind_desk.specs.declared.aimed.Aimed.{Aimed}
@@ -6,7 +6,7 @@ use Rattle.rewind_desk.specs.declared.aimed.Aimed.TheVariants.{NoBranch}
 use Rattle.rewind_desk.specs.Targets.{aimed_at}
 use Rattle.study_rules.specs.Accepted.{study_told}
 use Rattle.abides_run.specs.Rewinds.{argument_at}
-use Rattle.abides_run.specs.Verdict.{verdict_on_aimed, verdict_on_task}
+use Rattle.abides_run.specs.Verdict.{verdict_on_aimed, verdict_on_found}
 use Rattle.abides_run.specs.declared.request.Task.TheVariants.{Rewind}
 use Rattle.abides_run.proofs.Aiming.{unnamed-below, word-among}
 use Rattle.abides_run.proofs.Finishing.{branchless-finishes}
@@ -24,5 +24,5 @@ returns-in-Ok-NoBranch g c =
     let s = study_told c.args.study.now in
     let plan : c.plan.result.now ≡ k.plan = c.plan.ensures.value ∙ ap (λ (x : CourseTold). x.plan) c.deref.ensures in
     let aims : aimed_at k.plan.branches marks ≡ NoBranch i = ap (λ (p : Plan). aimed_at p.branches marks) (sym plan) ∙ sym c.in-Ok-NoBranch.ensures ∙ c.in-Ok-NoBranch.field-0-is in
-    λ reads probes. branchless-finishes (verdict_on_task (Rewind marks c.args.places) s) (argument_at marks i) probes _ reads (g.O.Sink.faults c.args.out.now) c.args.steps.now (g.O.Sink.taken c.args.out.now) c.named.result.status _
+    λ reads probes. branchless-finishes (verdict_on_found (Rewind marks c.args.places) None s) (argument_at marks i) probes _ reads (g.O.Sink.faults c.args.out.now) c.args.steps.now (g.O.Sink.taken c.args.out.now) c.named.result.status _
     (ap (λ (a : Aimed). verdict_on_aimed marks c.args.places s a) aims) (rw c.word_of.ensures at c.named.ensures) (word-among marks i (unnamed-below k.plan.branches marks i c.requires.marks.each aims))

@@ -1,8 +1,8 @@
-use Rattle.std.proofs.Common.{refl, string_bytes}
+use Rattle.std.proofs.Common.{option_map, refl, string_bytes, vec_items}
 use Rattle.study_rules.specs.Accepted.{study_told}
 use Rattle.abides_run.specs.Words.{texts}
 use Rattle.abides_run.specs.Fetched.{arguments_of}
-use Rattle.abides_run.specs.Verdict.{verdict_on_task}
+use Rattle.abides_run.specs.Verdict.{verdict_on_found}
 use Rattle.abides_run.proofs.Answered.{ended_early, finished_answers}
 use Rattle.abides_run.proofs.Speaking.{finished_is_named}
 use Rattle.abides_run.proofs.top.answer.Goals as goal
@@ -12,7 +12,7 @@ returns-in-Ok-clause-answered g c =
     let reads = g.L.Library.faults c.args.library.now in
     let f = c.in-Ok.found in
     rw c.in-Ok.ensures.steady
-    (finished_answers (g.L.Library.files c.args.library.now) (texts c.args.words.now) _ (arguments_of f.task) (verdict_on_task f.task (study_told f.study))
+    (finished_answers (g.L.Library.files c.args.library.now) (texts c.args.words.now) _ (arguments_of f.task) (verdict_on_found f.task (option_map vec_items f.further) (study_told f.study))
     (record { reads = reads; writes = g.O.Sink.faults c.args.out.now; taken = g.O.Sink.taken c.args.out.now; steps = c.args.steps.now })
     (record { reads = reads; writes = g.O.Sink.faults c.perform.new.out; taken = g.O.Sink.taken c.perform.new.out; steps = c.perform.new.steps })
     c.perform.result.status (string_bytes c.perform.result.name) c.in-Ok.ensures.study c.in-Ok.ensures.asked refl (c.perform.ensures reads))
@@ -20,7 +20,7 @@ returns-in-Ok-clause-answered g c =
 pub returns-in-Ok-clause-named : goal.returns-in-Ok-clause-named
 returns-in-Ok-clause-named g c =
     let f = c.in-Ok.found in
-    finished_is_named (g.L.Library.files c.args.library.now) (texts c.args.words.now) _ (arguments_of f.task) (verdict_on_task f.task (study_told f.study)) _ _
+    finished_is_named (g.L.Library.files c.args.library.now) (texts c.args.words.now) _ (arguments_of f.task) (verdict_on_found f.task (option_map vec_items f.further) (study_told f.study)) _ _
     c.perform.result.status (string_bytes c.perform.result.name) c.in-Ok.ensures.study c.in-Ok.ensures.arguments (c.perform.ensures 0)
 
 pub returns-in-Err-clause-answered : goal.returns-in-Err-clause-answered

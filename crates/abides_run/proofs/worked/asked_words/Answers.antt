@@ -15,6 +15,7 @@ returns c = record {
   table = refl;
   rewind = refl;
   big = refl;
+  cross = refl;
   big_words = refl;
   many_workers = refl;
 }

@@ -17,5 +17,6 @@ returns c = record {
   no_series = refl;
   large = refl;
   fetched = refl;
+  rules_first = refl;
   first_rule = refl;
 }

@@ -19,4 +19,5 @@ returns-in_default c =
     let check : bytes_eq c.args.name.now (codes "check") ≡ false = search (tests, rules) in
     let rewind : bytes_eq c.args.name.now (codes "rewind") ≡ false = search (tests, rules) in
     let big : bytes_eq c.args.name.now (codes "big") ≡ false = search (tests, rules) in
-    none_is c.args.name.now c.args.study.now (map (λ word. word.now) c.args.more.now) run table check rewind big
+    let cross : bytes_eq c.args.name.now (codes "cross") ≡ false = search (tests, rules) in
+    none_is c.args.name.now c.args.study.now (map (λ word. word.now) c.args.more.now) run table check rewind big cross

@@ -21,5 +21,9 @@ returns c = record {
   no_marks = refl;
   no_event = refl;
   eight_digits = refl;
+  no_file = refl;
+  empty_file = refl;
+  no_mark = refl;
+  second_file = refl;
   large_number = refl;
 }

@@ -1,0 +1,47 @@
+use Rattle.std.proofs.Common.{◌≡◌, ◌∙◌, ℕ, List, [], ◌∷◌, Some, Ok, length, string_bytes, sym, ap, subst, inl, arith}
+use Rattle.market_floor.specs.declared.opening.Opening.{Opening}
+use Rattle.branch_tree.specs.Plan.{Plan}
+use Rattle.kernel_copy.specs.Courses.{CourseTold}
+use Rattle.reopen_cross.specs.declared.cross.Interest.{Interest}
+use Rattle.order_file.specs.Orders.{orders_of}
+use Rattle.reopening_desk.specs.Stocks.{stock_of}
+use Rattle.rewind_desk.specs.Targets.{past_of, target_of}
+use Rattle.study_rules.specs.Accepted.{study_told}
+use Rattle.abides_run.specs.Headline.{Seen}
+use Rattle.abides_run.specs.Performed.{Finished}
+use Rattle.abides_run.specs.Rewinds.{lasts_of}
+use Rattle.abides_run.specs.Verdict.{Verdict, verdict_on_crossing, verdict_on_late}
+use Rattle.abides_run.proofs.Crossing.{crossing-orders}
+use Rattle.abides_run.proofs.Finishing.{wanting-finishes}
+use Rattle.abides_run.proofs.crosses.cross_study.Goals as goal
+
+pub returns-in-Err-Memory : goal.returns-in-Err-Memory
+returns-in-Err-Memory g c =
+    λ reads probes. wanting-finishes (verdict_on_crossing c.args.crossing.now c.args.places c.args.text.now (study_told c.args.study.now)) probes _ reads (g.O.Sink.faults c.args.out.now) c.args.steps.now c.args.steps.now (g.O.Sink.taken c.args.out.now) c.nameless-in-Err-Memory.result.status _
+    c.nameless-in-Err-Memory.ensures (omega arith) (omega arith)
+
+pub returns : goal.returns
+returns g c =
+    let k : CourseTold = c.args.study.now.course.value in
+    let s = study_told c.args.study.now in
+    let x = c.args.crossing.now in
+    let word = c.as_str-word.result.now in
+    let target = c.in-Some.target in
+    let stock = c.in-Some-stock_of.stock in
+    let orders = c.deref-4.result.now in
+    let aims : target_of k.plan.branches x.mark ≡ Some target =
+    ap (λ (p : Plan). target_of p.branches x.mark) (sym (c.plan.ensures.value ∙ ap (λ (y : CourseTold). y.plan) c.deref.ensures)) ∙ sym c.in-Some.ensures.target in
+    let named : stock_of k.opening.stocks x.symbol ≡ Some stock =
+    ap (λ (y : CourseTold). stock_of y.opening.stocks x.symbol) (sym c.deref-2.ensures) ∙ ap (λ (text : List ℕ). stock_of c.deref-2.result.now.opening.stocks text) (sym c.as_str-symbol.ensures) ∙ sym c.in-Some-stock_of.ensures.named in
+    let opening : c.opening.result.now ≡ k.opening = c.opening.ensures.value ∙ ap (λ (y : CourseTold). y.opening) c.deref-3.ensures in
+    let count : length k.opening.traders ≡ length c.as_slice-traders.result.now = ap (λ (o : Opening). length o.traders) (sym opening) ∙ ap (λ (ts : List _). length ts) (sym c.as_slice-traders.ensures) in
+    let read : orders_of (length k.opening.traders) c.args.text.now ≡ Ok orders =
+    ap (λ (n : ℕ). orders_of n c.args.text.now) count ∙ c.in-Ok.ensures.orders ∙ ap (λ (os : List Interest). Ok os) (sym c.deref-4.ensures.value) in
+    let come : verdict_on_crossing x c.args.places c.args.text.now s ≡ verdict_on_late x.mark.word target stock orders c.args.places s (past_of (lasts_of k) (target ∷ [])) =
+    crossing-orders x c.args.places c.args.text.now s target stock (Ok orders) aims named read in
+    λ reads probes.
+    let was : Seen = record { reads = reads; writes = g.O.Sink.faults c.args.out.now; taken = g.O.Sink.taken c.args.out.now; steps = c.args.steps.now } in
+    let seen : Seen = record { reads = reads; writes = g.O.Sink.faults c.reach_and_cross.new.out; taken = g.O.Sink.taken c.reach_and_cross.new.out; steps = c.reach_and_cross.new.steps } in
+    subst (λ (v : Verdict). Finished v probes (x.mark.word ∷ x.symbol ∷ []) was seen c.reach_and_cross.result.status (string_bytes c.reach_and_cross.result.name)) (sym come)
+    (subst (λ (w : List ℕ). Finished (verdict_on_late w target stock orders c.args.places s (past_of (lasts_of k) (target ∷ []))) probes (x.mark.word ∷ x.symbol ∷ []) was seen c.reach_and_cross.result.status (string_bytes c.reach_and_cross.result.name)) c.as_str-word.ensures
+    (c.reach_and_cross.ensures reads probes (x.mark.word ∷ x.symbol ∷ []) (inl c.as_str-word.ensures)))

@@ -1,0 +1,5 @@
+pub mod Layouts
+pub mod Wires
+pub mod Frames
+pub mod Reopening
+pub mod Worked

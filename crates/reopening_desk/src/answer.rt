@@ -1,0 +1,71 @@
+//! What a stock's book and a file's orders come to.
+
+ghost use Rattle.std.specs.Prelude.{◌≡◌, ◌<◌, IfOk, length};
+ghost use Rattle.order_file.specs.Filed.{AreFiled};
+ghost use Rattle.reopen_cross.specs.Cross.{cross_of};
+ghost use Rattle.reopen_cross.specs.Orderly.{AreInterests};
+ghost use Rattle.reopening_desk.specs.Reopened.{parts_in, reopened};
+
+use crate::book::interests;
+use crate::stock::StockNamed;
+use cross_frames::{Reopening, put_reopening};
+use kernel_core::Kernel;
+use market_types::Memory;
+use order_file::join;
+use reopen_cross::laws::crosses_clear;
+use reopen_cross::{Cross, Interest, Part, choose, parts};
+use std::alloc::Global;
+
+// No run counts so many orders or matches.
+const MOST_COUNTED: u64 = 1 << 62;
+
+// What each order trades, where there is a cross.
+fn parts_in(alloc: Global, list: &[Interest], cross: Option<Cross>) -> Result<Vec<Part>, Memory>
+    requires orders { AreInterests list.now }
+    requires cross { cross ≡ cross_of list.now }
+    ensures parts { IfOk result (λ v. v.items ≡ parts_in list.now cross) }
+{
+    match cross {
+        Some(cross) => parts(alloc, list, &cross),
+        None => Ok(Vec::new(alloc)),
+    }
+}
+
+/// All that is told of a stock's reopening in the kernel's state, if these orders of a file joined its book: at which price most
+/// shares would trade, and what each order trades there. The state stays as it is. Of a state that no run comes to, with orders out
+/// of their ranges, nothing is told, as where memory is wanting.
+///
+/// # Errors
+/// Want of memory alone.
+pub fn reopening(
+    alloc: Global,
+    kernel: &Kernel,
+    stock: StockNamed,
+    orders: &[Interest],
+) -> Result<Vec<u8>, Memory>
+    requires stock { stock.number < length kernel.now.floor.exchange.stocks }
+    requires few { stock.number < 16 }
+    requires orders { AreFiled orders.now }
+    ensures { IfOk result (λ v. v.items ≡ reopened kernel.now stock orders.now) }
+{
+    crosses_clear();
+    let exchange = kernel.exchange();
+    let counts = exchange.counts();
+    if counts.orders > MOST_COUNTED || counts.matches > MOST_COUNTED {
+        return Err(Memory);
+    }
+    let resting = exchange.orders(alloc, stock.number)?;
+    let mut list = interests(alloc, &resting, counts.orders)?;
+    join(&mut list, counts.orders, orders)?;
+    let cross = choose(alloc, &list)?;
+    let parts = parts_in(alloc, &list, cross)?;
+    let at = Reopening {
+        time: kernel.time(),
+        locate: stock.number + 1,
+        symbol: stock.symbol,
+        matches: counts.matches,
+    };
+    let mut out = Vec::new(alloc);
+    put_reopening(&mut out, &at, &list[resting.len()..], cross, &parts)?;
+    Ok(out)
+}

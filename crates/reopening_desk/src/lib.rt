@@ -1,0 +1,9 @@
+//! At which price a stock would reopen in a state, if the orders of a file joined its book.
+#![tactic(auto)]
+
+mod answer;
+mod book;
+mod stock;
+
+pub use answer::reopening;
+pub use stock::{StockNamed, stock_named};
