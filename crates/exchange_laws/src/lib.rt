@@ -1,0 +1,2 @@
+//! What every run of an exchange keeps: laws over whatever messages and changes come from an opening on.
+#![tactic(auto)]
