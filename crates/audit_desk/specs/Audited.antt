@@ -1,8 +1,6 @@
 -- Whether the books that the feed of a bundle tells are those of its closings.
 use Rattle.std.specs.Prelude.{ℕ, ◌+◌, List, [], ◌∷◌, ◌++◌, filter, map, sum_by, length, Option, None, Some, Result, Ok, Err}
-use Rattle.std.specs.List.{flat_map}
 use Rattle.market_types.specs.declared.feed.Feed.{Feed}
-use Rattle.market_types.specs.Told.{EntryTold, event, edit}
 use Rattle.bundle_frames.specs.declared.closing.Closing.{Closing}
 use Rattle.bundle_frames.specs.declared.closing.ClosingOrder.{ClosingOrder}
 use Rattle.bundle_frames.specs.declared.closing.ClosingStock.{ClosingStock}
@@ -10,16 +8,12 @@ use Rattle.bundle_reader.specs.Told.{BranchTold, BundleTold}
 use Rattle.feed_rebuild.specs.declared.shown.Shown.{Shown}
 use Rattle.feed_rebuild.specs.Fold.{Told, fold}
 use Rattle.feed_rebuild.specs.Compared.{difference}
+use Rattle.feed_rebuild.specs.Feeds.{entries_feed}
 use Rattle.audit_desk.specs.declared.failing.Failing.{Failing}
-
--- an entry's part of the feed: that of the dated changes before an event and that of the event, or that of an edit
-abbrev pub entry_feed : EntryTold → List Feed
-entry_feed (event e) = e.before ++ e.after
-entry_feed (edit d) = d.feed
 
 -- a branch's feed, in the order of the file
 abbrev pub branch_feed : BranchTold → List Feed
-branch_feed b = b.opening ++ (flat_map entry_feed b.entries ++ b.ended ∷ [])
+branch_feed b = b.opening ++ (entries_feed b.entries ++ b.ended ∷ [])
 
 -- an order of a closing as the feed could tell it
 abbrev pub order_shown : ClosingOrder → Shown

@@ -4,3 +4,4 @@ pub mod Entries
 pub mod Fold
 pub mod Misfits
 pub mod Worked
+pub mod Feeds

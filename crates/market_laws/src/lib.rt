@@ -1,0 +1,2 @@
+//! What every run of every study keeps of its market.
+#![tactic(auto)]
