@@ -2,7 +2,7 @@ use Rattle.std.proofs.Common.{◌≡◌, Some, rules}
 use Rattle.abides_run.specs.declared.request.Request.TheVariants.{File}
 use Rattle.abides_run.specs.Words.{texts, asked_of}
 use Rattle.abides_run.proofs.Speaking.{file_speaks}
-use Rattle.abides_run.proofs.find.find_study.Goals as goal
+use Rattle.abides_run.proofs.find.find_asked.Goals as goal
 
 pub returns-in-File-clause-speaks : goal.returns-in-File-clause-speaks
 returns-in-File-clause-speaks g c =
