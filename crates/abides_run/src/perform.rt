@@ -281,9 +281,9 @@ pub fn perform<R: Threads + Wait + Sync, O: Sink, G: Gate + Sync, D: Ledger + Se
     gate: &G,
     steps: &mut Steps<D>,
 ) -> Ending
-    requires stride { IsPaced found.entry }
-    requires task { IsTasked found.entry }
-    requires workers { IsStaffed found.entry }
+    requires stride { IsPaced found }
+    requires task { IsTasked found }
+    requires workers { IsStaffed found }
     requires steps { steps.old ≤ 2 ^ 63 }
     ensures { (reads : ℕ) → Finished (verdict_on_all found.entry)
         (record { meanings = map (λ p. meaning p) probes.old; titles = map (λ p. title p) probes.old })

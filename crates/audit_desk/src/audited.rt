@@ -12,11 +12,7 @@ use market_types::Memory;
 use std::alloc::Global;
 
 // The first of branches that fails, each of so many stocks.
-fn first_failing(
-    alloc: Global,
-    stocks: u16,
-    branches: &[Told],
-) -> Result<Option<Failing>, Memory>
+fn first_failing(alloc: Global, stocks: u16, branches: &[Told]) -> Result<Option<Failing>, Memory>
     ensures { IfOk result (λ failing. failing ≡ first_failing stocks 0 (map branch_told branches.now)) }
 {
     for (branch, told) in branches.iter().enumerate() {

@@ -27,11 +27,13 @@ fn order_shown(order: &ClosingOrder) -> Shown
 fn shown_among(alloc: Global, orders: &[ClosingOrder]) -> Result<Vec<Shown>, Memory>
     ensures { IfOk result (λ v. v.items ≡ map order_shown (filter (λ (o : ClosingOrderTold). o.shown) orders.now)) }
 {
-    Ok(orders
-        .iter()
-        .filter(|order| order.shown)
-        .map(|order| order_shown(order))
-        .collect(alloc)?)
+    Ok(
+        orders
+            .iter()
+            .filter(|order| order.shown)
+            .map(|order| order_shown(order))
+            .collect(alloc)?,
+    )
 }
 
 // The states of stocks.
