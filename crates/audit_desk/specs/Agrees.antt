@@ -1,5 +1,5 @@
 -- A branch whose closing is what its feed tells.
-use Rattle.std.specs.Prelude.{◌≡◌, ℕ, List, Ok}
+use Rattle.std.specs.Prelude.{◌≡◌, ℕ, Ok}
 use Rattle.bundle_reader.specs.Told.{BranchTold}
 use Rattle.feed_rebuild.specs.Compared.{by_stock}
 use Rattle.feed_rebuild.specs.Fold.{Told, fold}

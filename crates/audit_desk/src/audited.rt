@@ -29,6 +29,7 @@ fn first_failing(alloc: Global, stocks: u16, branches: &[Told]) -> Result<Option
 ///
 /// # Errors
 /// Want of memory alone.
+#[tactic(auto, unfolding(crate::specs::Audited::audit_of))]
 pub fn audit(alloc: Global, bundle: &Bundle) -> Result<Option<Failing>, Memory>
     ensures { IfOk result (λ failing. failing ≡ audit_of (bundle_told bundle.now)) }
 {

@@ -1,6 +1,6 @@
 //! The displayed orders and the trading states of a closing.
 
-ghost use Rattle.std.specs.Prelude.{◌≡◌, IfOk, filter, length, map};
+ghost use Rattle.std.specs.Prelude.{◌≡◌, IfOk, count_by, filter, length, map};
 ghost use Rattle.bundle_frames.specs.declared.closing.ClosingOrder.{ClosingOrder as ClosingOrderTold};
 ghost use Rattle.bundle_frames.specs.declared.closing.ClosingStock.{ClosingStock as ClosingStockTold};
 ghost use Rattle.audit_desk.specs.Audited.{displayed, order_shown, states_of};
@@ -57,14 +57,16 @@ pub fn states_of(alloc: Global, closing: &Closing) -> Result<Vec<u8>, Memory>
     states_among(alloc, closing.stocks.as_slice())
 }
 
+// How many orders are displayed.
+fn count_among(orders: &[ClosingOrder]) -> usize
+    ensures { result ≡ count_by (λ (o : ClosingOrderTold). o.shown) orders.now }
+{
+    orders.iter().filter(|order| order.shown).count()
+}
+
 /// How many displayed orders there are.
 pub fn count_displayed(closing: &Closing) -> usize
     ensures { result ≡ length (displayed closing.now) }
 {
-    closing
-        .orders
-        .as_slice()
-        .iter()
-        .filter(|order| order.shown)
-        .count()
+    count_among(closing.orders.as_slice())
 }

@@ -1,9 +1,9 @@
-use Rattle.std.proofs.Common.{◌∙◌, ℕ, Result, sym, ap}
+use Rattle.std.proofs.Common.{◌∙◌, ℕ, ap}
 use Rattle.std.proofs.lemmas.Result.{IfOk-weaker}
 use Rattle.bundle_reader.specs.Told.{branch_told}
 use Rattle.feed_rebuild.specs.Compared.{difference}
-use Rattle.feed_rebuild.specs.Fold.{Told, fold}
-use Rattle.audit_desk.specs.Audited.{branch_feed, displayed, misfit_by, states_of}
+use Rattle.feed_rebuild.specs.Fold.{fold}
+use Rattle.audit_desk.specs.Audited.{branch_feed, displayed, states_of}
 use Rattle.audit_desk.proofs.Agreeing.{books-misfit}
 use Rattle.audit_desk.proofs.branch.misfit_of.Goals as goal
 
