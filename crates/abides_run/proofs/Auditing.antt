@@ -3,14 +3,13 @@ use Rattle.std.proofs.Common.{◌≡◌, ℕ, List, [], Option, None, Some, refl
 use Rattle.bundle_reader.specs.Told.{BundleTold}
 use Rattle.bundle_reader.specs.declared.bundle.BundleError.{BundleError}
 use Rattle.bundle_reader.specs.declared.bundle.BundleError.TheVariants as error
-use Rattle.bundle_reading.specs.Reading.{IsRefusedAs, Read, read, cut, bad_frame, bad_order}
+use Rattle.bundle_reading.specs.Reading.{IsRefusedAs, Read, read}
 use Rattle.audit_desk.specs.declared.failing.Failing.{Failing}
 use Rattle.audit_desk.specs.Audited.{audit_of}
 use Rattle.abides_run.specs.Audits.{status_for}
 use Rattle.abides_run.specs.Headline.{Seen}
 use Rattle.abides_run.specs.Output.{Probes, audit_line, audited}
-use Rattle.abides_run.specs.Performed.{Finished, Performed, IsFinal}
-use Rattle.abides_run.specs.Statuses.{IsStill, status_of}
+use Rattle.abides_run.specs.Performed.{Finished, Performed}
 use Rattle.abides_run.specs.Verdict.{Verdict, accepted, audit_failed, bad_bundle, verdict_on_failing, verdict_on_read}
 use Rattle.abides_run.specs.declared.status.Status.{Status}
 use Rattle.abides_run.specs.declared.status.Status.TheVariants as status

@@ -1,10 +1,10 @@
 -- What words and files come to, by what the library answered.
-use Rattle.std.proofs.Common.{◌≡◌, ◌⊎◌, ℕ, List, [], ◌∷◌, ◌++◌, option_map, unwrap_or, vec_items, Option, Some, None, IfSome, Result, Ok, Err, IfOk, IfErr, OnOk, IsErr, IsErrAnd, string_bytes, length, refl, sym, ap, ◌∙◌, subst, inl, inr}
+use Rattle.std.proofs.Common.{◌≡◌, ◌⊎◌, ℕ, List, [], ◌∷◌, ◌++◌, unwrap_or, Option, Some, None, IfSome, Result, Ok, Err, IfOk, IfErr, OnOk, IsErr, IsErrAnd, string_bytes, length, refl, sym, ap, ◌∙◌, subst, inl, inr}
 use Rattle.toml.specs.Data.{Members}
 use Rattle.outside.specs.Files.{Content, absent, too_long, whole, held, content}
 use Rattle.study_file.specs.Tables.{table_of}
 use Rattle.study_market.specs.declared.early_refusal.Refusal.{Refusal}
-use Rattle.study_rules.specs.Accepted.{StudyTold, study_of, study_told}
+use Rattle.study_rules.specs.Accepted.{StudyTold, study_of}
 use Rattle.study_rules.specs.declared.study.Study.{Study}
 use Rattle.command_words.specs.declared.mark.Mark.{Mark}
 use Rattle.rewind_desk.specs.declared.aimed.Aimed.{Aimed}
