@@ -1,0 +1,6 @@
+pub mod Acts
+pub mod Conserved
+pub mod Keeping
+pub mod Mail
+pub mod Receivers
+pub mod Walking

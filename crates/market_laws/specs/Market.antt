@@ -1,0 +1,20 @@
+-- What a run keeps of its market.
+use Rattle.std.specs.Prelude.{◌≡◌, ◌<◌, ℕ, ℤ, pos, ◌+ℤ◌, List, All, length}
+use Rattle.exchange_agent.specs.Runs.{IsUncrossed, fees_taken, total}
+use Rattle.exchange_agent.specs.State.{State as Exchange, stock_at}
+use Rattle.market_floor.specs.declared.opening.Opening.{Opening}
+use Rattle.market_floor.specs.Opening.{cash_of}
+use Rattle.kernel_core.specs.Until.{Run}
+
+-- the exchange of a run
+abbrev pub exchange_of : Run → Exchange
+exchange_of r = r.state.floor.exchange
+
+-- What stays constant from a study's opening on.
+pub record IsConservedMarket (o : Opening) (r : Run) : Type 0 where
+  -- the settled cash of all traders and all fees are together the opening cash
+  pub money : total (exchange_of r).cash +ℤ fees_taken (exchange_of r).stocks ≡ total (cash_of o)
+  -- the positions of each stock sum to zero
+  pub positions : All (λ k. total k.tally.positions ≡ pos 0) (exchange_of r).stocks
+  -- no two live orders of a stock cross
+  pub uncrossed : All (λ k. IsUncrossed k.book) (exchange_of r).stocks

@@ -1,0 +1,39 @@
+//! Laws of courses: every study that the rules accept gives one.
+
+ghost use Rattle.std.specs.Prelude.{◌<◌, ℕ, List, length};
+ghost use Rattle.exchange_agent.specs.Runs.{Act};
+ghost use Rattle.kernel_copy.specs.Courses.{CourseTold, IsCourse};
+ghost use Rattle.kernel_copy.specs.Full.{full};
+ghost use Rattle.market_laws.specs.History.{IsMetAs};
+ghost use Rattle.market_laws.specs.Market.{IsConservedMarket};
+
+use exchange_agent::laws::runs_are_conserved;
+use price_time_book::keeping::{
+    a_match_keeps, a_reduce_keeps, fills_add_up, orderly_books_stay,
+};
+use price_time_book::laws::{matching_ends, next_is_best};
+
+/// Each state of each branch of a course, at any event number, is one whose exchange met messages of traders and
+/// changes of rules since the opening: its state is what they leave, and the run's feed what they tell.
+pub fn runs_are_what_the_exchange_met()
+    ensures { (c : CourseTold) (b e : ℕ) → IsCourse c → b < length c.plan.branches →
+        (acts : List Act) × IsMetAs c.opening (full c.opening c.plan b e) acts }
+{
+    a_match_keeps();
+    a_reduce_keeps();
+    fills_add_up();
+    orderly_books_stay();
+    matching_ends();
+    next_is_best();
+}
+
+/// In each state of each branch of a course: the settled cash of all traders and all fees are together the opening
+/// cash; the positions of each stock sum to zero; and no two live orders of a stock cross. So it is in each closing
+/// and in each state that is rewound to.
+pub fn markets_are_conserved()
+    ensures { (c : CourseTold) (b e : ℕ) → IsCourse c → b < length c.plan.branches →
+        IsConservedMarket c.opening (full c.opening c.plan b e) }
+{
+    runs_are_what_the_exchange_met();
+    runs_are_conserved();
+}
