@@ -3,4 +3,5 @@ pub mod Conserved
 pub mod Keeping
 pub mod Mail
 pub mod Receivers
+pub mod Segments
 pub mod Walking

@@ -1,10 +1,13 @@
 -- What a run keeps of its market.
-use Rattle.std.specs.Prelude.{◌≡◌, ◌<◌, ℕ, ℤ, pos, ◌+ℤ◌, List, All, length}
+use Rattle.std.specs.Prelude.{◌≡◌, ℕ, pos, ◌+ℤ◌, All}
 use Rattle.exchange_agent.specs.Runs.{IsUncrossed, fees_taken, total}
-use Rattle.exchange_agent.specs.State.{State as Exchange, stock_at}
+use Rattle.exchange_agent.specs.State.{State as Exchange}
+use Rattle.branch_tree.specs.Plan.{Plan}
 use Rattle.market_floor.specs.declared.opening.Opening.{Opening}
 use Rattle.market_floor.specs.Opening.{cash_of}
+use Rattle.kernel_core.specs.State.{State}
 use Rattle.kernel_core.specs.Until.{Run}
+use Rattle.kernel_copy.specs.Full.{full}
 
 -- the exchange of a run
 abbrev pub exchange_of : Run → Exchange
@@ -18,3 +21,8 @@ pub record IsConservedMarket (o : Opening) (r : Run) : Type 0 where
   pub positions : All (λ k. total k.tally.positions ≡ pos 0) (exchange_of r).stocks
   -- no two live orders of a stock cross
   pub uncrossed : All (λ k. IsUncrossed k.book) (exchange_of r).stocks
+
+-- A state is that of a branch's full run up to some event number.
+pub record IsStateOf (o : Opening) (p : Plan) (b : ℕ) (s : State) : Type 0 where
+  pub events : ℕ
+  pub state : s ≡ (full o p b events).state

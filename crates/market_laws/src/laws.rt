@@ -3,14 +3,14 @@
 ghost use Rattle.std.specs.Prelude.{◌<◌, ℕ, List, length};
 ghost use Rattle.exchange_agent.specs.Runs.{Act};
 ghost use Rattle.kernel_copy.specs.Courses.{CourseTold, IsCourse};
+ghost use Rattle.branch_tree.specs.Segments.{segment_at, segments_in};
 ghost use Rattle.kernel_copy.specs.Full.{full};
+ghost use Rattle.kernel_copy.specs.Segmentwise.{after};
 ghost use Rattle.market_laws.specs.History.{IsMetAs};
-ghost use Rattle.market_laws.specs.Market.{IsConservedMarket};
+ghost use Rattle.market_laws.specs.Market.{IsConservedMarket, IsStateOf};
 
 use exchange_agent::laws::runs_are_conserved;
-use price_time_book::keeping::{
-    a_match_keeps, a_reduce_keeps, fills_add_up, orderly_books_stay,
-};
+use price_time_book::keeping::{a_match_keeps, a_reduce_keeps, fills_add_up, orderly_books_stay};
 use price_time_book::laws::{matching_ends, next_is_best};
 
 /// Each state of each branch of a course, at any event number, is one whose exchange met messages of traders and
@@ -37,3 +37,12 @@ pub fn markets_are_conserved()
     runs_are_what_the_exchange_met();
     runs_are_conserved();
 }
+
+/// Each state of a segment of a course, and so each that is rewound to, is one of a branch's full run: the laws of
+/// branches speak of it too.
+pub fn segments_stand_on_branches()
+    ensures states { (c : CourseTold) (s e : ℕ) → IsCourse c → s < length (segments_in c.plan) →
+        IsStateOf c.opening c.plan (segment_at c.plan s).branch (after c.opening c.plan (segment_at c.plan s) e) }
+    ensures branches { (c : CourseTold) (s : ℕ) → IsCourse c → s < length (segments_in c.plan) →
+        (segment_at c.plan s).branch < length c.plan.branches }
+{}
