@@ -1,6 +1,6 @@
 -- Each message that waits is to an agent that there is, and one to the exchange is from a trader.
-use Rattle.std.proofs.Common.{◌≡◌, ℕ, ◌+◌, ◌≤◌, List, [], ◌∷◌, length, map, All, refl, sym, arith}
-use Rattle.std.proofs.lemmas.List.Elements.{All-cons, All-head, All-map, All-nil, All-tail, All-weaker}
+use Rattle.std.proofs.Common.{◌≡◌, ℕ, ◌+◌, ◌≤◌, List, [], ◌∷◌, length, map, All, arith}
+use Rattle.std.proofs.lemmas.List.Elements.{All-head, All-map, All-tail, All-weaker}
 use Rattle.market_types.specs.declared.message.Message.{Message}
 use Rattle.latency_model.specs.Tables.{Tables}
 use Rattle.agent_shell.specs.declared.sending.Sending.{Sending}

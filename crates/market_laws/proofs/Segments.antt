@@ -1,5 +1,5 @@
 -- States of segments are states of their branches' full runs.
-use Rattle.std.proofs.Common.{◌≡◌, ℕ, ◌<◌, true, false, length, refl, ap}
+use Rattle.std.proofs.Common.{ℕ, ◌<◌, true, false, length, refl, ap}
 use Rattle.std.specs.Prelude.{◌==◌, ◌||◌, if◌then◌else◌}
 use Rattle.branch_tree.specs.declared.segment.Segment.{Segment}
 use Rattle.branch_tree.specs.Plan.{Plan}

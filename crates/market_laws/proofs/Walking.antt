@@ -1,10 +1,9 @@
 -- A run as its exchange met it, from the opening through events, edits and stops.
-use Rattle.std.proofs.Common.{◌≡◌, ◌≢◌, ℕ, ◌+◌, ◌-◌, ◌<◌, ◌≤◌, zero, suc, Bool, true, false, inl, inr, List, [], ◌∷◌, ◌++◌, Some, None, length, All, refl, sym, ap, ◌∙◌, subst, arith, slice_index}
-use Rattle.std.specs.Prelude.{◌==◌, nat_le, nat_lt, if◌then◌else◌}
-use Rattle.std.specs.List.{flat_map}
+use Rattle.std.proofs.Common.{◌≡◌, ◌≢◌, ℕ, ◌+◌, ◌-◌, ◌<◌, ◌≤◌, zero, suc, true, false, inl, inr, List, [], ◌∷◌, ◌++◌, length, All, refl, sym, subst, arith, slice_index}
+use Rattle.std.specs.Prelude.{nat_le, nat_lt, if◌then◌else◌}
 use Rattle.std.proofs.lemmas.Bool.{cases_eq, cases_lt, ne_eqb}
 use Rattle.std.proofs.lemmas.Bool.Decides.{nat_tests}
-use Rattle.std.proofs.lemmas.List.{append-nil, flat_map_more, get_or_past}
+use Rattle.std.proofs.lemmas.List.{flat_map_more, get_or_past}
 use Rattle.std.proofs.lemmas.List.Elements.{All-get_or, All-head, All-nil, All-tail}
 use Rattle.market_types.specs.declared.feed.Feed.{Feed}
 use Rattle.market_types.specs.declared.message.Message.{Message}
@@ -18,7 +17,6 @@ use Rattle.exchange_agent.specs.Market.{market}
 use Rattle.exchange_agent.specs.State.{State as Exchange}
 use Rattle.exchange_agent.proofs.Ends.{BookLaws}
 use Rattle.exchange_agent.proofs.Steps.{IsKept}
-use Rattle.event_queue.specs.Waiting.{least}
 use Rattle.event_queue.proofs.Kept.{all-joined, all-least, all-without}
 use Rattle.branch_tree.specs.declared.branch.Branch.{Branch}
 use Rattle.branch_tree.specs.declared.stop.Stop.{Stop}
@@ -28,10 +26,10 @@ use Rattle.market_floor.specs.declared.opening.Opening.{Opening}
 use Rattle.market_floor.specs.Edited.{edited_floor}
 use Rattle.market_floor.specs.Floor.{FloorState, party_at}
 use Rattle.market_floor.specs.Opening.{IsOpening}
-use Rattle.market_floor.specs.Reaction.{Reaction, decided_by, market_reaction, reaction, trader_reaction}
+use Rattle.market_floor.specs.Reaction.{Reaction, decided_by, market_reaction, trader_reaction}
 use Rattle.market_floor.specs.Ruled.{ruled}
 use Rattle.market_floor.proofs.Reactions.{to-exchange, to-trader}
-use Rattle.kernel_core.specs.Edited.{IsEditOf, changed_by, edited_from, edited_one, mail_after, mark_of}
+use Rattle.kernel_core.specs.Edited.{IsEditOf, edited_from, edited_one, mail_after, mark_of}
 use Rattle.kernel_core.specs.Open.{opened}
 use Rattle.kernel_core.specs.Post.{Post, nothing_waits, taken}
 use Rattle.kernel_core.specs.Send.{order_at}
@@ -50,7 +48,7 @@ use Rattle.feed_rebuild.specs.Feeds.{entries_feed, entry_feed}
 use Rattle.market_laws.specs.History.{first_exchange}
 use Rattle.market_laws.proofs.Acts.{Leads, leads-more, leads-on, meets-change, meets-due, meets-message, stays}
 use Rattle.market_laws.proofs.Keeping.{kept-first, kept-run}
-use Rattle.market_laws.proofs.Mail.{IsMail, IsPosted, mail-sent, mail-woken, replies-posted, sendings-posted}
+use Rattle.market_laws.proofs.Mail.{IsMail, mail-sent, mail-woken, replies-posted, sendings-posted}
 use Rattle.market_laws.proofs.Receivers.{to-traders}
 
 -- The exchange came from one state to another by what it met, which this feed tells.
