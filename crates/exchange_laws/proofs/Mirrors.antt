@@ -50,7 +50,7 @@ map-cond {X = X} true f x ys zs e = ap (λ (l : List X). f x ∷ l) e
 map-cond false f x ys zs e = e
 
 -- a part goes with what leaves its test as it is
-filter-map : {X : Type 0} (p : X → Bool) (f : X → X) (xs : List X) → AllByRecursion (λ x. p (f x) ≡ p x) xs → filter p (map f xs) ≡ map f (filter p xs)
+filter-map : {X : Type 0} (p : X → Bool) (f : X → X) (xs : List X) → AllByRecursion (λ (x : X). p (f x) ≡ p x) xs → filter p (map f xs) ≡ map f (filter p xs)
 filter-map p f [] h = refl
 filter-map p f (x ∷ xs) h =
     ap (λ b. cond b (f x ∷ filter p (map f xs)) (filter p (map f xs))) h.0
