@@ -1,6 +1,6 @@
 -- One order of a book changes, and so does what a feed tells of it.
-use Rattle.std.proofs.Common.{◌≡◌, ◌≢◌, ◌<◌, ◌≤◌, ◌+◌, ℕ, zero, suc, Bool, true, false, not, cond, List, [], ◌∷◌, ◌++◌, length, Option, Some, None, option_map, find, filter, map, get_or, refl, sym, ap, subst, ◌∙◌, arith}
-use Rattle.std.specs.Prelude.{◌==◌, ◌&&◌, if◌then◌else◌}
+use Rattle.std.proofs.Common.{◌≡◌, ◌≢◌, ◌<◌, ◌+◌, ℕ, Bool, true, false, not, cond, List, [], ◌∷◌, ◌++◌, Option, Some, option_map, find, filter, map, refl, sym, ap, ◌∙◌, arith}
+use Rattle.std.specs.Prelude.{◌==◌, ◌&&◌}
 use Rattle.std.specs.List.{AllByRecursion}
 use Rattle.std.proofs.lemmas.Bool.{false≢true}
 use Rattle.std.proofs.lemmas.Bool.Decides.{nat_tests}
@@ -10,7 +10,7 @@ use Rattle.price_time_book.specs.declared.resting.Resting.{Resting}
 use Rattle.price_time_book.specs.Orders as book
 use Rattle.price_time_book.specs.Orderly.{IsRising}
 use Rattle.feed_rebuild.specs.declared.shown.Shown.{Shown}
-use Rattle.feed_rebuild.specs.Fold.{Told, is_this, held, without, with_left}
+use Rattle.feed_rebuild.specs.Fold.{is_this, held, without, with_left}
 use Rattle.exchange_laws.specs.Shown.{shown_of}
 
 -- ---- lists of which a part is taken
@@ -251,7 +251,7 @@ kept-cond : (P : Resting → Type 0) (b : Bool) (x : Resting) (w : List Resting)
 kept-cond P true x w h k = (h, k)
 kept-cond P false x w h k = k
 
-kept-filter : (P : Resting → Type 0) (p : Resting → Bool) (w : List Resting) → AllByRecursion P w → AllByRecursion P (filter p w)
+pub kept-filter : (P : Resting → Type 0) (p : Resting → Bool) (w : List Resting) → AllByRecursion P w → AllByRecursion P (filter p w)
 kept-filter P p [] h = tt
 kept-filter P p (x ∷ w) h = kept-cond P (p x) x (filter p w) h.0 (kept-filter P p w h.1)
 
@@ -309,8 +309,7 @@ left-alone false n s e = refl
 -- the orders of other stocks stay
 pub others-left : (j k r n : ℕ) (os : List Shown) → j ≢ k → filter (is_of j) (with_left (k + 1) r n os) ≡ filter (is_of j) os
 others-left j k r n os d =
-    elim (n == 0) as (λ b. filter (is_of j) (with-left-by b (k + 1) r n os) ≡ filter (is_of j) os)
-    [
+    elim (n == 0) as (λ b. filter (is_of j) (with-left-by b (k + 1) r n os) ≡ filter (is_of j) os) [
       | true ↦ filter-within (is_of j) (λ (s : Shown). not (is_this (k + 1) r s)) os (λ s e. not-false (is_this (k + 1) r s) (this-not j k r s d e))
       | false ↦ filter-same (is_of j) (lefts (k + 1) r n) os (λ s. same-stock (is_this (k + 1) r s) j n s) (λ s e. left-alone (is_this (k + 1) r s) n s (this-not j k r s d e))
     ]

@@ -21,7 +21,7 @@ use Rattle.exchange_agent.specs.Settle.{Way, all_settled, fed, match_told, settl
 use Rattle.feed_rebuild.specs.declared.shown.Shown.{Shown}
 use Rattle.feed_rebuild.specs.Fold.{Told, deleted, held, lowered, told_by, told_what, with_left}
 use Rattle.exchange_laws.specs.Shown.{shown_of}
-use Rattle.exchange_laws.proofs.Mirrors.{from-test, is_of, mirror, mirror-changed, mirror-held, mirror-hidden, others-left, part-held, part-left, put, rising-filter, rising-only, same-number}
+use Rattle.exchange_laws.proofs.Mirrors.{from-test, is_of, kept-filter, mirror, mirror-changed, mirror-held, mirror-hidden, others-left, part-held, part-left, put, rising-filter, rising-only, same-number}
 
 -- ---- books whose references rise and were given, and whose orders are open
 
@@ -29,14 +29,6 @@ pub record IsTraceable (references : ℕ) (w : List Resting) : Type 0 where
   pub rising : IsRising w
   pub live : AllByRecursion (λ (o : Resting). 0 < o.left) w
   pub given : AllByRecursion (λ (o : Resting). o.reference ≤ references) w
-
-kept-cond : (P : Resting → Type 0) (b : Bool) (x : Resting) (w : List Resting) → P x → AllByRecursion P w → AllByRecursion P (cond b (x ∷ w) w)
-kept-cond P true x w h k = (h, k)
-kept-cond P false x w h k = k
-
-kept-filter : (P : Resting → Type 0) (p : Resting → Bool) (w : List Resting) → AllByRecursion P w → AllByRecursion P (filter p w)
-kept-filter P p [] h = tt
-kept-filter P p (x ∷ w) h = kept-cond P (p x) x (filter p w) h.0 (kept-filter P p w h.1)
 
 kept-either : (P : Resting → Type 0) (b : Bool) (o x : Resting) → (b ≡ true → P x → P o) → P x → P (cond b o x)
 kept-either P true o x h k = h refl k
@@ -57,7 +49,7 @@ rising-put o (x ∷ w) h =
     let above = kept-put (λ (y : Resting). x.reference < y.reference) o w (λ y e lt. subst (λ (n : ℕ). x.reference < n) e lt) h.0 in
     (subst (λ (n : ℕ). AllByRecursion (λ (y : Resting). n < y.reference) (book.with_order o w)) (sym (put-reference (x.reference == o.reference) o x refl)) above, rising-put o w h.1)
 
-some-left : (n : ℕ) → (n == 0) ≡ false → 0 < n
+pub some-left : (n : ℕ) → (n == 0) ≡ false → 0 < n
 some-left n t = grind (arith, nat_tests)
 
 traceable-by : (b : Bool) (n : ℕ) (o : Resting) (w : List Resting) → (o.left == 0) ≡ b → IsTraceable n w → IsTraceable n (cond b (book.without o.reference w) (book.with_order o w))

@@ -1,9 +1,9 @@
 -- What the feed of a run tells, act by act.
-use Rattle.std.proofs.Common.{◌≡◌, ◌≢◌, ◌<◌, ◌≤◌, ◌+◌, ◌-◌, ℕ, zero, suc, ℤ, Bool, true, false, cond, ◌&&◌, List, [], ◌∷◌, ◌++◌, length, Option, Some, None, IfSome, Result, Ok, Err, find, filter, map, replicate, inl, inr, refl, sym, ap, subst, ◌∙◌, ◌⊎◌, arith, append-nil}
+use Rattle.std.proofs.Common.{◌≡◌, ◌≢◌, ◌<◌, ◌≤◌, ◌+◌, ◌-◌, ℕ, zero, suc, ℤ, Bool, true, false, cond, ◌&&◌, List, [], ◌∷◌, ◌++◌, length, Option, Some, None, IfSome, Result, Ok, Err, filter, map, replicate, inl, inr, refl, sym, ap, subst, ◌∙◌, ◌⊎◌, arith, append-nil}
 use Rattle.std.specs.Prelude.{◌==◌, nat_le, nat_lt, if◌then◌else◌, slice_index_or, slice_set}
 use Rattle.std.specs.List.{AllByRecursion}
 use Rattle.std.proofs.Math.Seq.{map-set_same}
-use Rattle.std.proofs.lemmas.Bool.{and_from, cases_eq, false≢true}
+use Rattle.std.proofs.lemmas.Bool.{and_from, cases_eq}
 use Rattle.std.proofs.lemmas.Bool.Decides.{nat_tests}
 use Rattle.std.proofs.lemmas.List.{get_or-set_other, get_or-set_same, length-map, length-set, map-set}
 use Rattle.std.proofs.lemmas.List.Elements.{filter-append}
@@ -16,7 +16,6 @@ use Rattle.market_types.specs.declared.message.Body.TheVariants as body
 use Rattle.market_types.specs.declared.order.Cancel.{Cancel}
 use Rattle.market_types.specs.declared.order.Enter.{Enter}
 use Rattle.market_types.specs.declared.order.Inbound.TheVariants as inbound
-use Rattle.market_types.specs.declared.order.Side.{Side}
 use Rattle.market_types.specs.declared.order.Token.{Token}
 use Rattle.market_types.specs.declared.reply.Reply.TheVariants as reply
 use Rattle.market_rules.specs.declared.changes.Change.{Change}
@@ -26,7 +25,6 @@ use Rattle.price_time_book.specs.Matched.{matched}
 use Rattle.price_time_book.specs.Orderly.{IsRising}
 use Rattle.price_time_book.specs.Orders.{changed, order_of, order_with, reduced}
 use Rattle.exchange_agent.specs.declared.cancel.Found.{Found}
-use Rattle.exchange_agent.specs.declared.handled.Outgoing.{Outgoing}
 use Rattle.exchange_agent.specs.declared.settle.Taking.{Taking}
 use Rattle.exchange_agent.specs.declared.told.StockRules.{StockRules}
 use Rattle.exchange_agent.specs.declared.verdict.Verdict.{Verdict}
@@ -45,7 +43,7 @@ use Rattle.feed_rebuild.specs.Fold.{Told, added, deleted, fold, fresh, held, is_
 use Rattle.exchange_laws.specs.Feeds.{feed_by, feed_over}
 use Rattle.exchange_laws.specs.Shown.{IsShownBy, shown_of}
 use Rattle.exchange_laws.proofs.Mirrors.{from-test, is_of, mirror, mirror-hidden, mirror-rested, rising-only, same-number}
-use Rattle.exchange_laws.proofs.Settled.{FillLaws, Follows, IsTraceable, Tracks, all_fed, fills-held, follows-deleted, follows-lowered, follows-settled, follows-still, found-held, settled-feed, settled-traceable, settled-trading, traceable-changed, traceable-more, traceable-rested}
+use Rattle.exchange_laws.proofs.Settled.{FillLaws, Follows, IsTraceable, Tracks, fills-held, follows-deleted, follows-lowered, follows-settled, follows-still, found-held, settled-feed, settled-traceable, settled-trading, some-left, traceable-changed, traceable-more, traceable-rested}
 
 -- ---- a fold goes on
 
@@ -247,9 +245,6 @@ tif-by d g e reference left w =
 abbrev left-by : Bool → Taking → Enter → ℕ → ℕ → Way → Way
 left-by b g e reference left w = if b then w else tif-by (e.tif == 0) g e reference left w
 
-some-left : (n : ℕ) → (n == 0) ≡ false → 0 < n
-some-left n q = grind (arith, nat_tests)
-
 states-long : (n references : ℕ) (xs : List Stock) (t : Told) → IsTracked n references xs t → length t.states ≡ length xs
 states-long n references xs t h = ap (λ (states : List ℕ). length states) h.states ∙ length-map xs (λ (y : Stock). y.trading)
 
@@ -263,8 +258,8 @@ way-told laws n s time agent e k t h in' =
     let v = all_settled g m.fills w in
     let are = fills-held laws e.shares e.side e.price orders (stock_at s k).book e.shares (omega arith) (h.books k) in
     let c : Follows k (told_by (Ok t) v.feed) t v.stock.book =
-        subst (λ (feed : List Feed). Follows k (told_by (Ok t) feed) t v.stock.book) (sym (settled-feed g m.fills w))
-        (follows-settled k orders s.counts.matches g (stock_at s k).symbol m.fills w t refl (h.books k) are (h.orders k)) in
+    subst (λ (feed : List Feed). Follows k (told_by (Ok t) feed) t v.stock.book) (sym (settled-feed g m.fills w))
+    (follows-settled k orders s.counts.matches g (stock_at s k).symbol m.fills w t refl (h.books k) are (h.orders k)) in
     let book : IsTraceable orders v.stock.book = settled-traceable orders g m.fills w (h.books k) in
     let trading : v.stock.trading ≡ (stock_at s k).trading = settled-trading g m.fills w in
     let long : k < length t.states = subst (λ (j : ℕ). k < j) (sym (states-long n orders s.stocks t h)) in' in
@@ -419,7 +414,7 @@ cancel-step : (n : ℕ) (s : State) (time agent : ℕ) (c : Cancel) (f : Option 
 cancel-step n s time agent c None t h is = silent n s.counts.orders s.stocks t h
 cancel-step n s time agent c (Some f) t h is =
     elim (nat_lt c.shares f.order.intended) as (λ b. nat_lt c.shares f.order.intended ≡ b
-        → IsStep n (cancel-by b s time agent c f).state.counts.orders (cancel-by b s time agent c f).state.stocks (cancel-by b s time agent c f).feed t) [
+    → IsStep n (cancel-by b s time agent c f).state.counts.orders (cancel-by b s time agent c f).state.stocks (cancel-by b s time agent c f).feed t) [
       | true ↦ λ e. canceled-step n s time agent c f t h is (below-from c.shares f.order.intended e)
       | false ↦ λ e. silent n s.counts.orders s.stocks t h
     ] refl
@@ -458,7 +453,7 @@ turned-step n s time k letter t h in' =
     let next : Told = record t { states = slice_set t.states k letter } in
     let long : k < length t.states = subst (λ (j : ℕ). k < j) (sym (states-long n orders s.stocks t h)) in' in
     let acts : told_what t (k + 1) (what.Trading (stock_at s k).symbol letter 32 (32 ∷ 32 ∷ 32 ∷ 32 ∷ [])) ≡ Ok (record t { states = slice_set t.states ((k + 1) - 1) letter }) =
-        ap (λ (b : Bool). if b then Ok (record t { states = slice_set t.states ((k + 1) - 1) letter }) else Err 0) (listed-test k (length t.states) long) in
+    ap (λ (b : Bool). if b then Ok (record t { states = slice_set t.states ((k + 1) - 1) letter }) else Err 0) (listed-test k (length t.states) long) in
     record {
       after = next;
       tells = acts ∙ ap (λ (i : ℕ). Ok (record t { states = slice_set t.states i letter })) (one-less k);

@@ -20,8 +20,8 @@ pub fn feeds_tell_the_books()
         IsOpening rules cash →
         AllByRecursion (IsPossible (length cash) (length rules)) acts →
         (t : Told) ×
-            (fold (length rules) (feed_over (opened rules cash hidden) acts) ≡ Ok t) ×
-            IsShownBy (run (opened rules cash hidden) acts) t }
+        (fold (length rules) (feed_over (opened rules cash hidden) acts) ≡ Ok t) ×
+        IsShownBy (run (opened rules cash hidden) acts) t }
 {
     matching_ends();
     matching_goes_on();

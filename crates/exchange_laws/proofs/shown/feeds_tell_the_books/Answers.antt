@@ -1,4 +1,4 @@
-use Rattle.std.proofs.Common.{◌≡◌, ap}
+use Rattle.std.proofs.Common.{ap}
 use Rattle.price_time_book.specs.Matched.{Matching}
 use Rattle.exchange_laws.proofs.ShownRuns.{feeds-tell}
 use Rattle.exchange_laws.proofs.shown.feeds_tell_the_books.Goals as goal
