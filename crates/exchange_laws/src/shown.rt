@@ -13,8 +13,8 @@ ghost use Rattle.market_types.specs.declared.feed.Feed.{Feed};
 use price_time_book::keeping::matching_goes_on;
 use price_time_book::laws::{matching_ends, next_is_best};
 
-/// From an opening on, whatever messages and changes come: what the feed tells one message after another, each of
-/// which can be applied, is the exchange's displayed orders stock by stock, and its trading states.
+/// From an opening on, whatever messages and changes come: each message of the feed can be applied to what was told
+/// before it, and what is told in the end is the exchange's displayed orders, stock by stock, and its trading states.
 pub fn feeds_tell_the_books()
     ensures { (rules : List StockRules) (cash : List ℤ) (hidden : Bool) (acts : List Act) →
         IsOpening rules cash →
