@@ -1,2 +1,6 @@
+pub mod Executed
 pub mod Feeds
+pub mod Messages
 pub mod Shown
+pub mod Small
+pub mod Worked

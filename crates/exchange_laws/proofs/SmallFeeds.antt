@@ -1,0 +1,165 @@
+-- Feed messages that are in their ranges, and the shares that they tell as executed.
+use Rattle.std.proofs.Common.{◌≡◌, ◌⊎◌, ℕ, ◌+◌, ◌-◌, ◌<◌, ◌≤◌, Bool, true, false, List, [], ◌∷◌, ◌++◌, All, arith, refl, ap, ◌∙◌, sum_by}
+use Rattle.std.specs.Prelude.{◌==◌, if◌then◌else◌}
+use Rattle.std.proofs.lemmas.List.Elements.{All-append, All-cons, All-head, All-nil, All-tail, All-weaker}
+use Rattle.std.proofs.lemmas.List.Sums.{sum_by-append}
+use Rattle.market_types.specs.Limits.{highest_price}
+use Rattle.market_types.specs.declared.feed.Feed.{Feed}
+use Rattle.market_types.specs.declared.feed.What.{What}
+use Rattle.market_types.specs.declared.feed.What.TheVariants as what
+use Rattle.market_types.specs.declared.order.Enter.{Enter}
+use Rattle.market_types.specs.declared.order.Side.TheVariants.{Buy}
+use Rattle.market_types.specs.declared.order.Symbol.{Symbol}
+use Rattle.price_time_book.specs.declared.resting.Fill.{Fill}
+use Rattle.price_time_book.specs.declared.resting.Resting.{Resting}
+use Rattle.exchange_agent.specs.declared.settle.Taking.{Taking}
+use Rattle.exchange_agent.specs.Cancel.{lowered_feed}
+use Rattle.exchange_agent.specs.Enter.{added_feed}
+use Rattle.exchange_agent.specs.Settle.{Way, all_settled, fed, settled}
+use Rattle.exchange_agent.specs.State.{stands_still, trades}
+use Rattle.exchange_laws.specs.Executed.{executed_by, executed_in, executed_shares}
+use Rattle.exchange_laws.specs.Small.{IsSmallFeed, IsSmallWhat, IsUpTo, most_shares}
+use Rattle.exchange_laws.proofs.SmallFits.{fit-from, is_fit, up-more}
+
+what-more : (a b : ℕ) (w : What) → a ≤ b → IsSmallWhat a w → IsSmallWhat b w
+what-more a b (what.System code) le h = h
+what-more a b (what.Directory _ _ _ _ _ _ _ _ _ _ _ _ _ _) le h = h
+what-more a b (what.Trading stock state reserved reason) le h = h
+what-more a b (what.Add reference side shares stock price) le h = (up-more a b reference le h.0, h.1, h.2)
+what-more a b (what.Executed reference shares number) le h = (up-more a b reference le h.0, h.1)
+what-more a b (what.Cancel reference shares) le h = (up-more a b reference le h.0, h.1)
+what-more a b (what.Delete reference) le h = up-more a b reference le h
+what-more a b (what.Trade reference side shares stock price number) le h = h
+what-more a b (what.Cross _ _ _ _ _) le h = h
+
+-- what is small stays so once more orders were accepted
+pub feed-more : (stocks a b : ℕ) (feed : List Feed) → a ≤ b → All (IsSmallFeed stocks a) feed → All (IsSmallFeed stocks b) feed
+feed-more stocks a b feed le h = All-weaker (IsSmallFeed stocks a) (IsSmallFeed stocks b) (λ m k. record { locate = k.locate; tracking = k.tracking; what = what-more a b m.what le k.what }) feed h
+
+pub no-feed : (stocks accepted : ℕ) → All (IsSmallFeed stocks accepted) []
+no-feed stocks accepted = All-nil (IsSmallFeed stocks accepted)
+
+one-feed : (stocks accepted : ℕ) (m : Feed) → IsSmallFeed stocks accepted m → All (IsSmallFeed stocks accepted) (m ∷ [])
+one-feed stocks accepted m h = All-cons (IsSmallFeed stocks accepted) m [] h (no-feed stocks accepted)
+
+-- ---- the shares that are told
+
+pub executed-append : (j : ℕ) (xs ys : List Feed) → executed_in j (xs ++ ys) ≡ executed_in j xs + executed_in j ys
+executed-append j xs ys = sum_by-append (executed_by j) xs ys
+
+one-executed : (j : ℕ) (m : Feed) → executed_in j (m ∷ []) ≡ executed_by j m
+one-executed j m = omega arith
+
+either-zero : (b : Bool) → ◌≡◌ {A = ℕ} (if b then 0 else 0) 0
+either-zero true = refl
+either-zero false = refl
+
+-- a message of another kind tells none
+none-executed : (j : ℕ) (m : Feed) → executed_shares m.what ≡ 0 → executed_in j (m ∷ []) ≡ 0
+none-executed j m e =
+    one-executed j m ∙ ap (λ (n : ℕ). if m.locate == j + 1 then n else 0) e ∙ either-zero (m.locate == j + 1)
+
+-- ---- matches
+
+-- A fill of an order in its ranges, of some shares.
+pub record IsFitFill (traders accepted : ℕ) (f : Fill) : Type 0 where
+  pub fit : is_fit traders accepted f.resting ≡ true
+  pub shares : IsUpTo most_shares f.shares
+
+abbrev told-by : Bool → Symbol → ℕ → Fill → What
+told-by b symbol number f = if b then what.Executed f.resting.reference f.shares number else what.Trade 0 Buy f.shares symbol f.resting.price number
+
+told-small : (b : Bool) (traders accepted : ℕ) (symbol : Symbol) (number : ℕ) (f : Fill) → IsFitFill traders accepted f → IsSmallWhat accepted (told-by b symbol number f)
+told-small true traders accepted symbol number f h = let fit = fit-from traders accepted f.resting h.fit in (fit.reference, h.shares)
+told-small false traders accepted symbol number f h = let fit = fit-from traders accepted f.resting h.fit in (refl, h.shares, fit.price)
+
+told-executed : (b : Bool) (symbol : Symbol) (number : ℕ) (f : Fill) → executed_shares (told-by b symbol number f) ≡ f.shares
+told-executed true symbol number f = refl
+told-executed false symbol number f = refl
+
+fed-small : (traders stocks accepted locate time : ℕ) (symbol : Symbol) (number : ℕ) (f : Fill) → IsUpTo stocks locate → IsFitFill traders accepted f → IsSmallFeed stocks accepted (fed locate time symbol number f)
+fed-small traders stocks accepted locate time symbol number f here h = record { locate = here; tracking = refl; what = told-small f.resting.shown traders accepted symbol number f h }
+
+-- the feed of matches
+pub settled-small : (traders stocks accepted : ℕ) (t : Taking) (fills : List Fill) (w : Way) → IsUpTo stocks t.locate → All (IsFitFill traders accepted) fills → All (IsSmallFeed stocks accepted) w.feed → All (IsSmallFeed stocks accepted) (all_settled t fills w).feed
+settled-small traders stocks accepted t [] w here each h = h
+settled-small traders stocks accepted t (f ∷ fs) w here each h =
+    let m = fed t.locate t.time w.stock.symbol (w.matches + 1) f in
+    let first = All-head (IsFitFill traders accepted) f fs each in
+    settled-small traders stocks accepted t fs (settled t f w) here (All-tail (IsFitFill traders accepted) f fs each)
+    (All-append (IsSmallFeed stocks accepted) w.feed (m ∷ []) h (one-feed stocks accepted m (fed-small traders stocks accepted t.locate t.time w.stock.symbol (w.matches + 1) f here first)))
+
+if-true : (b : Bool) (n : ℕ) → b ≡ true → ◌≡◌ {A = ℕ} (if b then n else 0) n
+if-true true n e = refl
+if-true false n e = absurd cc
+
+if-false : (b : Bool) (n : ℕ) → b ≡ false → ◌≡◌ {A = ℕ} (if b then n else 0) 0
+if-false true n e = absurd cc
+if-false false n e = refl
+
+-- it tells all their shares in the incoming order's stock
+pub here-settled : (j : ℕ) (t : Taking) (fills : List Fill) (w : Way) → (t.locate == j + 1) ≡ true → executed_in j (all_settled t fills w).feed + w.stock.tally.matched ≡ executed_in j w.feed + (all_settled t fills w).stock.tally.matched
+here-settled j t [] w e = refl
+here-settled j t (f ∷ fs) w e =
+    let m = fed t.locate t.time w.stock.symbol (w.matches + 1) f in
+    let v = all_settled t fs (settled t f w) in
+    let rest : executed_in j v.feed + (w.stock.tally.matched + f.shares) ≡ executed_in j (w.feed ++ m ∷ []) + v.stock.tally.matched = here-settled j t fs (settled t f w) e in
+    let both : executed_in j (w.feed ++ m ∷ []) ≡ executed_in j w.feed + executed_in j (m ∷ []) = executed-append j w.feed (m ∷ []) in
+    let one : executed_in j (m ∷ []) ≡ f.shares =
+    one-executed j m ∙ ap (λ (n : ℕ). if t.locate == j + 1 then n else 0) (told-executed f.resting.shown w.stock.symbol (w.matches + 1) f) ∙ if-true (t.locate == j + 1) f.shares e in
+    let all : executed_in j v.feed + w.stock.tally.matched ≡ executed_in j w.feed + v.stock.tally.matched = omega (arith, rest, both, one) in
+    all
+
+-- and none in any other
+pub there-settled : (j : ℕ) (t : Taking) (fills : List Fill) (w : Way) → (t.locate == j + 1) ≡ false → executed_in j (all_settled t fills w).feed ≡ executed_in j w.feed
+there-settled j t [] w e = refl
+there-settled j t (f ∷ fs) w e =
+    let m = fed t.locate t.time w.stock.symbol (w.matches + 1) f in
+    let rest : executed_in j (all_settled t fs (settled t f w)).feed ≡ executed_in j (w.feed ++ m ∷ []) = there-settled j t fs (settled t f w) e in
+    let both : executed_in j (w.feed ++ m ∷ []) ≡ executed_in j w.feed + executed_in j (m ∷ []) = executed-append j w.feed (m ∷ []) in
+    let none : executed_in j (m ∷ []) ≡ 0 = one-executed j m ∙ if-false (t.locate == j + 1) (executed_shares m.what) e in
+    omega (arith, rest, both, none)
+
+-- ---- an order that comes to rest, one that is lowered, a trading action
+
+-- What is told beside matches: small messages that tell no matches.
+pub record IsQuiet (stocks accepted : ℕ) (feed : List Feed) : Type 0 where
+  pub small : All (IsSmallFeed stocks accepted) feed
+  pub none : (j : ℕ) → executed_in j feed ≡ 0
+
+pub quiet-nil : (stocks accepted : ℕ) → IsQuiet stocks accepted []
+quiet-nil stocks accepted = record { small = no-feed stocks accepted; none = λ j. refl }
+
+quiet-one : (stocks accepted : ℕ) (m : Feed) → IsSmallFeed stocks accepted m → executed_shares m.what ≡ 0 → IsQuiet stocks accepted (m ∷ [])
+quiet-one stocks accepted m h e = record { small = one-feed stocks accepted m h; none = λ j. none-executed j m e }
+
+quiet-if : (b : Bool) (stocks accepted : ℕ) (m : Feed) → IsSmallFeed stocks accepted m → executed_shares m.what ≡ 0 → IsQuiet stocks accepted (if b then m ∷ [] else [])
+quiet-if true stocks accepted m h e = quiet-one stocks accepted m h e
+quiet-if false stocks accepted m h e = quiet-nil stocks accepted
+
+pub added-quiet : (stocks accepted : ℕ) (t : Taking) (e : Enter) (reference left : ℕ) → IsUpTo stocks t.locate → IsUpTo accepted reference → IsUpTo most_shares left → IsUpTo highest_price e.price → IsQuiet stocks accepted (added_feed t e reference left)
+added-quiet stocks accepted t e reference left here given some price =
+    quiet-if (e.display == 89) stocks accepted (record { locate = t.locate; tracking = 0; time = t.time; what = what.Add reference e.side left e.stock e.price })
+    (record { locate = here; tracking = refl; what = (given, some, price) }) refl
+
+abbrev lowering-by : Bool → Resting → ℕ → What
+lowering-by b o left = if b then what.Delete o.reference else what.Cancel o.reference (o.left - left)
+
+lowering-small : (b : Bool) (accepted : ℕ) (o : Resting) (left : ℕ) → IsUpTo accepted o.reference → left < o.left → o.left ≤ most_shares → IsSmallWhat accepted (lowering-by b o left)
+lowering-small true accepted o left given fewer few = given
+lowering-small false accepted o left given fewer few = let shares : IsUpTo most_shares (o.left - left) = (omega (arith, fewer), omega (arith, few)) in (given, shares)
+
+lowering-executed : (b : Bool) (o : Resting) (left : ℕ) → executed_shares (lowering-by b o left) ≡ 0
+lowering-executed true o left = refl
+lowering-executed false o left = refl
+
+pub lowered-quiet : (stocks accepted locate time : ℕ) (o : Resting) (left : ℕ) → IsUpTo stocks locate → IsUpTo accepted o.reference → left < o.left → o.left ≤ most_shares → IsQuiet stocks accepted (lowered_feed locate time o left)
+lowered-quiet stocks accepted locate time o left here given fewer few =
+    quiet-if o.shown stocks accepted (record { locate = locate; tracking = 0; time = time; what = lowering-by (left == 0) o left })
+    (record { locate = here; tracking = refl; what = lowering-small (left == 0) accepted o left given fewer few }) (lowering-executed (left == 0) o left)
+
+pub trading-quiet : (stocks accepted locate time letter : ℕ) (symbol : Symbol) → IsUpTo stocks locate → (letter ≡ trades) ⊎ (letter ≡ stands_still) → IsQuiet stocks accepted (record { locate = locate; tracking = 0; time = time; what = what.Trading symbol letter 32 (32 ∷ 32 ∷ 32 ∷ 32 ∷ []) } ∷ [])
+trading-quiet stocks accepted locate time letter symbol here is =
+    quiet-one stocks accepted (record { locate = locate; tracking = 0; time = time; what = what.Trading symbol letter 32 (32 ∷ 32 ∷ 32 ∷ 32 ∷ []) })
+    (record { locate = here; tracking = refl; what = (is, refl, refl) }) refl
+
