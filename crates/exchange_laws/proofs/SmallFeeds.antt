@@ -1,5 +1,5 @@
 -- Feed messages that are in their ranges, and the shares that they tell as executed.
-use Rattle.std.proofs.Common.{◌≡◌, ◌⊎◌, ℕ, ◌+◌, ◌-◌, ◌<◌, ◌≤◌, Bool, true, false, List, [], ◌∷◌, ◌++◌, All, arith, refl, ap, ◌∙◌, sum_by}
+use Rattle.std.proofs.Common.{◌≡◌, ◌⊎◌, ℕ, ◌+◌, ◌-◌, ◌<◌, ◌≤◌, Bool, true, false, List, [], ◌∷◌, ◌++◌, length, All, arith, refl, ap, ◌∙◌, sum_by}
 use Rattle.std.specs.Prelude.{◌==◌, if◌then◌else◌}
 use Rattle.std.proofs.lemmas.List.Elements.{All-append, All-cons, All-head, All-nil, All-tail, All-weaker}
 use Rattle.std.proofs.lemmas.List.Sums.{sum_by-append}
@@ -21,26 +21,26 @@ use Rattle.exchange_laws.specs.Executed.{executed_by, executed_in, executed_shar
 use Rattle.exchange_laws.specs.Small.{IsSmallFeed, IsSmallWhat, IsUpTo, most_shares}
 use Rattle.exchange_laws.proofs.SmallFits.{fit-from, is_fit, up-more}
 
-what-more : (a b : ℕ) (w : What) → a ≤ b → IsSmallWhat a w → IsSmallWhat b w
-what-more a b (what.System code) le h = h
-what-more a b (what.Directory _ _ _ _ _ _ _ _ _ _ _ _ _ _) le h = h
-what-more a b (what.Trading stock state reserved reason) le h = h
-what-more a b (what.Add reference side shares stock price) le h = (up-more a b reference le h.0, h.1, h.2)
-what-more a b (what.Executed reference shares number) le h = (up-more a b reference le h.0, h.1)
-what-more a b (what.Cancel reference shares) le h = (up-more a b reference le h.0, h.1)
-what-more a b (what.Delete reference) le h = up-more a b reference le h
-what-more a b (what.Trade reference side shares stock price number) le h = h
-what-more a b (what.Cross _ _ _ _ _) le h = h
+what-more : (a b m n : ℕ) (w : What) → a ≤ b → m ≤ n → IsSmallWhat a m w → IsSmallWhat b n w
+what-more a b m n (what.System code) le less h = h
+what-more a b m n (what.Directory _ _ _ _ _ _ _ _ _ _ _ _ _ _) le less h = h
+what-more a b m n (what.Trading stock state reserved reason) le less h = h
+what-more a b m n (what.Add reference side shares stock price) le less h = (up-more a b reference le h.0, h.1, h.2)
+what-more a b m n (what.Executed reference shares number) le less h = (up-more a b reference le h.0, h.1, up-more m n number less h.2)
+what-more a b m n (what.Cancel reference shares) le less h = (up-more a b reference le h.0, h.1)
+what-more a b m n (what.Delete reference) le less h = up-more a b reference le h
+what-more a b m n (what.Trade reference side shares stock price number) le less h = (h.0, h.1, h.2, up-more m n number less h.3)
+what-more a b m n (what.Cross _ _ _ _ _) le less h = h
 
--- what is small stays so once more orders were accepted
-pub feed-more : (stocks a b : ℕ) (feed : List Feed) → a ≤ b → All (IsSmallFeed stocks a) feed → All (IsSmallFeed stocks b) feed
-feed-more stocks a b feed le h = All-weaker (IsSmallFeed stocks a) (IsSmallFeed stocks b) (λ m k. record { locate = k.locate; tracking = k.tracking; what = what-more a b m.what le k.what }) feed h
+-- what is small stays so once more orders were accepted and there were more matches
+pub feed-more : (stocks a b m n : ℕ) (feed : List Feed) → a ≤ b → m ≤ n → All (IsSmallFeed stocks a m) feed → All (IsSmallFeed stocks b n) feed
+feed-more stocks a b m n feed le less h = All-weaker (IsSmallFeed stocks a m) (IsSmallFeed stocks b n) (λ x k. record { locate = k.locate; tracking = k.tracking; what = what-more a b m n x.what le less k.what }) feed h
 
-pub no-feed : (stocks accepted : ℕ) → All (IsSmallFeed stocks accepted) []
-no-feed stocks accepted = All-nil (IsSmallFeed stocks accepted)
+pub no-feed : (stocks accepted matches : ℕ) → All (IsSmallFeed stocks accepted matches) []
+no-feed stocks accepted matches = All-nil (IsSmallFeed stocks accepted matches)
 
-one-feed : (stocks accepted : ℕ) (m : Feed) → IsSmallFeed stocks accepted m → All (IsSmallFeed stocks accepted) (m ∷ [])
-one-feed stocks accepted m h = All-cons (IsSmallFeed stocks accepted) m [] h (no-feed stocks accepted)
+one-feed : (stocks accepted matches : ℕ) (m : Feed) → IsSmallFeed stocks accepted matches m → All (IsSmallFeed stocks accepted matches) (m ∷ [])
+one-feed stocks accepted matches m h = All-cons (IsSmallFeed stocks accepted matches) m [] h (no-feed stocks accepted matches)
 
 -- ---- the shares that are told
 
@@ -69,25 +69,33 @@ pub record IsFitFill (traders accepted : ℕ) (f : Fill) : Type 0 where
 abbrev told-by : Bool → Symbol → ℕ → Fill → What
 told-by b symbol number f = if b then what.Executed f.resting.reference f.shares number else what.Trade 0 Buy f.shares symbol f.resting.price number
 
-told-small : (b : Bool) (traders accepted : ℕ) (symbol : Symbol) (number : ℕ) (f : Fill) → IsFitFill traders accepted f → IsSmallWhat accepted (told-by b symbol number f)
-told-small true traders accepted symbol number f h = let fit = fit-from traders accepted f.resting h.fit in (fit.reference, h.shares)
-told-small false traders accepted symbol number f h = let fit = fit-from traders accepted f.resting h.fit in (refl, h.shares, fit.price)
+told-small : (b : Bool) (traders accepted matches : ℕ) (symbol : Symbol) (number : ℕ) (f : Fill) → IsUpTo matches number → IsFitFill traders accepted f → IsSmallWhat accepted matches (told-by b symbol number f)
+told-small true traders accepted matches symbol number f numbered h = let fit = fit-from traders accepted f.resting h.fit in (fit.reference, h.shares, numbered)
+told-small false traders accepted matches symbol number f numbered h = let fit = fit-from traders accepted f.resting h.fit in (refl, h.shares, fit.price, numbered)
 
 told-executed : (b : Bool) (symbol : Symbol) (number : ℕ) (f : Fill) → executed_shares (told-by b symbol number f) ≡ f.shares
 told-executed true symbol number f = refl
 told-executed false symbol number f = refl
 
-fed-small : (traders stocks accepted locate time : ℕ) (symbol : Symbol) (number : ℕ) (f : Fill) → IsUpTo stocks locate → IsFitFill traders accepted f → IsSmallFeed stocks accepted (fed locate time symbol number f)
-fed-small traders stocks accepted locate time symbol number f here h = record { locate = here; tracking = refl; what = told-small f.resting.shown traders accepted symbol number f h }
+fed-small : (traders stocks accepted matches locate time : ℕ) (symbol : Symbol) (number : ℕ) (f : Fill) → IsUpTo stocks locate → IsUpTo matches number → IsFitFill traders accepted f → IsSmallFeed stocks accepted matches (fed locate time symbol number f)
+fed-small traders stocks accepted matches locate time symbol number f here numbered h = record { locate = here; tracking = refl; what = told-small f.resting.shown traders accepted matches symbol number f numbered h }
+
+-- each match counts
+pub settled-matches : (t : Taking) (fills : List Fill) (w : Way) → (all_settled t fills w).matches ≡ w.matches + length fills
+settled-matches t [] w = omega arith
+settled-matches t (f ∷ fs) w = let rest : (all_settled t fs (settled t f w)).matches ≡ w.matches + 1 + length fs = settled-matches t fs (settled t f w) in omega (arith, rest)
 
 -- the feed of matches
-pub settled-small : (traders stocks accepted : ℕ) (t : Taking) (fills : List Fill) (w : Way) → IsUpTo stocks t.locate → All (IsFitFill traders accepted) fills → All (IsSmallFeed stocks accepted) w.feed → All (IsSmallFeed stocks accepted) (all_settled t fills w).feed
-settled-small traders stocks accepted t [] w here each h = h
-settled-small traders stocks accepted t (f ∷ fs) w here each h =
+pub settled-small : (traders stocks accepted matches : ℕ) (t : Taking) (fills : List Fill) (w : Way) → IsUpTo stocks t.locate → w.matches + length fills ≤ matches → All (IsFitFill traders accepted) fills → All (IsSmallFeed stocks accepted matches) w.feed → All (IsSmallFeed stocks accepted matches) (all_settled t fills w).feed
+settled-small traders stocks accepted matches t [] w here few each h = h
+settled-small traders stocks accepted matches t (f ∷ fs) w here few each h =
     let m = fed t.locate t.time w.stock.symbol (w.matches + 1) f in
+    let numbered : IsUpTo matches (w.matches + 1) = (omega arith, omega (arith, few)) in
+    let fewer : w.matches + 1 + length fs ≤ matches = omega (arith, few) in
     let first = All-head (IsFitFill traders accepted) f fs each in
-    settled-small traders stocks accepted t fs (settled t f w) here (All-tail (IsFitFill traders accepted) f fs each)
-    (All-append (IsSmallFeed stocks accepted) w.feed (m ∷ []) h (one-feed stocks accepted m (fed-small traders stocks accepted t.locate t.time w.stock.symbol (w.matches + 1) f here first)))
+    let one : IsSmallFeed stocks accepted matches m = fed-small traders stocks accepted matches t.locate t.time w.stock.symbol (w.matches + 1) f here numbered first in
+    settled-small traders stocks accepted matches t fs (settled t f w) here fewer (All-tail (IsFitFill traders accepted) f fs each)
+    (All-append (IsSmallFeed stocks accepted matches) w.feed (m ∷ []) h (one-feed stocks accepted matches m one))
 
 if-true : (b : Bool) (n : ℕ) → b ≡ true → ◌≡◌ {A = ℕ} (if b then n else 0) n
 if-true true n e = refl
@@ -123,43 +131,42 @@ there-settled j t (f ∷ fs) w e =
 -- ---- an order that comes to rest, one that is lowered, a trading action
 
 -- What is told beside matches: small messages that tell no matches.
-pub record IsQuiet (stocks accepted : ℕ) (feed : List Feed) : Type 0 where
-  pub small : All (IsSmallFeed stocks accepted) feed
+pub record IsQuiet (stocks accepted matches : ℕ) (feed : List Feed) : Type 0 where
+  pub small : All (IsSmallFeed stocks accepted matches) feed
   pub none : (j : ℕ) → executed_in j feed ≡ 0
 
-pub quiet-nil : (stocks accepted : ℕ) → IsQuiet stocks accepted []
-quiet-nil stocks accepted = record { small = no-feed stocks accepted; none = λ j. refl }
+pub quiet-nil : (stocks accepted matches : ℕ) → IsQuiet stocks accepted matches []
+quiet-nil stocks accepted matches = record { small = no-feed stocks accepted matches; none = λ j. refl }
 
-quiet-one : (stocks accepted : ℕ) (m : Feed) → IsSmallFeed stocks accepted m → executed_shares m.what ≡ 0 → IsQuiet stocks accepted (m ∷ [])
-quiet-one stocks accepted m h e = record { small = one-feed stocks accepted m h; none = λ j. none-executed j m e }
+quiet-one : (stocks accepted matches : ℕ) (m : Feed) → IsSmallFeed stocks accepted matches m → executed_shares m.what ≡ 0 → IsQuiet stocks accepted matches (m ∷ [])
+quiet-one stocks accepted matches m h e = record { small = one-feed stocks accepted matches m h; none = λ j. none-executed j m e }
 
-quiet-if : (b : Bool) (stocks accepted : ℕ) (m : Feed) → IsSmallFeed stocks accepted m → executed_shares m.what ≡ 0 → IsQuiet stocks accepted (if b then m ∷ [] else [])
-quiet-if true stocks accepted m h e = quiet-one stocks accepted m h e
-quiet-if false stocks accepted m h e = quiet-nil stocks accepted
+quiet-if : (b : Bool) (stocks accepted matches : ℕ) (m : Feed) → IsSmallFeed stocks accepted matches m → executed_shares m.what ≡ 0 → IsQuiet stocks accepted matches (if b then m ∷ [] else [])
+quiet-if true stocks accepted matches m h e = quiet-one stocks accepted matches m h e
+quiet-if false stocks accepted matches m h e = quiet-nil stocks accepted matches
 
-pub added-quiet : (stocks accepted : ℕ) (t : Taking) (e : Enter) (reference left : ℕ) → IsUpTo stocks t.locate → IsUpTo accepted reference → IsUpTo most_shares left → IsUpTo highest_price e.price → IsQuiet stocks accepted (added_feed t e reference left)
-added-quiet stocks accepted t e reference left here given some price =
-    quiet-if (e.display == 89) stocks accepted (record { locate = t.locate; tracking = 0; time = t.time; what = what.Add reference e.side left e.stock e.price })
+pub added-quiet : (stocks accepted matches : ℕ) (t : Taking) (e : Enter) (reference left : ℕ) → IsUpTo stocks t.locate → IsUpTo accepted reference → IsUpTo most_shares left → IsUpTo highest_price e.price → IsQuiet stocks accepted matches (added_feed t e reference left)
+added-quiet stocks accepted matches t e reference left here given some price =
+    quiet-if (e.display == 89) stocks accepted matches (record { locate = t.locate; tracking = 0; time = t.time; what = what.Add reference e.side left e.stock e.price })
     (record { locate = here; tracking = refl; what = (given, some, price) }) refl
 
 abbrev lowering-by : Bool → Resting → ℕ → What
 lowering-by b o left = if b then what.Delete o.reference else what.Cancel o.reference (o.left - left)
 
-lowering-small : (b : Bool) (accepted : ℕ) (o : Resting) (left : ℕ) → IsUpTo accepted o.reference → left < o.left → o.left ≤ most_shares → IsSmallWhat accepted (lowering-by b o left)
-lowering-small true accepted o left given fewer few = given
-lowering-small false accepted o left given fewer few = let shares : IsUpTo most_shares (o.left - left) = (omega (arith, fewer), omega (arith, few)) in (given, shares)
+lowering-small : (b : Bool) (accepted matches : ℕ) (o : Resting) (left : ℕ) → IsUpTo accepted o.reference → left < o.left → o.left ≤ most_shares → IsSmallWhat accepted matches (lowering-by b o left)
+lowering-small true accepted matches o left given fewer few = given
+lowering-small false accepted matches o left given fewer few = let shares : IsUpTo most_shares (o.left - left) = (omega (arith, fewer), omega (arith, few)) in (given, shares)
 
 lowering-executed : (b : Bool) (o : Resting) (left : ℕ) → executed_shares (lowering-by b o left) ≡ 0
 lowering-executed true o left = refl
 lowering-executed false o left = refl
 
-pub lowered-quiet : (stocks accepted locate time : ℕ) (o : Resting) (left : ℕ) → IsUpTo stocks locate → IsUpTo accepted o.reference → left < o.left → o.left ≤ most_shares → IsQuiet stocks accepted (lowered_feed locate time o left)
-lowered-quiet stocks accepted locate time o left here given fewer few =
-    quiet-if o.shown stocks accepted (record { locate = locate; tracking = 0; time = time; what = lowering-by (left == 0) o left })
-    (record { locate = here; tracking = refl; what = lowering-small (left == 0) accepted o left given fewer few }) (lowering-executed (left == 0) o left)
+pub lowered-quiet : (stocks accepted matches locate time : ℕ) (o : Resting) (left : ℕ) → IsUpTo stocks locate → IsUpTo accepted o.reference → left < o.left → o.left ≤ most_shares → IsQuiet stocks accepted matches (lowered_feed locate time o left)
+lowered-quiet stocks accepted matches locate time o left here given fewer few =
+    quiet-if o.shown stocks accepted matches (record { locate = locate; tracking = 0; time = time; what = lowering-by (left == 0) o left })
+    (record { locate = here; tracking = refl; what = lowering-small (left == 0) accepted matches o left given fewer few }) (lowering-executed (left == 0) o left)
 
-pub trading-quiet : (stocks accepted locate time letter : ℕ) (symbol : Symbol) → IsUpTo stocks locate → (letter ≡ trades) ⊎ (letter ≡ stands_still) → IsQuiet stocks accepted (record { locate = locate; tracking = 0; time = time; what = what.Trading symbol letter 32 (32 ∷ 32 ∷ 32 ∷ 32 ∷ []) } ∷ [])
-trading-quiet stocks accepted locate time letter symbol here is =
-    quiet-one stocks accepted (record { locate = locate; tracking = 0; time = time; what = what.Trading symbol letter 32 (32 ∷ 32 ∷ 32 ∷ 32 ∷ []) })
+pub trading-quiet : (stocks accepted matches locate time letter : ℕ) (symbol : Symbol) → IsUpTo stocks locate → (letter ≡ trades) ⊎ (letter ≡ stands_still) → IsQuiet stocks accepted matches (record { locate = locate; tracking = 0; time = time; what = what.Trading symbol letter 32 (32 ∷ 32 ∷ 32 ∷ 32 ∷ []) } ∷ [])
+trading-quiet stocks accepted matches locate time letter symbol here is =
+    quiet-one stocks accepted matches (record { locate = locate; tracking = 0; time = time; what = what.Trading symbol letter 32 (32 ∷ 32 ∷ 32 ∷ 32 ∷ []) })
     (record { locate = here; tracking = refl; what = (is, refl, refl) }) refl
-

@@ -22,6 +22,7 @@ pub record BookLaws : Type 0 where
   pub within : (book : List Resting) (side : Side) (limit shares : ℕ) → All (λ f. (f.shares ≤ f.resting.left) × (f.shares ≤ shares)) (matched book side limit shares).fills
   pub sums : (side : Side) (limit : ℕ) (m : Matching) → sum_by (λ f. f.shares) (completed side limit m).fills + (completed side limit m).shares ≡ sum_by (λ f. f.shares) m.fills + m.shares
   pub give : (book : List Resting) (side : Side) (limit shares : ℕ) → IsOrderly book → All (λ f. 0 < f.shares) (matched book side limit shares).fills
+  pub few-fills : (book : List Resting) (side : Side) (limit shares : ℕ) → IsOrderly book → length (matched book side limit shares).fills ≤ shares
   pub orderly : (side : Side) (limit : ℕ) (m : Matching) → IsOrderly m.book → IsOrderly (completed side limit m).book
   pub tested : (p : Resting → Bool) → IsKeptByFills p → (side : Side) (limit : ℕ) (m : Matching) → All (λ o. p o ≡ true) m.book → All (λ o. p o ≡ true) (completed side limit m).book
   pub few : (side : Side) (limit : ℕ) (m : Matching) → length (completed side limit m).book ≤ length m.book

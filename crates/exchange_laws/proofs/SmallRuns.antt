@@ -29,22 +29,24 @@ pub record IsRun (traders stocks : ℕ) (s : State) (acts : List Act) : Type 0 w
   pub kept : IsFitExchange traders stocks (run s acts)
   pub grows : s.counts.orders ≤ (run s acts).counts.orders
   pub counted : (run s acts).counts.orders ≤ s.counts.orders + messages_in acts
-  pub feed : All (IsSmallFeed stocks (run s acts).counts.orders) (feed_over s acts)
+  pub more : s.counts.matches ≤ (run s acts).counts.matches
+  pub feed : All (IsSmallFeed stocks (run s acts).counts.orders (run s acts).counts.matches) (feed_over s acts)
   pub matched : (j : ℕ) → (stock_at (run s acts) j).tally.matched ≡ (stock_at s j).tally.matched + executed_in j (feed_over s acts)
 
 run-is : (laws : BookLaws) (traders stocks : ℕ) (s : State) (acts : List Act) → IsFitExchange traders stocks s → AllByRecursion (IsPossible traders stocks) acts → IsRun traders stocks s acts
-run-is laws traders stocks s [] kept h = record { kept = kept; grows = omega arith; counted = omega arith; feed = no-feed stocks s.counts.orders; matched = λ j. omega arith }
+run-is laws traders stocks s [] kept h = record { kept = kept; grows = omega arith; counted = omega arith; more = omega arith; feed = no-feed stocks s.counts.orders s.counts.matches; matched = λ j. omega arith }
 run-is laws traders stocks s (a ∷ acts) kept h =
     let next = state_after s a in
     let one : IsStep traders stocks s next (feed_by s a) (messages_in (a ∷ [])) = act-step laws traders stocks s a kept h.0 in
     let rest : IsRun traders stocks next acts = run-is laws traders stocks next acts one.kept h.1 in
     let counts : messages_in (a ∷ acts) ≡ messages_in (a ∷ []) + messages_in acts = messages-more a acts in
-    let last = (run next acts).counts.orders in
+    let last = (run next acts).counts in
     record {
       kept = rest.kept;
       grows = omega (arith, one.grows, rest.grows);
       counted = omega (arith, one.counted, rest.counted, counts);
-      feed = All-append (IsSmallFeed stocks last) (feed_by s a) (feed_over next acts) (feed-more stocks next.counts.orders last (feed_by s a) rest.grows one.feed) rest.feed;
+      more = omega (arith, one.more, rest.more);
+      feed = All-append (IsSmallFeed stocks last.orders last.matches) (feed_by s a) (feed_over next acts) (feed-more stocks next.counts.orders last.orders next.counts.matches last.matches (feed_by s a) rest.grows rest.more one.feed) rest.feed;
       matched = λ j. omega (arith, one.matched j, rest.matched j, executed-append j (feed_by s a) (feed_over next acts));
     }
 
@@ -73,6 +75,7 @@ from-opening laws rules cash hidden acts h =
       many = length-map rules (listed n);
       each = All-map (λ (k : Stock). IsFitBook n 0 k.book) (listed n) rules (λ k d in'. book-nil n);
       few = omega (arith, none);
+      matches = omega arith;
     }) h
 
 -- ---- the laws
@@ -87,9 +90,10 @@ small-exchange laws rules cash hidden acts h =
       stocks = All-weaker (λ (k : Stock). IsFitBook n s.counts.orders k.book) (IsSmallStock n s.counts.orders) (λ k b. record { orders = small-orders n s.counts.orders k.book b; rising = b.orderly.rising }) s.stocks r.kept.each;
       resting = r.kept.few;
       accepted = omega (arith, few);
+      matches = r.kept.matches;
     }
 
-pub small-feed : (laws : BookLaws) (rules : List StockRules) (cash : List ℤ) (hidden : Bool) (acts : List Act) → AllByRecursion (IsPossible (length cash) (length rules)) acts → All (IsSmallFeed (length rules) (run (opened rules cash hidden) acts).counts.orders) (feed_over (opened rules cash hidden) acts)
+pub small-feed : (laws : BookLaws) (rules : List StockRules) (cash : List ℤ) (hidden : Bool) (acts : List Act) → AllByRecursion (IsPossible (length cash) (length rules)) acts → All (IsSmallFeed (length rules) (run (opened rules cash hidden) acts).counts.orders (run (opened rules cash hidden) acts).counts.matches) (feed_over (opened rules cash hidden) acts)
 small-feed laws rules cash hidden acts h = (from-opening laws rules cash hidden acts h).feed
 
 pub matches-told : (laws : BookLaws) (rules : List StockRules) (cash : List ℤ) (hidden : Bool) (acts : List Act) → AllByRecursion (IsPossible (length cash) (length rules)) acts → (k : ℕ) → (stock_at (run (opened rules cash hidden) acts) k).tally.matched ≡ executed_in k (feed_over (opened rules cash hidden) acts)

@@ -1,5 +1,5 @@
 -- One message or change: ranges stay, and what matches is told.
-use Rattle.std.proofs.Common.{◌≡◌, ◌≢◌, ◌⊎◌, inl, inr, ℕ, zero, suc, ◌+◌, ◌-◌, ◌<◌, ◌≤◌, Bool, true, false, List, [], ◌∷◌, length, All, Option, Some, None, arith, refl, subst, ap, sym, ◌∙◌, slice_index_or, slice_set}
+use Rattle.std.proofs.Common.{◌≡◌, ◌≢◌, ◌⊎◌, inl, inr, ℕ, zero, suc, ◌+◌, ◌-◌, ◌*◌, ◌<◌, ◌≤◌, Bool, true, false, List, [], ◌∷◌, length, All, Option, Some, None, arith, refl, subst, ap, sym, ◌∙◌, slice_index_or, slice_set}
 use Rattle.std.specs.Prelude.{◌==◌, nat_lt, if◌then◌else◌}
 use Rattle.std.proofs.lemmas.Bool.{false≢true}
 use Rattle.std.proofs.lemmas.Bool.Decides.{nat_tests}
@@ -40,13 +40,15 @@ pub record IsFitExchange (traders stocks : ℕ) (s : State) : Type 0 where
   pub many : length s.stocks ≡ stocks
   pub each : All (λ (k : Stock). IsFitBook traders s.counts.orders k.book) s.stocks
   pub few : resting_over s.stocks ≤ most_resting
+  pub matches : s.counts.matches ≤ most_shares * s.counts.orders
 
 -- What one message or change does, which has at most so many orders accepted and tells a feed.
 pub record IsStep (traders stocks : ℕ) (s after : State) (told : List Feed) (most : ℕ) : Type 0 where
   pub kept : IsFitExchange traders stocks after
   pub grows : s.counts.orders ≤ after.counts.orders
   pub counted : after.counts.orders ≤ s.counts.orders + most
-  pub feed : All (IsSmallFeed stocks after.counts.orders) told
+  pub more : s.counts.matches ≤ after.counts.matches
+  pub feed : All (IsSmallFeed stocks after.counts.orders after.counts.matches) told
   pub matched : (j : ℕ) → (stock_at after j).tally.matched ≡ (stock_at s j).tally.matched + executed_in j told
 
 -- ---- one stock becomes another
@@ -90,21 +92,23 @@ matched-set xs j k x told false in' e here there =
     omega (arith, at, none)
 
 -- nothing but counts and remembered pairs changes
-still : (traders stocks most : ℕ) (s after : State) → IsFitExchange traders stocks s → after.stocks ≡ s.stocks → after.counts.orders ≡ s.counts.orders → IsStep traders stocks s after [] most
-still traders stocks most s after kept same orders = record {
+still : (traders stocks most : ℕ) (s after : State) → IsFitExchange traders stocks s → after.stocks ≡ s.stocks → after.counts.orders ≡ s.counts.orders → after.counts.matches ≡ s.counts.matches → IsStep traders stocks s after [] most
+still traders stocks most s after kept same orders matches = record {
   kept = record {
     many = ap (λ (xs : List Stock). length xs) same ∙ kept.many;
     each = subst (λ (n : ℕ). All (λ (k : Stock). IsFitBook traders n k.book) after.stocks) (sym orders) (subst (λ (xs : List Stock). All (λ (k : Stock). IsFitBook traders s.counts.orders k.book) xs) (sym same) kept.each);
     few = subst (λ (xs : List Stock). resting_over xs ≤ most_resting) (sym same) kept.few;
+    matches = omega (arith, kept.matches, orders, matches);
   };
   grows = omega (arith, orders);
   counted = omega (arith, orders);
-  feed = no-feed stocks after.counts.orders;
+  more = omega (arith, matches);
+  feed = no-feed stocks after.counts.orders after.counts.matches;
   matched = λ j. let at : (stock_at after j).tally.matched ≡ (stock_at s j).tally.matched = ap (λ (xs : List Stock). (slice_index_or xs j no_stock).tally.matched) same in omega (arith, at);
 }
 
 -- a stock's book or rules change, and no matches are told
-moved : (traders stocks most : ℕ) (s : State) (k : ℕ) (x : Stock) (feed : List Feed) → IsFitExchange traders stocks s → k < length s.stocks → IsFitBook traders s.counts.orders x.book → length x.book ≤ length (stock_at s k).book → x.tally.matched ≡ (stock_at s k).tally.matched → IsQuiet stocks s.counts.orders feed → IsStep traders stocks s (with_stock s k x) feed most
+moved : (traders stocks most : ℕ) (s : State) (k : ℕ) (x : Stock) (feed : List Feed) → IsFitExchange traders stocks s → k < length s.stocks → IsFitBook traders s.counts.orders x.book → length x.book ≤ length (stock_at s k).book → x.tally.matched ≡ (stock_at s k).tally.matched → IsQuiet stocks s.counts.orders s.counts.matches feed → IsStep traders stocks s (with_stock s k x) feed most
 moved traders stocks most s k x feed kept in' book fewer tally quiet =
     let rests = resting-set s.stocks k x in' in
     let few : resting_over s.stocks ≤ most_resting = kept.few in
@@ -113,9 +117,11 @@ moved traders stocks most s k x feed kept in' book fewer tally quiet =
         many = length-set s.stocks k x ∙ kept.many;
         each = All-set (λ (y : Stock). IsFitBook traders s.counts.orders y.book) s.stocks k x book kept.each;
         few = omega (arith, rests, fewer, few);
+        matches = kept.matches;
       };
       grows = omega arith;
       counted = omega arith;
+      more = omega arith;
       feed = quiet.small;
       matched = λ j. let none : executed_in j feed ≡ 0 = quiet.none j in matched-set s.stocks j k x (executed_in j feed) (k + 1 == j + 1) in' refl (λ e. omega (arith, tally, none)) (λ e. none);
     }
@@ -137,27 +143,30 @@ accepted-step laws traders stocks s time agent e k kept trader is =
     let w = way_from (remembering s agent e) time agent e k in
     let z = way_of t e (n + 1) w in
     let locate : IsUpTo stocks (k + 1) = (omega arith, omega (arith, in', many)) in
-    let h : IsFitEnd traders stocks n (k + 1) w z = fit-end laws traders stocks n t e w locate trader ok.price ok.shares.1 (omega (arith, fewer, room)) here (no-feed stocks (n + 1)) in
+    let h : IsFitEnd traders stocks n (k + 1) w z = fit-end laws traders stocks n t e w locate trader ok.price ok.shares.1 (omega (arith, fewer, room)) here (no-feed stocks (n + 1) w.matches) in
     let rests = resting-set s.stocks k z.stock in' in
     let longer : length z.stock.book ≤ length x.book + 1 = h.few in
+    let matched : z.matches ≤ s.counts.matches + most_shares = h.matches in
     record {
       kept = record {
         many = length-set s.stocks k z.stock ∙ kept.many;
         each = All-set (λ (y : Stock). IsFitBook traders (n + 1) y.book) s.stocks k z.stock h.book (All-weaker (λ (y : Stock). IsFitBook traders n y.book) (λ (y : Stock). IsFitBook traders (n + 1) y.book) (λ y b. book-more traders n (n + 1) y.book (omega arith) b) s.stocks kept.each);
         few = omega (arith, rests, longer, room);
+        matches = omega (arith, matched, kept.matches);
       };
       grows = omega arith;
       counted = omega arith;
+      more = h.grows;
       feed = h.feed;
       matched = λ j. matched-set s.stocks j k z.stock (executed_in j z.feed) (k + 1 == j + 1) in' refl
-      (λ q. let told : executed_in j z.feed + x.tally.matched ≡ 0 + z.stock.tally.matched = h.here j q in omega (arith, told))
-      (λ q. h.there j q);
+          (λ q. let told : executed_in j z.feed + x.tally.matched ≡ 0 + z.stock.tally.matched = h.here j q in omega (arith, told))
+          (λ q. h.there j q);
     }
 
 entered-step : (laws : BookLaws) (traders stocks : ℕ) (s : State) (time agent : ℕ) (e : Enter) (v : Verdict) → IsFitExchange traders stocks s → IsUpTo traders agent → verdict_of s agent e ≡ v → IsStep traders stocks s (entered_by s time agent e v).state (entered_by s time agent e v).feed 1
-entered-step laws traders stocks s time agent e Ignored kept trader is = still traders stocks 1 s (entered_by s time agent e Ignored).state kept refl refl
-entered-step laws traders stocks s time agent e (Forgotten reason) kept trader is = still traders stocks 1 s (entered_by s time agent e (Forgotten reason)).state kept refl refl
-entered-step laws traders stocks s time agent e (Refused reason) kept trader is = still traders stocks 1 s (entered_by s time agent e (Refused reason)).state kept refl refl
+entered-step laws traders stocks s time agent e Ignored kept trader is = still traders stocks 1 s (entered_by s time agent e Ignored).state kept refl refl refl
+entered-step laws traders stocks s time agent e (Forgotten reason) kept trader is = still traders stocks 1 s (entered_by s time agent e (Forgotten reason)).state kept refl refl refl
+entered-step laws traders stocks s time agent e (Refused reason) kept trader is = still traders stocks 1 s (entered_by s time agent e (Refused reason)).state kept refl refl refl
 entered-step laws traders stocks s time agent e (Accepted k) kept trader is = accepted-step laws traders stocks s time agent e k kept trader is
 
 -- ---- a Cancel
@@ -193,7 +202,7 @@ canceled-step laws traders stocks s time agent c f kept is below =
       sizes = laws.lower-tested is_sized sizes-by-reduce o.reference left x.book o by le here.sizes;
     })
     (laws.lower-few (reduced left o) x.book) refl
-    (lowered-quiet stocks n (k + 1) time o left locate fit.reference fewer (omega (arith, within, sized)))
+    (lowered-quiet stocks n s.counts.matches (k + 1) time o left locate fit.reference fewer (omega (arith, within, sized)))
 
 abbrev cancel-by : Bool → State → ℕ → ℕ → Cancel → Found → Outcome
 cancel-by b s time agent c f = if b then canceled s time agent c f.stock f.order else unheard s
@@ -202,11 +211,11 @@ below-from : (m n : ℕ) → nat_lt m n ≡ true → m < n
 below-from m n e = grind (arith, nat_tests)
 
 cancel-step : (laws : BookLaws) (traders stocks : ℕ) (s : State) (time agent : ℕ) (c : Cancel) (f : Option Found) → IsFitExchange traders stocks s → found_from 0 agent c.token s.stocks ≡ f → IsStep traders stocks s (cancel_of s time agent c f).state (cancel_of s time agent c f).feed 1
-cancel-step laws traders stocks s time agent c None kept is = still traders stocks 1 s (unheard s).state kept refl refl
+cancel-step laws traders stocks s time agent c None kept is = still traders stocks 1 s (unheard s).state kept refl refl refl
 cancel-step laws traders stocks s time agent c (Some f) kept is =
     elim (nat_lt c.shares f.order.intended) as (λ b. nat_lt c.shares f.order.intended ≡ b → IsStep traders stocks s (cancel-by b s time agent c f).state (cancel-by b s time agent c f).feed 1) [
       | true ↦ λ e. canceled-step laws traders stocks s time agent c f kept is (below-from c.shares f.order.intended e)
-      | false ↦ λ e. still traders stocks 1 s (unheard s).state kept refl refl
+      | false ↦ λ e. still traders stocks 1 s (unheard s).state kept refl refl refl
     ] refl
 
 -- ---- any message
@@ -214,14 +223,14 @@ cancel-step laws traders stocks s time agent c (Some f) kept is =
 pub message-step : (laws : BookLaws) (traders stocks : ℕ) (s : State) (time agent : ℕ) (b : Body) → IsFitExchange traders stocks s → IsUpTo traders agent → IsStep traders stocks s (market s time agent b).state (market s time agent b).feed 1
 message-step laws traders stocks s time agent (body.Order (inbound.Enter e)) kept trader = entered-step laws traders stocks s time agent e (verdict_of s agent e) kept trader refl
 message-step laws traders stocks s time agent (body.Order (inbound.Cancel c)) kept trader = cancel-step laws traders stocks s time agent c (found_from 0 agent c.token s.stocks) kept refl
-message-step laws traders stocks s time agent (body.Ask k) kept trader = still traders stocks 1 s s kept refl refl
-message-step laws traders stocks s time agent body.Wake kept trader = still traders stocks 1 s s kept refl refl
-message-step laws traders stocks s time agent (body.Answer r) kept trader = still traders stocks 1 s s kept refl refl
-message-step laws traders stocks s time agent (body.Quote q) kept trader = still traders stocks 1 s s kept refl refl
+message-step laws traders stocks s time agent (body.Ask k) kept trader = still traders stocks 1 s s kept refl refl refl
+message-step laws traders stocks s time agent body.Wake kept trader = still traders stocks 1 s s kept refl refl refl
+message-step laws traders stocks s time agent (body.Answer r) kept trader = still traders stocks 1 s s kept refl refl refl
+message-step laws traders stocks s time agent (body.Quote q) kept trader = still traders stocks 1 s s kept refl refl refl
 
 -- ---- a change of rules
 
-ruled : (traders stocks : ℕ) (s : State) (k : ℕ) (x : Stock) (feed : List Feed) → IsFitExchange traders stocks s → k < length s.stocks → x.book ≡ (stock_at s k).book → x.tally ≡ (stock_at s k).tally → IsQuiet stocks s.counts.orders feed → IsStep traders stocks s (with_stock s k x) feed 0
+ruled : (traders stocks : ℕ) (s : State) (k : ℕ) (x : Stock) (feed : List Feed) → IsFitExchange traders stocks s → k < length s.stocks → x.book ≡ (stock_at s k).book → x.tally ≡ (stock_at s k).tally → IsQuiet stocks s.counts.orders s.counts.matches feed → IsStep traders stocks s (with_stock s k x) feed 0
 ruled traders stocks s k x feed kept in' is-book is-tally quiet =
     let here : IsFitBook traders s.counts.orders (stock_at s k).book = kept.each k no_stock in' in
     let same : length x.book ≡ length (stock_at s k).book = ap (λ (b : List Resting). length b) is-book in
@@ -240,12 +249,12 @@ turn-step traders stocks s time k letter kept in' is =
     let many : length s.stocks ≡ stocks = kept.many in
     let locate : IsUpTo stocks (k + 1) = (omega arith, omega (arith, in', many)) in
     elim ((stock_at s k).trading == letter) as (λ b. IsStep traders stocks s (turned-way b s time k letter).state (turned-way b s time k letter).feed 0) [
-      | true ↦ still traders stocks 0 s s kept refl refl
-      | false ↦ ruled traders stocks s k (record (stock_at s k) { trading = letter }) (turned-way false s time k letter).feed kept in' refl refl (trading-quiet stocks s.counts.orders (k + 1) time letter (stock_at s k).symbol locate is)
+      | true ↦ still traders stocks 0 s s kept refl refl refl
+      | false ↦ ruled traders stocks s k (record (stock_at s k) { trading = letter }) (turned-way false s time k letter).feed kept in' refl refl (trading-quiet stocks s.counts.orders s.counts.matches (k + 1) time letter (stock_at s k).symbol locate is)
     ]
 
 pub change-step : (traders stocks : ℕ) (s : State) (time k : ℕ) (c : Change) → IsFitExchange traders stocks s → k < stocks → IsStep traders stocks s (changed_by s time k c).state (changed_by s time k c).feed 0
-change-step traders stocks s time k (change.Tick bands) kept h = let many : length s.stocks ≡ stocks = kept.many in ruled traders stocks s k (record (stock_at s k) { bands = bands }) [] kept (omega (arith, h, many)) refl refl (quiet-nil stocks s.counts.orders)
-change-step traders stocks s time k (change.Fee fees) kept h = let many : length s.stocks ≡ stocks = kept.many in ruled traders stocks s k (record (stock_at s k) { fees = fees }) [] kept (omega (arith, h, many)) refl refl (quiet-nil stocks s.counts.orders)
+change-step traders stocks s time k (change.Tick bands) kept h = let many : length s.stocks ≡ stocks = kept.many in ruled traders stocks s k (record (stock_at s k) { bands = bands }) [] kept (omega (arith, h, many)) refl refl (quiet-nil stocks s.counts.orders s.counts.matches)
+change-step traders stocks s time k (change.Fee fees) kept h = let many : length s.stocks ≡ stocks = kept.many in ruled traders stocks s k (record (stock_at s k) { fees = fees }) [] kept (omega (arith, h, many)) refl refl (quiet-nil stocks s.counts.orders s.counts.matches)
 change-step traders stocks s time k change.Halt kept h = let many : length s.stocks ≡ stocks = kept.many in turn-step traders stocks s time k stands_still kept (omega (arith, h, many)) (inr refl)
 change-step traders stocks s time k change.Resume kept h = let many : length s.stocks ≡ stocks = kept.many in turn-step traders stocks s time k trades kept (omega (arith, h, many)) (inl refl)

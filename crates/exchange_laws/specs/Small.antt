@@ -1,5 +1,5 @@
 -- How large the numbers of an exchange's orders and of its feed become.
-use Rattle.std.specs.Prelude.{◌≡◌, ◌≤◌, ◌⊎◌, ℕ, List, [], ◌∷◌, All}
+use Rattle.std.specs.Prelude.{◌≡◌, ◌≤◌, ◌⊎◌, ℕ, ◌*◌, List, [], ◌∷◌, All}
 use Rattle.market_types.specs.Limits.{highest_price}
 use Rattle.market_types.specs.declared.feed.Feed.{Feed}
 use Rattle.market_types.specs.declared.feed.What.{What}
@@ -34,25 +34,28 @@ pub record IsSmallStock (traders accepted : ℕ) (k : Stock) : Type 0 where
   pub orders : All (IsSmallOrder traders accepted) k.book
   pub rising : IsRising k.book
 
--- An exchange among so many traders after so many messages: a message has at most one order accepted.
+-- An exchange among so many traders after so many messages: a message has at most one order accepted, which matches at most as
+-- often as it has shares.
 pub record IsSmallExchange (traders messages : ℕ) (s : State) : Type 0 where
   pub stocks : All (IsSmallStock traders s.counts.orders) s.stocks
   pub resting : resting_over s.stocks ≤ most_resting
   pub accepted : s.counts.orders ≤ messages
+  pub matches : s.counts.matches ≤ most_shares * s.counts.orders
 
--- What a feed message says, once so many orders were accepted. A match with a hidden order is told with reference 0. A trading
--- action has the state 'T' or 'H', a space and four spaces. No other kind is told of a message or of a change.
-abbrev pub IsSmallWhat : ℕ → What → Type 0
-IsSmallWhat accepted (what.Add reference side shares stock price) = IsUpTo accepted reference × IsUpTo most_shares shares × IsUpTo highest_price price
-IsSmallWhat accepted (what.Executed reference shares number) = IsUpTo accepted reference × IsUpTo most_shares shares
-IsSmallWhat accepted (what.Cancel reference shares) = IsUpTo accepted reference × IsUpTo most_shares shares
-IsSmallWhat accepted (what.Delete reference) = IsUpTo accepted reference
-IsSmallWhat accepted (what.Trade reference side shares stock price number) = (reference ≡ 0) × IsUpTo most_shares shares × IsUpTo highest_price price
-IsSmallWhat accepted (what.Trading stock state reserved reason) = ((state ≡ trades) ⊎ (state ≡ stands_still)) × (reserved ≡ 32) × (reason ≡ 32 ∷ 32 ∷ 32 ∷ 32 ∷ [])
-IsSmallWhat accepted _ = ⊥
+-- What a feed message says, once so many orders were accepted and there were so many matches, which are numbered from 1. A match
+-- with a hidden order is told with reference 0. A trading action has the state 'T' or 'H', a space and four spaces. No other kind
+-- is told of a message or of a change.
+abbrev pub IsSmallWhat : ℕ → ℕ → What → Type 0
+IsSmallWhat accepted matches (what.Add reference side shares stock price) = IsUpTo accepted reference × IsUpTo most_shares shares × IsUpTo highest_price price
+IsSmallWhat accepted matches (what.Executed reference shares number) = IsUpTo accepted reference × IsUpTo most_shares shares × IsUpTo matches number
+IsSmallWhat accepted matches (what.Cancel reference shares) = IsUpTo accepted reference × IsUpTo most_shares shares
+IsSmallWhat accepted matches (what.Delete reference) = IsUpTo accepted reference
+IsSmallWhat accepted matches (what.Trade reference side shares stock price number) = (reference ≡ 0) × IsUpTo most_shares shares × IsUpTo highest_price price × IsUpTo matches number
+IsSmallWhat accepted matches (what.Trading stock state reserved reason) = ((state ≡ trades) ⊎ (state ≡ stands_still)) × (reserved ≡ 32) × (reason ≡ 32 ∷ 32 ∷ 32 ∷ 32 ∷ [])
+IsSmallWhat accepted matches _ = ⊥
 
 -- A feed message of one of so many stocks.
-pub record IsSmallFeed (stocks accepted : ℕ) (m : Feed) : Type 0 where
+pub record IsSmallFeed (stocks accepted matches : ℕ) (m : Feed) : Type 0 where
   pub locate : IsUpTo stocks m.locate
   pub tracking : m.tracking ≡ 0
-  pub what : IsSmallWhat accepted m.what
+  pub what : IsSmallWhat accepted matches m.what

@@ -19,8 +19,9 @@ use price_time_book::keeping::{
 /// From an opening on, whatever messages and changes come: each order that rests has a reference from 1 to the
 /// number of accepted orders, which are no more than the messages, an agent that is a trader, a price from 1 to
 /// 1,999,999,900, an intended size of at most 999,999 shares, and open shares from 1 to that; the references of
-/// each book rise; and at most 16,384 orders rest. Each message of the feed has the locate of a stock, and its
-/// reference, shares and price are in the same ranges; no trading action has another state than `T` or `H`.
+/// each book rise; at most 16,384 orders rest; and there are at most 999,999 matches for each accepted order. Each
+/// message of the feed has the locate of a stock, and its reference, shares and price are in the same ranges, as is
+/// the number of a match; no trading action has another state than `T` or `H`.
 pub fn live_orders_are_small()
     ensures orders { (rules : List StockRules) (cash : List ℤ) (hidden : Bool) (acts : List Act) →
         IsOpening rules cash →
@@ -29,7 +30,8 @@ pub fn live_orders_are_small()
     ensures feed { (rules : List StockRules) (cash : List ℤ) (hidden : Bool) (acts : List Act) →
         IsOpening rules cash →
         AllByRecursion (IsPossible (length cash) (length rules)) acts →
-        All (IsSmallFeed (length rules) (run (opened rules cash hidden) acts).counts.orders) (feed_over (opened rules cash hidden) acts) }
+        let last = run (opened rules cash hidden) acts in
+        All (IsSmallFeed (length rules) last.counts.orders last.counts.matches) (feed_over (opened rules cash hidden) acts) }
 {
     a_match_keeps();
     a_reduce_keeps();

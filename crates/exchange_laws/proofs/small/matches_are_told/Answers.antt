@@ -9,6 +9,7 @@ returns c = λ rules cash hidden acts opening possible.
       within = c.fills_add_up.ensures.within;
       sums = c.fills_add_up.ensures.shares;
       give = c.orderly_books_stay.ensures.give;
+      few-fills = c.orderly_books_stay.ensures.few;
       orderly = c.orderly_books_stay.ensures.orderly;
       tested = c.a_match_keeps.ensures.tested;
       few = c.a_match_keeps.ensures.length;
