@@ -2,7 +2,6 @@
 use Rattle.std.proofs.Common.{◌≡◌, ◌≢◌, ℕ, ◌+◌, ◌<◌, ◌≤◌, Bool, true, false, List, [], ◌∷◌, ◌++◌, length, slice_index_or, All, arith, refl, ap, subst, sym, ◌∙◌, sum_by}
 use Rattle.std.specs.Prelude.{◌==◌, if◌then◌else◌}
 use Rattle.std.proofs.lemmas.Bool.{false≢true}
-use Rattle.std.proofs.lemmas.Bool.Decides.{nat_tests}
 use Rattle.std.proofs.lemmas.List.{length-append}
 use Rattle.std.proofs.lemmas.List.Elements.{All-append, All-push, All-weaker}
 use Rattle.market_types.specs.Limits.{highest_price}
@@ -13,15 +12,14 @@ use Rattle.market_types.specs.declared.reply.Reply.TheVariants.{Canceled}
 use Rattle.price_time_book.specs.declared.resting.Fill.{Fill}
 use Rattle.price_time_book.specs.declared.resting.Resting.{Resting}
 use Rattle.price_time_book.specs.Matched.{Matching, matched}
-use Rattle.price_time_book.specs.Orderly.{IsOrderly}
 use Rattle.exchange_agent.specs.declared.settle.Taking.{Taking}
 use Rattle.exchange_agent.specs.Enter.{added_feed, resting_of, way_of}
 use Rattle.exchange_agent.specs.Settle.{Way, all_settled}
 use Rattle.exchange_agent.specs.State.{Stock}
 use Rattle.exchange_laws.specs.Executed.{executed_in}
 use Rattle.exchange_laws.specs.Small.{IsSmallFeed, IsUpTo, most_shares}
-use Rattle.exchange_laws.proofs.SmallFeeds.{IsFitFill, IsQuiet, added-quiet, executed-append, feed-more, here-settled, settled-matches, settled-small, there-settled}
-use Rattle.exchange_laws.proofs.SmallFits.{BookLaws, IsFitBook, book-more, fit-from, fit-is, fit-more, fits-by-fills, fits-more, is_fit, is_sized, most-is, sizes-by-fills, up-more}
+use Rattle.exchange_laws.proofs.SmallFeeds.{IsFitFill, added-quiet, executed-append, feed-more, here-settled, settled-matches, settled-small, there-settled}
+use Rattle.exchange_laws.proofs.SmallFits.{BookLaws, IsFitBook, book-more, fit-from, fit-is, fit-more, fits-by-fills, fits-more, is_fit, is_sized, most-is, sizes-by-fills}
 use Rattle.exchange_laws.proofs.SmallWays.{way-book}
 
 -- A way that has come so far, once so many orders were accepted before: its book, and its feed, which tells what matched.
