@@ -18,7 +18,7 @@ use Rattle.exchange_agent.specs.Settle.{Way, all_settled}
 use Rattle.exchange_agent.specs.State.{Stock}
 use Rattle.exchange_laws.specs.Executed.{executed_in}
 use Rattle.exchange_laws.specs.Small.{IsSmallFeed, IsUpTo, most_shares}
-use Rattle.exchange_laws.proofs.SmallFeeds.{IsFitFill, added-quiet, executed-append, feed-more, here-settled, settled-matches, settled-small, there-settled}
+use Rattle.exchange_laws.proofs.SmallFeeds.{IsFitFill, added-quiet, executed-append, feed-more, here-settled, settled-matches, settled-small, settled-state, there-settled}
 use Rattle.exchange_laws.proofs.SmallFits.{BookLaws, IsFitBook, book-more, fit-from, fit-is, fit-more, fits-by-fills, fits-more, is_fit, is_sized, most-is, sizes-by-fills}
 use Rattle.exchange_laws.proofs.SmallWays.{way-book}
 
@@ -28,6 +28,7 @@ pub record IsFitWay (traders stocks accepted locate : ℕ) (w v : Way) : Type 0 
   pub feed : All (IsSmallFeed stocks (accepted + 1) v.matches) v.feed
   pub grows : w.matches ≤ v.matches
   pub matches : v.matches ≤ w.matches + most_shares
+  pub state : v.stock.trading ≡ w.stock.trading
   pub here : (j : ℕ) → (locate == j + 1) ≡ true → executed_in j v.feed + w.stock.tally.matched ≡ executed_in j w.feed + v.stock.tally.matched
   pub there : (j : ℕ) → (locate == j + 1) ≡ false → executed_in j v.feed ≡ executed_in j w.feed
 
@@ -38,6 +39,7 @@ pub record IsFitEnd (traders stocks accepted locate : ℕ) (w z : Way) : Type 0 
   pub feed : All (IsSmallFeed stocks (accepted + 1) z.matches) z.feed
   pub grows : w.matches ≤ z.matches
   pub matches : z.matches ≤ w.matches + most_shares
+  pub state : z.stock.trading ≡ w.stock.trading
   pub here : (j : ℕ) → (locate == j + 1) ≡ true → executed_in j z.feed + w.stock.tally.matched ≡ executed_in j w.feed + z.stock.tally.matched
   pub there : (j : ℕ) → (locate == j + 1) ≡ false → executed_in j z.feed ≡ executed_in j w.feed
 
@@ -74,6 +76,7 @@ end-same traders stocks accepted locate w v z same told counts few h =
       feed = subst (λ (f : List Feed). All (IsSmallFeed stocks (accepted + 1) z.matches) f) (sym told) (subst (λ (n : ℕ). All (IsSmallFeed stocks (accepted + 1) n) v.feed) (sym counts) h.feed);
       grows = omega (arith, h.grows, counts);
       matches = omega (arith, h.matches, counts);
+      state = ap (λ (k : Stock). k.trading) same ∙ h.state;
       here = λ j e. omega (arith, feeds j, tallies, h.here j e);
       there = λ j e. feeds j ∙ h.there j e;
     }
@@ -97,6 +100,7 @@ end-rested laws traders stocks accepted t e left w v locate agent price small so
       feed = All-append (IsSmallFeed stocks (accepted + 1) v.matches) v.feed (added_feed t e (accepted + 1) left) h.feed told.small;
       grows = h.grows;
       matches = h.matches;
+      state = h.state;
       here = λ j q. omega (arith, feeds j, h.here j q);
       there = λ j q. feeds j ∙ h.there j q;
     }
@@ -134,6 +138,7 @@ fit-end laws traders stocks accepted t e w locate agent price small room book fe
       feed = settled-small traders stocks (accepted + 1) v.matches t k.fills w locate (omega (arith, counts)) (fit-fills laws traders accepted w.stock.book e small book) (feed-more stocks (accepted + 1) (accepted + 1) w.matches v.matches w.feed (omega arith) (omega (arith, counts)) feed);
       grows = omega (arith, counts);
       matches = omega (arith, counts, each, small);
+      state = settled-state t k.fills w;
       here = λ j q. here-settled j t k.fills w q;
       there = λ j q. there-settled j t k.fills w q;
     } in

@@ -18,7 +18,7 @@ use Rattle.exchange_agent.specs.Enter.{added_feed}
 use Rattle.exchange_agent.specs.Settle.{Way, all_settled, fed, settled}
 use Rattle.exchange_agent.specs.State.{stands_still, trades}
 use Rattle.exchange_laws.specs.Executed.{executed_by, executed_in, executed_shares}
-use Rattle.exchange_laws.specs.Small.{IsSmallFeed, IsSmallWhat, IsUpTo, most_shares}
+use Rattle.exchange_laws.specs.Small.{IsSmallFeed, IsSmallWhat, IsTradingState, IsUpTo, most_shares}
 use Rattle.exchange_laws.proofs.SmallFits.{fit-from, is_fit, up-more}
 
 what-more : (a b m n : ℕ) (w : What) → a ≤ b → m ≤ n → IsSmallWhat a m w → IsSmallWhat b n w
@@ -84,6 +84,11 @@ fed-small traders stocks accepted matches locate time symbol number f here numbe
 pub settled-matches : (t : Taking) (fills : List Fill) (w : Way) → (all_settled t fills w).matches ≡ w.matches + length fills
 settled-matches t [] w = omega arith
 settled-matches t (f ∷ fs) w = let rest : (all_settled t fs (settled t f w)).matches ≡ w.matches + 1 + length fs = settled-matches t fs (settled t f w) in omega (arith, rest)
+
+-- and the trading state stays
+pub settled-state : (t : Taking) (fills : List Fill) (w : Way) → (all_settled t fills w).stock.trading ≡ w.stock.trading
+settled-state t [] w = refl
+settled-state t (f ∷ fs) w = settled-state t fs (settled t f w)
 
 -- the feed of matches
 pub settled-small : (traders stocks accepted matches : ℕ) (t : Taking) (fills : List Fill) (w : Way) → IsUpTo stocks t.locate → w.matches + length fills ≤ matches → All (IsFitFill traders accepted) fills → All (IsSmallFeed stocks accepted matches) w.feed → All (IsSmallFeed stocks accepted matches) (all_settled t fills w).feed
@@ -166,7 +171,7 @@ lowered-quiet stocks accepted matches locate time o left here given fewer few =
     quiet-if o.shown stocks accepted matches (record { locate = locate; tracking = 0; time = time; what = lowering-by (left == 0) o left })
     (record { locate = here; tracking = refl; what = lowering-small (left == 0) accepted matches o left given fewer few }) (lowering-executed (left == 0) o left)
 
-pub trading-quiet : (stocks accepted matches locate time letter : ℕ) (symbol : Symbol) → IsUpTo stocks locate → (letter ≡ trades) ⊎ (letter ≡ stands_still) → IsQuiet stocks accepted matches (record { locate = locate; tracking = 0; time = time; what = what.Trading symbol letter 32 (32 ∷ 32 ∷ 32 ∷ 32 ∷ []) } ∷ [])
+pub trading-quiet : (stocks accepted matches locate time letter : ℕ) (symbol : Symbol) → IsUpTo stocks locate → IsTradingState letter → IsQuiet stocks accepted matches (record { locate = locate; tracking = 0; time = time; what = what.Trading symbol letter 32 (32 ∷ 32 ∷ 32 ∷ 32 ∷ []) } ∷ [])
 trading-quiet stocks accepted matches locate time letter symbol here is =
     quiet-one stocks accepted matches (record { locate = locate; tracking = 0; time = time; what = what.Trading symbol letter 32 (32 ∷ 32 ∷ 32 ∷ 32 ∷ []) })
     (record { locate = here; tracking = refl; what = (is, refl, refl) }) refl

@@ -1,5 +1,5 @@
 -- Whole runs from an opening.
-use Rattle.std.proofs.Common.{◌≡◌, ℕ, zero, suc, ◌+◌, ◌≤◌, ℤ, List, [], ◌∷◌, map, length, All, arith, refl, slice_index_or, Bool}
+use Rattle.std.proofs.Common.{◌≡◌, inl, ℕ, zero, suc, ◌+◌, ◌≤◌, ℤ, List, [], ◌∷◌, map, length, All, arith, refl, slice_index_or, Bool}
 use Rattle.std.specs.List.{AllByRecursion}
 use Rattle.std.proofs.lemmas.List.{length-map}
 use Rattle.std.proofs.lemmas.List.Elements.{All-append, All-map, All-weaker}
@@ -13,8 +13,8 @@ use Rattle.exchange_laws.specs.Feeds.{feed_by, feed_over}
 use Rattle.exchange_laws.specs.Messages.{messages_in}
 use Rattle.exchange_laws.specs.Small.{IsSmallExchange, IsSmallFeed, IsSmallStock}
 use Rattle.exchange_laws.proofs.SmallFeeds.{executed-append, feed-more, no-feed}
-use Rattle.exchange_laws.proofs.SmallFits.{BookLaws, IsFitBook, book-nil, small-orders}
-use Rattle.exchange_laws.proofs.SmallSteps.{IsFitExchange, IsStep, change-step, message-step}
+use Rattle.exchange_laws.proofs.SmallFits.{BookLaws, book-nil, small-orders}
+use Rattle.exchange_laws.proofs.SmallSteps.{IsFitExchange, IsFitStock, IsStep, change-step, message-step}
 
 act-step : (laws : BookLaws) (traders stocks : ℕ) (s : State) (a : Act) → IsFitExchange traders stocks s → IsPossible traders stocks a → IsStep traders stocks s (state_after s a) (feed_by s a) (messages_in (a ∷ []))
 act-step laws traders stocks s (message time from b) kept h = message-step laws traders stocks s time from b kept h
@@ -73,7 +73,7 @@ from-opening laws rules cash hidden acts h =
     run-is laws n (length rules) (opened rules cash hidden) acts
     (record {
       many = length-map rules (listed n);
-      each = All-map (λ (k : Stock). IsFitBook n 0 k.book) (listed n) rules (λ k d in'. book-nil n);
+      each = All-map (IsFitStock n 0) (listed n) rules (λ k d in'. record { book = book-nil n; state = inl refl });
       few = omega (arith, none);
       matches = omega arith;
     }) h
@@ -87,7 +87,7 @@ small-exchange laws rules cash hidden acts h =
     let s = run (opened rules cash hidden) acts in
     let few : s.counts.orders ≤ 0 + messages_in acts = r.counted in
     record {
-      stocks = All-weaker (λ (k : Stock). IsFitBook n s.counts.orders k.book) (IsSmallStock n s.counts.orders) (λ k b. record { orders = small-orders n s.counts.orders k.book b; rising = b.orderly.rising }) s.stocks r.kept.each;
+      stocks = All-weaker (IsFitStock n s.counts.orders) (IsSmallStock n s.counts.orders) (λ k b. record { orders = small-orders n s.counts.orders k.book b.book; rising = b.book.orderly.rising; state = b.state }) s.stocks r.kept.each;
       resting = r.kept.few;
       accepted = omega (arith, few);
       matches = r.kept.matches;

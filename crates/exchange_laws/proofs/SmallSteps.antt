@@ -28,17 +28,25 @@ use Rattle.exchange_agent.specs.Market.{market}
 use Rattle.exchange_agent.specs.Outcome.{Outcome}
 use Rattle.exchange_agent.specs.State.{State, Stock, no_stock, resting_over, stands_still, stock_at, trades, with_stock}
 use Rattle.exchange_laws.specs.Executed.{executed_in}
-use Rattle.exchange_laws.specs.Small.{IsSmallFeed, IsUpTo, most_resting, most_shares}
+use Rattle.exchange_laws.specs.Small.{IsSmallFeed, IsTradingState, IsUpTo, most_resting, most_shares}
 use Rattle.exchange_laws.proofs.SmallCancels.{found-passes, found-there}
 use Rattle.exchange_laws.proofs.SmallEnters.{IsFitEnd, fit-end}
 use Rattle.exchange_laws.proofs.SmallFeeds.{IsQuiet, lowered-quiet, no-feed, quiet-nil, trading-quiet}
 use Rattle.exchange_laws.proofs.SmallFits.{BookLaws, IsFitBook, book-more, fit-from, fits-by-reduce, is_fit, is_sized, most-from, sizes-by-reduce}
 use Rattle.exchange_laws.proofs.SmallVerdicts.{acceptable}
 
--- An exchange of so many stocks among so many traders whose orders are in their ranges.
+-- A stock whose orders are in their ranges, and which trades or is halted.
+pub record IsFitStock (traders accepted : ℕ) (k : Stock) : Type 0 where
+  pub book : IsFitBook traders accepted k.book
+  pub state : IsTradingState k.trading
+
+stock-more : (traders a b : ℕ) (k : Stock) → a ≤ b → IsFitStock traders a k → IsFitStock traders b k
+stock-more traders a b k le h = record { book = book-more traders a b k.book le h.book; state = h.state }
+
+-- An exchange of so many such stocks among so many traders.
 pub record IsFitExchange (traders stocks : ℕ) (s : State) : Type 0 where
   pub many : length s.stocks ≡ stocks
-  pub each : All (λ (k : Stock). IsFitBook traders s.counts.orders k.book) s.stocks
+  pub each : All (IsFitStock traders s.counts.orders) s.stocks
   pub few : resting_over s.stocks ≤ most_resting
   pub matches : s.counts.matches ≤ most_shares * s.counts.orders
 
@@ -96,7 +104,7 @@ still : (traders stocks most : ℕ) (s after : State) → IsFitExchange traders 
 still traders stocks most s after kept same orders matches = record {
   kept = record {
     many = ap (λ (xs : List Stock). length xs) same ∙ kept.many;
-    each = subst (λ (n : ℕ). All (λ (k : Stock). IsFitBook traders n k.book) after.stocks) (sym orders) (subst (λ (xs : List Stock). All (λ (k : Stock). IsFitBook traders s.counts.orders k.book) xs) (sym same) kept.each);
+    each = subst (λ (n : ℕ). All (IsFitStock traders n) after.stocks) (sym orders) (subst (λ (xs : List Stock). All (IsFitStock traders s.counts.orders) xs) (sym same) kept.each);
     few = subst (λ (xs : List Stock). resting_over xs ≤ most_resting) (sym same) kept.few;
     matches = omega (arith, kept.matches, orders, matches);
   };
@@ -108,14 +116,14 @@ still traders stocks most s after kept same orders matches = record {
 }
 
 -- a stock's book or rules change, and no matches are told
-moved : (traders stocks most : ℕ) (s : State) (k : ℕ) (x : Stock) (feed : List Feed) → IsFitExchange traders stocks s → k < length s.stocks → IsFitBook traders s.counts.orders x.book → length x.book ≤ length (stock_at s k).book → x.tally.matched ≡ (stock_at s k).tally.matched → IsQuiet stocks s.counts.orders s.counts.matches feed → IsStep traders stocks s (with_stock s k x) feed most
-moved traders stocks most s k x feed kept in' book fewer tally quiet =
+moved : (traders stocks most : ℕ) (s : State) (k : ℕ) (x : Stock) (feed : List Feed) → IsFitExchange traders stocks s → k < length s.stocks → IsFitStock traders s.counts.orders x → length x.book ≤ length (stock_at s k).book → x.tally.matched ≡ (stock_at s k).tally.matched → IsQuiet stocks s.counts.orders s.counts.matches feed → IsStep traders stocks s (with_stock s k x) feed most
+moved traders stocks most s k x feed kept in' stock fewer tally quiet =
     let rests = resting-set s.stocks k x in' in
     let few : resting_over s.stocks ≤ most_resting = kept.few in
     record {
       kept = record {
         many = length-set s.stocks k x ∙ kept.many;
-        each = All-set (λ (y : Stock). IsFitBook traders s.counts.orders y.book) s.stocks k x book kept.each;
+        each = All-set (IsFitStock traders s.counts.orders) s.stocks k x stock kept.each;
         few = omega (arith, rests, fewer, few);
         matches = kept.matches;
       };
@@ -136,7 +144,8 @@ accepted-step laws traders stocks s time agent e k kept trader is =
     let in' : k < length s.stocks = place.0 in
     let many : length s.stocks ≡ stocks = kept.many in
     let x = stock_at s k in
-    let here : IsFitBook traders n x.book = kept.each k no_stock in' in
+    let old : IsFitStock traders n x = kept.each k no_stock in' in
+    let here : IsFitBook traders n x.book = old.book in
     let fewer : length x.book ≤ resting_over s.stocks = few-at s.stocks k in' in
     let room : resting_over s.stocks < 16384 = ok.room in
     let t = taking_of time agent e k in
@@ -150,7 +159,7 @@ accepted-step laws traders stocks s time agent e k kept trader is =
     record {
       kept = record {
         many = length-set s.stocks k z.stock ∙ kept.many;
-        each = All-set (λ (y : Stock). IsFitBook traders (n + 1) y.book) s.stocks k z.stock h.book (All-weaker (λ (y : Stock). IsFitBook traders n y.book) (λ (y : Stock). IsFitBook traders (n + 1) y.book) (λ y b. book-more traders n (n + 1) y.book (omega arith) b) s.stocks kept.each);
+        each = All-set (IsFitStock traders (n + 1)) s.stocks k z.stock (record { book = h.book; state = subst IsTradingState (sym h.state) old.state }) (All-weaker (IsFitStock traders n) (IsFitStock traders (n + 1)) (λ y b. stock-more traders n (n + 1) y (omega arith) b) s.stocks kept.each);
         few = omega (arith, rests, longer, room);
         matches = omega (arith, matched, kept.matches);
       };
@@ -184,7 +193,8 @@ canceled-step laws traders stocks s time agent c f kept is below =
     let in' : k < length s.stocks = at.0 in
     let many : length s.stocks ≡ stocks = kept.many in
     let held : order_of agent c.token x.book ≡ Some o = at.1 in
-    let here : IsFitBook traders n x.book = kept.each k no_stock in' in
+    let old : IsFitStock traders n x = kept.each k no_stock in' in
+    let here : IsFitBook traders n x.book = old.book in
     let live : 0 < o.left = found-passes _ (λ (y : Resting). 0 < y.left) x.book o held here.orderly.live in
     let within : o.left ≤ o.intended = found-passes _ (λ (y : Resting). y.left ≤ y.intended) x.book o held here.orderly.within in
     let fit = fit-from traders n o (found-passes _ (λ (y : Resting). is_fit traders n y ≡ true) x.book o held (recursion_from_All (λ (y : Resting). is_fit traders n y ≡ true) x.book here.fits)) in
@@ -197,9 +207,12 @@ canceled-step laws traders stocks s time agent c f kept is below =
     let locate : IsUpTo stocks (k + 1) = (omega arith, omega (arith, in', many)) in
     moved traders stocks 1 s k (record x { book = after }) (lowered_feed (k + 1) time o left) kept in'
     (record {
-      orderly = laws.lowered o.reference left x.book o here.orderly by fewer;
-      fits = laws.lower-tested (is_fit traders n) (fits-by-reduce traders n) o.reference left x.book o by le here.fits;
-      sizes = laws.lower-tested is_sized sizes-by-reduce o.reference left x.book o by le here.sizes;
+      book = record {
+        orderly = laws.lowered o.reference left x.book o here.orderly by fewer;
+        fits = laws.lower-tested (is_fit traders n) (fits-by-reduce traders n) o.reference left x.book o by le here.fits;
+        sizes = laws.lower-tested is_sized sizes-by-reduce o.reference left x.book o by le here.sizes;
+      };
+      state = old.state;
     })
     (laws.lower-few (reduced left o) x.book) refl
     (lowered-quiet stocks n s.counts.matches (k + 1) time o left locate fit.reference fewer (omega (arith, within, sized)))
@@ -230,11 +243,12 @@ message-step laws traders stocks s time agent (body.Quote q) kept trader = still
 
 -- ---- a change of rules
 
-ruled : (traders stocks : ℕ) (s : State) (k : ℕ) (x : Stock) (feed : List Feed) → IsFitExchange traders stocks s → k < length s.stocks → x.book ≡ (stock_at s k).book → x.tally ≡ (stock_at s k).tally → IsQuiet stocks s.counts.orders s.counts.matches feed → IsStep traders stocks s (with_stock s k x) feed 0
-ruled traders stocks s k x feed kept in' is-book is-tally quiet =
-    let here : IsFitBook traders s.counts.orders (stock_at s k).book = kept.each k no_stock in' in
+ruled : (traders stocks : ℕ) (s : State) (k : ℕ) (x : Stock) (feed : List Feed) → IsFitExchange traders stocks s → k < length s.stocks → x.book ≡ (stock_at s k).book → x.tally ≡ (stock_at s k).tally → IsTradingState x.trading → IsQuiet stocks s.counts.orders s.counts.matches feed → IsStep traders stocks s (with_stock s k x) feed 0
+ruled traders stocks s k x feed kept in' is-book is-tally state quiet =
+    let old : IsFitStock traders s.counts.orders (stock_at s k) = kept.each k no_stock in' in
+    let book : IsFitBook traders s.counts.orders x.book = subst (λ (b : List Resting). IsFitBook traders s.counts.orders b) (sym is-book) old.book in
     let same : length x.book ≡ length (stock_at s k).book = ap (λ (b : List Resting). length b) is-book in
-    moved traders stocks 0 s k x feed kept in' (subst (λ (b : List Resting). IsFitBook traders s.counts.orders b) (sym is-book) here) (omega (arith, same)) (ap (λ t. t.matched) is-tally) quiet
+    moved traders stocks 0 s k x feed kept in' (record { book = book; state = state }) (omega (arith, same)) (ap (λ t. t.matched) is-tally) quiet
 
 abbrev turned-way : Bool → State → ℕ → ℕ → ℕ → Changed
 turned-way b s time k letter =
@@ -244,17 +258,17 @@ turned-way b s time k letter =
       feed = record { locate = k + 1; tracking = 0; time = time; what = what.Trading (stock_at s k).symbol letter 32 (32 ∷ 32 ∷ 32 ∷ 32 ∷ []) } ∷ [];
     }
 
-turn-step : (traders stocks : ℕ) (s : State) (time k letter : ℕ) → IsFitExchange traders stocks s → k < length s.stocks → (letter ≡ trades) ⊎ (letter ≡ stands_still) → IsStep traders stocks s (turned s time k letter).state (turned s time k letter).feed 0
+turn-step : (traders stocks : ℕ) (s : State) (time k letter : ℕ) → IsFitExchange traders stocks s → k < length s.stocks → IsTradingState letter → IsStep traders stocks s (turned s time k letter).state (turned s time k letter).feed 0
 turn-step traders stocks s time k letter kept in' is =
     let many : length s.stocks ≡ stocks = kept.many in
     let locate : IsUpTo stocks (k + 1) = (omega arith, omega (arith, in', many)) in
     elim ((stock_at s k).trading == letter) as (λ b. IsStep traders stocks s (turned-way b s time k letter).state (turned-way b s time k letter).feed 0) [
       | true ↦ still traders stocks 0 s s kept refl refl refl
-      | false ↦ ruled traders stocks s k (record (stock_at s k) { trading = letter }) (turned-way false s time k letter).feed kept in' refl refl (trading-quiet stocks s.counts.orders s.counts.matches (k + 1) time letter (stock_at s k).symbol locate is)
+      | false ↦ ruled traders stocks s k (record (stock_at s k) { trading = letter }) (turned-way false s time k letter).feed kept in' refl refl is (trading-quiet stocks s.counts.orders s.counts.matches (k + 1) time letter (stock_at s k).symbol locate is)
     ]
 
 pub change-step : (traders stocks : ℕ) (s : State) (time k : ℕ) (c : Change) → IsFitExchange traders stocks s → k < stocks → IsStep traders stocks s (changed_by s time k c).state (changed_by s time k c).feed 0
-change-step traders stocks s time k (change.Tick bands) kept h = let many : length s.stocks ≡ stocks = kept.many in ruled traders stocks s k (record (stock_at s k) { bands = bands }) [] kept (omega (arith, h, many)) refl refl (quiet-nil stocks s.counts.orders s.counts.matches)
-change-step traders stocks s time k (change.Fee fees) kept h = let many : length s.stocks ≡ stocks = kept.many in ruled traders stocks s k (record (stock_at s k) { fees = fees }) [] kept (omega (arith, h, many)) refl refl (quiet-nil stocks s.counts.orders s.counts.matches)
+change-step traders stocks s time k (change.Tick bands) kept h = let many : length s.stocks ≡ stocks = kept.many in let in' : k < length s.stocks = omega (arith, h, many) in ruled traders stocks s k (record (stock_at s k) { bands = bands }) [] kept in' refl refl (kept.each k no_stock in').state (quiet-nil stocks s.counts.orders s.counts.matches)
+change-step traders stocks s time k (change.Fee fees) kept h = let many : length s.stocks ≡ stocks = kept.many in let in' : k < length s.stocks = omega (arith, h, many) in ruled traders stocks s k (record (stock_at s k) { fees = fees }) [] kept in' refl refl (kept.each k no_stock in').state (quiet-nil stocks s.counts.orders s.counts.matches)
 change-step traders stocks s time k change.Halt kept h = let many : length s.stocks ≡ stocks = kept.many in turn-step traders stocks s time k stands_still kept (omega (arith, h, many)) (inr refl)
 change-step traders stocks s time k change.Resume kept h = let many : length s.stocks ≡ stocks = kept.many in turn-step traders stocks s time k trades kept (omega (arith, h, many)) (inl refl)

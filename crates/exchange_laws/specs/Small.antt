@@ -20,6 +20,10 @@ most_shares = 999999
 abbrev pub most_resting : ℕ
 most_resting = 16384
 
+-- a trading state: 'T' or 'H'
+abbrev pub IsTradingState : ℕ → Type 0
+IsTradingState letter = (letter ≡ trades) ⊎ (letter ≡ stands_still)
+
 -- An order that rests, among so many traders, once so many orders were accepted. Accepted orders are numbered from 1, which are
 -- their references; a Cancel only lowers an intended size; and line 7 refuses a price of 0 or above the highest.
 pub record IsSmallOrder (traders accepted : ℕ) (o : Resting) : Type 0 where
@@ -29,10 +33,11 @@ pub record IsSmallOrder (traders accepted : ℕ) (o : Resting) : Type 0 where
   pub intended : o.intended ≤ most_shares
   pub left : IsUpTo o.intended o.left
 
--- A stock's orders are such, and stand in order of their references.
+-- A stock's orders are such, and stand in order of their references; and it trades or is halted.
 pub record IsSmallStock (traders accepted : ℕ) (k : Stock) : Type 0 where
   pub orders : All (IsSmallOrder traders accepted) k.book
   pub rising : IsRising k.book
+  pub state : IsTradingState k.trading
 
 -- An exchange among so many traders after so many messages: a message has at most one order accepted, which matches at most as
 -- often as it has shares.
@@ -43,7 +48,7 @@ pub record IsSmallExchange (traders messages : ℕ) (s : State) : Type 0 where
   pub matches : s.counts.matches ≤ most_shares * s.counts.orders
 
 -- What a feed message says, once so many orders were accepted and there were so many matches, which are numbered from 1. A match
--- with a hidden order is told with reference 0. A trading action has the state 'T' or 'H', a space and four spaces. No other kind
+-- with a hidden order is told with reference 0. A trading action has a space and four spaces behind its state. No other kind
 -- is told of a message or of a change.
 abbrev pub IsSmallWhat : ℕ → ℕ → What → Type 0
 IsSmallWhat accepted matches (what.Add reference side shares stock price) = IsUpTo accepted reference × IsUpTo most_shares shares × IsUpTo highest_price price
@@ -51,7 +56,7 @@ IsSmallWhat accepted matches (what.Executed reference shares number) = IsUpTo ac
 IsSmallWhat accepted matches (what.Cancel reference shares) = IsUpTo accepted reference × IsUpTo most_shares shares
 IsSmallWhat accepted matches (what.Delete reference) = IsUpTo accepted reference
 IsSmallWhat accepted matches (what.Trade reference side shares stock price number) = (reference ≡ 0) × IsUpTo most_shares shares × IsUpTo highest_price price × IsUpTo matches number
-IsSmallWhat accepted matches (what.Trading stock state reserved reason) = ((state ≡ trades) ⊎ (state ≡ stands_still)) × (reserved ≡ 32) × (reason ≡ 32 ∷ 32 ∷ 32 ∷ 32 ∷ [])
+IsSmallWhat accepted matches (what.Trading stock state reserved reason) = IsTradingState state × (reserved ≡ 32) × (reason ≡ 32 ∷ 32 ∷ 32 ∷ 32 ∷ [])
 IsSmallWhat accepted matches _ = ⊥
 
 -- A feed message of one of so many stocks.
