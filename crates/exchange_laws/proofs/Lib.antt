@@ -1,3 +1,4 @@
+pub mod Names
 pub mod SmallCancels
 pub mod SmallEnters
 pub mod SmallFeeds

@@ -1,5 +1,5 @@
 -- Feed messages that are in their ranges, and the shares that they tell as executed.
-use Rattle.std.proofs.Common.{◌≡◌, ◌⊎◌, ℕ, ◌+◌, ◌-◌, ◌<◌, ◌≤◌, Bool, true, false, List, [], ◌∷◌, ◌++◌, length, All, arith, refl, ap, ◌∙◌}
+use Rattle.std.proofs.Common.{◌≡◌, ℕ, ◌+◌, ◌-◌, ◌<◌, ◌≤◌, Bool, true, false, List, [], ◌∷◌, ◌++◌, length, All, arith, refl, ap, ◌∙◌}
 use Rattle.std.specs.Prelude.{◌==◌, if◌then◌else◌}
 use Rattle.std.proofs.lemmas.List.Elements.{All-append, All-cons, All-head, All-nil, All-tail, All-weaker}
 use Rattle.std.proofs.lemmas.List.Sums.{sum_by-append}
@@ -16,7 +16,6 @@ use Rattle.exchange_agent.specs.declared.settle.Taking.{Taking}
 use Rattle.exchange_agent.specs.Cancel.{lowered_feed}
 use Rattle.exchange_agent.specs.Enter.{added_feed}
 use Rattle.exchange_agent.specs.Settle.{Way, all_settled, fed, settled}
-use Rattle.exchange_agent.specs.State.{stands_still, trades}
 use Rattle.exchange_laws.specs.Executed.{executed_by, executed_in, executed_shares}
 use Rattle.exchange_laws.specs.Small.{IsSmallFeed, IsSmallWhat, IsTradingState, IsUpTo, most_shares}
 use Rattle.exchange_laws.proofs.SmallFits.{fit-from, is_fit, up-more}

@@ -1,9 +1,9 @@
 -- Whole runs from an opening.
-use Rattle.std.proofs.Common.{◌≡◌, inl, ℕ, zero, suc, ◌+◌, ◌≤◌, ℤ, List, [], ◌∷◌, map, length, All, arith, refl, slice_index_or, Bool}
+use Rattle.std.proofs.Common.{◌≡◌, inl, ℕ, zero, suc, ◌+◌, ◌<◌, ◌≤◌, ℤ, List, [], ◌∷◌, map, length, All, arith, refl, slice_index_or, Bool}
 use Rattle.std.specs.List.{AllByRecursion}
 use Rattle.std.proofs.lemmas.List.{length-map}
 use Rattle.std.proofs.lemmas.List.Elements.{All-append, All-map, All-weaker}
-use Rattle.std.proofs.lemmas.List.Sums.{sum_by-cons}
+use Rattle.std.proofs.lemmas.List.Sums.{get_or-le-sum_by, sum_by-cons}
 use Rattle.exchange_agent.specs.declared.told.StockRules.{StockRules}
 use Rattle.exchange_agent.specs.Open.{listed, opened}
 use Rattle.exchange_agent.specs.Runs.{Act, message, change, IsPossible, run, state_after}
@@ -11,7 +11,7 @@ use Rattle.exchange_agent.specs.State.{State, Stock, no_stock, resting_over, sto
 use Rattle.exchange_laws.specs.Executed.{executed_in}
 use Rattle.exchange_laws.specs.Feeds.{feed_by, feed_over}
 use Rattle.exchange_laws.specs.Messages.{messages_in}
-use Rattle.exchange_laws.specs.Small.{IsSmallExchange, IsSmallFeed, IsSmallStock}
+use Rattle.exchange_laws.specs.Small.{IsSmallExchange, IsSmallFeed, IsSmallStock, most_resting}
 use Rattle.exchange_laws.proofs.SmallFeeds.{executed-append, feed-more, no-feed}
 use Rattle.exchange_laws.proofs.SmallFits.{BookLaws, book-nil, small-orders}
 use Rattle.exchange_laws.proofs.SmallSteps.{IsFitExchange, IsFitStock, IsStep, change-step, message-step}
@@ -79,6 +79,15 @@ from-opening laws rules cash hidden acts h =
     }) h
 
 -- ---- the laws
+
+pub small-stock : (traders messages : ℕ) (s : State) (k : ℕ) → IsSmallExchange traders messages s → k < length s.stocks → IsSmallStock traders s.counts.orders (stock_at s k)
+small-stock traders messages s k h in' = h.stocks k no_stock in'
+
+pub small-book : (traders messages : ℕ) (s : State) (k : ℕ) → IsSmallExchange traders messages s → k < length s.stocks → length (stock_at s k).book ≤ most_resting
+small-book traders messages s k h in' =
+    let part : length (stock_at s k).book ≤ resting_over s.stocks = get_or-le-sum_by (λ (y : Stock). length y.book) s.stocks k no_stock in' in
+    let few : resting_over s.stocks ≤ most_resting = h.resting in
+    omega (arith, part, few)
 
 pub small-exchange : (laws : BookLaws) (rules : List StockRules) (cash : List ℤ) (hidden : Bool) (acts : List Act) → AllByRecursion (IsPossible (length cash) (length rules)) acts → IsSmallExchange (length cash) (messages_in acts) (run (opened rules cash hidden) acts)
 small-exchange laws rules cash hidden acts h =

@@ -1,5 +1,5 @@
 -- One message or change: ranges stay, and what matches is told.
-use Rattle.std.proofs.Common.{◌≡◌, ◌≢◌, ◌⊎◌, inl, inr, ℕ, zero, suc, ◌+◌, ◌-◌, ◌*◌, ◌<◌, ◌≤◌, Bool, true, false, List, [], ◌∷◌, length, All, Option, Some, None, arith, refl, subst, ap, sym, ◌∙◌, slice_index_or, slice_set}
+use Rattle.std.proofs.Common.{◌≡◌, ◌≢◌, inl, inr, ℕ, zero, suc, ◌+◌, ◌-◌, ◌*◌, ◌<◌, ◌≤◌, Bool, true, false, List, [], ◌∷◌, length, All, Option, Some, None, arith, refl, subst, ap, sym, ◌∙◌, slice_index_or, slice_set}
 use Rattle.std.specs.Prelude.{◌==◌, nat_lt, if◌then◌else◌}
 use Rattle.std.proofs.lemmas.Bool.{false≢true}
 use Rattle.std.proofs.lemmas.Bool.Decides.{nat_tests}
