@@ -16,7 +16,7 @@ use Rattle.market_floor.specs.Floor.{FloorState}
 use Rattle.market_floor.specs.Opening.{IsDated, IsOpening}
 use Rattle.market_floor.specs.Ruled.{all_changed, due, ruled}
 use Rattle.exchange_laws.specs.Feeds.{feed_by, feed_over}
-use Rattle.market_laws.specs.History.{messages_in}
+use Rattle.exchange_laws.specs.Messages.{messages_in}
 
 run-append : (s : Exchange) (xs ys : List Act) → run s (xs ++ ys) ≡ run (run s xs) ys
 run-append s [] ys = refl

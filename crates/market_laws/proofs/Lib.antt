@@ -4,4 +4,5 @@ pub mod Keeping
 pub mod Mail
 pub mod Receivers
 pub mod Segments
+pub mod Small
 pub mod Walking
