@@ -1,5 +1,6 @@
 pub mod Names
 pub mod SmallCancels
+pub mod SmallCounts
 pub mod SmallEnters
 pub mod SmallFeeds
 pub mod SmallFits
