@@ -73,9 +73,9 @@ from-opening laws rules cash hidden acts h =
     run-is laws n (length rules) (opened rules cash hidden) acts
     (record {
       many = length-map rules (listed n);
-      each = All-map (IsFitStock n 0) (listed n) rules (λ k d in'. record { book = book-nil n; state = inl refl });
+      each = All-map (IsFitStock n 0) (listed n) rules (λ k d in'. record { book = book-nil n; state = inl refl; last = omega arith; matched = omega arith });
       few = omega (arith, none);
-      matches = omega arith;
+      ended = omega (arith, none);
     }) h
 
 -- ---- the laws
@@ -96,10 +96,10 @@ small-exchange laws rules cash hidden acts h =
     let s = run (opened rules cash hidden) acts in
     let few : s.counts.orders ≤ 0 + messages_in acts = r.counted in
     record {
-      stocks = All-weaker (IsFitStock n s.counts.orders) (IsSmallStock n s.counts.orders) (λ k b. record { orders = small-orders n s.counts.orders k.book b.book; rising = b.book.orderly.rising; state = b.state }) s.stocks r.kept.each;
+      stocks = All-weaker (IsFitStock n s.counts.orders) (IsSmallStock n s.counts.orders) (λ k b. record { orders = small-orders n s.counts.orders k.book b.book; rising = b.book.orderly.rising; state = b.state; last = b.last; matched = b.matched }) s.stocks r.kept.each;
       resting = r.kept.few;
       accepted = omega (arith, few);
-      matches = r.kept.matches;
+      ended = r.kept.ended;
     }
 
 pub small-feed : (laws : BookLaws) (rules : List StockRules) (cash : List ℤ) (hidden : Bool) (acts : List Act) → AllByRecursion (IsPossible (length cash) (length rules)) acts → All (IsSmallFeed (length rules) (run (opened rules cash hidden) acts).counts.orders (run (opened rules cash hidden) acts).counts.matches) (feed_over (opened rules cash hidden) acts)
