@@ -1,0 +1,13 @@
+pub mod Mirrors
+pub mod Settled
+pub mod ShownRuns
+pub mod Names
+pub mod SmallCancels
+pub mod SmallCounts
+pub mod SmallEnters
+pub mod SmallFeeds
+pub mod SmallFits
+pub mod SmallRuns
+pub mod SmallSteps
+pub mod SmallVerdicts
+pub mod SmallWays
