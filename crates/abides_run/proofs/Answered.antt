@@ -3,7 +3,7 @@ use Rattle.std.proofs.Common.{◌≡◌, ◌⊎◌, ◌≤◌, ℕ, List, [], Op
 use Rattle.outside.specs.Rose.{Rose}
 use Rattle.outside.specs.Taken.{TookPrefix}
 use Rattle.abides_run.specs.Words.{asked_of, IsLarge}
-use Rattle.abides_run.specs.Verdict.{Verdict, Files, usage, no_file, file_too_long, refused, no_branch, no_stock, bad_orders, bad_bundle, audit_failed, no_event, accepted, verdict, IsDue, output, distinct, allowance}
+use Rattle.abides_run.specs.Verdict.{Verdict, Files, usage, no_file, file_too_long, refused, no_branch, no_stock, bad_orders, bad_bundle, audit_failed, bad_script, refused_act, no_event, accepted, verdict, IsDue, output, distinct, allowance}
 use Rattle.abides_run.specs.Output.{Probes}
 use Rattle.abides_run.specs.Fetched.{fetched}
 use Rattle.abides_run.specs.Statuses.{Cause, Counts, IsRefusal, Names, status_of}
@@ -29,6 +29,8 @@ due_is_ok (no_stock word) s = absurd s
 due_is_ok (bad_orders number) s = absurd s
 due_is_ok (bad_bundle reason at) s = absurd s
 due_is_ok (audit_failed branch reference) s = absurd s
+due_is_ok (bad_script act) s = absurd s
+due_is_ok (refused_act act) s = absurd s
 due_is_ok (no_event word last study past) s = absurd s
 due_is_ok (accepted due) s = refl
 
@@ -83,9 +85,13 @@ fulfilled come bytes events more old new writes steps taken status.NoStock (inr 
 fulfilled come bytes events more old new writes steps taken (status.BadOrders number) (inl early) cause fault = cc
 fulfilled come bytes events more old new writes steps taken (status.BadBundle reason at) (inl early) cause fault = cc
 fulfilled come bytes events more old new writes steps taken (status.AuditFailed branch reference) (inl early) cause fault = cc
+fulfilled come bytes events more old new writes steps taken (status.BadScript act) (inl early) cause fault = cc
+fulfilled come bytes events more old new writes steps taken (status.ActRefused act) (inl early) cause fault = cc
 fulfilled come bytes events more old new writes steps taken (status.BadOrders number) (inr early) cause fault = absurd early
 fulfilled come bytes events more old new writes steps taken (status.BadBundle reason at) (inr early) cause fault = absurd early
 fulfilled come bytes events more old new writes steps taken (status.AuditFailed branch reference) (inr early) cause fault = absurd early
+fulfilled come bytes events more old new writes steps taken (status.BadScript act) (inr early) cause fault = absurd early
+fulfilled come bytes events more old new writes steps taken (status.ActRefused act) (inr early) cause fault = absurd early
 fulfilled come bytes events more old new writes steps taken status.NoEvent (inl early) cause fault = cc
 fulfilled come bytes events more old new writes steps taken status.NoEvent (inr early) cause fault = absurd early
 fulfilled come bytes events more old new writes steps taken status.Memory early cause fault = record {
@@ -194,6 +200,8 @@ turned_counter events more old new before after status.NoStock other still h = (
 turned_counter events more old new before after (status.BadOrders number) other still h = (omega (arith, h), omega (arith, h), λ n. absurd (n (still tt)))
 turned_counter events more old new before after (status.BadBundle reason at) other still h = (omega (arith, h), omega (arith, h), λ n. absurd (n (still tt)))
 turned_counter events more old new before after (status.AuditFailed branch reference) other still h = (omega (arith, h), omega (arith, h), λ n. absurd (n (still tt)))
+turned_counter events more old new before after (status.BadScript act) other still h = (omega (arith, h), omega (arith, h), λ n. absurd (n (still tt)))
+turned_counter events more old new before after (status.ActRefused act) other still h = (omega (arith, h), omega (arith, h), λ n. absurd (n (still tt)))
 turned_counter events more old new before after status.NoEvent other still h = (omega (arith, h.0), h.1, λ n. h.0)
 turned_counter events more old new before after status.Memory other still h = h
 

@@ -124,6 +124,8 @@ file_ends task s name answer status.NoStock told f = absurd f
 file_ends task s name answer (status.BadOrders number) told f = absurd f
 file_ends task s name answer (status.BadBundle reason at) told f = absurd f
 file_ends task s name answer (status.AuditFailed branch reference) told f = absurd f
+file_ends task s name answer (status.BadScript act) told f = absurd f
+file_ends task s name answer (status.ActRefused act) told f = absurd f
 file_ends task s name answer status.NoEvent told f = absurd f
 file_ends task s name answer status.Memory told f = record { cause = tt; named = tt }
 
@@ -170,6 +172,8 @@ series_ends library task table name answer status.NoStock told f = absurd f
 series_ends library task table name answer (status.BadOrders number) told f = absurd f
 series_ends library task table name answer (status.BadBundle reason at) told f = absurd f
 series_ends library task table name answer (status.AuditFailed branch reference) told f = absurd f
+series_ends library task table name answer (status.BadScript act) told f = absurd f
+series_ends library task table name answer (status.ActRefused act) told f = absurd f
 series_ends library task table name answer status.NoEvent told f = absurd f
 series_ends library task table name answer status.Memory told f = record { cause = tt; named = tt }
 
@@ -307,6 +311,8 @@ study_ends library task study answer status.NoStock told f = absurd f
 study_ends library task study answer (status.BadOrders number) told f = absurd f
 study_ends library task study answer (status.BadBundle reason at) told f = absurd f
 study_ends library task study answer (status.AuditFailed branch reference) told f = absurd f
+study_ends library task study answer (status.BadScript act) told f = absurd f
+study_ends library task study answer (status.ActRefused act) told f = absurd f
 study_ends library task study answer status.NoEvent told f = absurd f
 study_ends library task study answer status.Memory told f = record { cause = tt; named = tt }
 
@@ -340,6 +346,8 @@ names_more come some more status.NoStock name among n = n
 names_more come some more (status.BadOrders number) name among n = tt
 names_more come some more (status.BadBundle reason at) name among n = tt
 names_more come some more (status.AuditFailed branch reference) name among n = tt
+names_more come some more (status.BadScript act) name among n = tt
+names_more come some more (status.ActRefused act) name among n = tt
 names_more come some more status.NoEvent name among n = n
 names_more come some more status.Memory name among n = tt
 
@@ -493,6 +501,8 @@ bundle_ends name answer status.NoStock told f = absurd f
 bundle_ends name answer (status.BadOrders number) told f = absurd f
 bundle_ends name answer (status.BadBundle reason at) told f = absurd f
 bundle_ends name answer (status.AuditFailed branch reference) told f = absurd f
+bundle_ends name answer (status.BadScript act) told f = absurd f
+bundle_ends name answer (status.ActRefused act) told f = absurd f
 bundle_ends name answer status.NoEvent told f = absurd f
 bundle_ends name answer status.Memory told f = record { cause = tt; named = tt }
 

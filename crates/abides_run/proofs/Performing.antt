@@ -32,6 +32,8 @@ unsent_counts events more old new took_before took status.NoStock u least most =
 unsent_counts events more old new took_before took (status.BadOrders number) u least most = absurd u
 unsent_counts events more old new took_before took (status.BadBundle reason at) u least most = absurd u
 unsent_counts events more old new took_before took (status.AuditFailed branch reference) u least most = absurd u
+unsent_counts events more old new took_before took (status.BadScript act) u least most = absurd u
+unsent_counts events more old new took_before took (status.ActRefused act) u least most = absurd u
 unsent_counts events more old new took_before took status.NoEvent u least most = absurd u
 unsent_counts events more old new took_before took status.Memory u least most = (omega (arith, least), most, λ n. least)
 
@@ -97,6 +99,8 @@ unsent_cause come status.NoStock s u = absurd u
 unsent_cause come (status.BadOrders number) s u = absurd u
 unsent_cause come (status.BadBundle reason at) s u = absurd u
 unsent_cause come (status.AuditFailed branch reference) s u = absurd u
+unsent_cause come (status.BadScript act) s u = absurd u
+unsent_cause come (status.ActRefused act) s u = absurd u
 unsent_cause come status.NoEvent s u = absurd u
 unsent_cause come status.Memory s u = tt
 
@@ -117,6 +121,8 @@ unsent_wanting status.NoStock old new u fault r = absurd u
 unsent_wanting (status.BadOrders number) old new u fault r = absurd u
 unsent_wanting (status.BadBundle reason at) old new u fault r = absurd u
 unsent_wanting (status.AuditFailed branch reference) old new u fault r = absurd u
+unsent_wanting (status.BadScript act) old new u fault r = absurd u
+unsent_wanting (status.ActRefused act) old new u fault r = absurd u
 unsent_wanting status.NoEvent old new u fault r = absurd u
 unsent_wanting status.Memory old new u fault r = refl
 
@@ -158,6 +164,8 @@ unsent_done status.NoStock u = absurd u
 unsent_done (status.BadOrders number) u = absurd u
 unsent_done (status.BadBundle reason at) u = absurd u
 unsent_done (status.AuditFailed branch reference) u = absurd u
+unsent_done (status.BadScript act) u = absurd u
+unsent_done (status.ActRefused act) u = absurd u
 unsent_done status.NoEvent u = absurd u
 unsent_done status.Memory u = record { final = tt; going = λ r. r; moving = λ r. r; names = λ come fetched name. tt; argument = λ arguments name. tt }
 

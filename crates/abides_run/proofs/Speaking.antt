@@ -35,6 +35,8 @@ speaks_itself status.NoStock name = tt
 speaks_itself (status.BadOrders number) name = tt
 speaks_itself (status.BadBundle reason at) name = tt
 speaks_itself (status.AuditFailed branch reference) name = tt
+speaks_itself (status.BadScript act) name = tt
+speaks_itself (status.ActRefused act) name = tt
 speaks_itself status.NoEvent name = tt
 speaks_itself status.Memory name = tt
 
@@ -82,6 +84,8 @@ speaks_more some more status.NoStock name among s = tt
 speaks_more some more (status.BadOrders number) name among s = tt
 speaks_more some more (status.BadBundle reason at) name among s = tt
 speaks_more some more (status.AuditFailed branch reference) name among s = tt
+speaks_more some more (status.BadScript act) name among s = tt
+speaks_more some more (status.ActRefused act) name among s = tt
 speaks_more some more status.NoEvent name among s = tt
 speaks_more some more status.Memory name among s = tt
 
@@ -148,6 +152,8 @@ final_speaks files status.NoStock name f = tt
 final_speaks files (status.BadOrders number) name f = tt
 final_speaks files (status.BadBundle reason at) name f = tt
 final_speaks files (status.AuditFailed branch reference) name f = tt
+final_speaks files (status.BadScript act) name f = tt
+final_speaks files (status.ActRefused act) name f = tt
 final_speaks files status.NoEvent name f = tt
 final_speaks files status.Memory name f = tt
 
@@ -175,6 +181,8 @@ sought_one arguments status.NoStock name s = absurd s
 sought_one arguments (status.BadOrders number) name s = tt
 sought_one arguments (status.BadBundle reason at) name s = tt
 sought_one arguments (status.AuditFailed branch reference) name s = tt
+sought_one arguments (status.BadScript act) name s = tt
+sought_one arguments (status.ActRefused act) name s = tt
 sought_one arguments status.NoEvent name s = absurd s
 sought_one arguments status.Memory name s = tt
 

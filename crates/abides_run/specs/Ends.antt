@@ -4,7 +4,7 @@ use Rattle.outside.specs.Files.{Content, absent, too_long}
 use Rattle.abides_run.specs.Verdict.{Verdict}
 use Rattle.abides_run.specs.Statuses.{Cause, Names}
 use Rattle.abides_run.specs.declared.status.Status.{Status}
-use Rattle.abides_run.specs.declared.status.Status.TheVariants.{Ok, Usage, NoStudy, TooLong, Refused, ReadFault, WriteFault, NoBranch, NoStock, BadOrders, BadBundle, AuditFailed, NoEvent, Memory}
+use Rattle.abides_run.specs.declared.status.Status.TheVariants.{Ok, Usage, NoStudy, TooLong, Refused, ReadFault, WriteFault, NoBranch, NoStock, BadOrders, BadBundle, AuditFailed, BadScript, ActRefused, NoEvent, Memory}
 
 -- The status has its cause, and the name is that of the file which it speaks of.
 pub record Ends (come : Verdict) (fetched : List (List ℕ)) (status : Status) (name : List ℕ) : Type 0 where
@@ -25,6 +25,8 @@ Fetches held wanted NoStock name = ⊥
 Fetches held wanted (BadOrders number) name = ⊥
 Fetches held wanted (BadBundle reason at) name = ⊥
 Fetches held wanted (AuditFailed branch reference) name = ⊥
+Fetches held wanted (BadScript act) name = ⊥
+Fetches held wanted (ActRefused act) name = ⊥
 Fetches held wanted NoEvent name = ⊥
 Fetches held wanted Memory name = Unit {0}
 
@@ -42,5 +44,7 @@ IsSought NoStock = ⊥
 IsSought (BadOrders number) = ⊥
 IsSought (BadBundle reason at) = ⊥
 IsSought (AuditFailed branch reference) = ⊥
+IsSought (BadScript act) = ⊥
+IsSought (ActRefused act) = ⊥
 IsSought NoEvent = ⊥
 IsSought Memory = Unit {0}

@@ -9,7 +9,8 @@ use Rattle.study_rules.specs.Accepted.{StudyTold, study_of}
 use Rattle.abides_run.specs.declared.request.Request.{Request}
 use Rattle.abides_run.specs.declared.request.Request.TheVariants.{File, Large, Bundle}
 use Rattle.abides_run.specs.declared.request.Task.{Task}
-use Rattle.abides_run.specs.declared.request.Task.TheVariants.{Run, Check, Table, Lines, Rewind, Cross}
+use Rattle.abides_run.specs.declared.request.Task.TheVariants.{Run, Check, Table, Lines, Rewind, Cross, Session}
+use Rattle.abides_run.specs.Sessions.{act_words}
 use Rattle.abides_run.specs.Words.{asked_of, further_of}
 use Rattle.abides_run.specs.Verdict.{Files, most_bytes, series_of}
 
@@ -67,7 +68,8 @@ files_of (Some (File task study)) bytes = study ∷ (series_after (table_of byte
 files_of (Some (Large number)) bytes = []
 files_of (Some (Bundle name)) bytes = name ∷ []
 
--- the arguments of a rewind, or the state and the stock of a cross, as they are written; another task has none
+-- the arguments of a rewind, or the state and the stock of a cross, as they are written; the acts of a session by their numbers;
+-- another task has none
 abbrev pub arguments_of : Task → List (List ℕ)
 arguments_of Run = []
 arguments_of Check = []
@@ -75,6 +77,7 @@ arguments_of Table = []
 arguments_of (Lines bytes) = []
 arguments_of (Rewind marks places) = map (λ (m : Mark). m.word) marks
 arguments_of (Cross crossing places) = crossing.mark.word ∷ crossing.symbol ∷ []
+arguments_of (Session script places) = act_words
 
 abbrev pub arguments_in : Option Request → List (List ℕ)
 arguments_in None = []

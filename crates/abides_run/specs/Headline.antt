@@ -3,7 +3,7 @@ use Rattle.std.specs.Prelude.{◌≡◌, ◌⊎◌, ◌≤◌, ℕ, List, Option
 use Rattle.outside.specs.Rose.{Rose}
 use Rattle.outside.specs.Taken.{appended, TookPrefix}
 use Rattle.abides_run.specs.Words.{asked_of, IsLarge}
-use Rattle.abides_run.specs.Verdict.{Verdict, Files, verdict, IsDue, output, distinct, allowance}
+use Rattle.abides_run.specs.Verdict.{Verdict, Files, verdict, IsDue, output, distinct, allowance, ceiling}
 use Rattle.abides_run.specs.Output.{Probes}
 use Rattle.abides_run.specs.Fetched.{arguments_in, fetched}
 use Rattle.abides_run.specs.Statuses.{Cause, Counts, IsRefusal, IsStill, Names, SpeaksFor, NamesOne, status_of}
@@ -20,13 +20,14 @@ pub record Seen : Type 0 where
   pub steps : ℕ
 
 -- What holds where words and files come to this verdict, of which these bytes are to be written, and so many events and at
--- most so many more are to be simulated.
-pub record Fulfilled (come : Verdict) (bytes : List ℕ) (events more : ℕ) (before after : Seen) (status : Status) : Type 0 where
+-- most so many more are to be simulated, and so many at most where not all is written.
+pub record Fulfilled (come : Verdict) (bytes : List ℕ) (events more most : ℕ) (before after : Seen) (status : Status) : Type 0 where
   -- At status 0 out took the output and nothing else.
   pub output : status ≡ Ok → after.taken ≡ appended before.taken bytes
   -- How many steps were counted: for a run each event of the study's segments once, and no more. For a rewind they are as many
-  -- at least, and at most those besides that lead to its targets from the states that are sure to be kept.
-  pub counter : Counts events more before.steps after.steps before.taken after.taken status
+  -- at least, and at most those besides that lead to its targets from the states that are sure to be kept. For a session they are
+  -- those of each full run that its acts tell values of besides, and at most those that lead to its answers from such states.
+  pub counter : Counts events more most before.steps after.steps before.taken after.taken status
   -- Each status has its cause, and where nothing is due and with no fault each cause its status.
   pub cause : Cause come status
   pub exact : ¬ IsDue come → ¬ (Rose before.reads after.reads) → (status ≡ status_of come) ⊎ (status ≡ Memory)
@@ -38,7 +39,7 @@ pub record Fulfilled (come : Verdict) (bytes : List ℕ) (events more : ℕ) (be
 
 -- What holds of all but the note. The files are there where the library tells them.
 pub record Answered (files : Option Files) (words : List (List ℕ)) (probes : Probes) (before after : Seen) (status : Status) : Type 0 where
-  pub told : IfSome files (λ held. Fulfilled (verdict held words) (output probes (verdict held words)) (distinct (verdict held words)) (allowance (verdict held words)) before after status)
+  pub told : IfSome files (λ held. Fulfilled (verdict held words) (output probes (verdict held words)) (distinct (verdict held words)) (allowance (verdict held words)) (ceiling (verdict held words)) before after status)
   -- Faulty words are told as such, and the library is not asked: its count stands.
   pub usage : status ≡ Usage → asked_of words ≡ None
   pub not_asked : asked_of words ≡ None → (status ≡ Usage) ⊎ (status ≡ Memory)

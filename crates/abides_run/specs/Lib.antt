@@ -10,5 +10,6 @@ pub mod Headline
 pub mod Performed
 pub mod AllFound
 pub mod Audits
+pub mod Sessions
 pub mod Code
 pub mod Worked

@@ -1,5 +1,5 @@
 -- What is written for an accepted study or a bundle that passes an audit, and how many events are simulated for it.
-use Rattle.std.specs.Prelude.{ℕ, ◌+◌, List, [], ◌∷◌, ◌++◌, length, codes}
+use Rattle.std.specs.Prelude.{ℕ, ◌+◌, ◌*◌, List, [], ◌∷◌, ◌++◌, length, codes}
 use Rattle.std.specs.Fmt.{decimal}
 use Rattle.branch_tree.specs.Segments.{segments_in}
 use Rattle.kernel_copy.specs.Segmentwise as segmentwise
@@ -15,6 +15,10 @@ use Rattle.reopening_desk.specs.declared.stock.StockNamed.{StockNamed}
 use Rattle.reopening_desk.specs.Reopened.{reopened}
 use Rattle.bundle_reader.specs.Told.{BundleTold}
 use Rattle.audit_desk.specs.Audited.{displayed_over}
+use Rattle.session_script.specs.declared.act.Act.{Act}
+use Rattle.session_desk.specs.Session.{first_session}
+use Rattle.session_answers.specs.Answered.{session_bytes}
+use Rattle.session_answers.specs.Counted.{all_reached, all_run, surely_kept}
 use Rattle.abides_run.specs.Rewinds.{rewinds_of, steps_to, steps_to_all, target_state}
 
 -- the bundle of a study: the trace of each branch
@@ -51,9 +55,9 @@ abbrev pub audit_line : BundleTold → List ℕ
 audit_line b = codes "audit ok: branches " ++ decimal (length b.branches) ++ codes ", orders " ++ decimal (displayed_over b.branches) ++ 10 ∷ []
 
 -- What is due once all that the words name was found. Of a study: its bundle, the line with its counts, the table that compares its
--- branches, the lines that tell of its run, whose text has so many bytes, states, or what the reopening of a stock would come to in
--- a state with these orders of a file, while so many grid places keep states. Of a bundle whose branches all pass the audit: that
--- they do.
+-- branches, the lines that tell of its run, whose text has so many bytes; or, while so many grid places keep states, states, what
+-- the reopening of a stock would come to in a state with these orders of a file, or the answers to the acts of a session. Of a bundle
+-- whose branches all pass the audit: that they do.
 pub data Due : Type 0 where
   bundled : StudyTold → Due
   counted : StudyTold → Due
@@ -62,6 +66,7 @@ pub data Due : Type 0 where
   rewound : List Target → ℕ → StudyTold → Due
   crossed : Target → StockNamed → List Interest → ℕ → StudyTold → Due
   audited : BundleTold → Due
+  carried_out : List Act → ℕ → StudyTold → Due
 
 abbrev pub written : Probes → Due → List ℕ
 written probes (bundled s) = study_bundle s.course
@@ -71,8 +76,9 @@ written probes (described bytes s) = study_lines bytes s.course
 written probes (rewound targets places s) = rewinds_of s.course targets
 written probes (crossed target stock orders places s) = reopened (target_state s.course target) stock orders
 written probes (audited b) = audit_line b
+written probes (carried_out acts places s) = session_bytes probes.meanings (first_session s.course) acts
 
--- a check and an audit simulate nothing
+-- A check and an audit simulate nothing. In a session each act that tells values runs its branch from the opening.
 abbrev pub simulated : Due → ℕ
 simulated (bundled s) = study_events s.course
 simulated (counted s) = 0
@@ -81,6 +87,7 @@ simulated (described bytes s) = study_events s.course
 simulated (rewound targets places s) = study_events s.course
 simulated (crossed target stock orders places s) = study_events s.course
 simulated (audited b) = 0
+simulated (carried_out acts places s) = study_events s.course + all_run (first_session s.course) acts
 
 -- how many steps may be made besides: those from kept states on
 abbrev pub allowed : Due → ℕ
@@ -91,3 +98,16 @@ allowed (described bytes s) = 0
 allowed (rewound targets places s) = steps_to_all s places targets
 allowed (crossed target stock orders places s) = steps_to s places target
 allowed (audited b) = 0
+allowed (carried_out acts places s) = all_reached (surely_kept s.course s.stride places) (first_session s.course) acts
+
+-- How many steps are made at most where not all is written. An act that memory is wanting for makes no more than its study's limit
+-- of events.
+abbrev pub most_for : Due → ℕ
+most_for (bundled s) = study_events s.course
+most_for (counted s) = 0
+most_for (compared s) = study_events s.course
+most_for (described bytes s) = study_events s.course
+most_for (rewound targets places s) = study_events s.course + steps_to_all s places targets
+most_for (crossed target stock orders places s) = study_events s.course + steps_to s places target
+most_for (audited b) = 0
+most_for (carried_out acts places s) = study_events s.course + length acts * s.course.opening.limit

@@ -3,11 +3,11 @@ use Rattle.std.specs.Prelude.{◌≡◌, ◌⊎◌, ◌≤◌, ℕ, List, Option
 use Rattle.outside.specs.Rose.{Rose}
 use Rattle.outside.specs.Taken.{appended, TookPrefix}
 use Rattle.abides_run.specs.Output.{Probes}
-use Rattle.abides_run.specs.Verdict.{Verdict, output, distinct, allowance}
+use Rattle.abides_run.specs.Verdict.{Verdict, output, distinct, allowance, ceiling}
 use Rattle.abides_run.specs.Statuses.{Counts, IsRefusal, IsStill, Names, NamesOne}
 use Rattle.abides_run.specs.Headline.{Fulfilled, Seen}
 use Rattle.abides_run.specs.declared.status.Status.{Status}
-use Rattle.abides_run.specs.declared.status.Status.TheVariants.{Ok, Usage, NoStudy, TooLong, Refused, ReadFault, WriteFault, NoBranch, NoStock, BadOrders, BadBundle, AuditFailed, NoEvent, Memory}
+use Rattle.abides_run.specs.declared.status.Status.TheVariants.{Ok, Usage, NoStudy, TooLong, Refused, ReadFault, WriteFault, NoBranch, NoStock, BadOrders, BadBundle, AuditFailed, BadScript, ActRefused, NoEvent, Memory}
 
 -- a study's stride: a copy is kept each so many events
 abbrev pub IsStride : ℕ → Type 0
@@ -27,6 +27,8 @@ IsUnsent NoStock = ⊥
 IsUnsent (BadOrders number) = ⊥
 IsUnsent (BadBundle reason at) = ⊥
 IsUnsent (AuditFailed branch reference) = ⊥
+IsUnsent (BadScript act) = ⊥
+IsUnsent (ActRefused act) = ⊥
 IsUnsent NoEvent = ⊥
 IsUnsent Memory = Unit {0}
 
@@ -40,11 +42,12 @@ pub record Sent (bytes : List ℕ) (faults_before faults_after : ℕ) (before af
   pub steady : OnOk result (faults_after ≡ faults_before)
   pub never_falls : faults_before ≤ faults_after
 
--- All of these bytes were written once so many events and at most so many more were simulated, or why not.
-pub record Performed (bytes : List ℕ) (events more : ℕ) (before after : Seen) (status : Status) : Type 0 where
+-- All of these bytes were written once so many events and at most so many more were simulated, or why not, and at most so many
+-- events were.
+pub record Performed (bytes : List ℕ) (events more most : ℕ) (before after : Seen) (status : Status) : Type 0 where
   pub ended : (status ≡ Ok) ⊎ IsUnsent status
   pub whole : status ≡ Ok → after.taken ≡ appended before.taken bytes
-  pub counter : Counts events more before.steps after.steps before.taken after.taken status
+  pub counter : Counts events more most before.steps after.steps before.taken after.taken status
   pub cut : TookPrefix before.taken after.taken bytes
   pub fault : status ≡ WriteFault → Rose before.writes after.writes
   pub steady : status ≡ Ok → after.writes ≡ before.writes
@@ -64,6 +67,8 @@ IsFinal NoStock = Unit {0}
 IsFinal (BadOrders number) = Unit {0}
 IsFinal (BadBundle reason at) = Unit {0}
 IsFinal (AuditFailed branch reference) = Unit {0}
+IsFinal (BadScript act) = Unit {0}
+IsFinal (ActRefused act) = Unit {0}
 IsFinal NoEvent = Unit {0}
 IsFinal Memory = Unit {0}
 
@@ -71,7 +76,7 @@ IsFinal Memory = Unit {0}
 -- name is that of which the status speaks.
 pub record Finished (come : Verdict) (probes : Probes) (arguments : List (List ℕ)) (before after : Seen) (status : Status) (name : List ℕ) : Type 0 where
   pub final : IsFinal status
-  pub fulfilled : Fulfilled come (output probes come) (distinct come) (allowance come) before after status
+  pub fulfilled : Fulfilled come (output probes come) (distinct come) (allowance come) (ceiling come) before after status
   pub named : (fetched : List (List ℕ)) → Names come fetched status name
   pub argument : NamesOne arguments status name
   pub fault : status ≡ WriteFault → Rose before.writes after.writes

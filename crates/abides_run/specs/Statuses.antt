@@ -1,12 +1,12 @@
 -- What each status of a run says.
 use Rattle.std.specs.Prelude.{◌≡◌, ℕ, ◌+◌, ◌≤◌, List, Option}
 use Rattle.study_rules.specs.Accepted.{StudyTold}
-use Rattle.abides_run.specs.Verdict.{Verdict, usage, no_file, file_too_long, refused, no_branch, no_stock, bad_orders, bad_bundle, audit_failed, no_event, accepted, IsDue, IsAsked}
+use Rattle.abides_run.specs.Verdict.{Verdict, usage, no_file, file_too_long, refused, no_branch, no_stock, bad_orders, bad_bundle, audit_failed, bad_script, refused_act, no_event, accepted, IsDue, IsAsked}
 use Rattle.abides_run.specs.Words.{asked_of}
 use Rattle.abides_run.specs.Fetched.{IsAmong, files_of}
 use Rattle.abides_run.specs.Notes.{past_event}
 use Rattle.abides_run.specs.declared.status.Status.{Status}
-use Rattle.abides_run.specs.declared.status.Status.TheVariants.{Ok, Usage, NoStudy, TooLong, Refused, ReadFault, WriteFault, NoBranch, NoStock, BadOrders, BadBundle, AuditFailed, NoEvent, Memory}
+use Rattle.abides_run.specs.declared.status.Status.TheVariants.{Ok, Usage, NoStudy, TooLong, Refused, ReadFault, WriteFault, NoBranch, NoStock, BadOrders, BadBundle, AuditFailed, BadScript, ActRefused, NoEvent, Memory}
 
 -- the status where nothing fails and memory is there
 abbrev pub status_of : Verdict → Status
@@ -19,6 +19,8 @@ status_of (no_stock word) = NoStock
 status_of (bad_orders number) = BadOrders number
 status_of (bad_bundle reason at) = BadBundle reason at
 status_of (audit_failed branch reference) = AuditFailed branch reference
+status_of (bad_script act) = BadScript act
+status_of (refused_act act) = ActRefused act
 status_of (no_event word last study past) = NoEvent
 status_of (accepted due) = Ok
 
@@ -36,6 +38,8 @@ Cause come NoStock = status_of come ≡ NoStock
 Cause come (BadOrders number) = status_of come ≡ BadOrders number
 Cause come (BadBundle reason at) = status_of come ≡ BadBundle reason at
 Cause come (AuditFailed branch reference) = status_of come ≡ AuditFailed branch reference
+Cause come (BadScript act) = status_of come ≡ BadScript act
+Cause come (ActRefused act) = status_of come ≡ ActRefused act
 Cause come NoEvent = status_of come ≡ NoEvent
 Cause come Memory = Unit {0}
 
@@ -63,6 +67,8 @@ Names come fetched NoStock name = come ≡ no_stock name
 Names come fetched (BadOrders number) name = Unit {0}
 Names come fetched (BadBundle reason at) name = Unit {0}
 Names come fetched (AuditFailed branch reference) name = Unit {0}
+Names come fetched (BadScript act) name = Unit {0}
+Names come fetched (ActRefused act) name = Unit {0}
 Names come fetched NoEvent name = IsPast come name
 Names come fetched Memory name = Unit {0}
 
@@ -80,6 +86,8 @@ Speaks files NoStock name = Unit {0}
 Speaks files (BadOrders number) name = Unit {0}
 Speaks files (BadBundle reason at) name = Unit {0}
 Speaks files (AuditFailed branch reference) name = Unit {0}
+Speaks files (BadScript act) name = Unit {0}
+Speaks files (ActRefused act) name = Unit {0}
 Speaks files NoEvent name = Unit {0}
 Speaks files Memory name = Unit {0}
 
@@ -109,27 +117,32 @@ NamesOne words NoStock name = IsAmong name words
 NamesOne words (BadOrders number) name = Unit {0}
 NamesOne words (BadBundle reason at) name = Unit {0}
 NamesOne words (AuditFailed branch reference) name = Unit {0}
+NamesOne words (BadScript act) name = Unit {0}
+NamesOne words (ActRefused act) name = Unit {0}
 NamesOne words NoEvent name = IsPastAmong words name
 NamesOne words Memory name = Unit {0}
 
--- The rise of the counter at each status, where at least so many steps are to be counted and at most so many more, and out
--- had taken this before and has taken this now. No byte goes out before the least of them are made.
-abbrev pub Counts : ℕ → ℕ → ℕ → ℕ → Option (List ℕ) → Option (List ℕ) → Status → Type 0
-Counts least more old new took_before took Ok = (old + least ≤ new) × (new ≤ old + least + more)
-Counts least more old new took_before took Usage = new ≡ old
-Counts least more old new took_before took NoStudy = new ≡ old
-Counts least more old new took_before took TooLong = new ≡ old
-Counts least more old new took_before took (Refused rule place) = new ≡ old
-Counts least more old new took_before took ReadFault = new ≡ old
-Counts least more old new took_before took WriteFault = (old + least ≤ new) × (new ≤ old + least + more)
-Counts least more old new took_before took NoBranch = new ≡ old
-Counts least more old new took_before took NoStock = new ≡ old
-Counts least more old new took_before took (BadOrders number) = new ≡ old
-Counts least more old new took_before took (BadBundle reason at) = new ≡ old
-Counts least more old new took_before took (AuditFailed branch reference) = new ≡ old
-Counts least more old new took_before took NoEvent = (old + least ≤ new) × (new ≤ old + least + more)
-Counts least more old new took_before took Memory =
-    (old ≤ new) × (new ≤ old + least + more) × (¬ (took ≡ took_before) → old + least ≤ new)
+-- The rise of the counter at each status, where at least so many steps are to be counted and at most so many more, so many at most
+-- where not all is written, and out had taken this before and has taken this now. No byte goes out before the least of them are
+-- made.
+abbrev pub Counts : ℕ → ℕ → ℕ → ℕ → ℕ → Option (List ℕ) → Option (List ℕ) → Status → Type 0
+Counts least more most old new took_before took Ok = (old + least ≤ new) × (new ≤ old + least + more)
+Counts least more most old new took_before took Usage = new ≡ old
+Counts least more most old new took_before took NoStudy = new ≡ old
+Counts least more most old new took_before took TooLong = new ≡ old
+Counts least more most old new took_before took (Refused rule place) = new ≡ old
+Counts least more most old new took_before took ReadFault = new ≡ old
+Counts least more most old new took_before took WriteFault = (old + least ≤ new) × (new ≤ old + most)
+Counts least more most old new took_before took NoBranch = new ≡ old
+Counts least more most old new took_before took NoStock = new ≡ old
+Counts least more most old new took_before took (BadOrders number) = new ≡ old
+Counts least more most old new took_before took (BadBundle reason at) = new ≡ old
+Counts least more most old new took_before took (AuditFailed branch reference) = new ≡ old
+Counts least more most old new took_before took (BadScript act) = new ≡ old
+Counts least more most old new took_before took (ActRefused act) = new ≡ old
+Counts least more most old new took_before took NoEvent = (old + least ≤ new) × (new ≤ old + most)
+Counts least more most old new took_before took Memory =
+    (old ≤ new) × (new ≤ old + most) × (¬ (took ≡ took_before) → old + least ≤ new)
 
 -- a status that comes before the first byte
 abbrev pub IsRefusal : Status → Type 0
@@ -145,6 +158,8 @@ IsRefusal NoStock = Unit {0}
 IsRefusal (BadOrders number) = Unit {0}
 IsRefusal (BadBundle reason at) = Unit {0}
 IsRefusal (AuditFailed branch reference) = Unit {0}
+IsRefusal (BadScript act) = Unit {0}
+IsRefusal (ActRefused act) = Unit {0}
 IsRefusal NoEvent = Unit {0}
 IsRefusal Memory = ⊥
 
@@ -162,5 +177,7 @@ IsStill NoStock = Unit {0}
 IsStill (BadOrders number) = Unit {0}
 IsStill (BadBundle reason at) = Unit {0}
 IsStill (AuditFailed branch reference) = Unit {0}
+IsStill (BadScript act) = Unit {0}
+IsStill (ActRefused act) = Unit {0}
 IsStill NoEvent = ⊥
 IsStill Memory = ⊥

@@ -1,5 +1,5 @@
 -- What words and files come to, before anything is simulated. The order of refusals is the order of this computation.
-use Rattle.std.specs.Prelude.{ℕ, List, [], ◌∷◌, Option, Some, None, Result, Ok, Err, codes, length, unwrap_or}
+use Rattle.std.specs.Prelude.{ℕ, ◌+◌, ◌*◌, List, [], ◌∷◌, Option, Some, None, Result, Ok, Err, codes, length, unwrap_or}
 use Rattle.toml.specs.Data.{Members}
 use Rattle.outside.specs.Files.{Content, absent, too_long, whole, held, content}
 use Rattle.study_file.specs.Tables.{table_of, text_at}
@@ -21,15 +21,24 @@ use Rattle.bundle_reader.specs.Told.{BundleTold}
 use Rattle.bundle_reading.specs.Reading.{Read, read, cut, bad_frame, bad_order, reading_of}
 use Rattle.audit_desk.specs.declared.failing.Failing.{Failing}
 use Rattle.audit_desk.specs.Audited.{audit_of}
+use Rattle.session_script.specs.declared.act.Act.{Act}
+use Rattle.session_script.specs.declared.act.ScriptError.{ScriptError}
+use Rattle.session_script.specs.Script.{script_of}
+use Rattle.session_desk.specs.Session.{first_session}
+use Rattle.session_answers.specs.declared.end.PastAct.{PastAct}
+use Rattle.session_answers.specs.Refused.{act_refused}
+use Rattle.session_answers.specs.Past.{past_act}
 use Rattle.abides_run.specs.declared.request.Request.{Request}
 use Rattle.abides_run.specs.declared.request.Request.TheVariants.{File, Large, Bundle}
 use Rattle.abides_run.specs.declared.request.Task.{Task}
-use Rattle.abides_run.specs.declared.request.Task.TheVariants.{Run, Check, Table, Lines, Rewind, Cross}
+use Rattle.abides_run.specs.declared.request.Task.TheVariants.{Run, Check, Table, Lines, Rewind, Cross, Session}
 use Rattle.abides_run.specs.Words.{asked_of, further_of}
 use Rattle.abides_run.specs.Rewinds.{lasts_of, argument_at}
-use Rattle.abides_run.specs.Output.{Probes, Due, bundled, counted, compared, described, rewound, crossed, audited, written, simulated, allowed, study_events}
+use Rattle.abides_run.specs.Sessions.{act_word, bad_act}
+use Rattle.abides_run.specs.Output.{Probes, Due, bundled, counted, compared, described, rewound, crossed, audited, carried_out, written, simulated, allowed, most_for, study_events}
 
--- That bytes are no bundle is told with the number of the reason and its place. That an event isn't there is told with the last
+-- That bytes are no bundle is told with the number of the reason and its place, that a script or an act is refused with the act's
+-- number. That an event isn't there is told with the last
 -- event of its branch, the study, and how many steps may have been made besides those of the study's segments.
 pub data Verdict : Type 0 where
   usage : Verdict
@@ -41,6 +50,8 @@ pub data Verdict : Type 0 where
   bad_orders : ℕ → Verdict
   bad_bundle : ℕ → ℕ → Verdict
   audit_failed : ℕ → ℕ → Verdict
+  bad_script : ℕ → Verdict
+  refused_act : ℕ → Verdict
   no_event : List ℕ → ℕ → StudyTold → ℕ → Verdict
   accepted : Due → Verdict
 
@@ -97,6 +108,26 @@ verdict_on_branch crossing places text study (Some target) =
 abbrev pub verdict_on_crossing : Crossing → ℕ → List ℕ → StudyTold → Verdict
 verdict_on_crossing crossing places text study = verdict_on_branch crossing places text study (target_of study.course.plan.branches crossing.mark)
 
+-- An act of a session may be the first that goes to an event past its branch's last in the tree as it then stands. No act makes more
+-- steps than the study's limit of events.
+abbrev pub verdict_on_past_act : List Act → ℕ → StudyTold → Option PastAct → Verdict
+verdict_on_past_act acts places study None = accepted (carried_out acts places study)
+verdict_on_past_act acts places study (Some past) = no_event (act_word past.act) past.last study (length acts * study.course.opening.limit)
+
+-- one may be the first that the tree refuses
+abbrev pub verdict_on_acts : List Act → ℕ → StudyTold → Option ℕ → Verdict
+verdict_on_acts acts places study None = verdict_on_past_act acts places study (past_act (first_session study.course) acts)
+verdict_on_acts acts places study (Some act) = refused_act act
+
+-- the script may say no acts
+abbrev pub verdict_on_script : ℕ → StudyTold → Result (List Act) ScriptError → Verdict
+verdict_on_script places study (Err error) = bad_script (bad_act error)
+verdict_on_script places study (Ok acts) = verdict_on_acts acts places study (act_refused (first_session study.course) acts)
+
+-- a session over a study that breaks no rule, with the bytes of its script
+abbrev pub verdict_on_session : ℕ → List ℕ → StudyTold → Verdict
+verdict_on_session places text study = verdict_on_script places study (script_of study.course text)
+
 -- A study that breaks no rule may lack what the words name. The bytes are those of the further file, where the task names one.
 abbrev pub verdict_on_found : Task → Option (List ℕ) → StudyTold → Verdict
 verdict_on_found Run further study = accepted (bundled study)
@@ -105,6 +136,7 @@ verdict_on_found Table further study = accepted (compared study)
 verdict_on_found (Lines bytes) further study = accepted (described bytes study)
 verdict_on_found (Rewind marks places) further study = verdict_on_aimed marks places study (aimed_at study.course.plan.branches marks)
 verdict_on_found (Cross crossing places) further study = verdict_on_crossing crossing places (unwrap_or further []) study
+verdict_on_found (Session script places) further study = verdict_on_session places (unwrap_or further []) study
 
 -- the further file was asked for under its name
 abbrev pub verdict_on_file : Task → StudyTold → List ℕ → Content → Verdict
@@ -195,6 +227,8 @@ IsDue (no_stock word) = ⊥
 IsDue (bad_orders number) = ⊥
 IsDue (bad_bundle reason at) = ⊥
 IsDue (audit_failed branch reference) = ⊥
+IsDue (bad_script act) = ⊥
+IsDue (refused_act act) = ⊥
 IsDue (no_event word last study past) = ⊥
 IsDue (accepted due) = Unit {0}
 
@@ -209,6 +243,8 @@ IsAsked (no_stock word) = Unit {0}
 IsAsked (bad_orders number) = Unit {0}
 IsAsked (bad_bundle reason at) = Unit {0}
 IsAsked (audit_failed branch reference) = Unit {0}
+IsAsked (bad_script act) = Unit {0}
+IsAsked (refused_act act) = Unit {0}
 IsAsked (no_event word last study past) = Unit {0}
 IsAsked (accepted due) = Unit {0}
 
@@ -223,6 +259,8 @@ output probes (no_stock word) = []
 output probes (bad_orders number) = []
 output probes (bad_bundle reason at) = []
 output probes (audit_failed branch reference) = []
+output probes (bad_script act) = []
+output probes (refused_act act) = []
 output probes (no_event word last study past) = []
 output probes (accepted due) = written probes due
 
@@ -237,6 +275,8 @@ distinct (no_stock word) = 0
 distinct (bad_orders number) = 0
 distinct (bad_bundle reason at) = 0
 distinct (audit_failed branch reference) = 0
+distinct (bad_script act) = 0
+distinct (refused_act act) = 0
 distinct (no_event word last study past) = study_events study.course
 distinct (accepted due) = simulated due
 
@@ -251,5 +291,23 @@ allowance (no_stock word) = 0
 allowance (bad_orders number) = 0
 allowance (bad_bundle reason at) = 0
 allowance (audit_failed branch reference) = 0
+allowance (bad_script act) = 0
+allowance (refused_act act) = 0
 allowance (no_event word last study past) = past
 allowance (accepted due) = allowed due
+
+-- how many are made at most where not all is written
+abbrev pub ceiling : Verdict → ℕ
+ceiling usage = 0
+ceiling (no_file name) = 0
+ceiling (file_too_long name) = 0
+ceiling (refused rule place) = 0
+ceiling (no_branch word) = 0
+ceiling (no_stock word) = 0
+ceiling (bad_orders number) = 0
+ceiling (bad_bundle reason at) = 0
+ceiling (audit_failed branch reference) = 0
+ceiling (bad_script act) = 0
+ceiling (refused_act act) = 0
+ceiling (no_event word last study past) = study_events study.course + past
+ceiling (accepted due) = most_for due

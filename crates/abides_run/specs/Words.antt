@@ -3,7 +3,7 @@ use Rattle.std.specs.Prelude.{◌≤◌, ℕ, List, Option, Some, None, map, opt
 use Rattle.std.specs.declared.string.String.{String}
 use Rattle.std.specs.declared.alloc.Global.{Global}
 use Rattle.command_words.specs.declared.asked.Command.{Command}
-use Rattle.command_words.specs.declared.asked.Command.TheVariants.{Run, Table, Check, Rewind, Big, Cross, Audit}
+use Rattle.command_words.specs.declared.asked.Command.TheVariants.{Run, Table, Check, Rewind, Big, Cross, Audit, Session}
 use Rattle.command_words.specs.declared.asked.Asked.{Asked}
 use Rattle.command_words.specs.Asked as line
 use Rattle.command_words.specs.Ranges.{AreMarks, IsMark}
@@ -25,6 +25,7 @@ request_of (Rewind study marks) places = File (task.Rewind marks places) study
 request_of (Big number) places = Large number
 request_of (Cross study crossing) places = File (task.Cross crossing places) study
 request_of (Audit bundle) places = Bundle bundle
+request_of (Session study script) places = File (task.Session script places) study
 
 -- the large study of a number is asked for, which is in no file
 abbrev pub IsLarge : Option Request → Type 0
@@ -49,6 +50,7 @@ further_of task.Table = None
 further_of (task.Lines bytes) = None
 further_of (task.Rewind marks places) = None
 further_of (task.Cross crossing places) = Some crossing.file
+further_of (task.Session script places) = Some script
 
 -- the ranges of a task: those of the marks, and at most 128 grid places
 abbrev pub IsTask : Task → Type 0
@@ -58,6 +60,7 @@ IsTask task.Table = Unit {0}
 IsTask (task.Lines bytes) = Unit {0}
 IsTask (task.Rewind marks places) = AreMarks marks × (places ≤ 128)
 IsTask (task.Cross crossing places) = IsMark crossing.mark × (places ≤ 128)
+IsTask (task.Session script places) = places ≤ 128
 
 -- those of what is asked for
 abbrev pub IsRequest : Request → Type 0

@@ -57,7 +57,7 @@ fn line_of(alloc: Global, bundle: &Bundle) -> Result<String, AllocError>
 
 // Writes that a bundle passes its audit.
 fn send_passed<O: Sink>(alloc: Global, bundle: &Bundle, out: &mut O) -> Status
-    ensures { (reads steps : ℕ) → Performed (audit_line (bundle_told bundle.now)) 0 0
+    ensures { (reads steps : ℕ) → Performed (audit_line (bundle_told bundle.now)) 0 0 0
         (record { reads = reads; writes = O.faults out.old; taken = O.taken out.old; steps = steps })
         (record { reads = reads; writes = O.faults out.new; taken = O.taken out.new; steps = steps })
         result }

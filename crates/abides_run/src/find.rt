@@ -159,6 +159,7 @@ fn further_name<'b>(task: &'b Task<'_>) -> Option<&'b str>
     match task {
         Task::Run | Task::Check | Task::Table | Task::Lines(_) | Task::Rewind(..) => None,
         Task::Cross(crossing, _) => Some(crossing.file.as_str()),
+        Task::Session(script, _) => Some(script.as_str()),
     }
 }
 

@@ -11,6 +11,7 @@ mod perform;
 mod request;
 mod rewinds;
 mod send;
+mod sessions;
 mod status;
 mod top;
 mod words;

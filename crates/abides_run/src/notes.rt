@@ -2,7 +2,7 @@
 
 ghost use Rattle.std.specs.Prelude.{◌≡◌, ◌⊎◌, IfOk, IsOk, string_bytes};
 ghost use Rattle.abides_run.specs.Headline.{Noted};
-ghost use Rattle.abides_run.specs.Notes.{bundle_line, failing_line, note, orders_line, refused_line};
+ghost use Rattle.abides_run.specs.Notes.{act_line, bundle_line, failing_line, note, orders_line, refused_line, script_line};
 
 use crate::status::Status;
 use outside::{Sink, write_all};
@@ -36,6 +36,20 @@ fn failing_text(alloc: Global, branch: usize, reference: u64) -> Result<String, 
     format!(in alloc; "audit failed: branch {branch}, reference {reference}\n")
 }
 
+// The line for a script that says no acts.
+fn script_text(alloc: Global, act: u32) -> Result<String, AllocError>
+    ensures { IfOk result (λ text. string_bytes text ≡ script_line act) }
+{
+    format!(in alloc; "script refused: act {act}\n")
+}
+
+// The line for an act that the tree refuses.
+fn act_text(alloc: Global, act: u32) -> Result<String, AllocError>
+    ensures { IfOk result (λ text. string_bytes text ≡ act_line act) }
+{
+    format!(in alloc; "act refused: {act}\n")
+}
+
 /// The line as text.
 pub fn note_text(alloc: Global, name: &str, status: Status) -> Result<String, AllocError>
     ensures text { IfOk result (λ text. string_bytes text ≡ note name.now status) }
@@ -57,6 +71,8 @@ pub fn note_text(alloc: Global, name: &str, status: Status) -> Result<String, Al
         Status::BadOrders { number } => orders_text(alloc, number),
         Status::BadBundle { reason, at } => bundle_text(alloc, reason, at),
         Status::AuditFailed { branch, reference } => failing_text(alloc, branch, reference),
+        Status::BadScript { act } => script_text(alloc, act),
+        Status::ActRefused { act } => act_text(alloc, act),
         Status::NoEvent => format!(in alloc; "no event: {name}\n"),
         Status::Memory => String::from_str(alloc, "out of memory\n"),
     }

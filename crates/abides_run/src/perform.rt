@@ -17,6 +17,7 @@ use crate::found::{Found, FoundStudy};
 use crate::request::Task;
 use crate::rewinds::rewind_study;
 use crate::send::{send, send_bundle};
+use crate::sessions::session_study;
 use crate::status::Status;
 use branch_workers::work;
 use kernel_copy::laws::segments_have_few_events;
@@ -32,7 +33,7 @@ use study_rules::Study;
 use trace_bundle::big_lines;
 use trace_bundle::laws::outcomes_are_a_run;
 
-// Nothing that is asked for here but a rewind and a cross goes on from a state on the way.
+// Nothing that is asked for here but a rewind, a cross and a session goes on from a state on the way.
 const NO_PLACES: u32 = 0;
 
 // Has workers simulate each segment of a study once, and then writes the bundle.
@@ -48,7 +49,7 @@ fn run_study<R: Threads + Wait + Sync, O: Sink, G: Gate + Sync, D: Ledger + Send
     requires stride { IsStride study.now.stride }
     requires workers { (0 < workers) × (workers ≤ 64) }
     requires steps { steps.old ≤ 2 ^ 63 }
-    ensures { (reads : ℕ) → Performed (study_bundle study.now.course.value) (study_events study.now.course.value) 0
+    ensures { (reads : ℕ) → Performed (study_bundle study.now.course.value) (study_events study.now.course.value) 0 (study_events study.now.course.value)
         (record { reads = reads; writes = O.faults out.old; taken = O.taken out.old; steps = steps.old })
         (record { reads = reads; writes = O.faults out.new; taken = O.taken out.new; steps = steps.new })
         result }
@@ -91,7 +92,7 @@ fn table_study<R: Threads + Wait + Sync, O: Sink, G: Gate + Sync, D: Ledger + Se
     requires workers { (0 < workers) × (workers ≤ 64) }
     requires steps { steps.old ≤ 2 ^ 63 }
     ensures { (reads : ℕ) → Performed (study_table (record { meanings = map (λ p. meaning p) probes.old; titles = map (λ p. title p) probes.old }) study.now.course.value)
-        (study_events study.now.course.value) 0
+        (study_events study.now.course.value) 0 (study_events study.now.course.value)
         (record { reads = reads; writes = O.faults out.old; taken = O.taken out.old; steps = steps.old })
         (record { reads = reads; writes = O.faults out.new; taken = O.taken out.new; steps = steps.new })
         result }
@@ -138,7 +139,7 @@ fn tell_study<R: Threads + Wait + Sync, O: Sink, G: Gate + Sync, D: Ledger + Sen
     requires stride { IsStride study.now.stride }
     requires workers { (0 < workers) × (workers ≤ 64) }
     requires steps { steps.old ≤ 2 ^ 63 }
-    ensures { (reads : ℕ) → Performed (study_lines bytes study.now.course.value) (study_events study.now.course.value) 0
+    ensures { (reads : ℕ) → Performed (study_lines bytes study.now.course.value) (study_events study.now.course.value) 0 (study_events study.now.course.value)
         (record { reads = reads; writes = O.faults out.old; taken = O.taken out.old; steps = steps.old })
         (record { reads = reads; writes = O.faults out.new; taken = O.taken out.new; steps = steps.new })
         result }
@@ -206,7 +207,7 @@ fn counts_of(alloc: Global, course: &Course) -> Result<String, AllocError>
 
 // Writes a study's counts.
 fn check_study<O: Sink>(alloc: Global, course: &Course, out: &mut O) -> Status
-    ensures { (reads steps : ℕ) → Performed (counts_line course.now) 0 0
+    ensures { (reads steps : ℕ) → Performed (counts_line course.now) 0 0 0
         (record { reads = reads; writes = O.faults out.old; taken = O.taken out.old; steps = steps })
         (record { reads = reads; writes = O.faults out.new; taken = O.taken out.new; steps = steps })
         result }
@@ -266,6 +267,12 @@ fn perform_task<R: Threads + Wait + Sync, O: Sink, G: Gate + Sync, D: Ledger + S
             let text = further_text(&found.further);
             cross_study(
                 rt, alloc, study, crossing, text, *places, workers, out, gate, steps,
+            )
+        }
+        Task::Session(_, places) => {
+            let text = further_text(&found.further);
+            session_study(
+                rt, alloc, study, text, *places, workers, probes, out, gate, steps,
             )
         }
     }

@@ -17,6 +17,9 @@ pub enum Task<'a> {
     Rewind(Sequence<Mark<'a>>, u32),
     /// What a stock's reopening would come to is written, while so many grid places, 0 to 128, keep states.
     Cross(Crossing<'a>, u32),
+    /// The acts of a script are carried out over its tree of branches and their answers written, while so many grid places, 0 to
+    /// 128, keep states. The script's file has this name.
+    Session(Text<'a>, u32),
 }
 
 /// A study, and what is to be done with it, or a bundle.

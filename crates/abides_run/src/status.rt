@@ -14,6 +14,8 @@ pub enum Status {
     BadOrders { number: u32 },
     BadBundle { reason: u32, at: usize },
     AuditFailed { branch: usize, reference: u64 },
+    BadScript { act: u32 },
+    ActRefused { act: u32 },
     NoEvent,
     Memory,
 }
@@ -41,6 +43,8 @@ impl Status {
             Status::BadOrders { .. } => 12,
             Status::BadBundle { .. } => 13,
             Status::AuditFailed { .. } => 14,
+            Status::BadScript { .. } => 15,
+            Status::ActRefused { .. } => 16,
         }
     }
 }

@@ -23,6 +23,7 @@ fn request<'a>(command: Command<'a>, places: u32) -> Request<'a>
         Command::Big(number) => Request::Large(number),
         Command::Cross(study, crossing) => { Request::File(Task::Cross(crossing, places), study) }
         Command::Audit(bundle) => Request::Bundle(bundle),
+        Command::Session(study, script) => Request::File(Task::Session(script, places), study),
     }
 }
 

@@ -1,0 +1,140 @@
+//! Sessions: the acts of a script over a study's tree of branches, each answered in the tree as it then stands.
+
+ghost use Rattle.std.specs.Prelude.{◌≡◌, ◌⊎◌, ◌≤◌, ◌<◌, ◌^◌, ℕ, None, All, IfOk, length, map, string_bytes};
+ghost use Rattle.branch_tree.specs.Stops.{is_time};
+ghost use Rattle.session_script.specs.Fitting.{FitsOpening};
+ghost use Rattle.session_desk.specs.Session.{first_session};
+ghost use Rattle.session_answers.specs.Past.{past_act};
+ghost use Rattle.session_answers.specs.Refused.{act_refused};
+ghost use Rattle.study_rules.specs.Accepted.{study_told};
+ghost use Rattle.abides_run.specs.Notes.{past_event};
+ghost use Rattle.abides_run.specs.Performed.{Finished, IsStride};
+ghost use Rattle.abides_run.specs.Sessions.{act_word, act_words, status_for};
+ghost use Rattle.abides_run.specs.Verdict.{verdict_on_past_act, verdict_on_session};
+
+use crate::ending::{Ending, nameless};
+use crate::rewinds::{no_event, simulate_kept};
+use crate::send::send;
+use crate::status::Status;
+use outside::{Gate, Ledger, Sink, Steps};
+use plain_lists::Memory;
+use probe_desk::Probe;
+use session_answers::{PastAct, SessionEnd, carry_out, first_refused};
+use session_script::{Act, ScriptError, read_script};
+use std::alloc::{AllocError, Global};
+use std::sync::Wait;
+use std::thread::Threads;
+use study_rules::Study;
+
+// The status for a script that says no acts.
+fn status_for(error: ScriptError) -> Status
+    ensures { result ≡ status_for error }
+{
+    match error {
+        ScriptError::NotToml => Status::BadScript { act: 64 },
+        ScriptError::BadAct(act) => Status::BadScript { act },
+        ScriptError::Memory => Status::Memory,
+    }
+}
+
+// An act by its number.
+fn act_text(alloc: Global, act: u32) -> Result<String, AllocError>
+    ensures { IfOk result (λ text. string_bytes text ≡ act_word act) }
+{
+    format!(in alloc; "act {act}")
+}
+
+// The end where an act goes to an event that isn't there.
+fn past_end(alloc: Global, past: PastAct) -> Ending
+    ensures { (result.status ≡ Status.Memory) ⊎ ((result.status ≡ Status.NoEvent) × (string_bytes result.name ≡ past_event (act_word past.act) past.last)) }
+{
+    match act_text(alloc, past.act) {
+        Ok(word) => no_event(alloc, word.as_str(), past.last),
+        Err(_) => nameless(alloc, Status::Memory),
+    }
+}
+
+// Has workers simulate each segment of a study once, while so many grid places keep states, carries out the acts, none of which the
+// tree refuses, and then writes their answers.
+fn reach_and_answer<R: Threads + Wait + Sync, O: Sink, G: Gate + Sync, D: Ledger + Send>(
+    rt: &R,
+    alloc: Global,
+    study: &Study,
+    acts: &[Act],
+    places: u32,
+    workers: u32,
+    probes: &mut [Box<dyn Probe>],
+    out: &mut O,
+    gate: &G,
+    steps: &mut Steps<D>,
+) -> Ending
+    requires stride { IsStride study.now.stride }
+    requires numbers { All (λ b. is_time b.stop ≡ false) study.now.course.value.plan.branches }
+    requires fit { All (FitsOpening study.now.course.value.opening) acts.now }
+    requires few { length acts.now ≤ 64 }
+    requires stands { act_refused (first_session study.now.course.value) acts.now ≡ None }
+    requires places { places ≤ 128 }
+    requires workers { (0 < workers) × (workers ≤ 64) }
+    requires steps { steps.old ≤ 2 ^ 63 }
+    ensures { (reads : ℕ) → Finished (verdict_on_past_act acts.now places (study_told study.now) (past_act (first_session study.now.course.value) acts.now))
+        (record { meanings = map (λ p. meaning p) probes.old; titles = map (λ p. title p) probes.old })
+        act_words
+        (record { reads = reads; writes = O.faults out.old; taken = O.taken out.old; steps = steps.old })
+        (record { reads = reads; writes = O.faults out.new; taken = O.taken out.new; steps = steps.new })
+        result.status (string_bytes result.name) }
+{
+    let _ = study.course.opening();
+    let simulated = match simulate_kept(rt, alloc, study, places, workers, gate, steps) {
+        Ok(simulated) => simulated,
+        Err(Memory) => return nameless(alloc, Status::Memory),
+    };
+    let shelf = &simulated.shelf;
+    let answers = match carry_out(alloc, &study.course, shelf, acts, probes, steps) {
+        Ok(answers) => answers,
+        Err(SessionEnd::NoEvent(past)) => return past_end(alloc, past),
+        Err(SessionEnd::Memory) => return nameless(alloc, Status::Memory),
+    };
+    match send(out, &answers) {
+        Ok(()) => nameless(alloc, Status::Ok),
+        Err(status) => nameless(alloc, status),
+    }
+}
+
+/// Has workers simulate each segment of a study once, while so many grid places keep states, and then writes the answers to the acts
+/// of a script, each that of the full run over the tree as the acts before it leave it. A script that says no acts and an act that
+/// the tree refuses are told before the first step, an event that isn't there before the first byte.
+pub fn session_study<R: Threads + Wait + Sync, O: Sink, G: Gate + Sync, D: Ledger + Send>(
+    rt: &R,
+    alloc: Global,
+    study: &Study,
+    text: &[u8],
+    places: u32,
+    workers: u32,
+    probes: &mut [Box<dyn Probe>],
+    out: &mut O,
+    gate: &G,
+    steps: &mut Steps<D>,
+) -> Ending
+    requires stride { IsStride study.now.stride }
+    requires places { places ≤ 128 }
+    requires workers { (0 < workers) × (workers ≤ 64) }
+    requires steps { steps.old ≤ 2 ^ 63 }
+    ensures { (reads : ℕ) → Finished (verdict_on_session places text.now (study_told study.now))
+        (record { meanings = map (λ p. meaning p) probes.old; titles = map (λ p. title p) probes.old })
+        act_words
+        (record { reads = reads; writes = O.faults out.old; taken = O.taken out.old; steps = steps.old })
+        (record { reads = reads; writes = O.faults out.new; taken = O.taken out.new; steps = steps.new })
+        result.status (string_bytes result.name) }
+{
+    let acts = match read_script(alloc, text, study) {
+        Ok(acts) => acts,
+        Err(error) => return nameless(alloc, status_for(error)),
+    };
+    match first_refused(alloc, &study.course, &acts) {
+        Ok(None) => reach_and_answer(
+            rt, alloc, study, &acts, places, workers, probes, out, gate, steps,
+        ),
+        Ok(Some(act)) => nameless(alloc, Status::ActRefused { act }),
+        Err(Memory) => nameless(alloc, Status::Memory),
+    }
+}
