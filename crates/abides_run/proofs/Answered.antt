@@ -3,7 +3,7 @@ use Rattle.std.proofs.Common.{◌≡◌, ◌⊎◌, ◌≤◌, ℕ, List, [], Op
 use Rattle.outside.specs.Rose.{Rose}
 use Rattle.outside.specs.Taken.{TookPrefix}
 use Rattle.abides_run.specs.Words.{asked_of, IsLarge}
-use Rattle.abides_run.specs.Verdict.{Verdict, Files, usage, no_file, file_too_long, refused, no_branch, no_stock, bad_orders, no_event, accepted, verdict, IsStudy, output, distinct, allowance}
+use Rattle.abides_run.specs.Verdict.{Verdict, Files, usage, no_file, file_too_long, refused, no_branch, no_stock, bad_orders, bad_bundle, audit_failed, no_event, accepted, verdict, IsDue, output, distinct, allowance}
 use Rattle.abides_run.specs.Output.{Probes}
 use Rattle.abides_run.specs.Fetched.{fetched}
 use Rattle.abides_run.specs.Statuses.{Cause, Counts, IsRefusal, Names, status_of}
@@ -19,20 +19,22 @@ nothing_taken None bytes = record { part = []; rest = bytes; split = refl; took 
 nothing_taken (Some old) bytes = record { part = []; rest = bytes; split = refl; took = ap Some (sym (append-nil old)) }
 
 -- a study has status 0 where nothing fails
-study_is_ok : (come : Verdict) → IsStudy come → status_of come ≡ status.Ok
-study_is_ok usage s = absurd s
-study_is_ok (no_file name) s = absurd s
-study_is_ok (file_too_long name) s = absurd s
-study_is_ok (refused rule place) s = absurd s
-study_is_ok (no_branch word) s = absurd s
-study_is_ok (no_stock word) s = absurd s
-study_is_ok (bad_orders number) s = absurd s
-study_is_ok (no_event word last study past) s = absurd s
-study_is_ok (accepted due) s = refl
+due_is_ok : (come : Verdict) → IsDue come → status_of come ≡ status.Ok
+due_is_ok usage s = absurd s
+due_is_ok (no_file name) s = absurd s
+due_is_ok (file_too_long name) s = absurd s
+due_is_ok (refused rule place) s = absurd s
+due_is_ok (no_branch word) s = absurd s
+due_is_ok (no_stock word) s = absurd s
+due_is_ok (bad_orders number) s = absurd s
+due_is_ok (bad_bundle reason at) s = absurd s
+due_is_ok (audit_failed branch reference) s = absurd s
+due_is_ok (no_event word last study past) s = absurd s
+due_is_ok (accepted due) s = refl
 
 -- another status says that there is no study
-no_study : (come : Verdict) (st : Status) → status_of come ≡ st → ¬ (st ≡ status.Ok) → ¬ IsStudy come
-no_study come st is other s = other (sym is ∙ study_is_ok come s)
+nothing_due : (come : Verdict) (st : Status) → status_of come ≡ st → ¬ (st ≡ status.Ok) → ¬ IsDue come
+nothing_due come st is other s = other (sym is ∙ due_is_ok come s)
 
 -- a refusal that words and files give
 pub refusal : (come : Verdict) (bytes : List ℕ) (events more old new writes steps : ℕ) (taken : Option (List ℕ)) (st : Status)
@@ -44,7 +46,7 @@ refusal come bytes events more old new writes steps taken st is other cause coun
   cause = cause;
   exact = λ n r. inl (sym is);
   prefix = nothing_taken taken bytes;
-  complete = λ s r w. absurd (no_study come st is other s);
+  complete = λ s r w. absurd (nothing_due come st is other s);
 }
 
 -- a status with which the search ends, once the words are read or not
@@ -79,7 +81,11 @@ fulfilled come bytes events more old new writes steps taken status.NoBranch (inr
 fulfilled come bytes events more old new writes steps taken status.NoStock (inl early) cause fault = cc
 fulfilled come bytes events more old new writes steps taken status.NoStock (inr early) cause fault = absurd early
 fulfilled come bytes events more old new writes steps taken (status.BadOrders number) (inl early) cause fault = cc
+fulfilled come bytes events more old new writes steps taken (status.BadBundle reason at) (inl early) cause fault = cc
+fulfilled come bytes events more old new writes steps taken (status.AuditFailed branch reference) (inl early) cause fault = cc
 fulfilled come bytes events more old new writes steps taken (status.BadOrders number) (inr early) cause fault = absurd early
+fulfilled come bytes events more old new writes steps taken (status.BadBundle reason at) (inr early) cause fault = absurd early
+fulfilled come bytes events more old new writes steps taken (status.AuditFailed branch reference) (inr early) cause fault = absurd early
 fulfilled come bytes events more old new writes steps taken status.NoEvent (inl early) cause fault = cc
 fulfilled come bytes events more old new writes steps taken status.NoEvent (inr early) cause fault = absurd early
 fulfilled come bytes events more old new writes steps taken status.Memory early cause fault = record {
@@ -186,6 +192,8 @@ turned_counter events more old new before after status.WriteFault other still h 
 turned_counter events more old new before after status.NoBranch other still h = (omega (arith, h), omega (arith, h), λ n. absurd (n (still tt)))
 turned_counter events more old new before after status.NoStock other still h = (omega (arith, h), omega (arith, h), λ n. absurd (n (still tt)))
 turned_counter events more old new before after (status.BadOrders number) other still h = (omega (arith, h), omega (arith, h), λ n. absurd (n (still tt)))
+turned_counter events more old new before after (status.BadBundle reason at) other still h = (omega (arith, h), omega (arith, h), λ n. absurd (n (still tt)))
+turned_counter events more old new before after (status.AuditFailed branch reference) other still h = (omega (arith, h), omega (arith, h), λ n. absurd (n (still tt)))
 turned_counter events more old new before after status.NoEvent other still h = (omega (arith, h.0), h.1, λ n. h.0)
 turned_counter events more old new before after status.Memory other still h = h
 

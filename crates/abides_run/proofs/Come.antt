@@ -1,10 +1,10 @@
 -- What words and files come to, by what the library answered.
-use Rattle.std.proofs.Common.{◌≡◌, ◌⊎◌, ℕ, List, [], ◌∷◌, ◌++◌, option_map, unwrap_or, vec_items, Option, Some, None, IfSome, Result, Ok, Err, IfOk, IfErr, OnOk, IsErr, IsErrAnd, string_bytes, length, refl, sym, ap, ◌∙◌, subst, inl, inr}
+use Rattle.std.proofs.Common.{◌≡◌, ◌⊎◌, ℕ, List, [], ◌∷◌, ◌++◌, unwrap_or, Option, Some, None, IfSome, Result, Ok, Err, IfOk, IfErr, OnOk, IsErr, IsErrAnd, string_bytes, length, refl, sym, ap, ◌∙◌, subst, inl, inr}
 use Rattle.toml.specs.Data.{Members}
 use Rattle.outside.specs.Files.{Content, absent, too_long, whole, held, content}
 use Rattle.study_file.specs.Tables.{table_of}
 use Rattle.study_market.specs.declared.early_refusal.Refusal.{Refusal}
-use Rattle.study_rules.specs.Accepted.{StudyTold, study_of, study_told}
+use Rattle.study_rules.specs.Accepted.{StudyTold, study_of}
 use Rattle.study_rules.specs.declared.study.Study.{Study}
 use Rattle.command_words.specs.declared.mark.Mark.{Mark}
 use Rattle.rewind_desk.specs.declared.aimed.Aimed.{Aimed}
@@ -21,13 +21,18 @@ use Rattle.study_file.specs.LargeStudy.{large_study}
 use Rattle.abides_run.specs.declared.ending.Ending.{Ending}
 use Rattle.abides_run.specs.declared.found.Found.{Found}
 use Rattle.abides_run.specs.declared.request.Request.{Request}
-use Rattle.abides_run.specs.declared.request.Request.TheVariants.{File, Large}
+use Rattle.abides_run.specs.declared.request.Request.TheVariants.{File, Large, Bundle}
 use Rattle.abides_run.specs.declared.request.Task.{Task}
 use Rattle.abides_run.specs.declared.request.Task.TheVariants.{Run, Check, Table, Lines, Rewind, Cross}
 use Rattle.abides_run.specs.Words.{asked_of, further_of, IsLarge}
-use Rattle.abides_run.specs.Verdict.{Verdict, Files, no_file, file_too_long, verdict_on_past, verdict_on_aimed, verdict_on_late, verdict_on_orders, verdict_on_stock, verdict_on_branch, verdict_on_found, verdict_on_file, verdict_on_further, most_bytes, series_of, judged, verdict_on_series, verdict_on_table, verdict_on_bytes, verdict_on_study, verdict_on_text, verdict_on_large, verdict_for, verdict, IsAsked, large_limit}
+use Rattle.abides_run.specs.Verdict.{Verdict, Files, no_file, file_too_long, verdict_on_past, verdict_on_aimed, verdict_on_late, verdict_on_orders, verdict_on_stock, verdict_on_branch, verdict_on_found, verdict_on_file, verdict_on_further, most_bytes, series_of, judged, verdict_on_series, verdict_on_table, verdict_on_bytes, verdict_on_study, verdict_on_text, verdict_on_large, verdict_on_failing, verdict_on_read, verdict_on_bundle, verdict_for, verdict, IsAsked, large_limit, most_bundle_bytes}
+use Rattle.bundle_reader.specs.Told.{BundleTold}
+use Rattle.bundle_reading.specs.Reading.{Read, read, cut, bad_frame, bad_order, reading_of}
+use Rattle.audit_desk.specs.declared.failing.Failing.{Failing}
+use Rattle.audit_desk.specs.Audited.{audit_of}
+use Rattle.abides_run.specs.AllFound.{IsWorkedBy, arguments_on, verdict_on_all}
 use Rattle.abides_run.specs.Rewinds.{lasts_of}
-use Rattle.abides_run.specs.Fetched.{IsAmong, named, series_after, behind_rules, behind_series, behind_table, behind_bytes, behind_study, fetched_for, fetched}
+use Rattle.abides_run.specs.Fetched.{IsAmong, arguments_in, arguments_of, named, series_after, behind_rules, behind_series, behind_table, behind_bytes, behind_study, fetched_for, fetched}
 use Rattle.abides_run.specs.Statuses.{status_of, Names}
 use Rattle.abides_run.specs.Ends.{Ends, Fetches, IsSought}
 use Rattle.abides_run.specs.declared.status.Status.{Status}
@@ -117,6 +122,8 @@ file_ends task s name answer status.WriteFault told f = absurd f
 file_ends task s name answer status.NoBranch told f = absurd f
 file_ends task s name answer status.NoStock told f = absurd f
 file_ends task s name answer (status.BadOrders number) told f = absurd f
+file_ends task s name answer (status.BadBundle reason at) told f = absurd f
+file_ends task s name answer (status.AuditFailed branch reference) told f = absurd f
 file_ends task s name answer status.NoEvent told f = absurd f
 file_ends task s name answer status.Memory told f = record { cause = tt; named = tt }
 
@@ -161,6 +168,8 @@ series_ends library task table name answer status.WriteFault told f = absurd f
 series_ends library task table name answer status.NoBranch told f = absurd f
 series_ends library task table name answer status.NoStock told f = absurd f
 series_ends library task table name answer (status.BadOrders number) told f = absurd f
+series_ends library task table name answer (status.BadBundle reason at) told f = absurd f
+series_ends library task table name answer (status.AuditFailed branch reference) told f = absurd f
 series_ends library task table name answer status.NoEvent told f = absurd f
 series_ends library task table name answer status.Memory told f = record { cause = tt; named = tt }
 
@@ -296,6 +305,8 @@ study_ends library task study answer status.WriteFault told f = absurd f
 study_ends library task study answer status.NoBranch told f = absurd f
 study_ends library task study answer status.NoStock told f = absurd f
 study_ends library task study answer (status.BadOrders number) told f = absurd f
+study_ends library task study answer (status.BadBundle reason at) told f = absurd f
+study_ends library task study answer (status.AuditFailed branch reference) told f = absurd f
 study_ends library task study answer status.NoEvent told f = absurd f
 study_ends library task study answer status.Memory told f = record { cause = tt; named = tt }
 
@@ -327,6 +338,8 @@ names_more come some more status.WriteFault name among n = tt
 names_more come some more status.NoBranch name among n = n
 names_more come some more status.NoStock name among n = n
 names_more come some more (status.BadOrders number) name among n = tt
+names_more come some more (status.BadBundle reason at) name among n = tt
+names_more come some more (status.AuditFailed branch reference) name among n = tt
 names_more come some more status.NoEvent name among n = n
 names_more come some more status.Memory name among n = tt
 
@@ -421,9 +434,9 @@ text_read text table has = ap (λ (t : Option Members). verdict_on_text (Lines (
 
 -- the search for a file's study, or for a large study, is the search for what the words ask for
 pub file_finds : (r : Result Found Ending) (files : Option Files) (words : List (List ℕ)) (task : Task) (study : List ℕ) → Some (File task study) ≡ asked_of words
-    → IfOk r (λ f. IfSome files (λ library. verdict_on_study library task study (content (held library study) most_bytes) ≡ verdict_on_found f.task (option_map vec_items f.further) (study_told f.study)))
-    → IfOk r (λ f. IfSome files (λ library. verdict library words ≡ verdict_on_found f.task (option_map vec_items f.further) (study_told f.study)))
-file_finds (Ok f) files words task study asks says = file_found files words task study (verdict_on_found f.task (option_map vec_items f.further) (study_told f.study)) asks says
+    → IfOk r (λ f. IfSome files (λ library. verdict_on_study library task study (content (held library study) most_bytes) ≡ verdict_on_all f))
+    → IfOk r (λ f. IfSome files (λ library. verdict library words ≡ verdict_on_all f))
+file_finds (Ok f) files words task study asks says = file_found files words task study (verdict_on_all f) asks says
 file_finds (Err e) files words task study asks says = tt
 
 pub file_misses : (r : Result Found Ending) (files : Option Files) (words : List (List ℕ)) (task : Task) (study : List ℕ) → Some (File task study) ≡ asked_of words
@@ -433,9 +446,9 @@ file_misses (Ok f) files words task study asks ends = tt
 file_misses (Err e) files words task study asks ends = file_unfound files words task study e.status (string_bytes e.name) asks ends
 
 pub large_finds : (r : Result Found Ending) (files : Option Files) (words : List (List ℕ)) (number : ℕ) → Some (Large number) ≡ asked_of words
-    → IfOk r (λ f. verdict_on_large (large_study number large_limit) ≡ verdict_on_found f.task (option_map vec_items f.further) (study_told f.study))
-    → IfOk r (λ f. IfSome files (λ library. verdict library words ≡ verdict_on_found f.task (option_map vec_items f.further) (study_told f.study)))
-large_finds (Ok f) files words number asks says = large_found files words number (verdict_on_found f.task (option_map vec_items f.further) (study_told f.study)) asks says
+    → IfOk r (λ f. verdict_on_large (large_study number large_limit) ≡ verdict_on_all f)
+    → IfOk r (λ f. IfSome files (λ library. verdict library words ≡ verdict_on_all f))
+large_finds (Ok f) files words number asks says = large_found files words number (verdict_on_all f) asks says
 large_finds (Err e) files words number asks says = tt
 
 pub large_misses : (r : Result Found Ending) (files : Option Files) (words : List (List ℕ)) (number : ℕ) → Some (Large number) ≡ asked_of words
@@ -443,6 +456,107 @@ pub large_misses : (r : Result Found Ending) (files : Option Files) (words : Lis
     → IfErr r (λ e. IfSome files (λ library. Ends (verdict library words) (fetched library words) e.status (string_bytes e.name)))
 large_misses (Ok f) files words number asks ends = tt
 large_misses (Err e) files words number asks ends = large_unfound files words number e.status (string_bytes e.name) asks (ends [] (string_bytes e.name))
+
+-- whatever the bytes of a bundle are, the words asked for it
+failing_asked : (b : BundleTold) (failing : Option Failing) → IsAsked (verdict_on_failing b failing)
+failing_asked b None = tt
+failing_asked b (Some failing) = tt
+
+read_asked : (r : Read) → IsAsked (verdict_on_read r)
+read_asked (read b) = failing_asked b (audit_of b)
+read_asked (cut left) = tt
+read_asked (bad_frame at) = tt
+read_asked (bad_order at) = tt
+
+bundle_asked : (name : List ℕ) (answer : Content) → IsAsked (verdict_on_bundle name answer)
+bundle_asked name absent = tt
+bundle_asked name too_long = tt
+bundle_asked name (whole bytes) = read_asked (reading_of bytes)
+
+-- the fetch of a bundle that gave no bytes
+bundle_ends : (name : List ℕ) (answer : Content) (st : Status) (told : List ℕ) → Fetches answer name st told → Ends (verdict_on_bundle name answer) (name ∷ []) st told
+bundle_ends name answer status.Ok told f = absurd f
+bundle_ends name answer status.Usage told f = absurd f
+bundle_ends name answer status.NoStudy told f = record {
+  cause = ap (λ (a : Content). status_of (verdict_on_bundle name a)) f.0;
+  named = ap (λ (a : Content). verdict_on_bundle name a) f.0 ∙ ap no_file (sym f.1);
+}
+bundle_ends name answer status.TooLong told f = record {
+  cause = ap (λ (a : Content). status_of (verdict_on_bundle name a)) f.0;
+  named = ap (λ (a : Content). verdict_on_bundle name a) f.0 ∙ ap file_too_long (sym f.1);
+}
+bundle_ends name answer (status.Refused rule place) told f = absurd f
+bundle_ends name answer status.ReadFault told f = record { cause = bundle_asked name answer; named = inl f }
+bundle_ends name answer status.WriteFault told f = absurd f
+bundle_ends name answer status.NoBranch told f = absurd f
+bundle_ends name answer status.NoStock told f = absurd f
+bundle_ends name answer (status.BadOrders number) told f = absurd f
+bundle_ends name answer (status.BadBundle reason at) told f = absurd f
+bundle_ends name answer (status.AuditFailed branch reference) told f = absurd f
+bundle_ends name answer status.NoEvent told f = absurd f
+bundle_ends name answer status.Memory told f = record { cause = tt; named = tt }
+
+pub bundle_unfetched : (files : Option Files) (name : List ℕ) (st : Status) (told : List ℕ)
+    → IfSome files (λ library. Fetches (content (held library name) most_bundle_bytes) name st told)
+    → IfSome files (λ library. Ends (verdict_on_bundle name (content (held library name) most_bundle_bytes)) (name ∷ []) st told)
+bundle_unfetched None name st told f = tt
+bundle_unfetched (Some library) name st told f = bundle_ends name (content (held library name) most_bundle_bytes) st told f
+
+pub bundle_fetched : (files : Option Files) (name bytes : List ℕ)
+    → IfSome files (λ library. content (held library name) most_bundle_bytes ≡ whole bytes)
+    → IfSome files (λ library. verdict_on_bundle name (content (held library name) most_bundle_bytes) ≡ verdict_on_read (reading_of bytes))
+bundle_fetched None name bytes has = tt
+bundle_fetched (Some library) name bytes has = ap (λ (a : Content). verdict_on_bundle name a) has
+
+-- the words asked for a bundle
+pub bundle_found : (files : Option Files) (words : List (List ℕ)) (name : List ℕ) (come : Verdict) → Some (Bundle name) ≡ asked_of words
+    → IfSome files (λ library. verdict_on_bundle name (content (held library name) most_bundle_bytes) ≡ come)
+    → IfSome files (λ library. verdict library words ≡ come)
+bundle_found None words name come asks says = tt
+bundle_found (Some library) words name come asks says = ap (λ (o : Option Request). verdict_for library o) (sym asks) ∙ says
+
+pub bundle_unfound : (files : Option Files) (words : List (List ℕ)) (name : List ℕ) (st : Status) (told : List ℕ) → Some (Bundle name) ≡ asked_of words
+    → IfSome files (λ library. Ends (verdict_on_bundle name (content (held library name) most_bundle_bytes)) (name ∷ []) st told)
+    → IfSome files (λ library. Ends (verdict library words) (fetched library words) st told)
+bundle_unfound None words name st told asks ends = tt
+bundle_unfound (Some library) words name st told asks ends =
+    subst (λ (o : Option Request). Ends (verdict_for library o) (fetched_for library o) st told) asks ends
+
+-- a bundle that is asked for is no large study
+pub bundle_is_not_large : (words : List (List ℕ)) (name : List ℕ) → Some (Bundle name) ≡ asked_of words → ¬ IsLarge (asked_of words)
+bundle_is_not_large words name asks large = subst IsLarge (sym asks) large
+
+pub bundle_finds : (r : Result Found Ending) (files : Option Files) (words : List (List ℕ)) (name : List ℕ) → Some (Bundle name) ≡ asked_of words
+    → IfOk r (λ f. IfSome files (λ library. verdict_on_bundle name (content (held library name) most_bundle_bytes) ≡ verdict_on_all f))
+    → IfOk r (λ f. IfSome files (λ library. verdict library words ≡ verdict_on_all f))
+bundle_finds (Ok f) files words name asks says = bundle_found files words name (verdict_on_all f) asks says
+bundle_finds (Err e) files words name asks says = tt
+
+pub bundle_misses : (r : Result Found Ending) (files : Option Files) (words : List (List ℕ)) (name : List ℕ) → Some (Bundle name) ≡ asked_of words
+    → IfErr r (λ e. IfSome files (λ library. Ends (verdict_on_bundle name (content (held library name) most_bundle_bytes)) (name ∷ []) e.status (string_bytes e.name)))
+    → IfErr r (λ e. IfSome files (λ library. Ends (verdict library words) (fetched library words) e.status (string_bytes e.name)))
+bundle_misses (Ok f) files words name asks ends = tt
+bundle_misses (Err e) files words name asks ends = bundle_unfound files words name e.status (string_bytes e.name) asks ends
+
+-- the arguments of what was found are those of the words
+pub file_argues : (r : Result Found Ending) (words : List (List ℕ)) (task : Task) (study : List ℕ) → Some (File task study) ≡ asked_of words
+    → IfOk r (λ f. arguments_on f ≡ arguments_of task) → IfOk r (λ f. arguments_on f ≡ arguments_in (asked_of words))
+file_argues (Ok f) words task study asks is = is ∙ ap (λ (o : Option Request). arguments_in o) asks
+file_argues (Err e) words task study asks is = tt
+
+pub large_argues : (r : Result Found Ending) (words : List (List ℕ)) (number : ℕ) → Some (Large number) ≡ asked_of words
+    → IfOk r (λ f. arguments_on f ≡ []) → IfOk r (λ f. arguments_on f ≡ arguments_in (asked_of words))
+large_argues (Ok f) words number asks is = is ∙ ap (λ (o : Option Request). arguments_in o) asks
+large_argues (Err e) words number asks is = tt
+
+pub bundle_argues : (r : Result Found Ending) (words : List (List ℕ)) (name : List ℕ) → Some (Bundle name) ≡ asked_of words
+    → IfOk r (λ f. arguments_on f ≡ []) → IfOk r (λ f. arguments_on f ≡ arguments_in (asked_of words))
+bundle_argues (Ok f) words name asks is = is ∙ ap (λ (o : Option Request). arguments_in o) asks
+bundle_argues (Err e) words name asks is = tt
+
+-- so many workers were asked for
+pub worked_by : (r : Result Found Ending) (asked : Option ℕ) (workers : ℕ) → asked ≡ Some workers → IfOk r (IsWorkedBy (Some workers)) → IfOk r (IsWorkedBy asked)
+worked_by r asked workers is w = subst (λ (o : Option ℕ). IfOk r (IsWorkedBy o)) (sym is) w
 
 -- words that ask for something are no faulty words
 pub asks_something : (words : List (List ℕ)) (request : Request) → Some request ≡ asked_of words → ¬ (asked_of words ≡ None)

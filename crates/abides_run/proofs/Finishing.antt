@@ -68,6 +68,8 @@ still-counts events more steps taken status.WriteFault still = absurd still
 still-counts events more steps taken status.NoBranch still = refl
 still-counts events more steps taken status.NoStock still = refl
 still-counts events more steps taken (status.BadOrders number) still = refl
+still-counts events more steps taken (status.BadBundle reason at) still = refl
+still-counts events more steps taken (status.AuditFailed branch reference) still = refl
 still-counts events more steps taken status.NoEvent still = absurd still
 still-counts events more steps taken status.Memory still = absurd still
 
@@ -83,6 +85,8 @@ still-cause come status.WriteFault still final is = absurd still
 still-cause come status.NoBranch still final is = is
 still-cause come status.NoStock still final is = is
 still-cause come (status.BadOrders number) still final is = is
+still-cause come (status.BadBundle reason at) still final is = is
+still-cause come (status.AuditFailed branch reference) still final is = is
 still-cause come status.NoEvent still final is = absurd still
 still-cause come status.Memory still final is = absurd still
 

@@ -3,6 +3,7 @@ pub mod Among
 pub mod Answered
 pub mod Bundles
 pub mod Come
+pub mod Auditing
 pub mod Crossing
 pub mod Fetching
 pub mod Finishing

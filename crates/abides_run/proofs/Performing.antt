@@ -9,7 +9,7 @@ use Rattle.command_words.specs.declared.asked.Crossing.{Crossing}
 use Rattle.abides_run.specs.declared.request.Task.TheVariants.{Rewind, Cross}
 use Rattle.abides_run.specs.Fetched.{arguments_of}
 use Rattle.abides_run.specs.Output.{Probes, Due, written, simulated, allowed}
-use Rattle.abides_run.specs.Verdict.{Verdict, accepted, verdict_on_crossing, verdict_on_found, IsStudy}
+use Rattle.abides_run.specs.Verdict.{Verdict, accepted, verdict_on_crossing, verdict_on_found, IsDue}
 use Rattle.abides_run.specs.Statuses.{Cause, Counts, IsRefusal, IsStill, Names, NamesOne}
 use Rattle.abides_run.specs.Headline.{Seen, Fulfilled}
 use Rattle.abides_run.specs.Performed.{Finished, IsFinal, Performed, Sent, IsUnsent}
@@ -30,6 +30,8 @@ unsent_counts events more old new took_before took status.WriteFault u least mos
 unsent_counts events more old new took_before took status.NoBranch u least most = absurd u
 unsent_counts events more old new took_before took status.NoStock u least most = absurd u
 unsent_counts events more old new took_before took (status.BadOrders number) u least most = absurd u
+unsent_counts events more old new took_before took (status.BadBundle reason at) u least most = absurd u
+unsent_counts events more old new took_before took (status.AuditFailed branch reference) u least most = absurd u
 unsent_counts events more old new took_before took status.NoEvent u least most = absurd u
 unsent_counts events more old new took_before took status.Memory u least most = (omega (arith, least), most, λ n. least)
 
@@ -82,7 +84,7 @@ wanting bytes events more reads writes old new taken least most = record {
 }
 
 -- What is done with an accepted study ends with 0, 7 or 10.
-unsent_cause : (come : Verdict) (st : Status) → IsStudy come → IsUnsent st → Cause come st
+unsent_cause : (come : Verdict) (st : Status) → IsDue come → IsUnsent st → Cause come st
 unsent_cause come status.Ok s u = absurd u
 unsent_cause come status.Usage s u = absurd u
 unsent_cause come status.NoStudy s u = absurd u
@@ -93,10 +95,12 @@ unsent_cause come status.WriteFault s u = s
 unsent_cause come status.NoBranch s u = absurd u
 unsent_cause come status.NoStock s u = absurd u
 unsent_cause come (status.BadOrders number) s u = absurd u
+unsent_cause come (status.BadBundle reason at) s u = absurd u
+unsent_cause come (status.AuditFailed branch reference) s u = absurd u
 unsent_cause come status.NoEvent s u = absurd u
 unsent_cause come status.Memory s u = tt
 
-performed_cause : (come : Verdict) (st : Status) → IsStudy come → (st ≡ status.Ok) ⊎ IsUnsent st → Cause come st
+performed_cause : (come : Verdict) (st : Status) → IsDue come → (st ≡ status.Ok) ⊎ IsUnsent st → Cause come st
 performed_cause come st s (inl ok) = subst (λ (x : Status). Cause come x) (sym ok) s
 performed_cause come st s (inr u) = unsent_cause come st s u
 
@@ -111,6 +115,8 @@ unsent_wanting status.WriteFault old new u fault r = absurd (r (fault refl))
 unsent_wanting status.NoBranch old new u fault r = absurd u
 unsent_wanting status.NoStock old new u fault r = absurd u
 unsent_wanting (status.BadOrders number) old new u fault r = absurd u
+unsent_wanting (status.BadBundle reason at) old new u fault r = absurd u
+unsent_wanting (status.AuditFailed branch reference) old new u fault r = absurd u
 unsent_wanting status.NoEvent old new u fault r = absurd u
 unsent_wanting status.Memory old new u fault r = refl
 
@@ -150,6 +156,8 @@ unsent_done status.WriteFault u = record { final = tt; going = λ r. r; moving =
 unsent_done status.NoBranch u = absurd u
 unsent_done status.NoStock u = absurd u
 unsent_done (status.BadOrders number) u = absurd u
+unsent_done (status.BadBundle reason at) u = absurd u
+unsent_done (status.AuditFailed branch reference) u = absurd u
 unsent_done status.NoEvent u = absurd u
 unsent_done status.Memory u = record { final = tt; going = λ r. r; moving = λ r. r; names = λ come fetched name. tt; argument = λ arguments name. tt }
 

@@ -5,7 +5,7 @@ use Rattle.study_file.specs.Tables.{table_of}
 use Rattle.abides_run.specs.declared.ending.Ending.{Ending}
 use Rattle.abides_run.specs.declared.found.Found.{Found}
 use Rattle.abides_run.specs.declared.request.Request.{Request}
-use Rattle.abides_run.specs.declared.request.Request.TheVariants.{File, Large}
+use Rattle.abides_run.specs.declared.request.Request.TheVariants.{File, Large, Bundle}
 use Rattle.abides_run.specs.declared.request.Task.{Task}
 use Rattle.abides_run.specs.Words.{asked_of, further_of}
 use Rattle.abides_run.specs.Verdict.{Verdict, Files, series_of, verdict}
@@ -33,6 +33,8 @@ speaks_itself status.WriteFault name = tt
 speaks_itself status.NoBranch name = tt
 speaks_itself status.NoStock name = tt
 speaks_itself (status.BadOrders number) name = tt
+speaks_itself (status.BadBundle reason at) name = tt
+speaks_itself (status.AuditFailed branch reference) name = tt
 speaks_itself status.NoEvent name = tt
 speaks_itself status.Memory name = tt
 
@@ -78,6 +80,8 @@ speaks_more some more status.WriteFault name among s = tt
 speaks_more some more status.NoBranch name among s = tt
 speaks_more some more status.NoStock name among s = tt
 speaks_more some more (status.BadOrders number) name among s = tt
+speaks_more some more (status.BadBundle reason at) name among s = tt
+speaks_more some more (status.AuditFailed branch reference) name among s = tt
 speaks_more some more status.NoEvent name among s = tt
 speaks_more some more status.Memory name among s = tt
 
@@ -119,6 +123,13 @@ large_speaks (Ok f) words number asks s = tt
 large_speaks (Err e) words number asks s =
     ([], subst (λ (o : Option Request). Speaks (files_of o []) e.status (string_bytes e.name)) asks (s [] (string_bytes e.name)))
 
+-- they asked for a bundle
+pub bundle_speaks : (r : Result Found Ending) (words : List (List ℕ)) (bundle : List ℕ) → Some (Bundle bundle) ≡ asked_of words
+    → IfErr r (λ e. Speaks (bundle ∷ []) e.status (string_bytes e.name)) → IfErr r (λ e. SpeaksFor words e.status (string_bytes e.name))
+bundle_speaks (Ok f) words bundle asks s = tt
+bundle_speaks (Err e) words bundle asks s =
+    ([], subst (λ (o : Option Request). Speaks (files_of o []) e.status (string_bytes e.name)) asks s)
+
 pub words_speak : (words : List (List ℕ)) (st : Status) (name : List ℕ) → (st ≡ status.Memory) ⊎ ((st ≡ status.Usage) × (None ≡ asked_of words)) → SpeaksFor words st name
 words_speak words st name (inl wanting) = ([], wanting_speaks (files_of (asked_of words) []) st name wanting)
 words_speak words st name (inr why) = ([], subst (λ (x : Status). Speaks (files_of (asked_of words) []) x name) (sym why.0) tt)
@@ -135,6 +146,8 @@ final_speaks files status.WriteFault name f = tt
 final_speaks files status.NoBranch name f = tt
 final_speaks files status.NoStock name f = tt
 final_speaks files (status.BadOrders number) name f = tt
+final_speaks files (status.BadBundle reason at) name f = tt
+final_speaks files (status.AuditFailed branch reference) name f = tt
 final_speaks files status.NoEvent name f = tt
 final_speaks files status.Memory name f = tt
 
@@ -160,6 +173,8 @@ sought_one arguments status.WriteFault name s = tt
 sought_one arguments status.NoBranch name s = absurd s
 sought_one arguments status.NoStock name s = absurd s
 sought_one arguments (status.BadOrders number) name s = tt
+sought_one arguments (status.BadBundle reason at) name s = tt
+sought_one arguments (status.AuditFailed branch reference) name s = tt
 sought_one arguments status.NoEvent name s = absurd s
 sought_one arguments status.Memory name s = tt
 

@@ -1,6 +1,6 @@
 use Rattle.std.specs.Prelude.{ℕ}
 use Rattle.abides_run.specs.declared.status.Status.{Status}
-use Rattle.abides_run.specs.declared.status.Status.TheVariants.{Ok, Usage, NoStudy, TooLong, Refused, ReadFault, WriteFault, NoBranch, NoStock, BadOrders, NoEvent, Memory}
+use Rattle.abides_run.specs.declared.status.Status.TheVariants.{Ok, Usage, NoStudy, TooLong, Refused, ReadFault, WriteFault, NoBranch, NoStock, BadOrders, BadBundle, AuditFailed, NoEvent, Memory}
 
 -- the number of a status
 abbrev pub code_of : Status → ℕ
@@ -14,5 +14,7 @@ code_of WriteFault = 7
 code_of NoBranch = 8
 code_of NoStock = 11
 code_of (BadOrders number) = 12
+code_of (BadBundle reason at) = 13
+code_of (AuditFailed branch reference) = 14
 code_of NoEvent = 9
 code_of Memory = 10

@@ -4,7 +4,7 @@ use Rattle.outside.specs.Files.{Content, absent, too_long}
 use Rattle.abides_run.specs.Verdict.{Verdict}
 use Rattle.abides_run.specs.Statuses.{Cause, Names}
 use Rattle.abides_run.specs.declared.status.Status.{Status}
-use Rattle.abides_run.specs.declared.status.Status.TheVariants.{Ok, Usage, NoStudy, TooLong, Refused, ReadFault, WriteFault, NoBranch, NoStock, BadOrders, NoEvent, Memory}
+use Rattle.abides_run.specs.declared.status.Status.TheVariants.{Ok, Usage, NoStudy, TooLong, Refused, ReadFault, WriteFault, NoBranch, NoStock, BadOrders, BadBundle, AuditFailed, NoEvent, Memory}
 
 -- The status has its cause, and the name is that of the file which it speaks of.
 pub record Ends (come : Verdict) (fetched : List (List ℕ)) (status : Status) (name : List ℕ) : Type 0 where
@@ -23,6 +23,8 @@ Fetches held wanted WriteFault name = ⊥
 Fetches held wanted NoBranch name = ⊥
 Fetches held wanted NoStock name = ⊥
 Fetches held wanted (BadOrders number) name = ⊥
+Fetches held wanted (BadBundle reason at) name = ⊥
+Fetches held wanted (AuditFailed branch reference) name = ⊥
 Fetches held wanted NoEvent name = ⊥
 Fetches held wanted Memory name = Unit {0}
 
@@ -38,5 +40,7 @@ IsSought WriteFault = ⊥
 IsSought NoBranch = ⊥
 IsSought NoStock = ⊥
 IsSought (BadOrders number) = ⊥
+IsSought (BadBundle reason at) = ⊥
+IsSought (AuditFailed branch reference) = ⊥
 IsSought NoEvent = ⊥
 IsSought Memory = Unit {0}

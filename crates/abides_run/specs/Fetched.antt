@@ -7,7 +7,7 @@ use Rattle.study_file.specs.Tables.{table_of}
 use Rattle.study_market.specs.declared.early_refusal.Refusal.{Refusal}
 use Rattle.study_rules.specs.Accepted.{StudyTold, study_of}
 use Rattle.abides_run.specs.declared.request.Request.{Request}
-use Rattle.abides_run.specs.declared.request.Request.TheVariants.{File, Large}
+use Rattle.abides_run.specs.declared.request.Request.TheVariants.{File, Large, Bundle}
 use Rattle.abides_run.specs.declared.request.Task.{Task}
 use Rattle.abides_run.specs.declared.request.Task.TheVariants.{Run, Check, Table, Lines, Rewind, Cross}
 use Rattle.abides_run.specs.Words.{asked_of, further_of}
@@ -53,17 +53,19 @@ abbrev pub fetched_for : Files → Option Request → List (List ℕ)
 fetched_for files None = []
 fetched_for files (Some (File task study)) = study ∷ behind_study files task (content (held files study) most_bytes)
 fetched_for files (Some (Large number)) = []
+fetched_for files (Some (Bundle name)) = name ∷ []
 
 -- The study that the words ask for, then the series file that it names, and then the further file that the words name, where the
--- study breaks no rule; nothing for a large study.
+-- study breaks no rule; nothing for a large study, and the bundle alone for an audit.
 abbrev pub fetched : Files → List (List ℕ) → List (List ℕ)
 fetched files words = fetched_for files (asked_of words)
 
--- the study that is asked for, the series file that it names where these are its bytes, and the further file
+-- the study that is asked for, the series file that it names where these are its bytes, and the further file; or the bundle
 abbrev pub files_of : Option Request → List ℕ → List (List ℕ)
 files_of None bytes = []
 files_of (Some (File task study)) bytes = study ∷ (series_after (table_of bytes) ++ named (further_of task))
 files_of (Some (Large number)) bytes = []
+files_of (Some (Bundle name)) bytes = name ∷ []
 
 -- the arguments of a rewind, or the state and the stock of a cross, as they are written; another task has none
 abbrev pub arguments_of : Task → List (List ℕ)
@@ -78,6 +80,7 @@ abbrev pub arguments_in : Option Request → List (List ℕ)
 arguments_in None = []
 arguments_in (Some (File task study)) = arguments_of task
 arguments_in (Some (Large number)) = []
+arguments_in (Some (Bundle name)) = []
 
 -- the name is one of these
 abbrev pub IsAmong : List ℕ → List (List ℕ) → Type 0

@@ -3,7 +3,7 @@ use Rattle.std.specs.Prelude.{◌≡◌, ◌⊎◌, ◌≤◌, ℕ, List, Option
 use Rattle.outside.specs.Rose.{Rose}
 use Rattle.outside.specs.Taken.{appended, TookPrefix}
 use Rattle.abides_run.specs.Words.{asked_of, IsLarge}
-use Rattle.abides_run.specs.Verdict.{Verdict, Files, verdict, IsStudy, output, distinct, allowance}
+use Rattle.abides_run.specs.Verdict.{Verdict, Files, verdict, IsDue, output, distinct, allowance}
 use Rattle.abides_run.specs.Output.{Probes}
 use Rattle.abides_run.specs.Fetched.{arguments_in, fetched}
 use Rattle.abides_run.specs.Statuses.{Cause, Counts, IsRefusal, IsStill, Names, SpeaksFor, NamesOne, status_of}
@@ -27,13 +27,13 @@ pub record Fulfilled (come : Verdict) (bytes : List ℕ) (events more : ℕ) (be
   -- How many steps were counted: for a run each event of the study's segments once, and no more. For a rewind they are as many
   -- at least, and at most those besides that lead to its targets from the states that are sure to be kept.
   pub counter : Counts events more before.steps after.steps before.taken after.taken status
-  -- Each status has its cause, and without a study and with no fault each cause its status.
+  -- Each status has its cause, and where nothing is due and with no fault each cause its status.
   pub cause : Cause come status
-  pub exact : ¬ IsStudy come → ¬ (Rose before.reads after.reads) → (status ≡ status_of come) ⊎ (status ≡ Memory)
+  pub exact : ¬ IsDue come → ¬ (Rose before.reads after.reads) → (status ≡ status_of come) ⊎ (status ≡ Memory)
   -- Never more than a first part of the output is taken.
   pub prefix : TookPrefix before.taken after.taken bytes
-  -- With a study and no fault, want of memory is the only other end.
-  pub complete : IsStudy come → ¬ (Rose before.reads after.reads) → ¬ (Rose before.writes after.writes) →
+  -- Where something is due and there is no fault, want of memory is the only other end.
+  pub complete : IsDue come → ¬ (Rose before.reads after.reads) → ¬ (Rose before.writes after.writes) →
       (status ≡ Ok) ⊎ (status ≡ Memory)
 
 -- What holds of all but the note. The files are there where the library tells them.
@@ -61,7 +61,7 @@ pub record Named (files : Option Files) (words : List (List ℕ)) (status : Stat
   -- where the library tells its files, the one that is missing or too long, or one that was fetched; the first argument whose
   -- branch isn't there, or whose event isn't, with the last event of its branch
   pub told : IfSome files (λ held. Names (verdict held words) (fetched held words) status name)
-  -- in any case the study's, the series file's that a study names, or the further file's
+  -- in any case the study's, the series file's that a study names, the further file's or the bundle's
   pub always : SpeaksFor words status name
   -- or one of the arguments
   pub argument : NamesOne (arguments_in (asked_of words)) status name

@@ -8,5 +8,7 @@ pub mod Ends
 pub mod Notes
 pub mod Headline
 pub mod Performed
+pub mod AllFound
+pub mod Audits
 pub mod Code
 pub mod Worked

@@ -2,7 +2,7 @@
 use Rattle.std.specs.Prelude.{ℕ, List, [], ◌∷◌, ◌++◌, codes}
 use Rattle.std.specs.Fmt.{decimal}
 use Rattle.abides_run.specs.declared.status.Status.{Status}
-use Rattle.abides_run.specs.declared.status.Status.TheVariants.{Ok, Usage, NoStudy, TooLong, Refused, ReadFault, WriteFault, NoBranch, NoStock, BadOrders, NoEvent, Memory}
+use Rattle.abides_run.specs.declared.status.Status.TheVariants.{Ok, Usage, NoStudy, TooLong, Refused, ReadFault, WriteFault, NoBranch, NoStock, BadOrders, BadBundle, AuditFailed, NoEvent, Memory}
 
 -- the line for a broken rule
 abbrev pub refused_line : ℕ → ℕ → List ℕ
@@ -11,6 +11,15 @@ refused_line rule place = codes "study refused: rule " ++ decimal rule ++ codes 
 -- the line for the first record of a file of orders that breaks a rule
 abbrev pub orders_line : ℕ → List ℕ
 orders_line number = codes "orders refused: record " ++ decimal number ++ 10 ∷ []
+
+-- the line for bytes that are no bundle: the number of the reason, and the bytes that are left from a cut frame on or the place of
+-- the frame
+abbrev pub bundle_line : ℕ → ℕ → List ℕ
+bundle_line reason at = codes "bad bundle: " ++ decimal reason ++ codes " at " ++ decimal at ++ 10 ∷ []
+
+-- the line for the first branch of a bundle whose closing isn't what its feed tells
+abbrev pub failing_line : ℕ → ℕ → List ℕ
+failing_line branch reference = codes "audit failed: branch " ++ decimal branch ++ codes ", reference " ++ decimal reference ++ 10 ∷ []
 
 -- an argument, with the number of the last event of the branch that it names
 abbrev pub past_event : List ℕ → ℕ → List ℕ
@@ -29,5 +38,7 @@ note name WriteFault = codes "write failed\n"
 note name NoBranch = codes "no branch: " ++ name ++ 10 ∷ []
 note name NoStock = codes "no stock: " ++ name ++ 10 ∷ []
 note name (BadOrders number) = orders_line number
+note name (BadBundle reason at) = bundle_line reason at
+note name (AuditFailed branch reference) = failing_line branch reference
 note name NoEvent = codes "no event: " ++ name ++ 10 ∷ []
 note name Memory = codes "out of memory\n"

@@ -1,4 +1,4 @@
--- What is written for an accepted study, and how many events are simulated for it.
+-- What is written for an accepted study or a bundle that passes an audit, and how many events are simulated for it.
 use Rattle.std.specs.Prelude.{ℕ, ◌+◌, List, [], ◌∷◌, ◌++◌, length, codes}
 use Rattle.std.specs.Fmt.{decimal}
 use Rattle.branch_tree.specs.Segments.{segments_in}
@@ -13,6 +13,8 @@ use Rattle.rewind_desk.specs.declared.target.Target.{Target}
 use Rattle.reopen_cross.specs.declared.cross.Interest.{Interest}
 use Rattle.reopening_desk.specs.declared.stock.StockNamed.{StockNamed}
 use Rattle.reopening_desk.specs.Reopened.{reopened}
+use Rattle.bundle_reader.specs.Told.{BundleTold}
+use Rattle.audit_desk.specs.Audited.{displayed_over}
 use Rattle.abides_run.specs.Rewinds.{rewinds_of, steps_to, steps_to_all, target_state}
 
 -- the bundle of a study: the trace of each branch
@@ -44,9 +46,14 @@ study_lines bytes c = big_lines_of bytes c
 unfoldable pub study_events : CourseTold → ℕ
 study_events c = segmentwise.distinct c.opening c.plan
 
--- What is due of a study once all that the words name was found: its bundle, the line with its counts, the table that compares its
+-- the line of an audit that finds nothing: how many branches the bundle has, and how many displayed orders its closings tell
+abbrev pub audit_line : BundleTold → List ℕ
+audit_line b = codes "audit ok: branches " ++ decimal (length b.branches) ++ codes ", orders " ++ decimal (displayed_over b.branches) ++ 10 ∷ []
+
+-- What is due once all that the words name was found. Of a study: its bundle, the line with its counts, the table that compares its
 -- branches, the lines that tell of its run, whose text has so many bytes, states, or what the reopening of a stock would come to in
--- a state with these orders of a file, while so many grid places keep states.
+-- a state with these orders of a file, while so many grid places keep states. Of a bundle whose branches all pass the audit: that
+-- they do.
 pub data Due : Type 0 where
   bundled : StudyTold → Due
   counted : StudyTold → Due
@@ -54,6 +61,7 @@ pub data Due : Type 0 where
   described : ℕ → StudyTold → Due
   rewound : List Target → ℕ → StudyTold → Due
   crossed : Target → StockNamed → List Interest → ℕ → StudyTold → Due
+  audited : BundleTold → Due
 
 abbrev pub written : Probes → Due → List ℕ
 written probes (bundled s) = study_bundle s.course
@@ -62,8 +70,9 @@ written probes (compared s) = study_table probes s.course
 written probes (described bytes s) = study_lines bytes s.course
 written probes (rewound targets places s) = rewinds_of s.course targets
 written probes (crossed target stock orders places s) = reopened (target_state s.course target) stock orders
+written probes (audited b) = audit_line b
 
--- a check simulates nothing
+-- a check and an audit simulate nothing
 abbrev pub simulated : Due → ℕ
 simulated (bundled s) = study_events s.course
 simulated (counted s) = 0
@@ -71,6 +80,7 @@ simulated (compared s) = study_events s.course
 simulated (described bytes s) = study_events s.course
 simulated (rewound targets places s) = study_events s.course
 simulated (crossed target stock orders places s) = study_events s.course
+simulated (audited b) = 0
 
 -- how many steps may be made besides: those from kept states on
 abbrev pub allowed : Due → ℕ
@@ -80,3 +90,4 @@ allowed (compared s) = 0
 allowed (described bytes s) = 0
 allowed (rewound targets places s) = steps_to_all s places targets
 allowed (crossed target stock orders places s) = steps_to s places target
+allowed (audited b) = 0

@@ -7,7 +7,7 @@ use Rattle.abides_run.specs.Verdict.{Verdict, output, distinct, allowance}
 use Rattle.abides_run.specs.Statuses.{Counts, IsRefusal, IsStill, Names, NamesOne}
 use Rattle.abides_run.specs.Headline.{Fulfilled, Seen}
 use Rattle.abides_run.specs.declared.status.Status.{Status}
-use Rattle.abides_run.specs.declared.status.Status.TheVariants.{Ok, Usage, NoStudy, TooLong, Refused, ReadFault, WriteFault, NoBranch, NoStock, BadOrders, NoEvent, Memory}
+use Rattle.abides_run.specs.declared.status.Status.TheVariants.{Ok, Usage, NoStudy, TooLong, Refused, ReadFault, WriteFault, NoBranch, NoStock, BadOrders, BadBundle, AuditFailed, NoEvent, Memory}
 
 -- a study's stride: a copy is kept each so many events
 abbrev pub IsStride : ℕ → Type 0
@@ -25,6 +25,8 @@ IsUnsent WriteFault = Unit {0}
 IsUnsent NoBranch = ⊥
 IsUnsent NoStock = ⊥
 IsUnsent (BadOrders number) = ⊥
+IsUnsent (BadBundle reason at) = ⊥
+IsUnsent (AuditFailed branch reference) = ⊥
 IsUnsent NoEvent = ⊥
 IsUnsent Memory = Unit {0}
 
@@ -60,6 +62,8 @@ IsFinal WriteFault = Unit {0}
 IsFinal NoBranch = Unit {0}
 IsFinal NoStock = Unit {0}
 IsFinal (BadOrders number) = Unit {0}
+IsFinal (BadBundle reason at) = Unit {0}
+IsFinal (AuditFailed branch reference) = Unit {0}
 IsFinal NoEvent = Unit {0}
 IsFinal Memory = Unit {0}
 

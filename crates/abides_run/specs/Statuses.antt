@@ -1,12 +1,12 @@
 -- What each status of a run says.
 use Rattle.std.specs.Prelude.{◌≡◌, ℕ, ◌+◌, ◌≤◌, List, Option}
 use Rattle.study_rules.specs.Accepted.{StudyTold}
-use Rattle.abides_run.specs.Verdict.{Verdict, usage, no_file, file_too_long, refused, no_branch, no_stock, bad_orders, no_event, accepted, IsStudy, IsAsked}
+use Rattle.abides_run.specs.Verdict.{Verdict, usage, no_file, file_too_long, refused, no_branch, no_stock, bad_orders, bad_bundle, audit_failed, no_event, accepted, IsDue, IsAsked}
 use Rattle.abides_run.specs.Words.{asked_of}
 use Rattle.abides_run.specs.Fetched.{IsAmong, files_of}
 use Rattle.abides_run.specs.Notes.{past_event}
 use Rattle.abides_run.specs.declared.status.Status.{Status}
-use Rattle.abides_run.specs.declared.status.Status.TheVariants.{Ok, Usage, NoStudy, TooLong, Refused, ReadFault, WriteFault, NoBranch, NoStock, BadOrders, NoEvent, Memory}
+use Rattle.abides_run.specs.declared.status.Status.TheVariants.{Ok, Usage, NoStudy, TooLong, Refused, ReadFault, WriteFault, NoBranch, NoStock, BadOrders, BadBundle, AuditFailed, NoEvent, Memory}
 
 -- the status where nothing fails and memory is there
 abbrev pub status_of : Verdict → Status
@@ -17,21 +17,25 @@ status_of (refused rule place) = Refused rule place
 status_of (no_branch word) = NoBranch
 status_of (no_stock word) = NoStock
 status_of (bad_orders number) = BadOrders number
+status_of (bad_bundle reason at) = BadBundle reason at
+status_of (audit_failed branch reference) = AuditFailed branch reference
 status_of (no_event word last study past) = NoEvent
 status_of (accepted due) = Ok
 
 -- What words and files say of each status. Only want of memory may always come.
 abbrev pub Cause : Verdict → Status → Type 0
-Cause come Ok = IsStudy come
+Cause come Ok = IsDue come
 Cause come Usage = status_of come ≡ Usage
 Cause come NoStudy = status_of come ≡ NoStudy
 Cause come TooLong = status_of come ≡ TooLong
 Cause come (Refused rule place) = status_of come ≡ Refused rule place
 Cause come ReadFault = IsAsked come
-Cause come WriteFault = IsStudy come
+Cause come WriteFault = IsDue come
 Cause come NoBranch = status_of come ≡ NoBranch
 Cause come NoStock = status_of come ≡ NoStock
 Cause come (BadOrders number) = status_of come ≡ BadOrders number
+Cause come (BadBundle reason at) = status_of come ≡ BadBundle reason at
+Cause come (AuditFailed branch reference) = status_of come ≡ AuditFailed branch reference
 Cause come NoEvent = status_of come ≡ NoEvent
 Cause come Memory = Unit {0}
 
@@ -57,6 +61,8 @@ Names come fetched WriteFault name = Unit {0}
 Names come fetched NoBranch name = come ≡ no_branch name
 Names come fetched NoStock name = come ≡ no_stock name
 Names come fetched (BadOrders number) name = Unit {0}
+Names come fetched (BadBundle reason at) name = Unit {0}
+Names come fetched (AuditFailed branch reference) name = Unit {0}
 Names come fetched NoEvent name = IsPast come name
 Names come fetched Memory name = Unit {0}
 
@@ -72,11 +78,13 @@ Speaks files WriteFault name = Unit {0}
 Speaks files NoBranch name = Unit {0}
 Speaks files NoStock name = Unit {0}
 Speaks files (BadOrders number) name = Unit {0}
+Speaks files (BadBundle reason at) name = Unit {0}
+Speaks files (AuditFailed branch reference) name = Unit {0}
 Speaks files NoEvent name = Unit {0}
 Speaks files Memory name = Unit {0}
 
--- The file is the study that the words ask for, the series file that a study of some bytes names, or the further file that the
--- words name: so it is for each library, whether it tells its files or not.
+-- The file is the study that the words ask for, the series file that a study of some bytes names, the further file that the
+-- words name, or the bundle: so it is for each library, whether it tells its files or not.
 abbrev pub SpeaksFor : List (List ℕ) → Status → List ℕ → Type 0
 SpeaksFor words status name = (bytes : List ℕ) × Speaks (files_of (asked_of words) bytes) status name
 
@@ -99,6 +107,8 @@ NamesOne words WriteFault name = Unit {0}
 NamesOne words NoBranch name = IsAmong name words
 NamesOne words NoStock name = IsAmong name words
 NamesOne words (BadOrders number) name = Unit {0}
+NamesOne words (BadBundle reason at) name = Unit {0}
+NamesOne words (AuditFailed branch reference) name = Unit {0}
 NamesOne words NoEvent name = IsPastAmong words name
 NamesOne words Memory name = Unit {0}
 
@@ -115,6 +125,8 @@ Counts least more old new took_before took WriteFault = (old + least ≤ new) ×
 Counts least more old new took_before took NoBranch = new ≡ old
 Counts least more old new took_before took NoStock = new ≡ old
 Counts least more old new took_before took (BadOrders number) = new ≡ old
+Counts least more old new took_before took (BadBundle reason at) = new ≡ old
+Counts least more old new took_before took (AuditFailed branch reference) = new ≡ old
 Counts least more old new took_before took NoEvent = (old + least ≤ new) × (new ≤ old + least + more)
 Counts least more old new took_before took Memory =
     (old ≤ new) × (new ≤ old + least + more) × (¬ (took ≡ took_before) → old + least ≤ new)
@@ -131,6 +143,8 @@ IsRefusal WriteFault = ⊥
 IsRefusal NoBranch = Unit {0}
 IsRefusal NoStock = Unit {0}
 IsRefusal (BadOrders number) = Unit {0}
+IsRefusal (BadBundle reason at) = Unit {0}
+IsRefusal (AuditFailed branch reference) = Unit {0}
 IsRefusal NoEvent = Unit {0}
 IsRefusal Memory = ⊥
 
@@ -146,5 +160,7 @@ IsStill WriteFault = ⊥
 IsStill NoBranch = Unit {0}
 IsStill NoStock = Unit {0}
 IsStill (BadOrders number) = Unit {0}
+IsStill (BadBundle reason at) = Unit {0}
+IsStill (AuditFailed branch reference) = Unit {0}
 IsStill NoEvent = ⊥
 IsStill Memory = ⊥

@@ -17,16 +17,20 @@ use Rattle.order_file.specs.Orders.{orders_of}
 use Rattle.reopening_desk.specs.declared.stock.StockNamed.{StockNamed}
 use Rattle.reopening_desk.specs.Stocks.{stock_of}
 use Rattle.study_file.specs.LargeStudy.{large_study}
+use Rattle.bundle_reader.specs.Told.{BundleTold}
+use Rattle.bundle_reading.specs.Reading.{Read, read, cut, bad_frame, bad_order, reading_of}
+use Rattle.audit_desk.specs.declared.failing.Failing.{Failing}
+use Rattle.audit_desk.specs.Audited.{audit_of}
 use Rattle.abides_run.specs.declared.request.Request.{Request}
-use Rattle.abides_run.specs.declared.request.Request.TheVariants.{File, Large}
+use Rattle.abides_run.specs.declared.request.Request.TheVariants.{File, Large, Bundle}
 use Rattle.abides_run.specs.declared.request.Task.{Task}
 use Rattle.abides_run.specs.declared.request.Task.TheVariants.{Run, Check, Table, Lines, Rewind, Cross}
 use Rattle.abides_run.specs.Words.{asked_of, further_of}
 use Rattle.abides_run.specs.Rewinds.{lasts_of, argument_at}
-use Rattle.abides_run.specs.Output.{Probes, Due, bundled, counted, compared, described, rewound, crossed, written, simulated, allowed, study_events}
+use Rattle.abides_run.specs.Output.{Probes, Due, bundled, counted, compared, described, rewound, crossed, audited, written, simulated, allowed, study_events}
 
--- That an event isn't there is told with the last event of its branch, the study, and how many steps may have been made besides
--- those of the study's segments.
+-- That bytes are no bundle is told with the number of the reason and its place. That an event isn't there is told with the last
+-- event of its branch, the study, and how many steps may have been made besides those of the study's segments.
 pub data Verdict : Type 0 where
   usage : Verdict
   no_file : List ℕ → Verdict
@@ -35,12 +39,18 @@ pub data Verdict : Type 0 where
   no_branch : List ℕ → Verdict
   no_stock : List ℕ → Verdict
   bad_orders : ℕ → Verdict
+  bad_bundle : ℕ → ℕ → Verdict
+  audit_failed : ℕ → ℕ → Verdict
   no_event : List ℕ → ℕ → StudyTold → ℕ → Verdict
   accepted : Due → Verdict
 
--- each file may have so many bytes
+-- each file but a bundle may have so many bytes
 abbrev pub most_bytes : ℕ
 most_bytes = 16777216
+
+-- a bundle may have so many
+abbrev pub most_bundle_bytes : ℕ
+most_bundle_bytes = 1073741824
 
 -- the files as pairs of a name and its bytes
 abbrev pub Files : Type 0
@@ -147,27 +157,48 @@ large_limit = 20000
 abbrev pub verdict_on_large : List ℕ → Verdict
 verdict_on_large text = verdict_on_text (Lines (length text)) (table_of text)
 
+-- a branch of a bundle may be the first whose closing isn't what its feed tells
+abbrev pub verdict_on_failing : BundleTold → Option Failing → Verdict
+verdict_on_failing b None = accepted (audited b)
+verdict_on_failing b (Some failing) = audit_failed failing.branch failing.reference
+
+-- bytes may be no bundle: a frame is cut, with so many bytes left, one is none, or one stands where it may not
+abbrev pub verdict_on_read : Read → Verdict
+verdict_on_read (read b) = verdict_on_failing b (audit_of b)
+verdict_on_read (cut left) = bad_bundle 1 left
+verdict_on_read (bad_frame at) = bad_bundle 2 at
+verdict_on_read (bad_order at) = bad_bundle 3 at
+
+-- the bundle was asked for under its name
+abbrev pub verdict_on_bundle : List ℕ → Content → Verdict
+verdict_on_bundle name absent = no_file name
+verdict_on_bundle name too_long = file_too_long name
+verdict_on_bundle name (whole bytes) = verdict_on_read (reading_of bytes)
+
 abbrev pub verdict_for : Files → Option Request → Verdict
 verdict_for files None = usage
 verdict_for files (Some (File task study)) = verdict_on_study files task study (content (held files study) most_bytes)
 verdict_for files (Some (Large number)) = verdict_on_large (large_study number large_limit)
+verdict_for files (Some (Bundle name)) = verdict_on_bundle name (content (held files name) most_bundle_bytes)
 
 abbrev pub verdict : Files → List (List ℕ) → Verdict
 verdict files words = verdict_for files (asked_of words)
 
 -- they come to what is due
-abbrev pub IsStudy : Verdict → Type 0
-IsStudy usage = ⊥
-IsStudy (no_file name) = ⊥
-IsStudy (file_too_long name) = ⊥
-IsStudy (refused rule place) = ⊥
-IsStudy (no_branch word) = ⊥
-IsStudy (no_stock word) = ⊥
-IsStudy (bad_orders number) = ⊥
-IsStudy (no_event word last study past) = ⊥
-IsStudy (accepted due) = Unit {0}
+abbrev pub IsDue : Verdict → Type 0
+IsDue usage = ⊥
+IsDue (no_file name) = ⊥
+IsDue (file_too_long name) = ⊥
+IsDue (refused rule place) = ⊥
+IsDue (no_branch word) = ⊥
+IsDue (no_stock word) = ⊥
+IsDue (bad_orders number) = ⊥
+IsDue (bad_bundle reason at) = ⊥
+IsDue (audit_failed branch reference) = ⊥
+IsDue (no_event word last study past) = ⊥
+IsDue (accepted due) = Unit {0}
 
--- the words ask for a study
+-- the words ask for a file or a large study
 abbrev pub IsAsked : Verdict → Type 0
 IsAsked usage = ⊥
 IsAsked (no_file name) = Unit {0}
@@ -176,6 +207,8 @@ IsAsked (refused rule place) = Unit {0}
 IsAsked (no_branch word) = Unit {0}
 IsAsked (no_stock word) = Unit {0}
 IsAsked (bad_orders number) = Unit {0}
+IsAsked (bad_bundle reason at) = Unit {0}
+IsAsked (audit_failed branch reference) = Unit {0}
 IsAsked (no_event word last study past) = Unit {0}
 IsAsked (accepted due) = Unit {0}
 
@@ -188,6 +221,8 @@ output probes (refused rule place) = []
 output probes (no_branch word) = []
 output probes (no_stock word) = []
 output probes (bad_orders number) = []
+output probes (bad_bundle reason at) = []
+output probes (audit_failed branch reference) = []
 output probes (no_event word last study past) = []
 output probes (accepted due) = written probes due
 
@@ -200,6 +235,8 @@ distinct (refused rule place) = 0
 distinct (no_branch word) = 0
 distinct (no_stock word) = 0
 distinct (bad_orders number) = 0
+distinct (bad_bundle reason at) = 0
+distinct (audit_failed branch reference) = 0
 distinct (no_event word last study past) = study_events study.course
 distinct (accepted due) = simulated due
 
@@ -212,5 +249,7 @@ allowance (refused rule place) = 0
 allowance (no_branch word) = 0
 allowance (no_stock word) = 0
 allowance (bad_orders number) = 0
+allowance (bad_bundle reason at) = 0
+allowance (audit_failed branch reference) = 0
 allowance (no_event word last study past) = past
 allowance (accepted due) = allowed due

@@ -3,12 +3,12 @@ use Rattle.std.specs.Prelude.{◌≤◌, ℕ, List, Option, Some, None, map, opt
 use Rattle.std.specs.declared.string.String.{String}
 use Rattle.std.specs.declared.alloc.Global.{Global}
 use Rattle.command_words.specs.declared.asked.Command.{Command}
-use Rattle.command_words.specs.declared.asked.Command.TheVariants.{Run, Table, Check, Rewind, Big, Cross}
+use Rattle.command_words.specs.declared.asked.Command.TheVariants.{Run, Table, Check, Rewind, Big, Cross, Audit}
 use Rattle.command_words.specs.declared.asked.Asked.{Asked}
 use Rattle.command_words.specs.Asked as line
 use Rattle.command_words.specs.Ranges.{AreMarks, IsMark}
 use Rattle.abides_run.specs.declared.request.Request.{Request}
-use Rattle.abides_run.specs.declared.request.Request.TheVariants.{File, Large}
+use Rattle.abides_run.specs.declared.request.Request.TheVariants.{File, Large, Bundle}
 use Rattle.abides_run.specs.declared.request.Task.{Task}
 use Rattle.abides_run.specs.declared.request.Task.TheVariants as task
 
@@ -24,12 +24,14 @@ request_of (Table study) places = File task.Table study
 request_of (Rewind study marks) places = File (task.Rewind marks places) study
 request_of (Big number) places = Large number
 request_of (Cross study crossing) places = File (task.Cross crossing places) study
+request_of (Audit bundle) places = Bundle bundle
 
 -- the large study of a number is asked for, which is in no file
 abbrev pub IsLarge : Option Request → Type 0
 IsLarge None = ⊥
 IsLarge (Some (File task study)) = ⊥
 IsLarge (Some (Large number)) = Unit {0}
+IsLarge (Some (Bundle name)) = ⊥
 
 -- what the words ask for, where they are a command line
 abbrev pub asked_of : List (List ℕ) → Option Request
@@ -61,3 +63,4 @@ IsTask (task.Cross crossing places) = IsMark crossing.mark × (places ≤ 128)
 abbrev pub IsRequest : Request → Type 0
 IsRequest (File wanted study) = IsTask wanted
 IsRequest (Large number) = Unit {0}
+IsRequest (Bundle name) = Unit {0}

@@ -11,6 +11,7 @@ use Rattle.command_words.specs.declared.mark.Mark.{Mark}
 use Rattle.command_words.specs.declared.asked.Crossing.{Crossing}
 use Rattle.reopening_desk.specs.declared.stock.StockNamed.{StockNamed}
 use Rattle.rewind_desk.specs.declared.target.Target.{Target}
+use Rattle.bundle_reader.specs.Told.{BundleTold}
 
 abbrev pub root : Branch
 root = record { name = codes "root"; parent = 0; stop = At 0; edits = [] }
@@ -134,3 +135,11 @@ empty_run =
     ++ exchange_bytes
     ++ watcher_bytes
     ++ end_bytes
+
+-- a bundle of no branches
+abbrev pub no_branches : BundleTold
+no_branches = record { agents = 2; stocks = 1; branches = [] }
+
+-- its bytes: the header and the end
+abbrev pub no_branches_bytes : List ℕ
+no_branches_bytes = (0 ∷ 9 ∷ 104 ∷ 0 ∷ 1 ∷ 0 ∷ 2 ∷ 0 ∷ 1 ∷ 0 ∷ 0 ∷ []) ++ (0 ∷ 3 ∷ 122 ∷ 0 ∷ 0 ∷ [])

@@ -1,6 +1,6 @@
-//! From words and a library to a study.
+//! From words and a library to a study or a bundle.
 
-ghost use Rattle.std.specs.Prelude.{◌≡◌, ◌⊎◌, ◌<◌, ◌≤◌, ◌∷◌, ◌++◌, [], ℕ, List, None, Some, IfOk, IfErr, IfSome, OnOk, option_map, string_bytes};
+ghost use Rattle.std.specs.Prelude.{◌≡◌, ◌⊎◌, ◌<◌, ◌≤◌, ◌∷◌, ◌++◌, [], ℕ, List, Option, None, Some, IfOk, IfErr, IfSome, OnOk, option_map, string_bytes};
 ghost use Rattle.toml.specs.View.{table_view};
 ghost use Rattle.outside.specs.Rose.{Rose};
 ghost use Rattle.outside.specs.Files.{whole, held, content};
@@ -9,14 +9,15 @@ ghost use Rattle.study_rules.specs.Accepted.{StudyTold, study_told, study_of};
 ghost use Rattle.abides_run.specs.declared.request.Task.{Task as TaskTold};
 ghost use Rattle.study_file.specs.LargeStudy.{large_study};
 ghost use Rattle.abides_run.specs.Words.{texts, asked_of, workers_of, further_of, IsLarge, IsTask};
-ghost use Rattle.abides_run.specs.Verdict.{verdict, verdict_on_study, verdict_on_bytes, verdict_on_table, verdict_on_large, verdict_on_further, verdict_on_found, judged, Files, large_limit, most_bytes, series_of};
+ghost use Rattle.abides_run.specs.Verdict.{verdict, verdict_on_study, verdict_on_bytes, verdict_on_table, verdict_on_large, verdict_on_bundle, verdict_on_further, verdict_on_found, judged, Files, large_limit, most_bytes, most_bundle_bytes, series_of};
 ghost use Rattle.abides_run.specs.Fetched.{arguments_in, arguments_of, behind_bytes, behind_rules, behind_study, behind_table, fetched as fetched_names, series_after, named as named_file};
 ghost use Rattle.abides_run.specs.Statuses.{Speaks, SpeaksFor};
 ghost use Rattle.abides_run.specs.Ends.{Ends, Fetches, IsSought};
+ghost use Rattle.abides_run.specs.AllFound.{IsPaced, IsStaffed, IsTasked, IsWorkedBy, arguments_on, verdict_on_all};
 ghost use Rattle.abides_run.specs.Performed.{IsStride};
 
 use crate::ending::{Ending, named, nameless};
-use crate::found::Found;
+use crate::found::{Found, FoundStudy};
 use crate::request::{Job, Request, Task};
 use crate::status::Status;
 use crate::words::asked;
@@ -26,8 +27,11 @@ use std::alloc::Global;
 use study_file::{RawStudy, StudyError, read_tables, series_name, study_text};
 use study_rules::{AcceptError, Study, accept};
 
-// Each file may have so many bytes.
+// Each file but a bundle may have so many bytes.
 const MOST_BYTES: u64 = 16_777_216;
+
+// A bundle may have so many.
+const MOST_BUNDLE_BYTES: u64 = 1_073_741_824;
 
 // Each branch of the large study has at most so many events.
 const LARGE_LIMIT: u32 = 20_000;
@@ -194,10 +198,12 @@ fn find_file<'a, L: Library>(
     library: &mut L,
 ) -> Result<Found<'a>, Ending>
     ensures study { IfOk result (λ f. IfSome (L.files library.old) (λ files.
-        verdict_on_study files task.entry name.now (content (held files name.now) most_bytes) ≡ verdict_on_found f.task (option_map (λ bytes. bytes.items) f.further) (study_told f.study))) }
-    ensures task { IfOk result (λ f. f.task ≡ task.entry) }
-    ensures stride { IfOk result (λ f. IsStride f.study.stride) }
-    ensures workers { IfOk result (λ f. f.workers ≡ workers) }
+        verdict_on_study files task.entry name.now (content (held files name.now) most_bytes) ≡ verdict_on_all f)) }
+    ensures arguments { IfOk result (λ f. arguments_on f ≡ arguments_of task.entry) }
+    ensures ranges { IsTask task.entry → IfOk result IsTasked }
+    ensures stride { IfOk result IsPaced }
+    ensures range { (0 < workers) × (workers ≤ 64) → IfOk result IsStaffed }
+    ensures workers { IfOk result (IsWorkedBy (Some workers)) }
     ensures ended { IfErr result (λ e. IfSome (L.files library.old) (λ files.
         Ends (verdict_on_study files task.entry name.now (content (held files name.now) most_bytes))
         (name.now ∷ behind_study files task.entry (content (held files name.now) most_bytes)) e.status (string_bytes e.name))) }
@@ -211,12 +217,12 @@ fn find_file<'a, L: Library>(
     let bytes = fetch_file(alloc, name, MOST_BYTES, library)?;
     let study = read_study(alloc, &bytes, library)?;
     let further = fetch_further(alloc, &task, library)?;
-    Ok(Found {
+    Ok(Found::Study(FoundStudy {
         task,
         study,
         further,
         workers,
-    })
+    }))
 }
 
 // The text of the large study of a number, or how the search ends without it.
@@ -232,10 +238,12 @@ fn large_text(alloc: Global, number: u32) -> Result<String, Ending>
 
 // The study of a text that is in no file, and that its lines are to be told; or how the search ends without one.
 fn read_text<'a>(alloc: Global, workers: u32, text: &str) -> Result<Found<'a>, Ending>
-    ensures study { IfOk result (λ f. verdict_on_large text.now ≡ verdict_on_found f.task (option_map (λ bytes. bytes.items) f.further) (study_told f.study)) }
-    ensures task { IfOk result (λ f. (arguments_of f.task ≡ []) × IsTask f.task) }
-    ensures stride { IfOk result (λ f. IsStride f.study.stride) }
-    ensures workers { IfOk result (λ f. f.workers ≡ workers) }
+    ensures study { IfOk result (λ f. verdict_on_large text.now ≡ verdict_on_all f) }
+    ensures arguments { IfOk result (λ f. arguments_on f ≡ []) }
+    ensures ranges { IfOk result IsTasked }
+    ensures stride { IfOk result IsPaced }
+    ensures range { (0 < workers) × (workers ≤ 64) → IfOk result IsStaffed }
+    ensures workers { IfOk result (IsWorkedBy (Some workers)) }
     ensures ended { IfErr result (λ e. (fetched : List (List ℕ)) (name : List ℕ) → Ends (verdict_on_large text.now) fetched e.status name) }
     ensures speaks { IfErr result (λ e. (files : List (List ℕ)) (name : List ℕ) → Speaks files e.status name) }
     ensures sought { IfErr result (λ e. IsSought e.status) }
@@ -243,20 +251,22 @@ fn read_text<'a>(alloc: Global, workers: u32, text: &str) -> Result<Found<'a>, E
 {
     let raw = tables(alloc, text.as_bytes())?;
     let study = accept_study(alloc, &raw, None)?;
-    Ok(Found {
+    Ok(Found::Study(FoundStudy {
         task: Task::Lines(text.len()),
         study,
         further: None,
         workers,
-    })
+    }))
 }
 
 // The large study of a number, or how the search ends without one. No file is fetched.
 fn find_large<'a>(alloc: Global, workers: u32, number: u32) -> Result<Found<'a>, Ending>
-    ensures study { IfOk result (λ f. verdict_on_large (large_study number large_limit) ≡ verdict_on_found f.task (option_map (λ bytes. bytes.items) f.further) (study_told f.study)) }
-    ensures task { IfOk result (λ f. (arguments_of f.task ≡ []) × IsTask f.task) }
-    ensures stride { IfOk result (λ f. IsStride f.study.stride) }
-    ensures workers { IfOk result (λ f. f.workers ≡ workers) }
+    ensures study { IfOk result (λ f. verdict_on_large (large_study number large_limit) ≡ verdict_on_all f) }
+    ensures arguments { IfOk result (λ f. arguments_on f ≡ []) }
+    ensures ranges { IfOk result IsTasked }
+    ensures stride { IfOk result IsPaced }
+    ensures range { (0 < workers) × (workers ≤ 64) → IfOk result IsStaffed }
+    ensures workers { IfOk result (IsWorkedBy (Some workers)) }
     ensures ended { IfErr result (λ e. (fetched : List (List ℕ)) (name : List ℕ) → Ends (verdict_on_large (large_study number large_limit)) fetched e.status name) }
     ensures speaks { IfErr result (λ e. (files : List (List ℕ)) (name : List ℕ) → Speaks files e.status name) }
     ensures sought { IfErr result (λ e. IsSought e.status) }
@@ -266,19 +276,48 @@ fn find_large<'a>(alloc: Global, workers: u32, number: u32) -> Result<Found<'a>,
     read_text(alloc, workers, text.as_str())
 }
 
-/// The study that the words ask for, what is to be done with it and by how many workers, or how the search ends without one.
-pub fn find_study<'a, L: Library>(
+// The bytes of a bundle's file, or how the search ends without them.
+fn find_bundle<'a, L: Library>(
+    alloc: Global,
+    name: &str,
+    library: &mut L,
+) -> Result<Found<'a>, Ending>
+    ensures bundle { IfOk result (λ f. IfSome (L.files library.old) (λ files.
+        verdict_on_bundle name.now (content (held files name.now) most_bundle_bytes) ≡ verdict_on_all f)) }
+    ensures arguments { IfOk result (λ f. arguments_on f ≡ []) }
+    ensures ranges { IfOk result IsTasked }
+    ensures stride { IfOk result IsPaced }
+    ensures range { IfOk result IsStaffed }
+    ensures workers { (count : Option ℕ) → IfOk result (IsWorkedBy count) }
+    ensures ended { IfErr result (λ e. IfSome (L.files library.old) (λ files.
+        Ends (verdict_on_bundle name.now (content (held files name.now) most_bundle_bytes)) (name.now ∷ []) e.status (string_bytes e.name))) }
+    ensures speaks { IfErr result (λ e. Speaks (name.now ∷ []) e.status (string_bytes e.name)) }
+    ensures sought { IfErr result (λ e. IsSought e.status) }
+    ensures fault { IfErr result (λ e. e.status ≡ Status.ReadFault → Rose (L.faults library.old) (L.faults library.new)) }
+    ensures steady { OnOk result (L.faults library.new ≡ L.faults library.old) }
+    ensures rises { L.faults library.old ≤ L.faults library.new }
+    ensures files { L.files library.new ≡ L.files library.old }
+{
+    match fetch_file(alloc, name, MOST_BUNDLE_BYTES, library) {
+        Ok(bytes) => Ok(Found::Bundle(bytes)),
+        Err(ending) => Err(ending),
+    }
+}
+
+/// The study that the words ask for, what is to be done with it and by how many workers, or the bytes of the bundle; or how the
+/// search ends without them.
+pub fn find_asked<'a, L: Library>(
     alloc: Global,
     words: &'a [String],
     library: &mut L,
 ) -> Result<Found<'a>, Ending>
-    ensures study { IfOk result (λ f. IfSome (L.files library.old) (λ files. verdict files (texts words.entry.now) ≡ verdict_on_found f.task (option_map (λ bytes. bytes.items) f.further) (study_told f.study))) }
+    ensures study { IfOk result (λ f. IfSome (L.files library.old) (λ files. verdict files (texts words.entry.now) ≡ verdict_on_all f)) }
     ensures asked { OnOk result (¬ (asked_of (texts words.entry.now) ≡ None)) }
-    ensures stride { IfOk result (λ f. IsStride f.study.stride) }
-    ensures workers { IfOk result (λ f. workers_of (texts words.entry.now) ≡ Some f.workers) }
-    ensures range { IfOk result (λ f. (0 < f.workers) × (f.workers ≤ 64)) }
-    ensures arguments { IfOk result (λ f. arguments_of f.task ≡ arguments_in (asked_of (texts words.entry.now))) }
-    ensures ranges { IfOk result (λ f. IsTask f.task) }
+    ensures stride { IfOk result IsPaced }
+    ensures workers { IfOk result (IsWorkedBy (workers_of (texts words.entry.now))) }
+    ensures range { IfOk result IsStaffed }
+    ensures arguments { IfOk result (λ f. arguments_on f ≡ arguments_in (asked_of (texts words.entry.now))) }
+    ensures ranges { IfOk result IsTasked }
     ensures ended { IfErr result (λ e. IfSome (L.files library.old) (λ files.
         Ends (verdict files (texts words.entry.now)) (fetched_names files (texts words.entry.now)) e.status (string_bytes e.name))) }
     ensures speaks { IfErr result (λ e. SpeaksFor (texts words.entry.now) e.status (string_bytes e.name)) }
@@ -300,6 +339,7 @@ pub fn find_study<'a, L: Library>(
                     find_file(alloc, task, workers, study.as_str(), library)
                 }
                 Request::Large(number) => find_large(alloc, workers, number),
+                Request::Bundle(name) => find_bundle(alloc, name.as_str(), library),
             }
         }
         Ok(None) => Err(nameless(alloc, Status::Usage)),

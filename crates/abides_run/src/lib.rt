@@ -1,6 +1,7 @@
 //! The one call of the program: words, a library and sinks in, a status out.
 #![tactic(auto)]
 
+mod audits;
 mod crosses;
 mod ending;
 mod find;

@@ -2,7 +2,7 @@
 
 ghost use Rattle.std.specs.Prelude.{◌≡◌, ◌⊎◌, IfOk, IsOk, string_bytes};
 ghost use Rattle.abides_run.specs.Headline.{Noted};
-ghost use Rattle.abides_run.specs.Notes.{note, orders_line, refused_line};
+ghost use Rattle.abides_run.specs.Notes.{bundle_line, failing_line, note, orders_line, refused_line};
 
 use crate::status::Status;
 use outside::{Sink, write_all};
@@ -20,6 +20,20 @@ fn orders_text(alloc: Global, number: u32) -> Result<String, AllocError>
     ensures { IfOk result (λ text. string_bytes text ≡ orders_line number) }
 {
     format!(in alloc; "orders refused: record {number}\n")
+}
+
+// The line for bytes that are no bundle.
+fn bundle_text(alloc: Global, reason: u32, at: usize) -> Result<String, AllocError>
+    ensures { IfOk result (λ text. string_bytes text ≡ bundle_line reason at) }
+{
+    format!(in alloc; "bad bundle: {reason} at {at}\n")
+}
+
+// The line for a branch of a bundle whose closing isn't what its feed tells.
+fn failing_text(alloc: Global, branch: usize, reference: u64) -> Result<String, AllocError>
+    ensures { IfOk result (λ text. string_bytes text ≡ failing_line branch reference) }
+{
+    format!(in alloc; "audit failed: branch {branch}, reference {reference}\n")
 }
 
 /// The line as text.
@@ -41,6 +55,8 @@ pub fn note_text(alloc: Global, name: &str, status: Status) -> Result<String, Al
         Status::NoBranch => format!(in alloc; "no branch: {name}\n"),
         Status::NoStock => format!(in alloc; "no stock: {name}\n"),
         Status::BadOrders { number } => orders_text(alloc, number),
+        Status::BadBundle { reason, at } => bundle_text(alloc, reason, at),
+        Status::AuditFailed { branch, reference } => failing_text(alloc, branch, reference),
         Status::NoEvent => format!(in alloc; "no event: {name}\n"),
         Status::Memory => String::from_str(alloc, "out of memory\n"),
     }

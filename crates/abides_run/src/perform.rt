@@ -1,17 +1,19 @@
-//! What is done with a study.
+//! What is done with a study or a bundle.
 
 ghost use Rattle.std.specs.Prelude.{◌≡◌, ◌+◌, ◌++◌, ◌∷◌, ◌<◌, ◌≤◌, ◌^◌, [], ℕ, IfOk, codes, map, option_map, string_bytes};
 ghost use Rattle.std.specs.Fmt.{decimal};
 ghost use Rattle.abides_run.specs.Fetched.{arguments_of};
 ghost use Rattle.abides_run.specs.Output.{counts_line, study_bundle, study_events, study_lines, study_table};
 ghost use Rattle.abides_run.specs.Performed.{Finished, IsStride, Performed};
+ghost use Rattle.abides_run.specs.AllFound.{IsPaced, IsStaffed, IsTasked, arguments_on, verdict_on_all};
 ghost use Rattle.abides_run.specs.Verdict.{verdict_on_found};
 ghost use Rattle.abides_run.specs.Words.{IsTask};
 ghost use Rattle.study_rules.specs.Accepted.{study_told};
 
+use crate::audits::audit_bundle;
 use crate::crosses::{cross_study, further_text};
 use crate::ending::{Ending, nameless};
-use crate::found::Found;
+use crate::found::{Found, FoundStudy};
 use crate::request::Task;
 use crate::rewinds::rewind_study;
 use crate::send::{send, send_bundle};
@@ -219,11 +221,11 @@ fn check_study<O: Sink>(alloc: Global, course: &Course, out: &mut O) -> Status
     }
 }
 
-/// Does with a study what is asked for.
-pub fn perform<R: Threads + Wait + Sync, O: Sink, G: Gate + Sync, D: Ledger + Send>(
+// Does with a study what is asked for.
+fn perform_task<R: Threads + Wait + Sync, O: Sink, G: Gate + Sync, D: Ledger + Send>(
     rt: &R,
     alloc: Global,
-    found: &Found<'_>,
+    found: &FoundStudy<'_>,
     probes: &mut [Box<dyn Probe>],
     out: &mut O,
     gate: &G,
@@ -266,5 +268,32 @@ pub fn perform<R: Threads + Wait + Sync, O: Sink, G: Gate + Sync, D: Ledger + Se
                 rt, alloc, study, crossing, text, *places, workers, out, gate, steps,
             )
         }
+    }
+}
+
+/// Does what is asked for with what was found.
+pub fn perform<R: Threads + Wait + Sync, O: Sink, G: Gate + Sync, D: Ledger + Send>(
+    rt: &R,
+    alloc: Global,
+    found: Found<'_>,
+    probes: &mut [Box<dyn Probe>],
+    out: &mut O,
+    gate: &G,
+    steps: &mut Steps<D>,
+) -> Ending
+    requires stride { IsPaced found }
+    requires task { IsTasked found }
+    requires workers { IsStaffed found }
+    requires steps { steps.old ≤ 2 ^ 63 }
+    ensures { (reads : ℕ) → Finished (verdict_on_all found.entry)
+        (record { meanings = map (λ p. meaning p) probes.old; titles = map (λ p. title p) probes.old })
+        (arguments_on found.entry)
+        (record { reads = reads; writes = O.faults out.old; taken = O.taken out.old; steps = steps.old })
+        (record { reads = reads; writes = O.faults out.new; taken = O.taken out.new; steps = steps.new })
+        result.status (string_bytes result.name) }
+{
+    match found {
+        Found::Study(study) => perform_task(rt, alloc, &study, probes, out, gate, steps),
+        Found::Bundle(bytes) => audit_bundle(alloc, bytes, out),
     }
 }

@@ -19,13 +19,15 @@ pub enum Task<'a> {
     Cross(Crossing<'a>, u32),
 }
 
-/// A study, and what is to be done with it.
+/// A study, and what is to be done with it, or a bundle.
 #[derive(Drop)]
 pub enum Request<'a> {
     /// A task, and the name of the study's file, which is not empty.
     File(Task<'a>, Text<'a>),
     /// The lines that tell of the run of the large study of a number.
     Large(u32),
+    /// The audit of a bundle, whose file has this name, which is not empty.
+    Bundle(Text<'a>),
 }
 
 /// What is asked for, and how many workers are to do it.

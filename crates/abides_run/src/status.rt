@@ -12,6 +12,8 @@ pub enum Status {
     NoBranch,
     NoStock,
     BadOrders { number: u32 },
+    BadBundle { reason: u32, at: usize },
+    AuditFailed { branch: usize, reference: u64 },
     NoEvent,
     Memory,
 }
@@ -37,6 +39,8 @@ impl Status {
             Status::Memory => 10,
             Status::NoStock => 11,
             Status::BadOrders { .. } => 12,
+            Status::BadBundle { .. } => 13,
+            Status::AuditFailed { .. } => 14,
         }
     }
 }

@@ -5,7 +5,7 @@ ghost use Rattle.abides_run.specs.Words.{texts};
 ghost use Rattle.abides_run.specs.Headline.{Answered, Named, Noted};
 
 use crate::ending::Ending;
-use crate::find::find_study;
+use crate::find::find_asked;
 use crate::notes::write_note;
 use crate::perform::perform;
 use crate::status::Status;
@@ -35,15 +35,15 @@ fn answer<R: Threads + Wait + Sync, L: Library, O: Sink, G: Gate + Sync, D: Ledg
     ensures named { Named (L.files library.old) (texts words.now) result.status (string_bytes result.name) }
     ensures files { L.files library.new ≡ L.files library.old }
 {
-    match find_study(alloc, words, library) {
-        Ok(found) => perform(rt, alloc, &found, probes, out, gate, steps),
+    match find_asked(alloc, words, library) {
+        Ok(found) => perform(rt, alloc, found, probes, out, gate, steps),
         Err(ending) => ending,
     }
 }
 
-/// Does what the words ask for: the study's file and the series file that it names come from the library, the bundle, the
-/// line of counts, the table, the lines of a large study or the states of a rewind go to `out`, and the line for the status to
-/// `notes`. The words are
+/// Does what the words ask for: the study's file, the series file that it names, a further file or a bundle come from the
+/// library, the bundle, the line of counts, the table, the lines of a large study, the states of a rewind, the frames of a cross or
+/// the line of an audit go to `out`, and the line for the status to `notes`. The words are
 /// the command line without the program's name; each simulated event ticks `steps` once. So many workers as the words say
 /// simulate the study's segments, each in a thread of its own where `rt` can make one; each passes the gate before the first
 /// step of a segment. It may wait.

@@ -22,6 +22,7 @@ fn request<'a>(command: Command<'a>, places: u32) -> Request<'a>
         Command::Rewind(study, marks) => Request::File(Task::Rewind(marks, places), study),
         Command::Big(number) => Request::Large(number),
         Command::Cross(study, crossing) => { Request::File(Task::Cross(crossing, places), study) }
+        Command::Audit(bundle) => Request::Bundle(bundle),
     }
 }
 

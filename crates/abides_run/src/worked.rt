@@ -1,16 +1,16 @@
 //! What the definitions give on worked studies, words and statuses.
 
-ghost use Rattle.std.specs.Prelude.{◌≡◌, ◌∷◌, [], ℕ, Some, None, codes, length};
-ghost use Rattle.outside.specs.Files.{absent, too_long};
-ghost use Rattle.abides_run.specs.Output.{counts_line, crossed, rewound, study_bundle, study_events};
+ghost use Rattle.std.specs.Prelude.{◌≡◌, ◌∷◌, ◌++◌, [], ℕ, Some, None, codes, length};
+ghost use Rattle.outside.specs.Files.{absent, too_long, whole};
+ghost use Rattle.abides_run.specs.Output.{audit_line, audited, counts_line, crossed, rewound, study_bundle, study_events};
 ghost use Rattle.branch_tree.specs.declared.stop.Stop.TheVariants.{When};
-ghost use Rattle.abides_run.specs.Worked.{crossing_at, first_stock, header_alone, empty_course, empty_run, late_parent, mark_at, slower_at_a_time, target_at, three_branches, three_branches_at, three_branches_study, study_with_series};
+ghost use Rattle.abides_run.specs.Worked.{crossing_at, first_stock, header_alone, empty_course, empty_run, late_parent, mark_at, no_branches, no_branches_bytes, slower_at_a_time, target_at, three_branches, three_branches_at, three_branches_study, study_with_series};
 ghost use Rattle.abides_run.specs.Rewinds.{lasts_of};
 ghost use Rattle.abides_run.specs.Words.{asked_of};
-ghost use Rattle.abides_run.specs.Verdict.{verdict, usage, no_file, file_too_long, refused, no_branch, no_stock, bad_orders, no_event, accepted, verdict_on_study, verdict_on_found};
+ghost use Rattle.abides_run.specs.Verdict.{verdict, usage, no_file, file_too_long, refused, no_branch, no_stock, bad_orders, bad_bundle, no_event, accepted, verdict_on_study, verdict_on_found, verdict_on_bundle};
 ghost use Rattle.abides_run.specs.Fetched.{fetched};
 ghost use Rattle.abides_run.specs.Notes.{note, past_event};
-ghost use Rattle.abides_run.specs.declared.request.Request.TheVariants.{File, Large};
+ghost use Rattle.abides_run.specs.declared.request.Request.TheVariants.{File, Large, Bundle};
 ghost use Rattle.abides_run.specs.declared.request.Task.TheVariants as task;
 
 use crate::status::Status;
@@ -95,6 +95,26 @@ pub fn crosses_of_three_branches()
         ≡ no_event (codes "root:7") 6 three_branches_study 0 }
     ensures there { verdict_on_found (task.Cross (crossing_at (codes "root:6") (codes "root") 6 (codes "ABM")) 16) (Some header_alone) three_branches_study
         ≡ accepted (crossed (target_at 0 6) first_stock [] 16 three_branches_study) }
+{}
+
+/// An audit fetches its bundle alone. Of no bytes a frame is cut; a letter that no frame has is a bad frame, an end where the header
+/// must stand a bad place; and a bundle of no branches passes.
+pub fn audits_of_small_bytes()
+    ensures asked { asked_of (codes "audit" ∷ codes "b" ∷ codes "--workers=3" ∷ []) ≡ Some (Bundle (codes "b")) }
+    ensures missing { verdict [] (codes "audit" ∷ codes "b" ∷ []) ≡ no_file (codes "b") }
+    ensures fetched { fetched [] (codes "audit" ∷ codes "b" ∷ []) ≡ codes "b" ∷ [] }
+    ensures long { verdict_on_bundle (codes "b") too_long ≡ file_too_long (codes "b") }
+    ensures empty { verdict_on_bundle (codes "b") (whole []) ≡ bad_bundle 1 0 }
+    ensures unknown { verdict_on_bundle (codes "b") (whole (0 ∷ 1 ∷ codes "x")) ≡ bad_bundle 2 0 }
+    ensures place { verdict_on_bundle (codes "b") (whole (0 ∷ 3 ∷ codes "z" ++ (0 ∷ 0 ∷ []))) ≡ bad_bundle 3 0 }
+    ensures passed { verdict_on_bundle (codes "b") (whole no_branches_bytes) ≡ accepted (audited no_branches) }
+{}
+
+/// The lines of audits.
+pub fn lines_of_audits()
+    ensures passed { audit_line no_branches ≡ codes "audit ok: branches 0, orders 0\n" }
+    ensures bad_bundle { note [] (Status.BadBundle 1 4) ≡ codes "bad bundle: 1 at 4\n" }
+    ensures audit_failed { note [] (Status.AuditFailed 1 1) ≡ codes "audit failed: branch 1, reference 1\n" }
 {}
 
 /// The lines of refused crosses.

@@ -14,6 +14,7 @@ fn told(alloc: Global, asked: &Asked<'_>) -> Result<String, Fail> {
             let (symbol, file) = (crossing.symbol.as_str(), crossing.file.as_str());
             format!(in alloc; "cross {} {symbol} {file}", study.as_str())?
         }
+        Command::Audit(bundle) => format!(in alloc; "audit {}", bundle.as_str())?,
     };
     if let Command::Cross(_, crossing) = &asked.command {
         let mark = &crossing.mark;
@@ -80,6 +81,10 @@ fn lines_that_are_taken(rt: HostRuntime) -> Result<(), Fail> {
             "cross s root:0  f --workers=3",
             "cross s  f root:0=root@0, 3 workers, 16 places",
         ),
+        (
+            "audit --places 0 b --workers=2",
+            "audit b, 2 workers, 0 places",
+        ),
     ];
     for (line, wanted) in rows.iter() {
         assert_eq!(rt; answer(alloc, line)?.as_str(), *wanted);
@@ -115,6 +120,11 @@ fn lines_that_are_refused(rt: HostRuntime) -> Result<(), Fail> {
         "run s --places 129",
         "run s --places 00016",
         "check s --places 129",
+        "audit",
+        "audit ",
+        "audit b c",
+        "audit b --workers 65",
+        "audit b --places 129",
         "run s --help",
         "--help",
         "--version",

@@ -13,7 +13,7 @@ use Rattle.command_words.specs.declared.asked.Crossing.{Crossing}
 use Rattle.command_words.specs.Ranges.{IsMark, AreMarks, IsCommand, IsInRange}
 use Rattle.command_words.specs.declared.mark.Mark.{Mark}
 use Rattle.command_words.specs.declared.asked.Command.{Command}
-use Rattle.command_words.specs.declared.asked.Command.TheVariants.{Run, Table, Check, Rewind, Big, Cross}
+use Rattle.command_words.specs.declared.asked.Command.TheVariants.{Run, Table, Check, Rewind, Big, Cross, Audit}
 use Rattle.command_words.specs.declared.asked.Asked.{Asked}
 use Rattle.command_words.proofs.Numbers.{digits_are_short, number_is_short, count_is_in_range}
 use Rattle.command_words.proofs.Spelled.{is_spelled}
@@ -113,7 +113,8 @@ is_command name study more c some h =
     let short : n < 10 ^ 4 = number_is_short 4 study n e in
     omega arith)) (λ h.
     either IsCommand (bytes_eq name (codes "cross")) _ _ c h (λ _ e.
-    either IsCommand (length more == 3) _ _ c e (λ three e. crosses study _ c e some (λ x e. named (slice_index_or more 0 []) (slice_index_or more 1 []) (slice_index_or more 2 []) _ x refl e)) (λ e. cc)) (λ e. cc))))))
+    either IsCommand (length more == 3) _ _ c e (λ three e. crosses study _ c e some (λ x e. named (slice_index_or more 0 []) (slice_index_or more 1 []) (slice_index_or more 2 []) _ x refl e)) (λ e. cc)) (λ h.
+    either IsCommand (bytes_eq name (codes "audit")) _ _ c h (λ _ e. stands_alone (Audit study) more c e some) (λ e. cc)))))))
 
 ranged : (command : Option Command) (workers places : Option ℕ) (asked : Asked) → asked_from command workers places ≡ Some asked
     → ((c : Command) → command ≡ Some c → IsCommand c)

@@ -6,7 +6,7 @@ use Rattle.command_words.specs.Numbers.{number_of, count_of}
 use Rattle.command_words.specs.Marks.{mark_of, marks_of}
 use Rattle.command_words.specs.declared.asked.Crossing.{Crossing}
 use Rattle.command_words.specs.declared.asked.Command.{Command}
-use Rattle.command_words.specs.declared.asked.Command.TheVariants.{Run, Table, Check, Rewind, Big, Cross}
+use Rattle.command_words.specs.declared.asked.Command.TheVariants.{Run, Table, Check, Rewind, Big, Cross, Audit}
 use Rattle.command_words.specs.declared.asked.Asked.{Asked}
 
 -- a command that takes no further words
@@ -35,7 +35,7 @@ cross_of study more =
     then option_map (Cross study) (crossing_of (slice_index_or more 0 []) (slice_index_or more 1 []) (slice_index_or more 2 []))
     else None
 
--- the command of this name, with its study or number and its further words
+-- the command of this name, with its study, number or bundle and its further words
 abbrev pub command_of : List ℕ → List ℕ → List (List ℕ) → Option Command
 command_of name study more =
     if bytes_eq name (codes "run") then alone (Run study) more
@@ -44,6 +44,7 @@ command_of name study more =
     else if bytes_eq name (codes "rewind") then rewind_of study more
     else if bytes_eq name (codes "big") then big_of study more
     else if bytes_eq name (codes "cross") then cross_of study more
+    else if bytes_eq name (codes "audit") then alone (Audit study) more
     else None
 
 abbrev pub asked_from : Option Command → Option ℕ → Option ℕ → Option Asked

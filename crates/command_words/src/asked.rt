@@ -23,7 +23,7 @@ pub struct Crossing<'a> {
     pub file: Text<'a>,
 }
 
-/// A command with its study or number. The name of a study is not empty.
+/// A command with its study, number or bundle. The name of a study or a bundle is not empty.
 #[derive(Drop)]
 pub enum Command<'a> {
     /// `run STUDY`.
@@ -38,6 +38,8 @@ pub enum Command<'a> {
     Big(u32),
     /// `cross STUDY B:E SYMBOL FILE`.
     Cross(Text<'a>, Crossing<'a>),
+    /// `audit BUNDLE`.
+    Audit(Text<'a>),
 }
 
 /// What a command line asks for.
@@ -125,6 +127,7 @@ fn command_named<'a>(
         "rewind" => rewind(alloc, study, more),
         "big" => Ok(big(study, more)),
         "cross" => Ok(cross(study, more)),
+        "audit" => Ok(alone(Command::Audit(Text::new(study)), more)),
         _ => Ok(None),
     }
 }

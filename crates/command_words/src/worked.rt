@@ -33,6 +33,8 @@ pub fn taken_lines()
           workers = 1;
           places = 16;
         }) }
+    ensures audit { asked_of (codes "audit" ∷ codes "--workers=2" ∷ codes "b" ∷ [])
+        ≡ Some (record { command = Command.Audit (codes "b"); workers = 2; places = 16 }) }
 {}
 
 /// Lines that are none.
@@ -56,5 +58,8 @@ pub fn refused_lines()
     ensures empty_file { asked_of (codes "cross" ∷ codes "s" ∷ codes "root:0" ∷ codes "ABM" ∷ [] ∷ []) ≡ None }
     ensures no_mark { asked_of (codes "cross" ∷ codes "s" ∷ codes "root" ∷ codes "ABM" ∷ codes "f" ∷ []) ≡ None }
     ensures second_file { asked_of (codes "cross" ∷ codes "s" ∷ codes "root:0" ∷ codes "ABM" ∷ codes "f" ∷ codes "g" ∷ []) ≡ None }
+    ensures empty_bundle { asked_of (codes "audit" ∷ [] ∷ []) ≡ None }
+    ensures second_bundle { asked_of (codes "audit" ∷ codes "b" ∷ codes "c" ∷ []) ≡ None }
+    ensures places_of_an_audit { asked_of (codes "audit" ∷ codes "b" ∷ codes "--places=129" ∷ []) ≡ None }
     ensures large_number { asked_of (codes "big" ∷ codes "10000" ∷ []) ≡ None }
 {}

@@ -1,48 +1,7 @@
-use Rattle.std.proofs.Common.{◌≡◌, option_map, refl, rules, vec_items}
-use Rattle.study_rules.specs.Accepted.{study_told}
-use Rattle.abides_run.specs.declared.request.Task.TheVariants.{Run, Check, Table, Lines, Rewind, Cross}
-use Rattle.abides_run.specs.Output.{bundled, compared, counted, described}
-use Rattle.abides_run.proofs.Performing.{cross_finishes, rewind_finishes, task_finishes}
 use Rattle.abides_run.proofs.perform.perform.Goals as goal
 
-pub returns-in-Run : goal.returns-in-Run
-returns-in-Run g c =
-    let f = c.args.found.now in
-    let is : f.task ≡ Run = search rules in
-    task_finishes _ f.task Run (option_map vec_items f.further) (bundled (study_told f.study)) (study_told f.study) (g.O.Sink.faults c.args.out.now) (g.O.Sink.faults c.run_study-status.new.out) c.args.steps.now c.run_study-status.new.steps (g.O.Sink.taken c.args.out.now) (g.O.Sink.taken c.run_study-status.new.out) c.run_study-status.result c.nameless.result.status _
-    is c.nameless.ensures refl c.run_study-status.ensures
+pub returns-in-Study : goal.returns-in-Study
+returns-in-Study g c = λ reads. rw c.in-Study.is (c.perform_task.ensures reads)
 
-pub returns-in-Check : goal.returns-in-Check
-returns-in-Check g c =
-    let f = c.args.found.now in
-    let is : f.task ≡ Check = search rules in
-    task_finishes _ f.task Check (option_map vec_items f.further) (counted (study_told f.study)) (study_told f.study) (g.O.Sink.faults c.args.out.now) (g.O.Sink.faults c.check_study.new.out) c.args.steps.now c.args.steps.now (g.O.Sink.taken c.args.out.now) (g.O.Sink.taken c.check_study.new.out) c.check_study.result c.nameless-in-Check.result.status _
-    is c.nameless-in-Check.ensures refl (λ reads. (rw c.deref.ensures at c.check_study.ensures) reads c.args.steps.now)
-
-pub returns-in-Table : goal.returns-in-Table
-returns-in-Table g c =
-    let f = c.args.found.now in
-    let is : f.task ≡ Table = search rules in
-    task_finishes _ f.task Table (option_map vec_items f.further) (compared (study_told f.study)) (study_told f.study) (g.O.Sink.faults c.args.out.now) (g.O.Sink.faults c.table_study-status.new.out) c.args.steps.now c.table_study-status.new.steps (g.O.Sink.taken c.args.out.now) (g.O.Sink.taken c.table_study-status.new.out) c.table_study-status.result c.nameless-in-Table.result.status _
-    is c.nameless-in-Table.ensures refl c.table_study-status.ensures
-
-pub returns-in-Lines : goal.returns-in-Lines
-returns-in-Lines g c =
-    let f = c.args.found.now in
-    let is : f.task ≡ Lines c.in-Lines.bytes = search rules in
-    task_finishes _ f.task (Lines c.in-Lines.bytes) (option_map vec_items f.further) (described c.in-Lines.bytes (study_told f.study)) (study_told f.study) (g.O.Sink.faults c.args.out.now) (g.O.Sink.faults c.tell_study-status.new.out) c.args.steps.now c.tell_study-status.new.steps (g.O.Sink.taken c.args.out.now) (g.O.Sink.taken c.tell_study-status.new.out) c.tell_study-status.result c.nameless-in-Lines.result.status _
-    is c.nameless-in-Lines.ensures refl c.tell_study-status.ensures
-
-pub returns-in-Rewind : goal.returns-in-Rewind
-returns-in-Rewind g c =
-    let f = c.args.found.now in
-    let is : f.task ≡ Rewind c.in-Rewind.marks c.in-Rewind.places = search rules in
-    rewind_finishes _ f.task (option_map vec_items f.further) c.in-Rewind.marks c.as_slice-marks.result.now c.in-Rewind.places (study_told f.study) (g.O.Sink.faults c.args.out.now) (g.O.Sink.faults c.rewind_study.new.out) c.args.steps.now c.rewind_study.new.steps (g.O.Sink.taken c.args.out.now) (g.O.Sink.taken c.rewind_study.new.out) c.rewind_study.result.status _
-    is c.as_slice-marks.ensures c.rewind_study.ensures
-
-pub returns-in-Cross : goal.returns-in-Cross
-returns-in-Cross g c =
-    let f = c.args.found.now in
-    let is : f.task ≡ Cross c.in-Cross.crossing c.in-Cross.places = search rules in
-    cross_finishes _ f.task (option_map vec_items f.further) c.in-Cross.crossing c.in-Cross.crossing c.in-Cross.places c.further_text-text.result.now (study_told f.study) (g.O.Sink.faults c.args.out.now) (g.O.Sink.faults c.cross_study.new.out) c.args.steps.now c.cross_study.new.steps (g.O.Sink.taken c.args.out.now) (g.O.Sink.taken c.cross_study.new.out) c.cross_study.result.status _
-    is refl c.further_text-text.ensures c.cross_study.ensures
+pub returns-in-Bundle : goal.returns-in-Bundle
+returns-in-Bundle g c = λ reads. rw c.in-Bundle.is (c.audit_bundle.ensures reads c.args.steps.now _)

@@ -20,4 +20,5 @@ returns-in_default c =
     let rewind : bytes_eq c.args.name.now (codes "rewind") ≡ false = search (tests, rules) in
     let big : bytes_eq c.args.name.now (codes "big") ≡ false = search (tests, rules) in
     let cross : bytes_eq c.args.name.now (codes "cross") ≡ false = search (tests, rules) in
-    none_is c.args.name.now c.args.study.now (map (λ word. word.now) c.args.more.now) run table check rewind big cross
+    let audit : bytes_eq c.args.name.now (codes "audit") ≡ false = search (tests, rules) in
+    none_is c.args.name.now c.args.study.now (map (λ word. word.now) c.args.more.now) run table check rewind big cross audit

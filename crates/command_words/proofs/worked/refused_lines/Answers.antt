@@ -25,5 +25,8 @@ returns c = record {
   empty_file = refl;
   no_mark = refl;
   second_file = refl;
+  empty_bundle = refl;
+  second_bundle = refl;
+  places_of_an_audit = refl;
   large_number = refl;
 }
