@@ -52,7 +52,7 @@ agrees c b h =
 abbrev pub Agrees : ℕ → BranchTold → Type 0
 Agrees n b = misfit_of n b ≡ None
 
-none-fails : (n at : ℕ) (bs : List BranchTold) → All (Agrees n) bs → first_failing n at bs ≡ None
+pub none-fails : (n at : ℕ) (bs : List BranchTold) → All (Agrees n) bs → first_failing n at bs ≡ None
 none-fails n at [] h = refl
 none-fails n at (b ∷ bs) h =
     ap (λ (o : Option ℕ). failing_or at o (first_failing n (at + 1) bs)) (All-head (Agrees n) b bs h) ∙ none-fails n (at + 1) bs (All-tail (Agrees n) b bs h)

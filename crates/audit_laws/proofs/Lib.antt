@@ -2,5 +2,7 @@ pub mod Openers
 pub mod Moved
 pub mod Displays
 pub mod Agreements
+pub mod Fitting
+pub mod Clipping
 pub mod Lifted
 pub mod Taken
