@@ -22,15 +22,15 @@ use Rattle.audit_laws.proofs.Moved.{same-feed}
 
 -- ---- messages
 
-small-numbers : (accepted : ℕ) (w : What) → accepted ≤ 1000000 → IsSmallWhat accepted w → HasBookNumbers w
-small-numbers accepted (what.Add reference side shares stock price) few h = (omega (arith, few, h.0.1), omega (arith, h.1.1), omega (arith, h.2.1))
-small-numbers accepted (what.Executed reference shares match_number) few h = (omega (arith, few, h.0.1), omega (arith, h.1.1))
-small-numbers accepted (what.Cancel reference shares) few h = (omega (arith, few, h.0.1), omega (arith, h.1.1))
-small-numbers accepted (what.Delete reference) few h = omega (arith, few, h.1)
-small-numbers accepted w few h = tt
+small-numbers : (accepted matches : ℕ) (w : What) → accepted ≤ 1000000 → IsSmallWhat accepted matches w → HasBookNumbers w
+small-numbers accepted matches (what.Add reference side shares stock price) few h = (omega (arith, few, h.0.1), omega (arith, h.1.1), omega (arith, h.2.1))
+small-numbers accepted matches (what.Executed reference shares match_number) few h = (omega (arith, few, h.0.1), omega (arith, h.1.1))
+small-numbers accepted matches (what.Cancel reference shares) few h = (omega (arith, few, h.0.1), omega (arith, h.1.1))
+small-numbers accepted matches (what.Delete reference) few h = omega (arith, few, h.1)
+small-numbers accepted matches w few h = tt
 
-small-tells : (stocks accepted : ℕ) (m : Feed) → stocks ≤ 16 → accepted ≤ 1000000 → IsSmallFeed stocks accepted m → TellsBooks m
-small-tells stocks accepted m listed few h = record { locate = omega (arith, listed, h.locate.1); numbers = small-numbers accepted m.what few h.what }
+small-tells : (stocks accepted matches : ℕ) (m : Feed) → stocks ≤ 16 → accepted ≤ 1000000 → IsSmallFeed stocks accepted matches m → TellsBooks m
+small-tells stocks accepted matches m listed few h = record { locate = omega (arith, listed, h.locate.1); numbers = small-numbers accepted matches m.what few h.what }
 
 tells-directories : (o : Opening) (n : ℕ) → n ≤ 16 → All TellsBooks (directories o n)
 tells-directories o zero le = All-nil TellsBooks
@@ -83,9 +83,10 @@ comparable-orders traders x (suc n) few listed le h =
 -- the numbers of a run: each message of its feed is of one of so many stocks, and each live order is one of those accepted
 pub record IsSmallRun (c : CourseTold) (b : ℕ) : Type 0 where
   pub few : (full_run c.opening c.plan b).state.floor.exchange.counts.orders ≤ 1000000
+  pub matches : ℕ
   pub listed : length c.opening.stocks ≤ 16
   pub stocks : length (full_run c.opening c.plan b).state.floor.exchange.stocks ≡ length c.opening.stocks
-  pub feed : All (IsSmallFeed (length c.opening.stocks) (full_run c.opening c.plan b).state.floor.exchange.counts.orders) (entries_feed (full_run c.opening c.plan b).entries)
+  pub feed : All (IsSmallFeed (length c.opening.stocks) (full_run c.opening c.plan b).state.floor.exchange.counts.orders matches) (entries_feed (full_run c.opening c.plan b).entries)
   pub books : All (IsSmallStock (length (cash_of c.opening)) (full_run c.opening c.plan b).state.floor.exchange.counts.orders) (full_run c.opening c.plan b).state.floor.exchange.stocks
 
 pub tells-branch : (c : CourseTold) (b : ℕ) → IsSmallRun c b → All TellsBooks (branch_feed (branch_back c b))
@@ -93,7 +94,7 @@ tells-branch c b h =
     let o = c.opening in
     let r = full_run o c.plan b in
     let accepted = r.state.floor.exchange.counts.orders in
-    let own : All TellsBooks (entries_feed r.entries) = All-weaker (IsSmallFeed (length o.stocks) accepted) TellsBooks (λ m. small-tells (length o.stocks) accepted m h.listed h.few) (entries_feed r.entries) h.feed in
+    let own : All TellsBooks (entries_feed r.entries) = All-weaker (IsSmallFeed (length o.stocks) accepted h.matches) TellsBooks (λ m. small-tells (length o.stocks) accepted h.matches m h.listed h.few) (entries_feed r.entries) h.feed in
     let last = system_event r.state.time 67 in
     All-append TellsBooks (opening_feed o) (entries_feed (branch_back c b).entries ++ last ∷ []) (tells-opening o h.listed)
     (All-push TellsBooks (entries_feed (branch_back c b).entries) last

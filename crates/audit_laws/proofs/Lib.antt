@@ -5,4 +5,3 @@ pub mod Agreements
 pub mod Fitting
 pub mod Clipping
 pub mod Lifted
-pub mod Taken

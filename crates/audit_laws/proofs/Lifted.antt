@@ -70,7 +70,8 @@ OrdersAreSmall = (rules : List StockRules) (cash : List ℤ) (hidden : Bool) (ac
 abbrev pub FeedsAreSmall : Type 0
 FeedsAreSmall = (rules : List StockRules) (cash : List ℤ) (hidden : Bool) (acts : List Act) → IsMarket rules cash
     → AllByRecursion (IsPossible (length cash) (length rules)) acts
-    → All (IsSmallFeed (length rules) (run (opened rules cash hidden) acts).counts.orders) (feed_over (opened rules cash hidden) acts)
+    → All (IsSmallFeed (length rules) (run (opened rules cash hidden) acts).counts.orders (run (opened rules cash hidden) acts).counts.matches)
+    (feed_over (opened rules cash hidden) acts)
 
 same-count : (acts : List Act) → count_messages acts ≡ messages_in acts
 same-count [] = refl
@@ -91,11 +92,12 @@ are-small c is met orders feeds states b within =
     let back : x ≡ r.state.floor.exchange = sym history.exchange in
     record {
       few = subst (λ (y : Exchange). y.counts.orders ≤ 1000000) back few;
+      matches = x.counts.matches;
       listed = is.opening.market.few;
       stocks = sym reached.fits.stocks;
       feed =
-          subst (λ (y : Exchange). All (IsSmallFeed (length o.stocks) y.counts.orders) (entries_feed r.entries)) back
-          (subst (λ (ms : List Feed). All (IsSmallFeed (length o.stocks) x.counts.orders) ms) (sym history.feed)
+          subst (λ (y : Exchange). All (IsSmallFeed (length o.stocks) y.counts.orders x.counts.matches) (entries_feed r.entries)) back
+          (subst (λ (ms : List Feed). All (IsSmallFeed (length o.stocks) x.counts.orders x.counts.matches) ms) (sym history.feed)
           (feeds o.stocks (cash_of o) o.hidden acts is.opening.market possible));
       books = subst (λ (y : Exchange). All (IsSmallStock (length (cash_of o)) y.counts.orders) y.stocks) back small.stocks;
     }

@@ -25,9 +25,9 @@ set-replicate (suc n) (suc k) a = ap (λ (xs : List ℕ). a ∷ xs) (set-replica
 -- a stock that trades goes on to trade
 trades-on : (n k : ℕ) → k < n → acted (fresh n) (k + 1) 84 ≡ Ok (fresh n)
 trades-on n k h =
-    let long : length (replicate n 84) ≡ n = length-replicate n 84 in
+    let long : length {A = ℕ} (replicate n 84) ≡ n = length-replicate n 84 in
     let one : nat_le 1 (k + 1) ≡ true = le-leb 1 (k + 1) (omega arith) in
-    let all : nat_le (k + 1) (length (replicate n 84)) ≡ true = le-leb (k + 1) (length (replicate n 84)) (omega (arith, long, h)) in
+    let all : nat_le (k + 1) (length {A = ℕ} (replicate n 84)) ≡ true = le-leb (k + 1) (length {A = ℕ} (replicate n 84)) (omega (arith, long, h)) in
     let at : k + 1 - 1 ≡ k = omega arith in
     rw (one, all, at, set-replicate n k 84) refl
 
