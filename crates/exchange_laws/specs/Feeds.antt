@@ -1,5 +1,5 @@
 -- The feed of a run of an exchange.
-use Rattle.std.specs.Prelude.{ℕ, List, [], ◌∷◌, ◌++◌}
+use Rattle.std.specs.Prelude.{List, [], ◌∷◌, ◌++◌}
 use Rattle.market_types.specs.declared.feed.Feed.{Feed}
 use Rattle.exchange_agent.specs.State.{State}
 use Rattle.exchange_agent.specs.Market.{market}

@@ -1,2 +1,4 @@
 //! What every run of an exchange keeps: laws over whatever messages and changes come from an opening on.
 #![tactic(auto)]
+
+pub mod shown;
