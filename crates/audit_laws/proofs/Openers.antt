@@ -1,21 +1,13 @@
 -- What stands around the feed of a branch's entries tells nothing.
-use Rattle.std.proofs.Common.{◌≡◌, ◌∙◌, ℕ, zero, suc, ◌+◌, ◌-◌, ◌<◌, ◌≤◌, true, List, [], ◌∷◌, ◌++◌, length, Result, Ok, Err, refl, ap, sym, arith}
+use Rattle.std.proofs.Common.{◌≡◌, ◌∙◌, ℕ, zero, suc, ◌+◌, ◌-◌, ◌<◌, ◌≤◌, true, List, [], ◌∷◌, ◌++◌, length, Result, Ok, Err, refl, ap, arith}
 use Rattle.std.specs.Prelude.{nat_le, replicate, slice_set}
 use Rattle.std.proofs.lemmas.Bool.{le-leb}
 use Rattle.std.proofs.lemmas.List.{length-replicate}
 use Rattle.market_types.specs.declared.feed.Feed.{Feed}
 use Rattle.market_floor.specs.declared.opening.Opening.{Opening}
 use Rattle.trace_bundle.specs.Feed.{directories, directory, opening_feed, symbol_at, system_event, trading, tradings}
-use Rattle.feed_rebuild.specs.Fold.{acted, fold, fresh, told_by, told_what, Told}
-
-still : (n : ℕ) (feed : List Feed) → told_by (Err n) feed ≡ Err n
-still n [] = refl
-still n (m ∷ feed) = refl
-
-told-append : (r : Result Told ℕ) (before after : List Feed) → told_by r (before ++ after) ≡ told_by (told_by r before) after
-told-append r [] after = refl
-told-append (Ok t) (m ∷ before) after = told-append (told_what t m.locate m.what) before after
-told-append (Err n) (m ∷ before) after = sym (still n after)
+use Rattle.feed_rebuild.specs.Fold.{acted, fold, fresh, told_by, Told}
+use Rattle.exchange_laws.proofs.ShownRuns.{told-append}
 
 set-replicate : (n k a : ℕ) → slice_set (replicate n a) k a ≡ replicate n a
 set-replicate zero k a = refl
