@@ -1,3 +1,12 @@
 pub mod Mirrors
 pub mod Settled
 pub mod ShownRuns
+pub mod Names
+pub mod SmallCancels
+pub mod SmallEnters
+pub mod SmallFeeds
+pub mod SmallFits
+pub mod SmallRuns
+pub mod SmallSteps
+pub mod SmallVerdicts
+pub mod SmallWays

@@ -2,3 +2,6 @@
 #![tactic(auto)]
 
 pub mod shown;
+pub mod named;
+pub mod small;
+pub mod worked;

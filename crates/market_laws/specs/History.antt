@@ -1,24 +1,19 @@
 -- A run of the kernel as its exchange met it.
-use Rattle.std.specs.Prelude.{◌≡◌, ◌≤◌, ◌+◌, ℕ, List, [], ◌∷◌, length}
+use Rattle.std.specs.Prelude.{◌≡◌, ◌≤◌, List, length}
 use Rattle.std.specs.List.{AllByRecursion}
 use Rattle.exchange_agent.specs.State.{State as Exchange}
 use Rattle.exchange_agent.specs.Open.{opened}
-use Rattle.exchange_agent.specs.Runs.{Act, IsPossible, message, change, run}
+use Rattle.exchange_agent.specs.Runs.{Act, IsPossible, run}
 use Rattle.market_floor.specs.declared.opening.Opening.{Opening}
 use Rattle.market_floor.specs.Opening.{cash_of}
 use Rattle.kernel_core.specs.Until.{Run}
 use Rattle.feed_rebuild.specs.Feeds.{entries_feed}
 use Rattle.exchange_laws.specs.Feeds.{feed_over}
+use Rattle.exchange_laws.specs.Messages.{messages_in}
 
 -- the exchange of a study before the first message
 abbrev pub first_exchange : Opening → Exchange
 first_exchange o = opened o.stocks (cash_of o) o.hidden
-
--- how many of these are messages
-abbrev pub messages_in : List Act → ℕ
-messages_in [] = 0
-messages_in (message time from b ∷ acts) = messages_in acts + 1
-messages_in (change time stock c ∷ acts) = messages_in acts
 
 -- The exchange of a run met these messages and changes of rules, one after another, since the opening. Each message is from a
 -- trader and each change of a stock that there is; the run's exchange is what they leave, its feed what they tell; and each

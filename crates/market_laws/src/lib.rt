@@ -1,2 +1,8 @@
 //! What every run of every study keeps of its market.
+//!
+//! A run's exchange comes from the opening by messages and changes of rules, one after another. So what every run of an exchange
+//! keeps, each state of each branch of each study keeps.
 #![tactic(auto)]
+
+pub mod laws;
+pub mod worked;

@@ -1,0 +1,27 @@
+use Rattle.exchange_laws.proofs.SmallFits.{BookLaws}
+use Rattle.exchange_laws.proofs.SmallRuns.{small-exchange, small-feed}
+use Rattle.exchange_laws.proofs.small.live_orders_are_small.Goals as goal
+use Rattle.exchange_laws.proofs.small.live_orders_are_small.Goals.{After-orderly_books_stay}
+
+laws : After-orderly_books_stay → BookLaws
+laws c = record {
+  fills = c.fills_add_up.ensures.tested;
+  within = c.fills_add_up.ensures.within;
+  sums = c.fills_add_up.ensures.shares;
+  give = c.orderly_books_stay.ensures.give;
+  few-fills = c.orderly_books_stay.ensures.few;
+  orderly = c.orderly_books_stay.ensures.orderly;
+  tested = c.a_match_keeps.ensures.tested;
+  few = c.a_match_keeps.ensures.length;
+  lower-tested = c.a_reduce_keeps.ensures.tested;
+  lower-few = c.changes_keep.ensures.length;
+  lowered = c.orderly_books_stay.ensures.lowered;
+  by-reference = c.orderly_books_stay.ensures.by_reference;
+  rested = c.orderly_books_stay.ensures.rested;
+}
+
+pub returns-clause-orders : goal.returns-clause-orders
+returns-clause-orders c = λ rules cash hidden acts opening possible. small-exchange (laws c) rules cash hidden acts possible
+
+pub returns-clause-feed : goal.returns-clause-feed
+returns-clause-feed c = λ rules cash hidden acts opening possible. small-feed (laws c) rules cash hidden acts possible
