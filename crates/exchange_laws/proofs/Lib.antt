@@ -3,6 +3,7 @@ pub mod Settled
 pub mod ShownRuns
 pub mod Names
 pub mod SmallCancels
+pub mod SmallCounts
 pub mod SmallEnters
 pub mod SmallFeeds
 pub mod SmallFits

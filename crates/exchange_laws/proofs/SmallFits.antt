@@ -1,5 +1,5 @@
 -- Books whose orders are in their ranges.
-use Rattle.std.proofs.Common.{◌≡◌, ℕ, ◌+◌, ◌-◌, ◌<◌, ◌≤◌, Bool, true, ◌&&◌, List, [], ◌∷◌, ◌++◌, length, Some, slice_index_or, All, arith, sum_by}
+use Rattle.std.proofs.Common.{◌≡◌, ℕ, ◌+◌, ◌-◌, ◌<◌, ◌≤◌, Bool, true, ◌&&◌, List, [], ◌∷◌, ◌++◌, length, Some, Contains, slice_index_or, All, arith, sum_by}
 use Rattle.std.specs.Prelude.{nat_le}
 use Rattle.std.proofs.lemmas.Bool.{and_from, and_parts}
 use Rattle.std.proofs.lemmas.Bool.Decides.{nat_tests}
@@ -10,6 +10,7 @@ use Rattle.market_types.specs.declared.order.Token.{Token}
 use Rattle.price_time_book.specs.declared.resting.Resting.{Resting}
 use Rattle.price_time_book.specs.Kept.{IsKeptByFills, IsKeptByReduce}
 use Rattle.price_time_book.specs.Matched.{Matching, completed, matched}
+use Rattle.price_time_book.specs.Next.{next_of}
 use Rattle.price_time_book.specs.Orderly.{IsOrderly}
 use Rattle.price_time_book.specs.Orders.{changed, order_of, order_with, reduced}
 use Rattle.exchange_laws.specs.Small.{IsSmallOrder, IsUpTo, most_shares}
@@ -20,7 +21,7 @@ pub record BookLaws : Type 0 where
   pub within : (book : List Resting) (side : Side) (limit shares : ℕ) → All (λ f. (f.shares ≤ f.resting.left) × (f.shares ≤ shares)) (matched book side limit shares).fills
   pub sums : (side : Side) (limit : ℕ) (m : Matching) → sum_by (λ f. f.shares) (completed side limit m).fills + (completed side limit m).shares ≡ sum_by (λ f. f.shares) m.fills + m.shares
   pub give : (book : List Resting) (side : Side) (limit shares : ℕ) → IsOrderly book → All (λ f. 0 < f.shares) (matched book side limit shares).fills
-  pub few-fills : (book : List Resting) (side : Side) (limit shares : ℕ) → IsOrderly book → length (matched book side limit shares).fills ≤ shares
+  pub held : (book : List Resting) (side : Side) (limit : ℕ) (o : Resting) → next_of book side limit ≡ Some o → Contains book o
   pub orderly : (side : Side) (limit : ℕ) (m : Matching) → IsOrderly m.book → IsOrderly (completed side limit m).book
   pub tested : (p : Resting → Bool) → IsKeptByFills p → (side : Side) (limit : ℕ) (m : Matching) → All (λ o. p o ≡ true) m.book → All (λ o. p o ≡ true) (completed side limit m).book
   pub few : (side : Side) (limit : ℕ) (m : Matching) → length (completed side limit m).book ≤ length m.book

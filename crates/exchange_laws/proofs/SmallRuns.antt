@@ -75,7 +75,7 @@ from-opening laws rules cash hidden acts h =
       many = length-map rules (listed n);
       each = All-map (IsFitStock n 0) (listed n) rules (λ k d in'. record { book = book-nil n; state = inl refl });
       few = omega (arith, none);
-      matches = omega arith;
+      ended = omega (arith, none);
     }) h
 
 -- ---- the laws
@@ -99,7 +99,7 @@ small-exchange laws rules cash hidden acts h =
       stocks = All-weaker (IsFitStock n s.counts.orders) (IsSmallStock n s.counts.orders) (λ k b. record { orders = small-orders n s.counts.orders k.book b.book; rising = b.book.orderly.rising; state = b.state }) s.stocks r.kept.each;
       resting = r.kept.few;
       accepted = omega (arith, few);
-      matches = r.kept.matches;
+      ended = r.kept.ended;
     }
 
 pub small-feed : (laws : BookLaws) (rules : List StockRules) (cash : List ℤ) (hidden : Bool) (acts : List Act) → AllByRecursion (IsPossible (length cash) (length rules)) acts → All (IsSmallFeed (length rules) (run (opened rules cash hidden) acts).counts.orders (run (opened rules cash hidden) acts).counts.matches) (feed_over (opened rules cash hidden) acts)

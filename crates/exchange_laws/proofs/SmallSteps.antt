@@ -1,5 +1,5 @@
 -- One message or change: ranges stay, and what matches is told.
-use Rattle.std.proofs.Common.{◌≡◌, ◌≢◌, inl, inr, ℕ, zero, suc, ◌+◌, ◌-◌, ◌*◌, ◌<◌, ◌≤◌, Bool, true, false, List, [], ◌∷◌, length, All, Option, Some, None, arith, refl, subst, ap, sym, ◌∙◌, slice_index_or, slice_set}
+use Rattle.std.proofs.Common.{◌≡◌, ◌≢◌, inl, inr, ℕ, zero, suc, ◌+◌, ◌-◌, ◌<◌, ◌≤◌, Bool, true, false, List, [], ◌∷◌, length, All, Option, Some, None, arith, refl, subst, ap, sym, ◌∙◌, slice_index_or, slice_set}
 use Rattle.std.specs.Prelude.{◌==◌, nat_lt, if◌then◌else◌}
 use Rattle.std.proofs.lemmas.Bool.{false≢true}
 use Rattle.std.proofs.lemmas.Bool.Decides.{nat_tests}
@@ -48,7 +48,7 @@ pub record IsFitExchange (traders stocks : ℕ) (s : State) : Type 0 where
   pub many : length s.stocks ≡ stocks
   pub each : All (IsFitStock traders s.counts.orders) s.stocks
   pub few : resting_over s.stocks ≤ most_resting
-  pub matches : s.counts.matches ≤ most_shares * s.counts.orders
+  pub ended : s.counts.matches + resting_over s.stocks ≤ s.counts.orders
 
 -- What one message or change does, which has at most so many orders accepted and tells a feed.
 pub record IsStep (traders stocks : ℕ) (s after : State) (told : List Feed) (most : ℕ) : Type 0 where
@@ -106,7 +106,7 @@ still traders stocks most s after kept same orders matches = record {
     many = ap (λ (xs : List Stock). length xs) same ∙ kept.many;
     each = subst (λ (n : ℕ). All (IsFitStock traders n) after.stocks) (sym orders) (subst (λ (xs : List Stock). All (IsFitStock traders s.counts.orders) xs) (sym same) kept.each);
     few = subst (λ (xs : List Stock). resting_over xs ≤ most_resting) (sym same) kept.few;
-    matches = omega (arith, kept.matches, orders, matches);
+    ended = let rest : resting_over after.stocks ≡ resting_over s.stocks = ap (λ (xs : List Stock). resting_over xs) same in omega (arith, kept.ended, orders, matches, rest);
   };
   grows = omega (arith, orders);
   counted = omega (arith, orders);
@@ -125,7 +125,7 @@ moved traders stocks most s k x feed kept in' stock fewer tally quiet =
         many = length-set s.stocks k x ∙ kept.many;
         each = All-set (IsFitStock traders s.counts.orders) s.stocks k x stock kept.each;
         few = omega (arith, rests, fewer, few);
-        matches = kept.matches;
+        ended = omega (arith, rests, fewer, kept.ended);
       };
       grows = omega arith;
       counted = omega arith;
@@ -155,13 +155,13 @@ accepted-step laws traders stocks s time agent e k kept trader is =
     let h : IsFitEnd traders stocks n (k + 1) w z = fit-end laws traders stocks n t e w locate trader ok.price ok.shares.1 (omega (arith, fewer, room)) here (no-feed stocks (n + 1) w.matches) in
     let rests = resting-set s.stocks k z.stock in' in
     let longer : length z.stock.book ≤ length x.book + 1 = h.few in
-    let matched : z.matches ≤ s.counts.matches + most_shares = h.matches in
+    let ended : z.matches + length z.stock.book ≤ s.counts.matches + length x.book + 1 = h.ended in
     record {
       kept = record {
         many = length-set s.stocks k z.stock ∙ kept.many;
         each = All-set (IsFitStock traders (n + 1)) s.stocks k z.stock (record { book = h.book; state = subst IsTradingState (sym h.state) old.state }) (All-weaker (IsFitStock traders n) (IsFitStock traders (n + 1)) (λ y b. stock-more traders n (n + 1) y (omega arith) b) s.stocks kept.each);
         few = omega (arith, rests, longer, room);
-        matches = omega (arith, matched, kept.matches);
+        ended = omega (arith, rests, ended, kept.ended);
       };
       grows = omega arith;
       counted = omega arith;

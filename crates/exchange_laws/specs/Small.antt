@@ -1,5 +1,5 @@
 -- How large the numbers of an exchange's orders and of its feed become.
-use Rattle.std.specs.Prelude.{◌≡◌, ◌≤◌, ◌⊎◌, ℕ, ◌*◌, [], ◌∷◌, All}
+use Rattle.std.specs.Prelude.{◌≡◌, ◌≤◌, ◌⊎◌, ℕ, ◌+◌, [], ◌∷◌, All}
 use Rattle.market_types.specs.Limits.{highest_price}
 use Rattle.market_types.specs.declared.feed.Feed.{Feed}
 use Rattle.market_types.specs.declared.feed.What.{What}
@@ -39,13 +39,13 @@ pub record IsSmallStock (traders accepted : ℕ) (k : Stock) : Type 0 where
   pub rising : IsRising k.book
   pub state : IsTradingState k.trading
 
--- An exchange among so many traders after so many messages: a message has at most one order accepted, which matches at most as
--- often as it has shares.
+-- An exchange among so many traders after so many messages, each of which has at most one order accepted. A match ends an order:
+-- the one that rested, or the incoming one.
 pub record IsSmallExchange (traders messages : ℕ) (s : State) : Type 0 where
   pub stocks : All (IsSmallStock traders s.counts.orders) s.stocks
   pub resting : resting_over s.stocks ≤ most_resting
   pub accepted : s.counts.orders ≤ messages
-  pub matches : s.counts.matches ≤ most_shares * s.counts.orders
+  pub ended : s.counts.matches + resting_over s.stocks ≤ s.counts.orders
 
 -- What a feed message says, once so many orders were accepted and there were so many matches, which are numbered from 1. A match
 -- with a hidden order is told with reference 0. A trading action has a space and four spaces behind its state. No other kind

@@ -15,11 +15,12 @@ ghost use Rattle.exchange_laws.specs.Small.{IsSmallExchange, IsSmallFeed, IsSmal
 use price_time_book::keeping::{
     a_match_keeps, a_reduce_keeps, changes_keep, fills_add_up, orderly_books_stay,
 };
+use price_time_book::laws::next_is_best;
 
 /// From an opening on, whatever messages and changes come: each order that rests has a reference from 1 to the
 /// number of accepted orders, which are no more than the messages, an agent that is a trader, a price from 1 to
 /// 1,999,999,900, an intended size of at most 999,999 shares, and open shares from 1 to that; the references of
-/// each book rise; each stock trades or is halted; at most 16,384 orders rest; and there are at most 999,999 matches for each accepted order. Each
+/// each book rise; each stock trades or is halted; at most 16,384 orders rest; and the matches and these orders are together at most the accepted ones. Each
 /// message of the feed has the locate of a stock, and its reference, shares and price are in the same ranges, as is
 /// the number of a match; no trading action has another state than `T` or `H`.
 pub fn live_orders_are_small()
@@ -38,6 +39,7 @@ pub fn live_orders_are_small()
     changes_keep();
     fills_add_up();
     orderly_books_stay();
+    next_is_best();
 }
 
 /// What holds of all stocks of such an exchange holds of each: its book, which has at most 16,384 orders.
@@ -64,4 +66,5 @@ pub fn matches_are_told()
     changes_keep();
     fills_add_up();
     orderly_books_stay();
+    next_is_best();
 }

@@ -1,7 +1,7 @@
 //! What the definitions give on worked examples.
 
 ghost use Rattle.std.specs.Prelude.{◌≡◌};
-ghost use Rattle.exchange_agent.specs.State.{stock_at};
+ghost use Rattle.exchange_agent.specs.State.{resting_over, stock_at};
 ghost use Rattle.exchange_agent.specs.Worked.{bought_of_both, sweep};
 ghost use Rattle.exchange_laws.specs.Executed.{executed_in};
 ghost use Rattle.exchange_laws.specs.Messages.{messages_in};
@@ -21,6 +21,13 @@ pub fn matches_of_an_exchange()
     ensures counted { (stock_at sweep.state 0).tally.matched ≡ 600 }
     ensures hidden_told { executed_in 0 bought_of_both.feed ≡ 150 }
     ensures hidden_counted { (stock_at bought_of_both.state 0).tally.matched ≡ 150 }
+{}
+
+/// Four orders, three matches and one order that rests: each match ended an order.
+pub fn orders_that_ended()
+    ensures orders { sweep.state.counts.orders ≡ 4 }
+    ensures matches { sweep.state.counts.matches ≡ 3 }
+    ensures resting { resting_over sweep.state.stocks ≡ 1 }
 {}
 
 /// A change of rules is no message.

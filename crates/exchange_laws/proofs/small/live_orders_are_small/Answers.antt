@@ -1,15 +1,15 @@
 use Rattle.exchange_laws.proofs.SmallFits.{BookLaws}
 use Rattle.exchange_laws.proofs.SmallRuns.{small-exchange, small-feed}
 use Rattle.exchange_laws.proofs.small.live_orders_are_small.Goals as goal
-use Rattle.exchange_laws.proofs.small.live_orders_are_small.Goals.{After-orderly_books_stay}
+use Rattle.exchange_laws.proofs.small.live_orders_are_small.Goals.{After-next_is_best}
 
-laws : After-orderly_books_stay → BookLaws
+laws : After-next_is_best → BookLaws
 laws c = record {
   fills = c.fills_add_up.ensures.tested;
   within = c.fills_add_up.ensures.within;
   sums = c.fills_add_up.ensures.shares;
   give = c.orderly_books_stay.ensures.give;
-  few-fills = c.orderly_books_stay.ensures.few;
+  held = c.next_is_best.ensures.held;
   orderly = c.orderly_books_stay.ensures.orderly;
   tested = c.a_match_keeps.ensures.tested;
   few = c.a_match_keeps.ensures.length;
