@@ -1,0 +1,4 @@
+//! What an audit answers of the bundles that runs write.
+#![tactic(auto)]
+
+pub mod readable;
