@@ -19,9 +19,10 @@ ghost use Rattle.round_trip.specs.Spelled.{AreMessagesSpelled};
 ghost use Rattle.audit_laws.specs.Clipped.{AreNamed, IsComparable, TellsBooks, clipped, clipped_closing, clipped_feed};
 
 use bundle_reading::laws::bytes_are_read_as_told;
+use kernel_copy::closing_laws::agents_have_all_positions;
 use kernel_copy::laws::courses_stay_in_range;
 use round_trip::accepted_laws::accepted_messages_are_spelled;
-use round_trip::laws::{bundles_come_back, feeds_are_of_their_kinds, texts_stay_in_range};
+use round_trip::laws::bundles_come_back;
 
 /// A bundle is written as the same bytes where each number is taken as its field holds it.
 pub fn fields_hold_last_bytes()
@@ -46,8 +47,7 @@ pub fn bundles_always_read()
 {
     fields_hold_last_bytes();
     courses_stay_in_range();
-    feeds_are_of_their_kinds();
-    texts_stay_in_range();
+    agents_have_all_positions();
     bundles_come_back();
     bytes_are_read_as_told();
 }
