@@ -1,11 +1,12 @@
 -- No trader sends a quote, so what a floor gives to the mail tells states that are bytes.
-use Rattle.std.proofs.Common.{ℕ, ◌-◌, Bool, true, false, List, [], ◌∷◌, ◌++◌, length, map, All, Option, Some, None}
+use Rattle.std.proofs.Common.{ℕ, ◌+◌, Bool, true, false, List, [], ◌∷◌, ◌++◌, length, map, All, Option, Some, None}
 use Rattle.std.specs.Prelude.{◌==◌, nat_lt, if◌then◌else◌}
 use Rattle.std.proofs.lemmas.List.Elements.{All-append, All-cons, All-map, All-nil, All-weaker}
 use Rattle.market_types.specs.declared.message.Body.{Body}
 use Rattle.market_types.specs.declared.message.Body.TheVariants.{Wake, Order, Answer, Ask, Quote as QuoteBody}
 use Rattle.market_types.specs.declared.message.Message.{Message}
 use Rattle.market_types.specs.declared.message.Quote.{Quote}
+use Rattle.market_types.specs.declared.order.Inbound.TheVariants.{Enter as NewOrder}
 use Rattle.market_types.specs.declared.order.Symbol.{Symbol}
 use Rattle.market_types.specs.declared.order.Token.{Token}
 use Rattle.market_rules.specs.declared.changes.Change.TheVariants as change
@@ -16,10 +17,11 @@ use Rattle.agent_shell.specs.declared.sending.Sending.TheVariants.{To, WakeAt}
 use Rattle.agent_shell.specs.declared.shell.OwnOrder.{OwnOrder}
 use Rattle.agent_shell.specs.declared.wish.Wish.{Wish}
 use Rattle.agent_shell.specs.Decide.{Decided, choice_of, chosen, counted, decided, quoted, woken}
-use Rattle.agent_shell.specs.Ordered.{all_ordered, ordered, sent_at, sent_price}
+use Rattle.agent_shell.specs.Ordered.{all_ordered, enter_of, ordered, sent_at, sent_price}
 use Rattle.agent_shell.specs.Own.{OwnList, most_own}
 use Rattle.agent_shell.specs.Shell.{Orders}
 use Rattle.agent_shell.specs.Sight.{Sight}
+use Rattle.agent_shell.specs.Tokens.{token_of}
 use Rattle.agent_shell.specs.Trader.{Trader}
 use Rattle.agent_shell.specs.Wakeup.{cancel_of, next_wakeup, takes_back}
 use Rattle.market_floor.specs.Party.{PartyState, reacted, silenced}
@@ -47,7 +49,8 @@ none = All-nil HasSendingLetter
 
 at-sent : (p : Option ℕ) (symbol : Symbol) (w : Wish) (o : Orders) → All HasSendingLetter (sent_at p symbol w o).sends
 at-sent None symbol w o = none
-at-sent (Some price) symbol w o = All-cons HasSendingLetter _ [] tt none
+at-sent (Some price) symbol w o =
+    All-cons HasSendingLetter (To (Order (NewOrder (enter_of symbol (token_of o.agent (o.tokens + 1)) w price))) w.extra) [] tt none
 
 ordered-sent : (symbol : Symbol) (w : Wish) (o : Orders) → All HasSendingLetter (ordered symbol w o).sends
 ordered-sent symbol w o =

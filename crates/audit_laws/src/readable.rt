@@ -1,6 +1,6 @@
 //! The bytes that are written of a course always read as a bundle.
 
-ghost use Rattle.std.specs.Prelude.{◌≡◌, ℕ, List, Option, Ok, All, map};
+ghost use Rattle.std.specs.Prelude.{◌≡◌, ◌^◌, ◌+◌, ◌-◌, ℕ, List, Option, Ok, All, map, negsuc, pos};
 ghost use Rattle.toml.specs.Data.{Members};
 ghost use Rattle.market_types.specs.declared.feed.Feed.{Feed};
 ghost use Rattle.wire_fields.specs.Wire.{IsInRange};
@@ -17,6 +17,7 @@ ghost use Rattle.study_rules.specs.Accepted.{StudyTold, study_of};
 ghost use Rattle.round_trip.specs.Back.{bundle_back};
 ghost use Rattle.round_trip.specs.Spelled.{AreMessagesSpelled};
 ghost use Rattle.audit_laws.specs.Clipped.{AreNamed, IsComparable, TellsBooks, clipped, clipped_closing, clipped_feed};
+ghost use Rattle.audit_laws.specs.ClippedWorked.{comes_at, one_branch};
 
 use bundle_reading::laws::bytes_are_read_as_told;
 use kernel_copy::closing_laws::agents_have_all_positions;
@@ -66,3 +67,11 @@ pub fn accepted_bundles_always_read()
     accepted_messages_are_spelled();
     bundles_always_read();
 }
+
+/// A price, a fee and a count that are too large for their fields are taken as their last bytes, a fee as a signed number. A
+/// number that fits and a text stay.
+pub fn numbers_too_large()
+    ensures large { clipped (one_branch (2 ^ 32 + 5) (pos (2 ^ 64 - 1)) (2 ^ 65 + 3)) ≡ one_branch 5 (negsuc 0) 3 }
+    ensures fitting { clipped (one_branch (2 ^ 32 - 1) (negsuc 4) (2 ^ 64 - 1)) ≡ one_branch (2 ^ 32 - 1) (negsuc 4) (2 ^ 64 - 1) }
+    ensures told { clipped_feed (comes_at (2 ^ 32)) ≡ comes_at 0 }
+{}
