@@ -128,10 +128,10 @@ steady-read (edit d ∷ event e ∷ rest) h =
     let own = All-head IsMarkedInRange (edit d) (event e ∷ rest) h in
     let feed = All-head IsMarkedInRange (event e) rest tail in
     let both = first-read d e.before own feed.0 in
-    let now = with_first d e.before in
-    let then = record e { before = without_first d e.before } in
-    All-cons IsSteady (edit now) (event then ∷ as_read rest) (edit-kept now both.0.0 both.0.1)
-    (All-cons IsSteady (event then) (as_read rest) (all-kept (without_first d e.before) both.1) (steady-read rest (All-tail IsMarkedInRange (event e) rest tail)))
+    let own_edit = with_first d e.before in
+    let next_event = record e { before = without_first d e.before } in
+    All-cons IsSteady (edit own_edit) (event next_event ∷ as_read rest) (edit-kept own_edit both.0.0 both.0.1)
+    (All-cons IsSteady (event next_event) (as_read rest) (all-kept (without_first d e.before) both.1) (steady-read rest (All-tail IsMarkedInRange (event e) rest tail)))
 
 -- ---- the split of the feed
 

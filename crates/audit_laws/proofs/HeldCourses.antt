@@ -114,7 +114,7 @@ entry-texts n (edit d) h =
 entries-texts : (n : ℕ) (xs : List EntryTold) → All IsMarkedInRange xs → All HasEventTexts xs → All HasEventLetter xs → All (InCourse n) (flat_map entry_list xs)
 entries-texts n [] marked texts letters = All-nil (InCourse n)
 entries-texts n (x ∷ xs) marked texts letters =
-    let first = record {
+    let first : IsWritten x = record {
       marked = All-head IsMarkedInRange x xs marked;
       texts = All-head HasEventTexts x xs texts;
       letter = All-head HasEventLetter x xs letters;

@@ -1,10 +1,12 @@
 -- Signed numbers as two's complement holds them.
-use Rattle.std.proofs.Common.{◌≡◌, ◌∙◌, ℕ, ◌+◌, ◌/◌, ◌%◌, ◌^◌, ◌<◌, List, [], ◌∷◌, ◌++◌, map, refl, ap, arith}
+use Rattle.std.proofs.Common.{◌≡◌, ◌∙◌, ℕ, ◌+◌, ◌/◌, ◌%◌, ◌^◌, ◌<◌, List, [], ◌∷◌, ◌++◌, map, refl, sym, ap, arith}
 use Rattle.std.specs.Prelude.{ℤ, All}
 use Rattle.std.specs.Int.{cast_signed, cast_unsigned, w64, w128}
 use Rattle.std.specs.Int.RustNames.{FitsSigned}
 use Rattle.std.proofs.Math.Facts.{sfits_to_z}
+use Rattle.std.proofs.Math.Nat.{mod-eq_of_lt}
 use Rattle.std.proofs.Math.Pow.{mod-mod-pow}
+use Rattle.std.proofs.lemmas.Nat.{div-mul-add, mod-pow-add}
 use Rattle.std.proofs.lemmas.Int.{of_z-to_z}
 use Rattle.std.proofs.lemmas.List.Elements.{All-cons, All-nil}
 use Rattle.wire_fields.specs.Numbers.{number_bytes}
@@ -41,13 +43,13 @@ pub wide-fits : (z : ℤ) → FitsSigned w128 (clipped_wide z)
 wide-fits z = wide-in (cast_unsigned w128 z)
 
 upper : (n : ℕ) → n % 2 ^ 128 / 2 ^ 64 ≡ n / 2 ^ 64 % 2 ^ 64
-upper n = omega arith
+upper n = ap (λ (m : ℕ). m / 2 ^ 64) (mod-pow-add n 64 64) ∙ div-mul-add (n / 2 ^ 64 % 2 ^ 64) (2 ^ 64) (n % 2 ^ 64) (below n)
 
 pub high-back : (z : ℤ) → cast_unsigned w128 (clipped_wide z) / 2 ^ 64 ≡ cast_unsigned w128 z / 2 ^ 64 % 2 ^ 64
 high-back z = ap (λ (n : ℕ). n / 2 ^ 64) (wide-back z) ∙ upper (cast_unsigned w128 z)
 
 lower : (n : ℕ) → n % 2 ^ 128 % 2 ^ 64 ≡ n % 2 ^ 64 % 2 ^ 64
-lower n = omega arith
+lower n = mod-mod-pow n 64 64 ∙ sym (mod-eq_of_lt (below n))
 
 pub low-back : (z : ℤ) → cast_unsigned w128 (clipped_wide z) % 2 ^ 64 ≡ cast_unsigned w128 z % 2 ^ 64 % 2 ^ 64
 low-back z = ap (λ (n : ℕ). n % 2 ^ 64) (wide-back z) ∙ lower (cast_unsigned w128 z)
