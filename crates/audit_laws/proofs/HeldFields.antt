@@ -17,13 +17,13 @@ powers : (n : ℕ) → 0 < 256 ^ n
 powers zero = omega arith
 powers (suc n) = omega (arith, pow-suc 256 n, powers n)
 
--- what stands before the last n bytes doesn't show in them
-bytes-above : (n number above : ℕ) → number_bytes n (number + 256 ^ n * above) ≡ number_bytes n number
-bytes-above zero number above = refl
-bytes-above (suc n) number above =
-    let shift : number + 256 ^ suc n * above ≡ number + 256 ^ n * (256 * above) = rw pow-suc (ap (λ (k : ℕ). number + k) (mul_assoc (256 ^ n) 256 above)) in
-    let head : (number + 256 ^ n * (256 * above)) / 256 ^ n % 256 ≡ number / 256 ^ n % 256 = rw (add-mul-div_left number (256 * above) (powers n)) (add-mul-mod_self_left (number / 256 ^ n) 256 above) in
-    rw (shift, head, bytes-above n number (256 * above)) refl
+-- what stands before the last bytes doesn't show in them
+bytes-above : (w n above : ℕ) → number_bytes w (n + 256 ^ w * above) ≡ number_bytes w n
+bytes-above zero n above = refl
+bytes-above (suc w) n above =
+    let shift : n + 256 ^ suc w * above ≡ n + 256 ^ w * (256 * above) = rw pow-suc (ap (λ (k : ℕ). n + k) (mul_assoc (256 ^ w) 256 above)) in
+    let head : (n + 256 ^ w * (256 * above)) / 256 ^ w % 256 ≡ n / 256 ^ w % 256 = rw (add-mul-div_left n (256 * above) (powers w)) (add-mul-mod_self_left (n / 256 ^ w) 256 above) in
+    rw (shift, head, bytes-above w n (256 * above)) refl
 
 pub number-held : (w n : ℕ) → number_bytes w (n % 256 ^ w) ≡ number_bytes w n
 number-held w n =
