@@ -1,5 +1,5 @@
 -- What is accepted is a course with named branches.
-use Rattle.std.proofs.Common.{◌≡◌, ◌∙◌, ℕ, ◌+◌, ◌≤◌, Bool, true, false, ◌&&◌, List, [], ◌∷◌, ◌++◌, length, map, All, Option, None, Some, Ok, Err, refl, sym, ap, subst, codes, arith}
+use Rattle.std.proofs.Common.{◌≡◌, ℕ, ◌≤◌, true, List, [], ◌∷◌, ◌++◌, length, map, All, Option, None, Some, Ok, Err, refl, ap, subst, arith}
 use Rattle.std.specs.Prelude.{Result, not}
 use Rattle.std.specs.Int.{is_in_range as is_between}
 use Rattle.std.specs.List.{list_all}
@@ -18,7 +18,7 @@ use Rattle.study_file.specs.Tables.{is_named}
 use Rattle.study_market.specs.declared.early_refusal.Refusal.{Refusal}
 use Rattle.study_market.specs.FirstBroken.{first_of_rules}
 use Rattle.study_market.specs.FirstOfMarket.{early_refusal, first_broken, last_refusal, late_refusal, series_refusal, tables_of}
-use Rattle.study_market.specs.Opening.{IsAccepted, opening_of}
+use Rattle.study_market.specs.Opening.{IsAccepted}
 use Rattle.study_market.specs.Traders.{traders_of}
 use Rattle.study_market.proofs.Held.{both-none}
 use Rattle.study_market.proofs.Openings.{is-opening}

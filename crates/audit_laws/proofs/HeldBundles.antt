@@ -11,7 +11,7 @@ use Rattle.bundle_reader.specs.declared.frame.Frame.TheVariants as frame
 use Rattle.bundle_reader.specs.Told.{BranchTold, BundleTold}
 use Rattle.bundle_reader.specs.Bundle.{branch_list, branches_list, bundle_bytes, bundle_list, closing_list, edit_part, entry_list, event_part, feed_list}
 use Rattle.bundle_reader.proofs.Bytes.{all_bytes, bundle_are, frame_bytes}
-use Rattle.audit_laws.specs.Clipped.{clipped, clipped_agent, clipped_branch, clipped_closing, clipped_counts, clipped_edit, clipped_entry, clipped_event, clipped_feed, clipped_order, clipped_stock}
+use Rattle.audit_laws.specs.Clipped.{clipped, clipped_agent, clipped_branch, clipped_closing, clipped_counts, clipped_entry, clipped_feed, clipped_order, clipped_stock}
 use Rattle.audit_laws.proofs.HeldFrames.{clipped_frame, payload-same}
 
 both : (a b c d : List Frame) → a ≡ b → c ≡ d → a ++ c ≡ b ++ d

@@ -1,6 +1,6 @@
 -- The bundle of a course, clipped, is a bundle.
-use Rattle.std.proofs.Common.{◌≡◌, ◌∙◌, ℕ, zero, suc, ◌+◌, ◌%◌, ◌^◌, ◌<◌, ◌≤◌, Bool, true, false, ◌&&◌, ◌||◌, List, [], ◌∷◌, ◌++◌, length, map, All, Option, None, Some, refl, sym, ap, subst, append_assoc, arith}
-use Rattle.std.specs.Prelude.{nat_lt, ◌==◌}
+use Rattle.std.proofs.Common.{◌≡◌, ◌∙◌, ℕ, zero, suc, ◌+◌, ◌<◌, ◌≤◌, Bool, true, false, ◌||◌, List, [], ◌∷◌, ◌++◌, length, map, All, Option, None, Some, refl, sym, ap, subst, append_assoc, arith}
+use Rattle.std.specs.Prelude.{nat_lt}
 use Rattle.std.specs.List.{flat_map}
 use Rattle.std.proofs.Math.Nat.{mod-eq_of_lt}
 use Rattle.std.proofs.lemmas.Bool.{and_from, and_parts, ltb-true}
@@ -16,14 +16,12 @@ use Rattle.wire_fields.specs.Kinds.{is_good}
 use Rattle.wire_fields.specs.Values.{FieldValue, is_in_range}
 use Rattle.wire_fields.specs.Wire.{IsInRange, Wire, are_in_range}
 use Rattle.itch_codec.specs.Messages.{feed_wire}
-use Rattle.price_time_book.specs.declared.resting.Resting.{Resting}
-use Rattle.exchange_agent.specs.State.{State as Exchange, Stock, no_stock, stock_at}
+use Rattle.exchange_agent.specs.State.{State as Exchange, no_stock, stock_at}
 use Rattle.branch_tree.specs.declared.branch.Branch.{Branch}
 use Rattle.branch_tree.specs.Names.{IsNameLength}
 use Rattle.branch_tree.specs.Plan.{branch_at, no_branch}
 use Rattle.bundle_frames.specs.Layouts.{edit_kinds}
 use Rattle.bundle_frames.specs.Wires.{byte, edit_wire}
-use Rattle.bundle_frames.specs.declared.closing.Closing.{Closing}
 use Rattle.bundle_frames.specs.declared.closing.ClosingAgent.{ClosingAgent}
 use Rattle.bundle_frames.specs.declared.closing.ClosingOrder.{ClosingOrder}
 use Rattle.bundle_frames.specs.declared.closing.ClosingStock.{ClosingStock}

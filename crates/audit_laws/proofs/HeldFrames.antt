@@ -1,6 +1,6 @@
 -- Frames, clipped: each is written as before, and is in its ranges where its texts are.
-use Rattle.std.proofs.Common.{◌≡◌, ◌∙◌, ℕ, ◌+◌, ◌/◌, ◌%◌, ◌^◌, ◌<◌, ◌≤◌, true, ◌&&◌, List, [], ◌∷◌, ◌++◌, length, map, All, Some, refl, sym, ap, subst, arith}
-use Rattle.std.specs.Prelude.{ℤ, ◌==◌, nat_lt, codes}
+use Rattle.std.proofs.Common.{◌≡◌, ◌∙◌, ℕ, ◌/◌, ◌%◌, ◌^◌, ◌<◌, true, ◌&&◌, List, [], ◌∷◌, ◌++◌, length, map, Some, refl, sym, ap, subst, arith}
+use Rattle.std.specs.Prelude.{◌==◌, nat_lt}
 use Rattle.std.specs.List.{list_all}
 use Rattle.std.specs.Int.{cast_unsigned, w64, w128}
 use Rattle.std.proofs.lemmas.Bool.{and_from, and_parts}
@@ -9,12 +9,12 @@ use Rattle.market_types.specs.declared.order.Token.{Token}
 use Rattle.wire_fields.specs.declared.kind.Kind.TheVariants.{Alphanumeric, Bytes, Number}
 use Rattle.wire_fields.specs.Kinds.{is_good}
 use Rattle.wire_fields.specs.Numbers.{number_bytes}
-use Rattle.wire_fields.specs.Values.{bytes, is_in_range, number, side_letter}
+use Rattle.wire_fields.specs.Values.{bytes, is_in_range, number}
 use Rattle.wire_fields.specs.Wire.{IsInRange, Wire, spelled_fields, spelling}
 use Rattle.itch_codec.specs.Messages.{feed_wire}
 use Rattle.branch_tree.specs.Names.{IsNameLength}
 use Rattle.bundle_frames.specs.Layouts.{agent_kinds, counts_kinds, edit_kinds, event_kinds, order_kinds, stock_kinds, waiting_kinds}
-use Rattle.bundle_frames.specs.Wires.{agent_wire, body_bytes, branch_wire, byte, counts_wire, edit_wire, event_wire, header_wire, high_half, letter_of_body, letter_of_delivery, letter_of_silence, low_half, order_wire, positions_bytes, signed, stock_wire}
+use Rattle.bundle_frames.specs.Wires.{agent_wire, body_bytes, branch_wire, byte, counts_wire, edit_wire, event_wire, header_wire, letter_of_body, letter_of_delivery, letter_of_silence, order_wire, positions_bytes, stock_wire}
 use Rattle.bundle_frames.specs.declared.closing.ClosingAgent.{ClosingAgent}
 use Rattle.bundle_frames.specs.declared.closing.ClosingCounts.{ClosingCounts}
 use Rattle.bundle_frames.specs.declared.closing.ClosingOrder.{ClosingOrder}

@@ -1,5 +1,5 @@
 -- In each full run the states of stocks and quotes are bytes, and the tokens of all resting orders may stand in a token's field.
-use Rattle.std.proofs.Common.{◌≡◌, ℕ, zero, suc, ◌+◌, ◌-◌, ◌≤◌, true, false, cond, ltb, List, [], ◌∷◌, ◌++◌, length, All, Option, Some, None, is_some, option_map, slice_index, refl, sym, subst, arith}
+use Rattle.std.proofs.Common.{◌≡◌, ℕ, zero, suc, ◌+◌, ◌-◌, ◌≤◌, true, false, cond, ltb, List, [], ◌∷◌, length, All, Option, Some, None, is_some, option_map, slice_index, refl, sym, subst, arith}
 use Rattle.std.specs.Prelude.{nat_le, if◌then◌else◌}
 use Rattle.std.proofs.lemmas.List.{length-map}
 use Rattle.std.proofs.lemmas.List.Elements.{All-get_or, All-head, All-nil, All-push, All-tail}
@@ -21,7 +21,7 @@ use Rattle.market_floor.specs.declared.posting.Posting.TheVariants.{To, WakeAt}
 use Rattle.market_floor.specs.Opening.{IsOpening, IsStock, cash_of}
 use Rattle.market_floor.specs.Reaction.{no_rules, reaction}
 use Rattle.kernel_core.specs.Edited.{edited_from, edited_one, mail_after, mark_of}
-use Rattle.kernel_core.specs.Open.{opened, woken}
+use Rattle.kernel_core.specs.Open.{woken}
 use Rattle.kernel_core.specs.Post.{Post, nothing_waits, taken}
 use Rattle.kernel_core.specs.Send.{all_sent, message_of, order_at, sent}
 use Rattle.kernel_core.specs.State.{State}

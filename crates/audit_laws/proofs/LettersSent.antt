@@ -1,5 +1,5 @@
 -- No trader sends a quote, so what a floor gives to the mail tells states that are bytes.
-use Rattle.std.proofs.Common.{ℕ, ◌+◌, Bool, true, false, List, [], ◌∷◌, ◌++◌, length, map, All, Option, Some, None}
+use Rattle.std.proofs.Common.{ℕ, ◌+◌, true, false, List, [], ◌∷◌, length, map, All, Option, Some, None}
 use Rattle.std.specs.Prelude.{◌==◌, nat_lt, if◌then◌else◌}
 use Rattle.std.proofs.lemmas.List.Elements.{All-append, All-cons, All-map, All-nil, All-weaker}
 use Rattle.market_types.specs.declared.message.Body.{Body}

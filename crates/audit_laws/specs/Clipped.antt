@@ -1,6 +1,6 @@
 -- A bundle with each number as its field holds it. A field of so many bytes keeps a number's last ones, so a bundle and what
 -- is clipped of it are written as the same bytes.
-use Rattle.std.specs.Prelude.{◌<◌, ◌%◌, ◌^◌, ℕ, ℤ, List, map, length, All}
+use Rattle.std.specs.Prelude.{◌<◌, ◌%◌, ◌^◌, ℕ, ℤ, map, length, All}
 use Rattle.std.specs.Int.{cast_signed, cast_unsigned, w64, w128}
 use Rattle.market_types.specs.declared.feed.Feed.{Feed}
 use Rattle.market_types.specs.declared.feed.What.{What}

@@ -1,12 +1,12 @@
 -- A bundle of one branch in which numbers may be too large for their fields.
-use Rattle.std.specs.Prelude.{ℕ, ℤ, pos, false, [], ◌∷◌, codes}
+use Rattle.std.specs.Prelude.{ℕ, ℤ, false, [], ◌∷◌, codes}
 use Rattle.market_types.specs.declared.feed.Feed.{Feed}
 use Rattle.market_types.specs.declared.feed.What.TheVariants.{Add, System}
 use Rattle.market_types.specs.declared.message.Body.TheVariants.{Wake}
 use Rattle.market_types.specs.declared.order.Side.TheVariants.{Buy}
 use Rattle.market_types.specs.Told.{EventTold, event}
 use Rattle.bundle_frames.specs.declared.closing.Closing.{Closing}
-use Rattle.bundle_reader.specs.Told.{BranchTold, BundleTold}
+use Rattle.bundle_reader.specs.Told.{BundleTold}
 
 -- an order to buy a hundred shares at a price comes
 abbrev pub comes_at : ℕ → Feed
