@@ -42,6 +42,7 @@ use Rattle.bundle_reader.specs.Frames.{HasRanges, payload}
 use Rattle.bundle_reader.specs.Told.{BranchTold, BundleTold}
 use Rattle.bundle_reader.specs.Bundle.{IsBranch, IsBundle, branch_list, branches_list, bundle_list, closing_list, edit_part, entry_list, event_part, feed_list}
 use Rattle.bundle_reader.proofs.Ranges.{are_in}
+use Rattle.bundle_reading.specs.Reading.{Read, bad_frame, bad_order, cut, read}
 use Rattle.round_trip.specs.AsRead.{as_read}
 use Rattle.round_trip.specs.Back.{branch_back, branches_back, bundle_back}
 use Rattle.round_trip.specs.Fields.{HasEventTexts, HasTexts, is_number, texts_in_range}
@@ -274,3 +275,15 @@ pub course-clipped : (c : CourseTold) → IsCourse c → AreMessagesSpelled c �
 course-clipped c is spelled named positions states branches =
     bundle-is (bundle_back c) is.opening.market.few (omega (arith, few-traders c.opening is.opening))
     (branches-steady c (length c.plan.branches) is (omega arith)) branches (all-texts c is spelled named positions states)
+
+-- ---- where all fits
+
+abbrev bundle-in : BundleTold → Read → BundleTold
+bundle-in other (read b) = b
+bundle-in other (cut left) = other
+bundle-in other (bad_frame at) = other
+bundle-in other (bad_order at) = other
+
+-- two bundles that the same bytes are read as are one
+pub same-read : (a b : BundleTold) (r : Read) → r ≡ read a → r ≡ read b → a ≡ b
+same-read a b r first second = ap (bundle-in a) (sym first ∙ second)

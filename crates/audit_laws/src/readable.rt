@@ -1,11 +1,12 @@
 //! The bytes that are written of a course always read as a bundle.
 
-ghost use Rattle.std.specs.Prelude.{◌≡◌, ◌^◌, ◌+◌, ◌-◌, ℕ, List, Option, Ok, All, map, negsuc, pos};
+ghost use Rattle.std.specs.Prelude.{◌≡◌, ◌^◌, ◌+◌, ◌-◌, ℕ, List, Option, Ok, All, length, map, negsuc, pos};
 ghost use Rattle.toml.specs.Data.{Members};
 ghost use Rattle.market_types.specs.declared.feed.Feed.{Feed};
 ghost use Rattle.wire_fields.specs.Wire.{IsInRange};
 ghost use Rattle.itch_codec.specs.Messages.{feed_wire};
 ghost use Rattle.bundle_frames.specs.declared.closing.Closing.{Closing};
+ghost use Rattle.branch_tree.specs.Names.{IsNameLength};
 ghost use Rattle.kernel_copy.specs.Courses.{CourseTold, IsCourse};
 ghost use Rattle.feed_rebuild.specs.Fold.{Told, fold, told_what};
 ghost use Rattle.audit_desk.specs.Audited.{displayed, states_of};
@@ -15,11 +16,14 @@ ghost use Rattle.bundle_reader.specs.Bundle.{IsBundle, bundle_bytes};
 ghost use Rattle.bundle_reading.specs.Reading.{read, reading_of};
 ghost use Rattle.study_rules.specs.Accepted.{StudyTold, study_of};
 ghost use Rattle.round_trip.specs.Back.{bundle_back};
+ghost use Rattle.round_trip.specs.Ranges.{IsInRange as IsCourseInRange};
 ghost use Rattle.round_trip.specs.Spelled.{AreMessagesSpelled};
 ghost use Rattle.audit_laws.specs.Clipped.{AreNamed, IsComparable, TellsBooks, clipped, clipped_closing, clipped_feed};
 ghost use Rattle.audit_laws.specs.ClippedWorked.{comes_at, one_branch};
 
+use branch_tree::Branch;
 use bundle_reading::laws::bytes_are_read_as_told;
+use kernel_copy::Course;
 use kernel_copy::closing_laws::agents_have_all_positions;
 use kernel_copy::laws::courses_stay_in_range;
 use round_trip::accepted_laws::accepted_messages_are_spelled;
@@ -41,16 +45,34 @@ pub fn what_fits_stays()
 {}
 
 /// The bytes that are written of a course are read as a bundle, whatever its runs come to, where the orders that its edits inject
-/// are ones that a message can hold and each branch has a name: a number never spoils a frame.
+/// are ones that a message can hold and each branch has a name: a number never spoils a frame. Where all numbers fit their fields
+/// it is the bundle that tells the runs.
 pub fn bundles_always_read()
     ensures bundle { (c : CourseTold) → IsCourse c → AreMessagesSpelled c → AreNamed c → IsBundle (clipped (bundle_back c)) }
     ensures read { (c : CourseTold) → IsCourse c → AreMessagesSpelled c → AreNamed c → reading_of (bundle_of c) ≡ read (clipped (bundle_back c)) }
+    ensures fitting { (c : CourseTold) → IsCourse c → AreMessagesSpelled c → IsCourseInRange c → clipped (bundle_back c) ≡ bundle_back c }
 {
     fields_hold_last_bytes();
     courses_stay_in_range();
     agents_have_all_positions();
     bundles_come_back();
     bytes_are_read_as_told();
+}
+
+// The names of branches.
+fn names_fit(branches: &[Branch])
+    ensures { All (λ b. IsNameLength (length b.name)) branches.now }
+{
+    for i in 0..branches.len() {
+        let _ = branches[i].name.len();
+    }
+}
+
+/// Each branch of a course has a name, by the type of names.
+pub fn branches_have_names(course: &Course)
+    ensures { AreNamed course.now }
+{
+    names_fit(course.plan().branches());
 }
 
 /// What is accepted is a course, each of whose branches has a name.
