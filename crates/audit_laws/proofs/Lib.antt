@@ -1,3 +1,15 @@
+pub mod HeldFields
+pub mod HeldSigned
+pub mod HeldMessages
+pub mod HeldFrames
+pub mod HeldBundles
+pub mod HeldBooks
+pub mod Letters
+pub mod LettersSent
+pub mod LetterRuns
+pub mod HeldBranches
+pub mod HeldCourses
+pub mod AcceptedCourses
 pub mod Openers
 pub mod Moved
 pub mod Displays

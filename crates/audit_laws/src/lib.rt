@@ -1,4 +1,5 @@
-//! What an audit says of the bundle of a study that the rules accept.
+//! What an audit answers of the bundles that runs write.
 #![tactic(auto)]
 
 pub mod honest;
+pub mod readable;
