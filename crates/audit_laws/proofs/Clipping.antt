@@ -2,6 +2,7 @@
 use Rattle.std.proofs.Common.{◌≡◌, ◌∙◌, ℕ, zero, suc, ◌+◌, ◌<◌, ◌≤◌, ◌%◌, List, [], ◌∷◌, ◌++◌, length, map, All, None, refl, ap, sym, arith}
 use Rattle.std.proofs.lemmas.List.{map-append}
 use Rattle.std.proofs.lemmas.List.Elements.{All-map, All-nil, All-push}
+use Rattle.market_types.specs.Limits.{most_stocks}
 use Rattle.market_types.specs.declared.feed.Feed.{Feed}
 use Rattle.market_types.specs.Told.{EntryTold, event, edit}
 use Rattle.bundle_frames.specs.declared.closing.Closing.{Closing}
@@ -72,10 +73,10 @@ clipped-agree c (suc n) stays told small le =
         branch-clipped stocks (branch_back c n) stays (tells-branch c n fits) (comparable-branch c n fits) ∙ agrees c n (told n (omega (arith, le))) in
     All-push (ClippedAgrees stocks) (branches_back c n) (branch_back c n) (clipped-agree c n stays told small (omega (arith, le))) here
 
-few-stay : (n : ℕ) → n ≤ 16 → clipped_number 2 n ≡ n
+few-stay : (n : ℕ) → n ≤ most_stocks → clipped_number 2 n ≡ n
 few-stay n le = omega (arith, le)
 
-pub all-clipped-agree : (c : CourseTold) → length c.opening.stocks ≤ 16 → Stays → AreTold c → AreSmall c → audit_of (clipped (bundle_back c)) ≡ None
+pub all-clipped-agree : (c : CourseTold) → length c.opening.stocks ≤ most_stocks → Stays → AreTold c → AreSmall c → audit_of (clipped (bundle_back c)) ≡ None
 unfolding audit_of
 all-clipped-agree c few stays told small =
     let stocks = length c.opening.stocks in

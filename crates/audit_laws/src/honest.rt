@@ -16,9 +16,8 @@ use crate::readable::{
     accepted_bundles_always_read, accepted_studies_are_courses, bundles_always_read, what_fits_stays,
 };
 use exchange_laws::shown::feeds_tell_the_books;
-use exchange_laws::small::live_orders_are_small;
 use kernel_copy::laws::courses_stay_in_range;
-use market_laws::laws::runs_are_what_the_exchange_met;
+use market_laws::laws::{live_orders_of_courses_are_small, runs_are_what_the_exchange_met};
 
 /// In no branch of a course does what the feed tells differ from the closing: every message of the feed can be applied, and
 /// the books and the trading states that it tells are the closing's, order by order. So an audit finds nothing in what is told
@@ -30,7 +29,7 @@ pub fn feeds_tell_the_closings()
     courses_stay_in_range();
     runs_are_what_the_exchange_met();
     feeds_tell_the_books();
-    live_orders_are_small();
+    live_orders_of_courses_are_small();
     what_fits_stays();
 }
 
