@@ -15,8 +15,7 @@ use Rattle.feed_rebuild.specs.Compared.{by_stock, difference}
 use Rattle.feed_rebuild.specs.Feeds.{entries_feed}
 use Rattle.feed_rebuild.specs.Fold.{fold, Told}
 use Rattle.feed_rebuild.proofs.Folding.{none-differs}
-use Rattle.audit_desk.specs.declared.failing.Failing.{Failing}
-use Rattle.audit_desk.specs.Audited.{audit_of, branch_feed, displayed, failing_or, first_failing, misfit_by, misfit_of, states_of}
+use Rattle.audit_desk.specs.Audited.{audit_of, displayed, failing_or, first_failing, misfit_by, misfit_of, states_of}
 use Rattle.exchange_laws.specs.Shown.{IsShownBy}
 use Rattle.audit_laws.proofs.Displays.{displayed-are, states-are}
 use Rattle.audit_laws.proofs.Moved.{same-feed}

@@ -1,5 +1,5 @@
 -- An audit of a course's bundle finds nothing in what is clipped of it either.
-use Rattle.std.proofs.Common.{◌≡◌, ◌∙◌, ℕ, zero, suc, ◌+◌, ◌<◌, ◌≤◌, ◌%◌, List, [], ◌∷◌, ◌++◌, length, map, All, None, refl, ap, sym, arith}
+use Rattle.std.proofs.Common.{◌≡◌, ◌∙◌, ℕ, zero, suc, ◌<◌, ◌≤◌, List, [], ◌∷◌, ◌++◌, length, map, All, None, refl, ap, sym, arith}
 use Rattle.std.proofs.lemmas.List.{map-append}
 use Rattle.std.proofs.lemmas.List.Elements.{All-map, All-nil, All-push}
 use Rattle.market_types.specs.Limits.{most_stocks}
@@ -16,7 +16,7 @@ use Rattle.feed_rebuild.specs.Fold.{Told, fold}
 use Rattle.std.specs.Prelude.{Result, Ok, Err}
 use Rattle.audit_desk.specs.Audited.{audit_of, branch_feed, displayed, first_failing, misfit_by, misfit_of, states_of}
 use Rattle.audit_laws.specs.Clipped.{IsComparable, TellsBooks, clipped, clipped_branch, clipped_closing, clipped_entry, clipped_feed, clipped_number}
-use Rattle.audit_laws.proofs.Agreements.{Agrees, AreTold, IsTold, agrees, none-fails}
+use Rattle.audit_laws.proofs.Agreements.{Agrees, AreTold, agrees, none-fails}
 use Rattle.audit_laws.proofs.Fitting.{IsSmallRun, comparable-branch, tells-branch}
 
 -- what fits stays: the feed's books, and what a closing is compared with
@@ -70,7 +70,7 @@ clipped-agree c (suc n) stays told small le =
     let stocks = length c.opening.stocks in
     let fits = small n (omega (arith, le)) in
     let here : ClippedAgrees stocks (branch_back c n) =
-        branch-clipped stocks (branch_back c n) stays (tells-branch c n fits) (comparable-branch c n fits) ∙ agrees c n (told n (omega (arith, le))) in
+    branch-clipped stocks (branch_back c n) stays (tells-branch c n fits) (comparable-branch c n fits) ∙ agrees c n (told n (omega (arith, le))) in
     All-push (ClippedAgrees stocks) (branches_back c n) (branch_back c n) (clipped-agree c n stays told small (omega (arith, le))) here
 
 few-stay : (n : ℕ) → n ≤ most_stocks → clipped_number 2 n ≡ n

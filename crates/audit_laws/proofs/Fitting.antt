@@ -1,13 +1,12 @@
 -- The numbers by which a course's feeds and closings tell the books fit their fields.
-use Rattle.std.proofs.Common.{◌≡◌, ℕ, zero, suc, ◌+◌, ◌<◌, ◌≤◌, ◌^◌, List, [], ◌∷◌, ◌++◌, length, map, All, sym, subst, arith}
+use Rattle.std.proofs.Common.{◌≡◌, ℕ, zero, suc, ◌<◌, ◌≤◌, List, [], ◌∷◌, ◌++◌, length, map, All, sym, subst, arith}
 use Rattle.std.proofs.lemmas.List.Elements.{All-append, All-cons, All-get_or, All-map, All-nil, All-push, All-weaker}
 use Rattle.market_types.specs.Limits.{most_events, most_stocks}
 use Rattle.market_types.specs.declared.feed.Feed.{Feed}
 use Rattle.market_types.specs.declared.feed.What.{What}
 use Rattle.market_types.specs.declared.feed.What.TheVariants as what
-use Rattle.bundle_frames.specs.declared.closing.ClosingOrder.{ClosingOrder}
 use Rattle.price_time_book.specs.declared.resting.Resting.{Resting}
-use Rattle.exchange_agent.specs.State.{State as Exchange, Stock, no_stock, stock_at}
+use Rattle.exchange_agent.specs.State.{State as Exchange, no_stock, stock_at}
 use Rattle.market_floor.specs.declared.opening.Opening.{Opening}
 use Rattle.kernel_copy.specs.Closing.{order_closed, orders_closed}
 use Rattle.kernel_copy.specs.Courses.{CourseTold}

@@ -1,13 +1,12 @@
 -- What holds of each run of an exchange holds of the full run of each branch of a course.
-use Rattle.std.proofs.Common.{◌≡◌, ◌∙◌, ℕ, ◌<◌, ◌≤◌, List, length, All, Ok, ap, subst, sym, arith}
+use Rattle.std.proofs.Common.{◌≡◌, ◌∙◌, ℕ, ◌<◌, List, length, All, Ok, ap, subst, sym, arith}
 use Rattle.std.specs.Prelude.{ℤ, Bool}
 use Rattle.std.specs.List.{AllByRecursion}
 use Rattle.exchange_agent.specs.declared.told.StockRules.{StockRules}
 use Rattle.exchange_agent.specs.Open.{opened, IsOpening as IsMarket}
 use Rattle.exchange_agent.specs.Runs.{Act, IsPossible, run}
 use Rattle.exchange_agent.specs.State.{State as Exchange}
-use Rattle.market_floor.specs.Opening.{cash_of, IsOpening}
-use Rattle.market_floor.specs.declared.opening.Opening.{Opening}
+use Rattle.market_floor.specs.Opening.{cash_of}
 use Rattle.kernel_copy.specs.Courses.{CourseTold, IsCourse}
 use Rattle.kernel_copy.specs.Full.{full, full_run}
 use Rattle.kernel_copy.specs.Reached.{IsReached}
@@ -19,7 +18,7 @@ use Rattle.market_laws.specs.History.{IsMetAs}
 use Rattle.market_laws.specs.Market.{exchange_of}
 use Rattle.market_laws.proofs.Conserved.{possible-accounts}
 use Rattle.exchange_laws.specs.Small.{IsSmallExchange, IsSmallFeed}
-use Rattle.audit_laws.proofs.Agreements.{AreTold, IsTold}
+use Rattle.audit_laws.proofs.Agreements.{AreTold}
 use Rattle.audit_laws.proofs.Clipping.{AreSmall}
 
 -- some messages and changes are all that the run of each branch met

@@ -13,7 +13,8 @@ ghost use Rattle.audit_desk.specs.Audited.{audit_of};
 ghost use Rattle.audit_laws.specs.Clipped.{AreNamed, clipped};
 
 use crate::readable::{
-    accepted_bundles_always_read, accepted_studies_are_courses, bundles_always_read, what_fits_stays,
+    accepted_bundles_always_read, accepted_studies_are_courses, bundles_always_read,
+    what_fits_stays,
 };
 use exchange_laws::shown::feeds_tell_the_books;
 use kernel_copy::laws::courses_stay_in_range;
