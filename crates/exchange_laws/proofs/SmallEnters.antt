@@ -18,7 +18,7 @@ use Rattle.exchange_agent.specs.State.{Stock}
 use Rattle.exchange_laws.specs.Executed.{executed_in}
 use Rattle.exchange_laws.specs.Small.{IsSmallFeed, IsUpTo, most_shares}
 use Rattle.exchange_laws.proofs.SmallCounts.{matched-ends, one-if-some, one_if, some-from}
-use Rattle.exchange_laws.proofs.SmallFeeds.{IsFitFill, added-quiet, executed-append, feed-more, here-settled, settled-matches, settled-small, settled-state, there-settled}
+use Rattle.exchange_laws.proofs.SmallFeeds.{IsFitFill, added-quiet, executed-append, feed-more, here-settled, settled-last, settled-matches, settled-shares, settled-small, settled-state, there-settled}
 use Rattle.exchange_laws.proofs.SmallFits.{BookLaws, IsFitBook, book-more, fit-from, fit-is, fit-more, fits-by-fills, fits-more, is_fit, is_sized, most-is, sizes-by-fills}
 use Rattle.exchange_laws.proofs.SmallWays.{way-book}
 
@@ -28,6 +28,8 @@ pub record IsFitWay (traders stocks accepted locate : ℕ) (w v : Way) : Type 0 
   pub feed : All (IsSmallFeed stocks (accepted + 1) v.matches) v.feed
   pub grows : w.matches ≤ v.matches
   pub state : v.stock.trading ≡ w.stock.trading
+  pub last : w.stock.tally.last ≤ highest_price → v.stock.tally.last ≤ highest_price
+  pub matched : v.stock.tally.matched ≤ w.stock.tally.matched + most_shares
   pub here : (j : ℕ) → (locate == j + 1) ≡ true → executed_in j v.feed + w.stock.tally.matched ≡ executed_in j w.feed + v.stock.tally.matched
   pub there : (j : ℕ) → (locate == j + 1) ≡ false → executed_in j v.feed ≡ executed_in j w.feed
 
@@ -39,6 +41,8 @@ pub record IsFitEnd (traders stocks accepted locate : ℕ) (w z : Way) : Type 0 
   pub grows : w.matches ≤ z.matches
   pub ended : z.matches + length z.stock.book ≤ w.matches + length w.stock.book + 1
   pub state : z.stock.trading ≡ w.stock.trading
+  pub last : w.stock.tally.last ≤ highest_price → z.stock.tally.last ≤ highest_price
+  pub matched : z.stock.tally.matched ≤ w.stock.tally.matched + most_shares
   pub here : (j : ℕ) → (locate == j + 1) ≡ true → executed_in j z.feed + w.stock.tally.matched ≡ executed_in j w.feed + z.stock.tally.matched
   pub there : (j : ℕ) → (locate == j + 1) ≡ false → executed_in j z.feed ≡ executed_in j w.feed
 
@@ -76,6 +80,8 @@ end-same traders stocks accepted locate w v z same told counts ended h =
       grows = omega (arith, h.grows, counts);
       ended = omega (arith, ended, counts, lengths);
       state = ap (λ (k : Stock). k.trading) same ∙ h.state;
+      last = λ q. subst (λ (k : Stock). k.tally.last ≤ highest_price) (sym same) (h.last q);
+      matched = omega (arith, tallies, h.matched);
       here = λ j e. omega (arith, feeds j, tallies, h.here j e);
       there = λ j e. feeds j ∙ h.there j e;
     }
@@ -102,6 +108,8 @@ end-rested laws traders stocks accepted t e left w v locate agent price small so
       grows = h.grows;
       ended = omega (arith, ended, longer);
       state = h.state;
+      last = h.last;
+      matched = h.matched;
       here = λ j q. omega (arith, feeds j, h.here j q);
       there = λ j q. feeds j ∙ h.there j q;
     }
@@ -138,6 +146,8 @@ fit-end laws traders stocks accepted t e w locate agent price small room book fe
       feed = settled-small traders stocks (accepted + 1) v.matches t k.fills w locate (omega (arith, counts)) (fit-fills laws traders accepted w.stock.book e small book) (feed-more stocks (accepted + 1) (accepted + 1) w.matches v.matches w.feed (omega arith) (omega (arith, counts)) feed);
       grows = omega (arith, counts);
       state = settled-state t k.fills w;
+      last = settled-last traders (accepted + 1) t k.fills w (fit-fills laws traders accepted w.stock.book e small book);
+      matched = let shares = settled-shares t k.fills w in omega (arith, shares, adds, small);
       here = λ j q. here-settled j t k.fills w q;
       there = λ j q. there-settled j t k.fills w q;
     } in

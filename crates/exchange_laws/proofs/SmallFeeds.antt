@@ -1,8 +1,8 @@
 -- Feed messages that are in their ranges, and the shares that they tell as executed.
-use Rattle.std.proofs.Common.{◌≡◌, ℕ, ◌+◌, ◌-◌, ◌<◌, ◌≤◌, Bool, true, false, List, [], ◌∷◌, ◌++◌, length, All, arith, refl, ap, ◌∙◌}
+use Rattle.std.proofs.Common.{◌≡◌, ℕ, ◌+◌, ◌-◌, ◌<◌, ◌≤◌, Bool, true, false, List, [], ◌∷◌, ◌++◌, length, All, arith, refl, ap, ◌∙◌, sum_by}
 use Rattle.std.specs.Prelude.{◌==◌, if◌then◌else◌}
 use Rattle.std.proofs.lemmas.List.Elements.{All-append, All-cons, All-head, All-nil, All-tail, All-weaker}
-use Rattle.std.proofs.lemmas.List.Sums.{sum_by-append}
+use Rattle.std.proofs.lemmas.List.Sums.{sum_by-append, sum_by-cons}
 use Rattle.market_types.specs.Limits.{highest_price}
 use Rattle.market_types.specs.declared.feed.Feed.{Feed}
 use Rattle.market_types.specs.declared.feed.What.{What}
@@ -88,6 +88,22 @@ settled-matches t (f ∷ fs) w = let rest : (all_settled t fs (settled t f w)).m
 pub settled-state : (t : Taking) (fills : List Fill) (w : Way) → (all_settled t fills w).stock.trading ≡ w.stock.trading
 settled-state t [] w = refl
 settled-state t (f ∷ fs) w = settled-state t fs (settled t f w)
+
+-- the last price is that of the last order that rested
+pub settled-last : (traders accepted : ℕ) (t : Taking) (fills : List Fill) (w : Way) → All (IsFitFill traders accepted) fills → w.stock.tally.last ≤ highest_price → (all_settled t fills w).stock.tally.last ≤ highest_price
+settled-last traders accepted t [] w each h = h
+settled-last traders accepted t (f ∷ fs) w each h =
+    let first = All-head (IsFitFill traders accepted) f fs each in
+    settled-last traders accepted t fs (settled t f w) (All-tail (IsFitFill traders accepted) f fs each) (fit-from traders accepted f.resting first.fit).price.1
+
+-- the shares of all matches count
+pub settled-shares : (t : Taking) (fills : List Fill) (w : Way) → (all_settled t fills w).stock.tally.matched ≡ w.stock.tally.matched + sum_by (λ (f : Fill). f.shares) fills
+settled-shares t [] w = omega arith
+settled-shares t (f ∷ fs) w =
+    let shares : Fill → ℕ = λ (f : Fill). f.shares in
+    let rest : (all_settled t fs (settled t f w)).stock.tally.matched ≡ w.stock.tally.matched + f.shares + sum_by shares fs = settled-shares t fs (settled t f w) in
+    let all : sum_by shares (f ∷ fs) ≡ f.shares + sum_by shares fs = sum_by-cons shares f fs in
+    omega (arith, rest, all)
 
 -- the feed of matches
 pub settled-small : (traders stocks accepted matches : ℕ) (t : Taking) (fills : List Fill) (w : Way) → IsUpTo stocks t.locate → w.matches + length fills ≤ matches → All (IsFitFill traders accepted) fills → All (IsSmallFeed stocks accepted matches) w.feed → All (IsSmallFeed stocks accepted matches) (all_settled t fills w).feed

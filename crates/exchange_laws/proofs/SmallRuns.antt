@@ -73,7 +73,7 @@ from-opening laws rules cash hidden acts h =
     run-is laws n (length rules) (opened rules cash hidden) acts
     (record {
       many = length-map rules (listed n);
-      each = All-map (IsFitStock n 0) (listed n) rules (λ k d in'. record { book = book-nil n; state = inl refl });
+      each = All-map (IsFitStock n 0) (listed n) rules (λ k d in'. record { book = book-nil n; state = inl refl; last = omega arith; matched = omega arith });
       few = omega (arith, none);
       ended = omega (arith, none);
     }) h
@@ -96,7 +96,7 @@ small-exchange laws rules cash hidden acts h =
     let s = run (opened rules cash hidden) acts in
     let few : s.counts.orders ≤ 0 + messages_in acts = r.counted in
     record {
-      stocks = All-weaker (IsFitStock n s.counts.orders) (IsSmallStock n s.counts.orders) (λ k b. record { orders = small-orders n s.counts.orders k.book b.book; rising = b.book.orderly.rising; state = b.state }) s.stocks r.kept.each;
+      stocks = All-weaker (IsFitStock n s.counts.orders) (IsSmallStock n s.counts.orders) (λ k b. record { orders = small-orders n s.counts.orders k.book b.book; rising = b.book.orderly.rising; state = b.state; last = b.last; matched = b.matched }) s.stocks r.kept.each;
       resting = r.kept.few;
       accepted = omega (arith, few);
       ended = r.kept.ended;

@@ -1,5 +1,5 @@
 -- One message or change: ranges stay, and what matches is told.
-use Rattle.std.proofs.Common.{◌≡◌, ◌≢◌, inl, inr, ℕ, zero, suc, ◌+◌, ◌-◌, ◌<◌, ◌≤◌, Bool, true, false, List, [], ◌∷◌, length, All, Option, Some, None, arith, refl, subst, ap, sym, ◌∙◌, slice_index_or, slice_set}
+use Rattle.std.proofs.Common.{◌≡◌, ◌≢◌, inl, inr, ℕ, zero, suc, ◌+◌, ◌-◌, ◌*◌, ◌<◌, ◌≤◌, Bool, true, false, List, [], ◌∷◌, length, All, Option, Some, None, arith, refl, subst, ap, sym, ◌∙◌, slice_index_or, slice_set}
 use Rattle.std.specs.Prelude.{◌==◌, nat_lt, if◌then◌else◌}
 use Rattle.std.proofs.lemmas.Bool.{false≢true}
 use Rattle.std.proofs.lemmas.Bool.Decides.{nat_tests}
@@ -7,6 +7,7 @@ use Rattle.std.proofs.lemmas.List.{length-set}
 use Rattle.std.proofs.lemmas.List.Elements.{All-set, All-weaker, recursion_from_All}
 use Rattle.std.proofs.lemmas.List.Quantifiers.{position-Some}
 use Rattle.std.proofs.lemmas.List.Sums.{get_or-le-sum_by, sum_by-set}
+use Rattle.market_types.specs.Limits.{highest_price}
 use Rattle.market_types.specs.declared.feed.Feed.{Feed}
 use Rattle.market_types.specs.declared.feed.What.TheVariants as what
 use Rattle.market_types.specs.declared.message.Body.{Body}
@@ -26,7 +27,7 @@ use Rattle.exchange_agent.specs.Changes.{Changed, changed_by, turned}
 use Rattle.exchange_agent.specs.Enter.{accepted, entered_by, remembering, taking_of, verdict_of, way_from, way_of}
 use Rattle.exchange_agent.specs.Market.{market}
 use Rattle.exchange_agent.specs.Outcome.{Outcome}
-use Rattle.exchange_agent.specs.State.{State, Stock, no_stock, resting_over, stands_still, stock_at, trades, with_stock}
+use Rattle.exchange_agent.specs.State.{State, Stock, Tally, no_stock, resting_over, stands_still, stock_at, trades, with_stock}
 use Rattle.exchange_laws.specs.Executed.{executed_in}
 use Rattle.exchange_laws.specs.Small.{IsSmallFeed, IsTradingState, IsUpTo, most_resting, most_shares}
 use Rattle.exchange_laws.proofs.SmallCancels.{found-passes, found-there}
@@ -39,9 +40,11 @@ use Rattle.exchange_laws.proofs.SmallVerdicts.{acceptable}
 pub record IsFitStock (traders accepted : ℕ) (k : Stock) : Type 0 where
   pub book : IsFitBook traders accepted k.book
   pub state : IsTradingState k.trading
+  pub last : k.tally.last ≤ highest_price
+  pub matched : k.tally.matched ≤ most_shares * accepted
 
 stock-more : (traders a b : ℕ) (k : Stock) → a ≤ b → IsFitStock traders a k → IsFitStock traders b k
-stock-more traders a b k le h = record { book = book-more traders a b k.book le h.book; state = h.state }
+stock-more traders a b k le h = record { book = book-more traders a b k.book le h.book; state = h.state; last = h.last; matched = omega (arith, le, h.matched) }
 
 -- An exchange of so many such stocks among so many traders.
 pub record IsFitExchange (traders stocks : ℕ) (s : State) : Type 0 where
@@ -159,7 +162,7 @@ accepted-step laws traders stocks s time agent e k kept trader is =
     record {
       kept = record {
         many = length-set s.stocks k z.stock ∙ kept.many;
-        each = All-set (IsFitStock traders (n + 1)) s.stocks k z.stock (record { book = h.book; state = subst IsTradingState (sym h.state) old.state }) (All-weaker (IsFitStock traders n) (IsFitStock traders (n + 1)) (λ y b. stock-more traders n (n + 1) y (omega arith) b) s.stocks kept.each);
+        each = All-set (IsFitStock traders (n + 1)) s.stocks k z.stock (record { book = h.book; state = subst IsTradingState (sym h.state) old.state; last = h.last old.last; matched = omega (arith, h.matched, old.matched) }) (All-weaker (IsFitStock traders n) (IsFitStock traders (n + 1)) (λ y b. stock-more traders n (n + 1) y (omega arith) b) s.stocks kept.each);
         few = omega (arith, rests, longer, room);
         ended = omega (arith, rests, ended, kept.ended);
       };
@@ -213,6 +216,8 @@ canceled-step laws traders stocks s time agent c f kept is below =
         sizes = laws.lower-tested is_sized sizes-by-reduce o.reference left x.book o by le here.sizes;
       };
       state = old.state;
+      last = old.last;
+      matched = old.matched;
     })
     (laws.lower-few (reduced left o) x.book) refl
     (lowered-quiet stocks n s.counts.matches (k + 1) time o left locate fit.reference fewer (omega (arith, within, sized)))
@@ -248,7 +253,14 @@ ruled traders stocks s k x feed kept in' is-book is-tally state quiet =
     let old : IsFitStock traders s.counts.orders (stock_at s k) = kept.each k no_stock in' in
     let book : IsFitBook traders s.counts.orders x.book = subst (λ (b : List Resting). IsFitBook traders s.counts.orders b) (sym is-book) old.book in
     let same : length x.book ≡ length (stock_at s k).book = ap (λ (b : List Resting). length b) is-book in
-    moved traders stocks 0 s k x feed kept in' (record { book = book; state = state }) (omega (arith, same)) (ap (λ t. t.matched) is-tally) quiet
+    moved traders stocks 0 s k x feed kept in'
+    (record {
+      book = book;
+      state = state;
+      last = subst (λ (t : Tally). t.last ≤ highest_price) (sym is-tally) old.last;
+      matched = subst (λ (t : Tally). t.matched ≤ most_shares * s.counts.orders) (sym is-tally) old.matched;
+    })
+    (omega (arith, same)) (ap (λ t. t.matched) is-tally) quiet
 
 abbrev turned-way : Bool → State → ℕ → ℕ → ℕ → Changed
 turned-way b s time k letter =

@@ -1,5 +1,5 @@
 -- How large the numbers of an exchange's orders and of its feed become.
-use Rattle.std.specs.Prelude.{◌≡◌, ◌≤◌, ◌⊎◌, ℕ, ◌+◌, [], ◌∷◌, All}
+use Rattle.std.specs.Prelude.{◌≡◌, ◌≤◌, ◌⊎◌, ℕ, ◌+◌, ◌*◌, [], ◌∷◌, All}
 use Rattle.market_types.specs.Limits.{highest_price}
 use Rattle.market_types.specs.declared.feed.Feed.{Feed}
 use Rattle.market_types.specs.declared.feed.What.{What}
@@ -33,11 +33,14 @@ pub record IsSmallOrder (traders accepted : ℕ) (o : Resting) : Type 0 where
   pub intended : o.intended ≤ most_shares
   pub left : IsUpTo o.intended o.left
 
--- A stock's orders are such, and stand in order of their references; and it trades or is halted.
+-- A stock's orders are such, and stand in order of their references. It trades or is halted. Its last price is 0 or that of an
+-- order that rested, and the shares that matched are of accepted orders.
 pub record IsSmallStock (traders accepted : ℕ) (k : Stock) : Type 0 where
   pub orders : All (IsSmallOrder traders accepted) k.book
   pub rising : IsRising k.book
   pub state : IsTradingState k.trading
+  pub last : k.tally.last ≤ highest_price
+  pub matched : k.tally.matched ≤ most_shares * accepted
 
 -- An exchange among so many traders after so many messages, each of which has at most one order accepted. A match ends an order:
 -- the one that rested, or the incoming one.

@@ -20,9 +20,10 @@ use price_time_book::laws::next_is_best;
 /// From an opening on, whatever messages and changes come: each order that rests has a reference from 1 to the
 /// number of accepted orders, which are no more than the messages, an agent that is a trader, a price from 1 to
 /// 1,999,999,900, an intended size of at most 999,999 shares, and open shares from 1 to that; the references of
-/// each book rise; each stock trades or is halted; at most 16,384 orders rest; and the matches and these orders are together at most the accepted ones. Each
-/// message of the feed has the locate of a stock, and its reference, shares and price are in the same ranges, as is
-/// the number of a match; no trading action has another state than `T` or `H`.
+/// each book rise; each stock trades or is halted, its last price is at most the highest, and at most 999,999 shares
+/// of it matched for each accepted order; at most 16,384 orders rest; and the matches and these orders are together
+/// at most the accepted ones. Each message of the feed has the locate of a stock, and its reference, shares and price
+/// are in the same ranges, as is the number of a match; no trading action has another state than `T` or `H`.
 pub fn live_orders_are_small()
     ensures orders { (rules : List StockRules) (cash : List ℤ) (hidden : Bool) (acts : List Act) →
         IsOpening rules cash →
