@@ -1,5 +1,4 @@
 use Rattle.std.proofs.Common.{length, arith}
-use Rattle.kernel_copy.specs.Courses.{CourseTold, IsCourse}
 use Rattle.round_trip.specs.Back.{bundle_back}
 use Rattle.audit_laws.specs.Clipped.{clipped}
 use Rattle.audit_laws.proofs.Agreements.{AreTold, branches-agree}
