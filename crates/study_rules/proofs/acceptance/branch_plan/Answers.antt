@@ -8,7 +8,7 @@ use Rattle.study_market.specs.Traders.{traders_of}
 use Rattle.study_market.specs.Opening.{opening_of}
 use Rattle.study_market.proofs.Held.{are-held}
 use Rattle.study_rules.proofs.Editing.{kinds-said, edits-fit}
-use Rattle.study_rules.proofs.study.branch_plan.Goals as goal
+use Rattle.study_rules.proofs.acceptance.branch_plan.Goals as goal
 
 pub branches-requires-clause-limits : goal.branches-requires-clause-limits
 branches-requires-clause-limits c = (are-held (table_view c.args.table.now) c.args.rows.now c.requires.accepted).limits

@@ -4,7 +4,7 @@ use Rattle.branch_tree.specs.Plan.{Plan}
 use Rattle.market_floor.specs.declared.opening.Opening.{Opening}
 use Rattle.market_floor.specs.Opening.{IsOpening}
 use Rattle.kernel_copy.specs.Courses.{AreEdits}
-use Rattle.study_rules.proofs.study.accepted_course.Goals as goal
+use Rattle.study_rules.proofs.acceptance.accepted_course.Goals as goal
 
 pub branch_plan-requires-clause-limit : goal.branch_plan-requires-clause-limit
 branch_plan-requires-clause-limit c = ap (λ (o : Opening). o.limit) c.in_ok-opening.ensures.opening

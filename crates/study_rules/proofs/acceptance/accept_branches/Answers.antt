@@ -1,6 +1,6 @@
 use Rattle.toml.specs.View.{table_view}
 use Rattle.study_market.proofs.Held.{are-held}
-use Rattle.study_rules.proofs.study.accept_branches.Goals as goal
+use Rattle.study_rules.proofs.acceptance.accept_branches.Goals as goal
 
 pub branch_refusal-requires-clause-square : goal.branch_refusal-requires-clause-square
 branch_refusal-requires-clause-square c = (are-held (table_view c.args.table.now) c.args.rows.now c.requires).squares

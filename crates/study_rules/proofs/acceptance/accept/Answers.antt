@@ -8,7 +8,7 @@ use Rattle.study_rules.specs.declared.study.AcceptError.TheVariants.{Refused}
 use Rattle.study_rules.specs.declared.study.Study.{Study}
 use Rattle.study_rules.specs.Accepted.{study_of, study_told, told_of}
 use Rattle.study_rules.proofs.Accepting.{accepted_told, refused_told, branches_refused, if-ok, if-err}
-use Rattle.study_rules.proofs.study.accept.Goals as goal
+use Rattle.study_rules.proofs.acceptance.accept.Goals as goal
 
 pub accept_branches-requires : goal.accept_branches-requires
 accept_branches-requires c =
