@@ -1,0 +1,5 @@
+use Rattle.std.proofs.Common.{arith}
+use Rattle.session_desk.proofs.session.Session.undo.Goals as goal
+
+pub invariant_of-self : goal.invariant_of-self
+invariant_of-self c = let h = c.self in ?

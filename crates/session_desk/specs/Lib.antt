@@ -1,0 +1,5 @@
+pub mod Session
+pub mod Acts
+pub mod Anchors
+pub mod Along
+pub mod Answers
