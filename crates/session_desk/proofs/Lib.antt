@@ -6,3 +6,4 @@ pub mod Paths
 pub mod Anchors
 pub mod Nearest
 pub mod Traces
+pub mod Refused

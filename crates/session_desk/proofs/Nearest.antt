@@ -76,3 +76,23 @@ shared-onward shelf s b e n f is =
     let q = parent_at s.branches b in
     ap (λ (x : ℕ). best shelf x (shared_count s b e)) f.anchor
     ∙ ap (λ (x : ℕ). best shelf (anchor_of s q) x) (f.shared e ∙ ap (λ (k : ℕ). shared_count s q (min k e)) (sym is))
+
+-- the same of a parent and a number that are these
+pub ticks-onward : (shelf : ClosedTold CourseTold) (s : SessionTold) (b e n q m : ℕ) → IsFurther s b → n ≡ number_at s.branches b → q ≡ parent_at s.branches b → m ≡ min e n
+    → best shelf (anchor_of s b) (shared_count s b e) ≡ best shelf (anchor_of s q) (shared_count s q m)
+ticks-onward shelf s b e n q m f is parent before =
+    let turn : min n e ≡ m = omega (arith, before) in
+    shared-onward shelf s b e n f is
+    ∙ ap (λ (k : ℕ). best shelf (anchor_of s (parent_at s.branches b)) (shared_count s (parent_at s.branches b) k)) turn
+    ∙ ap (λ (k : ℕ). best shelf (anchor_of s k) (shared_count s k m)) (sym parent)
+
+pub near-onward : (shelf : ClosedTold CourseTold) (s : SessionTold) (b e n q m before after : ℕ) → IsFurther s b → n ≡ number_at s.branches b → q ≡ parent_at s.branches b → m ≡ min e n → before ≤ m → before ≤ after → after ≤ e
+    → best shelf (anchor_of s q) (shared_count s q before) ≡ best shelf (anchor_of s q) (shared_count s q m)
+    → best shelf (anchor_of s b) (shared_count s b after) ≡ best shelf (anchor_of s b) (shared_count s b e)
+near-onward shelf s b e n q m before after f is parent at under low high same =
+    let p = parent_at s.branches b in
+    let turn : m ≡ min n e = omega (arith, at) in
+    let here : best shelf (anchor_of s p) (shared_count s p before) ≡ best shelf (anchor_of s p) (shared_count s p (min n e)) =
+    subst (λ (k : ℕ). best shelf (anchor_of s p) (shared_count s p before) ≡ best shelf (anchor_of s p) (shared_count s p k)) turn
+    (subst (λ (k : ℕ). best shelf (anchor_of s k) (shared_count s k before) ≡ best shelf (anchor_of s k) (shared_count s k m)) parent same) in
+    nearest-onward shelf s b e n before after f is (omega (arith, under, turn)) low high here

@@ -1,5 +1,6 @@
 -- Acts leave a session a session.
 use Rattle.std.proofs.Common.{◌≡◌, ◌≢◌, ◌<◌, ◌≤◌, ◌-◌, ℕ, true, false, Bool, List, [], ◌∷◌, ◌++◌, Option, Some, None, All, length, get_or, set, replicate, refl, sym, ap, ◌∙◌, subst, arith, suc, zero, inl, inr, true≢false}
+use Rattle.std.specs.Prelude.{Result, Ok, Err, OnOk, OnErr}
 use Rattle.std.proofs.lemmas.Bool.{cases_lt, cases_eq}
 use Rattle.std.proofs.lemmas.List.{get_or_append_left, get_or-append_right, get_or_past, get_or-replicate, get_or-set_same, get_or-set_other, length-replicate, length-set, length_push}
 use Rattle.std.proofs.lemmas.List.Elements.{All-get_or, All-push, All-pop, All-set}
@@ -69,6 +70,18 @@ fork-stands s b h number edits made = record {
   root = get_or_append_left s.own (false ∷ []) false 0 (omega (arith, h.count, h.tree.rooted.some)) ∙ h.root;
   own = λ i is. fork-own s b i h is;
 }
+
+-- and where the fork found no memory
+pub fork-tried : {X Y : Type 0} (r : Result X Y) (s : SessionTold) (b : Branch) (bs : List Branch) (os : List Bool) → OnOk r (bs ≡ s.branches ++ b ∷ []) → OnOk r (os ≡ s.own ++ false ∷ []) → OnErr r (bs ≡ s.branches) → OnErr r (os ≡ s.own)
+    → IsSession s → is_time b.stop ≡ false → AreEdits s.course.opening b.edits → fork_refusal s b ≡ None → IsSession (record { course = s.course; branches = bs; own = os })
+fork-tried (Ok x) s b bs os here own stays keeps h number edits made =
+    let p = ap (λ (ys : List Branch). let q : SessionTold = record { course = s.course; branches = ys; own = os } in q) here
+    ∙ ap (λ (ys : List Bool). let q : SessionTold = record { course = s.course; branches = s.branches ++ b ∷ []; own = ys } in q) own in
+    subst (λ (q : SessionTold). IsSession q) (sym p) (fork-stands s b h number edits made)
+fork-tried (Err y) s b bs os here own stays keeps h number edits made =
+    let p = ap (λ (ys : List Branch). let q : SessionTold = record { course = s.course; branches = ys; own = os } in q) stays
+    ∙ ap (λ (ys : List Bool). let q : SessionTold = record { course = s.course; branches = s.branches; own = ys } in q) keeps in
+    subst (λ (q : SessionTold). IsSession q) (sym p) h
 
 -- without the last branch
 undo-own : (c : CourseTold) (bs : List Branch) (b : Branch) (os : List Bool) (x : Bool) (i : ℕ) → length os ≡ length bs → IsSession (record { course = c; branches = bs ++ b ∷ []; own = os ++ x ∷ [] })

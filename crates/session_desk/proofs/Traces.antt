@@ -1,9 +1,11 @@
 -- Traces begin with what was made before.
-use Rattle.std.proofs.Common.{◌≡◌, ◌<◌, ◌≤◌, ◌+◌, ◌-◌, ℕ, List, [], ◌∷◌, ◌++◌, refl, sym, ap, ◌∙◌, subst, arith, append_assoc, append-nil, inl, inr}
+use Rattle.std.proofs.Common.{◌≡◌, ◌<◌, ◌≤◌, ◌+◌, ◌-◌, ℕ, List, [], ◌∷◌, ◌++◌, refl, sym, ap, ◌∙◌, subst, arith, append_assoc, append-nil, length, min, inl, inr}
 use Rattle.std.proofs.lemmas.Bool.{cases_lt}
 use Rattle.market_types.specs.Told.{EntryTold, edit as edited_entry}
 use Rattle.market_rules.specs.declared.edit.Edit.{Edit}
 use Rattle.branch_tree.specs.declared.branch.Branch.{Branch}
+use Rattle.branch_tree.specs.declared.stop.Stop.TheVariants.{At}
+use Rattle.branch_tree.specs.Plan.{parent_at, stop_at}
 use Rattle.market_floor.specs.declared.opening.Opening.{Opening}
 use Rattle.kernel_core.specs.State.{State}
 use Rattle.kernel_core.specs.Edited.{edited, edited_from, edited_one, mark_of}
@@ -14,7 +16,8 @@ use Rattle.kernel_core.proofs.Stops.{until-behind, until-past, until-within}
 use Rattle.kernel_copy.specs.Segmentwise.{afresh}
 use Rattle.kernel_copy.proofs.Pieces.{fresh}
 use Rattle.session_desk.specs.Along.{BeginWith, onward}
-use Rattle.session_desk.proofs.Along.{onward-behind}
+use Rattle.session_desk.specs.Session.{SessionTold, IsSession, full_in}
+use Rattle.session_desk.proofs.Along.{onward-behind, record-onward}
 
 pub begin-all : (xs : List EntryTold) → BeginWith xs xs
 begin-all xs = ([], append-nil xs)
@@ -81,3 +84,11 @@ rest-begins b i (e ∷ es) r =
 
 pub edits-begin : (b i : ℕ) (es : List Edit) (r q : Run) → edited_from b i es r ≡ q → BeginWith q.entries r.entries
 edits-begin b i es r q e = subst (λ (x : Run). BeginWith x.entries r.entries) e (rest-begins b i es r)
+
+-- A branch's full run begins with its parent's up to the branch's stop.
+pub entries-onward : (s : SessionTold) (b e n q m : ℕ) → IsSession s → 0 < b → b < length s.branches → stop_at s.branches b ≡ At n → e ≤ s.course.opening.limit → q ≡ parent_at s.branches b → m ≡ min e n
+    → BeginWith (full_in s b e).entries (full_in s q m).entries
+entries-onward s b e n q m h pos l is few parent before =
+    let r = full_in s q m in
+    let whole = record-onward s b e n q m [] r h pos l is few parent before refl in
+    subst (λ (x : Run). BeginWith x.entries r.entries) whole (onward-begins s.course.opening s.branches b e r)

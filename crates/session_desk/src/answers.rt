@@ -17,18 +17,6 @@ use kernel_core::Kernel;
 use market_types::{Memory, Trace};
 use outside::{Ledger, Steps};
 
-// The state that was reached for an event number, or that its number is past the last event's.
-fn at_event(kernel: Kernel, event: u32) -> Result<Kernel, SessionError>
-    ensures reached { IfOk result (λ k. (k ≡ kernel) × (event ≤ kernel.events)) }
-    ensures past { IfErr result (λ e. (e ≡ SessionError.NoEvent kernel.events) × (kernel.events < event)) }
-{
-    let events = kernel.events();
-    if events < event {
-        return Err(SessionError::NoEvent(events));
-    }
-    Ok(kernel)
-}
-
 impl Session {
     // Whether the tree hasn't a branch of this number.
     fn lacks(&self, branch: u16) -> bool
@@ -75,7 +63,13 @@ impl Session {
         }
         let most = lesser(event, self.course().opening().limit);
         match reach(self, shelf, branch, most, steps) {
-            Ok(kernel) => at_event(kernel, event),
+            Ok(kernel) => {
+                let events = kernel.events();
+                if events < event {
+                    return Err(SessionError::NoEvent(events));
+                }
+                Ok(kernel)
+            }
             Err(Memory) => Err(SessionError::Memory),
         }
     }

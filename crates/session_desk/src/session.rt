@@ -5,8 +5,8 @@ ghost use Rattle.branch_tree.specs.declared.error.PlanError.{PlanError};
 ghost use Rattle.branch_tree.specs.Plan.{branch_at, parent_at, stop_at};
 ghost use Rattle.branch_tree.specs.Stops.{is_time};
 ghost use Rattle.branch_tree.specs.declared.stop.Stop.TheVariants.{At};
-ghost use Rattle.kernel_copy.specs.Courses.{AreEdits, IsCourse};
-ghost use Rattle.session_desk.specs.Session.{IsSession, first_session, is_own, standing};
+ghost use Rattle.kernel_copy.specs.Courses.{AreEdits};
+ghost use Rattle.session_desk.specs.Session.{IsSession, first_session, is_own};
 ghost use Rattle.session_desk.specs.Acts.{fork, undo, edit, acted};
 ghost use Rattle.session_desk.specs.Answers.{fork_refusal};
 
@@ -165,7 +165,7 @@ pub(crate) fn parent_of(session: &Session, branch: u16) -> u16
     requires { branch < length session.now.branches }
     ensures value { result ≡ parent_at session.now.branches branch }
     ensures earlier { 0 < branch → result < branch }
-    ensures course { IsCourse (standing session.now) }
+    ensures session { IsSession session.now }
 {
     session.tree()[usize::from(branch)].parent
 }

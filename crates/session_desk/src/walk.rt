@@ -94,6 +94,7 @@ pub(crate) fn recorded<L: Ledger>(
     steps: &mut Steps<L>,
 ) -> Result<Kernel, Memory>
     requires exists { branch < length session.now.branches }
+    requires within { event ≤ session.now.course.opening.limit }
     requires count { steps.old + event < 2 ^ 64 }
     ensures ran { IfOk result (λ k. record { state = k; entries = trace.new.list } ≡ behind trace.old.list (full_in session.now branch event)) }
     ensures part { BeginWith (trace.old.list ++ (full_in session.now branch event).entries) trace.new.list }
