@@ -1,5 +1,5 @@
 -- Which trees stay accepted: what is left of one without its last branch, and one with other edits.
-use Rattle.std.proofs.Common.{◌≡◌, ℕ, ◌+◌, ◌*◌, ◌<◌, ◌≤◌, true, false, cond, ltb, leb, Bool, List, [], ◌∷◌, ◌++◌, Option, Some, None, option_map, length, get_or, map, set, refl, sym, ap, ◌∙◌, subst, arith, suc, zero, ◌&&◌, ◌||◌, inl, inr}
+use Rattle.std.proofs.Common.{◌≡◌, ℕ, ◌+◌, ◌*◌, ◌<◌, ◌≤◌, true, false, cond, ltb, leb, Bool, List, [], ◌∷◌, ◌++◌, Option, Some, None, option_map, length, get_or, map, set, refl, sym, ap, ◌∙◌, arith, suc, zero, ◌&&◌, ◌||◌, inl, inr}
 use Rattle.std.specs.Prelude.{if◌then◌else◌, nat_lt}
 use Rattle.std.specs.List.{list_any}
 use Rattle.std.proofs.lemmas.Bool.{cases_eq, le-leb, leb-true}

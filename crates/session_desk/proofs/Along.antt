@@ -1,5 +1,5 @@
 -- A branch's full run from its parent's.
-use Rattle.std.proofs.Common.{◌≡◌, ◌<◌, ◌≤◌, ℕ, true, false, Bool, List, [], ◌∷◌, ◌++◌, None, length, min, refl, sym, ap, ◌∙◌, subst, arith, suc, zero, append-nil, inl, inr, true≢false}
+use Rattle.std.proofs.Common.{◌≡◌, ◌<◌, ◌≤◌, ℕ, true, false, Bool, List, [], ◌∷◌, ◌++◌, length, min, refl, sym, ap, ◌∙◌, arith, append-nil, inl, inr, true≢false}
 use Rattle.std.specs.Prelude.{if◌then◌else◌, nat_le, nat_lt}
 use Rattle.std.proofs.lemmas.Bool.{cases_lt, le-leb, lt-leb, lt-ltb, le-ltb, ltb-true}
 use Rattle.market_types.specs.Told.{EntryTold}

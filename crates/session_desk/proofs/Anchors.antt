@@ -1,11 +1,10 @@
 -- Anchors of branches.
 use Rattle.std.proofs.Common.{◌≡◌, ◌<◌, ◌≤◌, ℕ, true, false, Bool, ◌&&◌, List, [], ◌∷◌, ◌++◌, Option, Some, None, length, min, is_some, refl, sym, ap, ◌∙◌, subst, arith, suc, zero, ◌⊎◌, inl, inr, true≢false}
 use Rattle.std.specs.Prelude.{if◌then◌else◌, not}
-use Rattle.std.proofs.lemmas.Bool.{cases_eq, cases_Bool, not-true}
+use Rattle.std.proofs.lemmas.Bool.{cases_eq, cases_Bool}
 use Rattle.branch_tree.specs.declared.branch.Branch.{Branch}
 use Rattle.branch_tree.specs.declared.stop.Stop.{Stop}
-use Rattle.branch_tree.specs.declared.stop.Stop.TheVariants.{At}
-use Rattle.branch_tree.specs.Plan.{branch_at, parent_at, stop_at}
+use Rattle.branch_tree.specs.Plan.{parent_at}
 use Rattle.branch_tree.specs.Stops.{number_of}
 use Rattle.branch_tree.specs.Paths.{path_of}
 use Rattle.branch_tree.proofs.PathLemmas.{path-more}

@@ -7,3 +7,4 @@ pub mod Anchors
 pub mod Nearest
 pub mod Traces
 pub mod Refused
+pub mod Acts

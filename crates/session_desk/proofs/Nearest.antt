@@ -1,5 +1,5 @@
 -- The nearest state that serves a branch.
-use Rattle.std.proofs.Common.{◌≡◌, ◌<◌, ◌≤◌, ◌+◌, ℕ, true, false, Bool, ◌&&◌, List, Option, Some, None, length, min, refl, sym, ap, ◌∙◌, subst, arith, inl, inr}
+use Rattle.std.proofs.Common.{◌≡◌, ◌<◌, ◌≤◌, ℕ, true, List, Option, Some, None, length, min, sym, ap, ◌∙◌, subst, arith, inl, inr}
 use Rattle.std.specs.Prelude.{nat_le}
 use Rattle.std.proofs.lemmas.Bool.{and_from, and_parts, cases_lt, le-leb, leb-true}
 use Rattle.shelf_core.specs.declared.plan.Key.{Key}
@@ -13,7 +13,7 @@ use Rattle.rewind_desk.specs.Nearest.{HasKeys}
 use Rattle.rewind_desk.specs.Rewinds.{last_event}
 use Rattle.rewind_desk.proofs.Lasts.{best-last}
 use Rattle.rewind_desk.proofs.Most.{most-fewer}
-use Rattle.session_desk.specs.Session.{SessionTold, IsSession}
+use Rattle.session_desk.specs.Session.{SessionTold}
 use Rattle.session_desk.specs.Anchors.{anchor_of, follower_of, shared_count, up_to}
 use Rattle.session_desk.proofs.Anchors.{IsFurther}
 use Rattle.session_desk.proofs.Numbered.{number_at}

@@ -1,5 +1,5 @@
 -- A tree whose branches fork by event number: along each path the stops rise.
-use Rattle.std.proofs.Common.{◌≡◌, ◌<◌, ◌≤◌, ℕ, ◌+◌, true, false, cond, Bool, ◌&&◌, List, [], ◌∷◌, ◌++◌, Option, Some, None, All, length, get_or, drop, refl, sym, ap, ◌∙◌, subst, arith, suc, zero, inl, inr}
+use Rattle.std.proofs.Common.{◌≡◌, ◌<◌, ◌≤◌, ℕ, ◌+◌, true, false, cond, Bool, List, [], ◌∷◌, ◌++◌, Option, Some, None, All, length, get_or, drop, refl, sym, ap, subst, arith, suc, zero, inl, inr}
 use Rattle.std.proofs.lemmas.Bool.{and_parts, cases_eq, cases_lt, leb-true}
 use Rattle.std.proofs.lemmas.List.{get_or_past}
 use Rattle.std.proofs.lemmas.List.Elements.{All-get_or}
@@ -7,7 +7,7 @@ use Rattle.branch_tree.specs.declared.branch.Branch.{Branch}
 use Rattle.branch_tree.specs.declared.stop.Stop.{Stop}
 use Rattle.branch_tree.specs.declared.stop.Stop.TheVariants.{At, When}
 use Rattle.branch_tree.specs.Stops.{is_time, is_within, no_earlier, number_of}
-use Rattle.branch_tree.specs.Plan.{no_branch, branch_at, parent_at, stop_at}
+use Rattle.branch_tree.specs.Plan.{no_branch, parent_at, stop_at}
 use Rattle.branch_tree.specs.Paths.{path_of}
 use Rattle.branch_tree.specs.Planned.{IsTree}
 use Rattle.branch_tree.specs.Tree.{is_in_range, out_from}

@@ -1,5 +1,5 @@
 -- Paths whose branches stand in two trees alike.
-use Rattle.std.proofs.Common.{◌≡◌, ◌<◌, ◌≤◌, ℕ, true, false, Bool, List, [], ◌∷◌, ◌++◌, Option, Some, None, length, drop, refl, sym, ap, ◌∙◌, subst, arith, suc, zero, inl, inr}
+use Rattle.std.proofs.Common.{◌≡◌, ℕ, true, Bool, List, [], ◌∷◌, ◌++◌, Some, None, drop, refl, sym, ap, ◌∙◌, suc, zero, inl, inr}
 use Rattle.std.specs.Prelude.{if◌then◌else◌, nat_le}
 use Rattle.std.proofs.lemmas.Bool.{cases_eq, cases_Bool, eq-eqb, ne_eqb}
 use Rattle.branch_tree.specs.declared.branch.Branch.{Branch}
@@ -8,7 +8,7 @@ use Rattle.branch_tree.specs.Paths.{path_of, path_within}
 use Rattle.market_floor.specs.declared.opening.Opening.{Opening}
 use Rattle.kernel_core.specs.Edited.{edited}
 use Rattle.kernel_core.specs.Until.{Run, until}
-use Rattle.kernel_copy.specs.Full.{edited_by, forks_of, full, full_along, opening_run}
+use Rattle.kernel_copy.specs.Full.{edited_by, full, full_along, opening_run}
 use Rattle.kernel_copy.specs.UntilStop.{until_stop}
 use Rattle.session_desk.specs.Anchors.{first_other}
 

@@ -1,16 +1,16 @@
 -- Acts leave a session a session.
-use Rattle.std.proofs.Common.{◌≡◌, ◌≢◌, ◌<◌, ◌≤◌, ◌-◌, ℕ, true, false, Bool, List, [], ◌∷◌, ◌++◌, Option, Some, None, All, length, get_or, set, replicate, refl, sym, ap, ◌∙◌, subst, arith, suc, zero, inl, inr, true≢false}
+use Rattle.std.proofs.Common.{◌≡◌, ◌<◌, ◌≤◌, ◌-◌, ℕ, true, false, Bool, List, [], ◌∷◌, ◌++◌, Some, None, All, length, get_or, set, replicate, refl, sym, ap, ◌∙◌, subst, arith, suc, zero, inl, inr, true≢false}
 use Rattle.std.specs.Prelude.{Result, Ok, Err, OnOk, OnErr}
 use Rattle.std.proofs.lemmas.Bool.{cases_lt, cases_eq}
 use Rattle.std.proofs.lemmas.List.{get_or_append_left, get_or-append_right, get_or_past, get_or-replicate, get_or-set_same, get_or-set_other, length-replicate, length-set, length_push}
 use Rattle.std.proofs.lemmas.List.Elements.{All-get_or, All-push, All-pop, All-set}
 use Rattle.market_rules.specs.declared.edit.Edit.{Edit}
 use Rattle.branch_tree.specs.declared.branch.Branch.{Branch}
-use Rattle.branch_tree.specs.Plan.{no_branch, branch_at, parent_at, stop_at}
+use Rattle.branch_tree.specs.Plan.{no_branch, branch_at, stop_at}
 use Rattle.branch_tree.specs.Stops.{is_time}
-use Rattle.branch_tree.specs.Tree.{IsRooted, plan_refusal}
+use Rattle.branch_tree.specs.Tree.{plan_refusal}
 use Rattle.kernel_copy.specs.Courses.{AreEdits, CourseTold, IsCourse}
-use Rattle.session_desk.specs.Session.{SessionTold, IsSession, IsStudys, first_session, is_own, standing}
+use Rattle.session_desk.specs.Session.{SessionTold, IsSession, IsStudys, first_session, is_own}
 use Rattle.session_desk.specs.Acts.{branch_with, with_fork, with_edits}
 use Rattle.session_desk.specs.Answers.{fork_refusal}
 use Rattle.session_desk.proofs.Accepted.{accepted-edits, accepted-less, before-last, rooted-less, rooted-more}

@@ -9,8 +9,8 @@ use Rattle.branch_tree.specs.Plan.{parent_at, stop_at}
 use Rattle.market_floor.specs.declared.opening.Opening.{Opening}
 use Rattle.kernel_core.specs.State.{State}
 use Rattle.kernel_core.specs.Edited.{edited, edited_from, edited_one, mark_of}
-use Rattle.kernel_core.specs.Until.{Run, advanced, advanced_by, behind, until}
-use Rattle.kernel_core.proofs.EditRuns.{edited-behind, edited-events}
+use Rattle.kernel_core.specs.Until.{Run, advanced_by, behind, until}
+use Rattle.kernel_core.proofs.EditRuns.{edited-behind}
 use Rattle.kernel_core.proofs.Runs.{advanced_by-add}
 use Rattle.kernel_core.proofs.Stops.{until-behind, until-past, until-within}
 use Rattle.kernel_copy.specs.Segmentwise.{afresh}

@@ -3,7 +3,8 @@ use Rattle.std.specs.Prelude.{ℕ, ◌-◌, false, List, [], ◌∷◌, ◌++◌
 use Rattle.market_rules.specs.declared.edit.Edit.{Edit}
 use Rattle.branch_tree.specs.declared.branch.Branch.{Branch}
 use Rattle.branch_tree.specs.Plan.{branch_at}
-use Rattle.session_desk.specs.Session.{SessionTold}
+use Rattle.kernel_copy.specs.Courses.{CourseTold}
+use Rattle.session_desk.specs.Session.{SessionTold, first_session}
 
 -- a branch becomes the last of the tree, and is none of the study's
 abbrev pub with_fork : Branch → SessionTold → SessionTold
@@ -44,3 +45,7 @@ acted s (edit b es) = with_edits b es s
 abbrev pub after_acts : SessionTold → List Act → SessionTold
 after_acts s [] = s
 after_acts s (act ∷ acts) = after_acts (acted s act) acts
+
+-- the tree that acts leave of a study's
+abbrev pub tree_after : CourseTold → List Act → List Branch
+tree_after c acts = (after_acts (first_session c) acts).branches

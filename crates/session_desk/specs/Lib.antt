@@ -3,3 +3,4 @@ pub mod Acts
 pub mod Anchors
 pub mod Along
 pub mod Answers
+pub mod Worked

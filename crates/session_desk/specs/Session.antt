@@ -3,6 +3,7 @@ use Rattle.std.specs.Prelude.{◌≡◌, ◌<◌, ℕ, Bool, true, false, List, 
 use Rattle.branch_tree.specs.declared.branch.Branch.{Branch}
 use Rattle.branch_tree.specs.Plan.{Plan, branch_at}
 use Rattle.branch_tree.specs.Stops.{is_time}
+use Rattle.market_floor.specs.declared.opening.Opening.{Opening}
 use Rattle.kernel_core.specs.Until.{Run}
 use Rattle.kernel_copy.specs.Courses.{CourseTold, IsCourse}
 use Rattle.kernel_copy.specs.Full.{full}
@@ -22,10 +23,14 @@ tree_of s = record { branches = s.branches; limit = s.course.opening.limit }
 abbrev pub standing : SessionTold → CourseTold
 standing s = record { opening = s.course.opening; plan = tree_of s }
 
--- A branch's full run over the tree as it stands, up to e events with the edits at e included. It goes from the opening, and
--- knows nothing of the acts before nor of any state that was kept.
+-- A branch's full run over a tree, up to e events with the edits at e included. It goes from the opening, and knows nothing of
+-- the acts that led to the tree nor of any state that was kept.
+abbrev pub full_over : Opening → List Branch → ℕ → ℕ → Run
+full_over o tree b e = full o (record { branches = tree; limit = o.limit }) b e
+
+-- over the tree as it stands
 abbrev pub full_in : SessionTold → ℕ → ℕ → Run
-full_in s b e = full s.course.opening (tree_of s) b e
+full_in s b e = full_over s.course.opening s.branches b e
 
 -- the whole of it
 abbrev pub full_run_in : SessionTold → ℕ → Run

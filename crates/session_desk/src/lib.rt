@@ -12,6 +12,7 @@ pub mod laws;
 mod onward;
 mod session;
 mod walk;
+pub mod worked;
 
 pub use branch_tree::{Branch, PlanError};
 pub use error::SessionError;

@@ -1,10 +1,7 @@
 use Rattle.std.proofs.Common.{◌≡◌, false, refl, sym, ap, ◌∙◌, subst, arith}
-use Rattle.market_types.specs.Told.{EntryTold}
-use Rattle.market_rules.specs.declared.edit.Edit.{Edit}
-use Rattle.market_floor.specs.declared.opening.Opening.{Opening}
 use Rattle.branch_tree.specs.declared.stop.Stop.TheVariants.{At}
 use Rattle.kernel_core.specs.Edited.{edited}
-use Rattle.kernel_core.specs.Until.{Run, until}
+use Rattle.kernel_core.specs.Until.{Run}
 use Rattle.kernel_core.proofs.Stops.{until-within}
 use Rattle.kernel_copy.specs.Courses.{CourseTold}
 use Rattle.rewind_desk.specs.Reach.{has_more}

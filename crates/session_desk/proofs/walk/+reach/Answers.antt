@@ -1,4 +1,4 @@
-use Rattle.std.proofs.Common.{◌≡◌, ◌<◌, ◌≤◌, ℕ, List, length, min, sym, ap, ◌∙◌, subst, arith}
+use Rattle.std.proofs.Common.{◌≡◌, ◌<◌, ◌≤◌, ℕ, length, sym, ap, ◌∙◌, subst, arith}
 use Rattle.branch_tree.specs.declared.stop.Stop.{Stop}
 use Rattle.branch_tree.specs.Stops.{number_of}
 use Rattle.kernel_core.specs.State.{State}
@@ -7,7 +7,7 @@ use Rattle.kernel_copy.specs.Courses.{CourseTold, IsCourse}
 use Rattle.kernel_copy.specs.Full.{full}
 use Rattle.kernel_copy.specs.Reached.{IsReached}
 use Rattle.rewind_desk.specs.Best.{best}
-use Rattle.session_desk.specs.Session.{full_in, standing}
+use Rattle.session_desk.specs.Session.{standing}
 use Rattle.session_desk.specs.Anchors.{anchor_of, shared_count}
 use Rattle.session_desk.proofs.Along.{reach-onward}
 use Rattle.session_desk.proofs.Anchors.{anchor-runs, is-anchor, is-further}

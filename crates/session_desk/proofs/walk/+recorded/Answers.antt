@@ -1,7 +1,6 @@
-use Rattle.std.proofs.Common.{◌≡◌, ◌<◌, ◌++◌, ℕ, List, length, sym, ap, ◌∙◌, subst, arith}
-use Rattle.market_types.specs.Told.{EntryTold}
+use Rattle.std.proofs.Common.{◌<◌, ◌++◌, sym, ap, ◌∙◌, subst, arith}
 use Rattle.kernel_core.specs.State.{State}
-use Rattle.kernel_core.specs.Until.{Run, behind}
+use Rattle.kernel_core.specs.Until.{Run}
 use Rattle.kernel_copy.specs.Reached.{IsReached}
 use Rattle.session_desk.specs.Along.{BeginWith}
 use Rattle.session_desk.specs.Session.{full_in, standing}

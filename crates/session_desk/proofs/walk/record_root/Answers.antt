@@ -1,6 +1,4 @@
-use Rattle.std.proofs.Common.{◌≡◌, ◌≤◌, ◌++◌, ap, ◌∙◌, subst, arith}
-use Rattle.market_floor.specs.declared.opening.Opening.{Opening}
-use Rattle.kernel_core.specs.Open.{opened}
+use Rattle.std.proofs.Common.{◌≡◌, ap, ◌∙◌, subst, arith}
 use Rattle.kernel_core.specs.State.{State}
 use Rattle.kernel_core.specs.Until.{Run}
 use Rattle.kernel_core.proofs.Stops.{until-within}

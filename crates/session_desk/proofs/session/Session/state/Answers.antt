@@ -1,4 +1,4 @@
-use Rattle.std.proofs.Common.{◌≡◌, ◌<◌, ℕ, inr, length, min, ap, ◌∙◌, arith}
+use Rattle.std.proofs.Common.{◌≡◌, ◌<◌, inr, min, ap, ◌∙◌, arith}
 use Rattle.market_floor.specs.declared.opening.Opening.{Opening}
 use Rattle.kernel_copy.specs.Courses.{CourseTold}
 use Rattle.session_desk.proofs.Along.{reached-event, reached-last}
