@@ -13,7 +13,7 @@ use Rattle.command_words.specs.declared.asked.Crossing.{Crossing}
 use Rattle.command_words.specs.Ranges.{IsMark, AreMarks, IsCommand, IsInRange}
 use Rattle.command_words.specs.declared.mark.Mark.{Mark}
 use Rattle.command_words.specs.declared.asked.Command.{Command}
-use Rattle.command_words.specs.declared.asked.Command.TheVariants.{Run, Table, Check, Rewind, Big, Cross, Audit}
+use Rattle.command_words.specs.declared.asked.Command.TheVariants.{Run, Table, Check, Rewind, Big, Cross, Audit, Session}
 use Rattle.command_words.specs.declared.asked.Asked.{Asked}
 use Rattle.command_words.proofs.Numbers.{digits_are_short, number_is_short, count_is_in_range}
 use Rattle.command_words.proofs.Spelled.{is_spelled}
@@ -98,6 +98,12 @@ crosses study (Some x) c h some are =
     let same : Cross study x ≡ c = cc in
     subst IsCommand same (some, (are x refl).0, (are x refl).1)
 
+scripts : (study script : List ℕ) (empty : Bool) (c : Command) → (length script == 0) ≡ empty → (if empty then None else Some (Session study script)) ≡ Some c → study ≢ [] → IsCommand c
+scripts study script true c is h some = cc
+scripts study script false c is h some =
+    let same : Session study script ≡ c = cc in
+    subst IsCommand same (some, filled script is)
+
 is_command : (name study : List ℕ) (more : List (List ℕ)) (c : Command) → study ≢ [] → command_of name study more ≡ Some c → IsCommand c
 is_command name study more c some h =
     let marks : is_in_range 1 64 (length more) ≡ true → (ms : List Mark) → marks_of more ≡ Some ms → AreMarks ms = λ few ms e.
@@ -114,7 +120,9 @@ is_command name study more c some h =
     omega arith)) (λ h.
     either IsCommand (bytes_eq name (codes "cross")) _ _ c h (λ _ e.
     either IsCommand (length more == 3) _ _ c e (λ three e. crosses study _ c e some (λ x e. named (slice_index_or more 0 []) (slice_index_or more 1 []) (slice_index_or more 2 []) _ x refl e)) (λ e. cc)) (λ h.
-    either IsCommand (bytes_eq name (codes "audit")) _ _ c h (λ _ e. stands_alone (Audit study) more c e some) (λ e. cc)))))))
+    either IsCommand (bytes_eq name (codes "audit")) _ _ c h (λ _ e. stands_alone (Audit study) more c e some) (λ h.
+    either IsCommand (bytes_eq name (codes "session")) _ _ c h (λ _ e.
+    either IsCommand (length more == 1) _ _ c e (λ one e. scripts study (slice_index_or more 0 []) _ c refl e some) (λ e. cc)) (λ e. cc))))))))
 
 ranged : (command : Option Command) (workers places : Option ℕ) (asked : Asked) → asked_from command workers places ≡ Some asked
     → ((c : Command) → command ≡ Some c → IsCommand c)

@@ -6,7 +6,7 @@ use Rattle.command_words.specs.Numbers.{number_of, count_of}
 use Rattle.command_words.specs.Marks.{mark_of, marks_of}
 use Rattle.command_words.specs.declared.asked.Crossing.{Crossing}
 use Rattle.command_words.specs.declared.asked.Command.{Command}
-use Rattle.command_words.specs.declared.asked.Command.TheVariants.{Run, Table, Check, Rewind, Big, Cross, Audit}
+use Rattle.command_words.specs.declared.asked.Command.TheVariants.{Run, Table, Check, Rewind, Big, Cross, Audit, Session}
 use Rattle.command_words.specs.declared.asked.Asked.{Asked}
 
 -- a command that takes no further words
@@ -35,6 +35,14 @@ cross_of study more =
     then option_map (Cross study) (crossing_of (slice_index_or more 0 []) (slice_index_or more 1 []) (slice_index_or more 2 []))
     else None
 
+-- a study and a script, whose name is not empty
+abbrev pub scripted_of : List ℕ → List ℕ → Option Command
+scripted_of study script = if length script == 0 then None else Some (Session study script)
+
+-- `session STUDY SCRIPT`
+abbrev pub session_of : List ℕ → List (List ℕ) → Option Command
+session_of study more = if length more == 1 then scripted_of study (slice_index_or more 0 []) else None
+
 -- the command of this name, with its study, number or bundle and its further words
 abbrev pub command_of : List ℕ → List ℕ → List (List ℕ) → Option Command
 command_of name study more =
@@ -45,6 +53,7 @@ command_of name study more =
     else if bytes_eq name (codes "big") then big_of study more
     else if bytes_eq name (codes "cross") then cross_of study more
     else if bytes_eq name (codes "audit") then alone (Audit study) more
+    else if bytes_eq name (codes "session") then session_of study more
     else None
 
 abbrev pub asked_from : Option Command → Option ℕ → Option ℕ → Option Asked

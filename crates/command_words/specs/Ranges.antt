@@ -3,7 +3,7 @@ use Rattle.std.specs.Prelude.{◌≡◌, ◌≢◌, ◌≤◌, List, [], length,
 use Rattle.command_words.specs.Marks.{is_branch_name}
 use Rattle.command_words.specs.declared.mark.Mark.{Mark}
 use Rattle.command_words.specs.declared.asked.Command.{Command}
-use Rattle.command_words.specs.declared.asked.Command.TheVariants.{Run, Table, Check, Rewind, Big, Cross, Audit}
+use Rattle.command_words.specs.declared.asked.Command.TheVariants.{Run, Table, Check, Rewind, Big, Cross, Audit, Session}
 use Rattle.command_words.specs.declared.asked.Asked.{Asked}
 
 -- a mark's branch has the form of a name, and its event at most 7 digits
@@ -17,7 +17,7 @@ pub record AreMarks (marks : List Mark) : Type 0 where
   pub few : length marks ≤ 64
   pub each : All IsMark marks
 
--- a study and a bundle have a name, a number at most 4 digits
+-- a study, a bundle and a script have a name, a number at most 4 digits
 abbrev pub IsCommand : Command → Type 0
 IsCommand (Run study) = study ≢ []
 IsCommand (Table study) = study ≢ []
@@ -26,6 +26,7 @@ IsCommand (Rewind study marks) = (study ≢ []) × AreMarks marks
 IsCommand (Big number) = number ≤ 9999
 IsCommand (Cross study crossing) = (study ≢ []) × IsMark crossing.mark × (crossing.file ≢ [])
 IsCommand (Audit bundle) = bundle ≢ []
+IsCommand (Session study script) = (study ≢ []) × (script ≢ [])
 
 pub record IsInRange (asked : Asked) : Type 0 where
   pub command : IsCommand asked.command

@@ -2,7 +2,7 @@
 
 ghost use Rattle.std.specs.Prelude.{◌≡◌, [], IfOk, IfSome, map, slice_index_or, string_bytes};
 ghost use Rattle.command_words.specs.Line.{parts_seen};
-ghost use Rattle.command_words.specs.Asked.{alone, rewind_of, big_of, cross_of, crossing_of, command_of, asked_in, asked_of};
+ghost use Rattle.command_words.specs.Asked.{alone, rewind_of, big_of, cross_of, crossing_of, scripted_of, session_of, command_of, asked_in, asked_of};
 ghost use Rattle.command_words.specs.Ranges.{IsInRange};
 
 use crate::line::{Line, read_line};
@@ -23,7 +23,7 @@ pub struct Crossing<'a> {
     pub file: Text<'a>,
 }
 
-/// A command with its study, number or bundle. The name of a study or a bundle is not empty.
+/// A command with its study, number or bundle. The name of a study, a bundle or a script is not empty.
 #[derive(Drop)]
 pub enum Command<'a> {
     /// `run STUDY`.
@@ -40,6 +40,8 @@ pub enum Command<'a> {
     Cross(Text<'a>, Crossing<'a>),
     /// `audit BUNDLE`.
     Audit(Text<'a>),
+    /// `session STUDY SCRIPT`.
+    Session(Text<'a>, Text<'a>),
 }
 
 /// What a command line asks for.
@@ -111,6 +113,26 @@ fn cross<'a>(study: &'a str, more: &[&'a str]) -> Option<Command<'a>>
     Some(Command::Cross(Text::new(study), crossing))
 }
 
+// A study and a script, whose name is not empty.
+fn scripted<'a>(study: &'a str, script: &'a str) -> Option<Command<'a>>
+    ensures { result ≡ scripted_of study.now script.now }
+{
+    if script.is_empty() {
+        return None;
+    }
+    Some(Command::Session(Text::new(study), Text::new(script)))
+}
+
+// A session with its script.
+fn session<'a>(study: &'a str, more: &[&'a str]) -> Option<Command<'a>>
+    ensures { result ≡ session_of study.now (map (λ word. word.now) more.now) }
+{
+    if more.len() != 1 {
+        return None;
+    }
+    scripted(study, more[0])
+}
+
 // The command of this name.
 fn command_named<'a>(
     alloc: Global,
@@ -128,6 +150,7 @@ fn command_named<'a>(
         "big" => Ok(big(study, more)),
         "cross" => Ok(cross(study, more)),
         "audit" => Ok(alone(Command::Audit(Text::new(study)), more)),
+        "session" => Ok(session(study, more)),
         _ => Ok(None),
     }
 }

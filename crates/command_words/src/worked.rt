@@ -35,6 +35,8 @@ pub fn taken_lines()
         }) }
     ensures audit { asked_of (codes "audit" ∷ codes "--workers=2" ∷ codes "b" ∷ [])
         ≡ Some (record { command = Command.Audit (codes "b"); workers = 2; places = 16 }) }
+    ensures session { asked_of (codes "session" ∷ codes "s" ∷ codes "--places=0" ∷ codes "c" ∷ [])
+        ≡ Some (record { command = Command.Session (codes "s") (codes "c"); workers = 1; places = 0 }) }
 {}
 
 /// Lines that are none.
@@ -61,5 +63,8 @@ pub fn refused_lines()
     ensures empty_bundle { asked_of (codes "audit" ∷ [] ∷ []) ≡ None }
     ensures second_bundle { asked_of (codes "audit" ∷ codes "b" ∷ codes "c" ∷ []) ≡ None }
     ensures places_of_an_audit { asked_of (codes "audit" ∷ codes "b" ∷ codes "--places=129" ∷ []) ≡ None }
+    ensures no_script { asked_of (codes "session" ∷ codes "s" ∷ []) ≡ None }
+    ensures empty_script { asked_of (codes "session" ∷ codes "s" ∷ [] ∷ []) ≡ None }
+    ensures second_script { asked_of (codes "session" ∷ codes "s" ∷ codes "c" ∷ codes "d" ∷ []) ≡ None }
     ensures large_number { asked_of (codes "big" ∷ codes "10000" ∷ []) ≡ None }
 {}

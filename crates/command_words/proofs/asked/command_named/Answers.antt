@@ -21,4 +21,5 @@ returns-in_default c =
     let big : bytes_eq c.args.name.now (codes "big") ≡ false = search (tests, rules) in
     let cross : bytes_eq c.args.name.now (codes "cross") ≡ false = search (tests, rules) in
     let audit : bytes_eq c.args.name.now (codes "audit") ≡ false = search (tests, rules) in
-    none_is c.args.name.now c.args.study.now (map (λ word. word.now) c.args.more.now) run table check rewind big cross audit
+    let session : bytes_eq c.args.name.now (codes "session") ≡ false = search (tests, rules) in
+    none_is c.args.name.now c.args.study.now (map (λ word. word.now) c.args.more.now) run table check rewind big cross audit session

@@ -28,5 +28,8 @@ returns c = record {
   empty_bundle = refl;
   second_bundle = refl;
   places_of_an_audit = refl;
+  no_script = refl;
+  empty_script = refl;
+  second_script = refl;
   large_number = refl;
 }

@@ -5,4 +5,4 @@ use Rattle.command_words.proofs.worked.taken_lines.Goals as goal
 
 pub returns : goal.returns
 unfolding clap_on_literals rows_for
-returns c = record { run = refl; options = refl; escaped = refl; rewind = refl; big = refl; cross = refl; no_symbol = refl; audit = refl }
+returns c = record { run = refl; options = refl; escaped = refl; rewind = refl; big = refl; cross = refl; no_symbol = refl; audit = refl; session = refl }
