@@ -35,7 +35,7 @@ FeedsAreSmall =
 
 -- each message was an event
 small-more : (traders messages events : ℕ) (s : Exchange) → messages ≤ events → IsSmallExchange traders messages s → IsSmallExchange traders events s
-small-more traders messages events s le h = record { stocks = h.stocks; resting = h.resting; accepted = omega (arith, h.accepted, le); matches = h.matches }
+small-more traders messages events s le h = record { stocks = h.stocks; resting = h.resting; accepted = omega (arith, h.accepted, le); ended = h.ended }
 
 pub small-orders : (o : Opening) (r : Run) (acts : List Act) → IsOpening o → OrdersAreSmall → IsMetAs o r acts → IsSmallExchange (length o.traders) r.state.events r.state.floor.exchange
 small-orders o r acts opening law met =

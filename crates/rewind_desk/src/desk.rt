@@ -37,8 +37,12 @@ pub enum RewindError {
     Memory,
 }
 
-// The state after so many events, or after the last where there are fewer, with the number of events of the nearest state.
-fn reached<L: Ledger>(
+/// The state of a branch after so many events of its full run, or after the last where there are fewer, reached from the nearest
+/// state that the closed shelf holds, whose number of events comes with it. The counter rises by the events between the two.
+///
+/// # Errors
+/// Want of memory alone. The counter then rose by no more than the events from the nearest state on.
+pub fn reached<L: Ledger>(
     alloc: Global,
     course: &Course,
     shelf: &ClosedShelf<Checkpoint>,
@@ -51,6 +55,7 @@ fn reached<L: Ledger>(
     requires count { steps.old + (event - best shelf.now branch event) < 2 ^ 64 }
     ensures whole { IfOk result (λ r. r.kernel.events < event → r.kernel.events ≡ last_event course.now branch) }
     ensures state { IfOk result (λ r. event ≤ r.kernel.events → r.kernel ≡ (full course.now.opening course.now.plan branch event).state) }
+    ensures along { IfOk result (λ r. event ≤ course.now.opening.limit → r.kernel ≡ (full course.now.opening course.now.plan branch event).state) }
     ensures exists { IfOk result (λ r. event ≤ r.kernel.events → event ≤ last_event course.now branch) }
     ensures within { IfOk result (λ r. r.kernel.events ≤ event) }
     ensures from { IfOk result (λ r. r.from ≡ best shelf.now branch event) }

@@ -16,7 +16,7 @@ pub mod worked_targets;
 
 pub use aimed::{Aimed, aim};
 pub use command_words::Mark;
-pub use desk::{RewindError, Rewound, rewind};
+pub use desk::{RewindError, Rewound, reached, rewind};
 pub use finding::nearest;
 pub use kernel_copy::{Checkpoint, Course, Key};
 pub use named::branch_named;

@@ -38,7 +38,7 @@ use Rattle.study_market.specs.Traders.{value_kind_of, momentum_kind_of, maker_ki
 use Rattle.study_market.specs.Opening.{opening_of, IsAccepted}
 use Rattle.study_market.proofs.Held.{are-held}
 use Rattle.study_market.proofs.Lists.{each-kept}
-use Rattle.study_rules.specs.Scope.{kinds_of}
+use Rattle.study_rules.specs.Scope.{kinds_of, kinds_in}
 use Rattle.study_rules.specs.Fitting.{word_of, IsParamAmong, IsEditAmong, AreEditsAmong}
 use Rattle.study_rules.proofs.Texts.{same-bytes, other-bytes}
 
@@ -95,9 +95,6 @@ all-known t h =
 
 -- the kinds of all traders
 
-abbrev kinds_in : List TraderSetting → List Kind
-kinds_in ss = map (λ (s : TraderSetting). s.kind) ss
-
 words-in-row : (names : List (List ℕ)) (m : Members) (word : List ℕ) → word_of (kind_of m) ≡ word → (start n : ℕ)
     → map word_of (kinds_in (map (trader_of names m) (range_with_len start n))) ≡ replicate n word
 words-in-row names m word e start zero = refl
@@ -149,7 +146,7 @@ edit-of o count groups e same size h = record {
   parameter = parameter-of o e h.parameter;
 }
 
-edits-of : (o : Opening) (count groups : ℕ) (es : List Edit) → count ≡ length o.stocks → groups ≡ group_count o.groups → AreEditsAmong count (kinds_in o.traders) groups es → AreEdits o es
+pub edits-of : (o : Opening) (count groups : ℕ) (es : List Edit) → count ≡ length o.stocks → groups ≡ group_count o.groups → AreEditsAmong count (kinds_in o.traders) groups es → AreEdits o es
 edits-of o count groups es same size h = record {
   few = h.few;
   fit = All-weaker (IsEditAmong count (kinds_in o.traders) groups) (IsEditOf (opened o)) (λ e. edit-of o count groups e same size) es h.fit;

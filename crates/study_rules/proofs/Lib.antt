@@ -16,3 +16,4 @@ pub mod Making
 pub mod Accepting
 pub mod Editing
 pub mod FirstVersion
+pub mod OpeningScopes

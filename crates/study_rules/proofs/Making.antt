@@ -28,7 +28,7 @@ cons-fewer : {Y : Type 0} (o : Option Y) (ys : List Y) (n : ℕ) → length ys �
 cons-fewer None ys n h = omega (arith, h)
 cons-fewer (Some y) ys n h = omega (arith, h)
 
-fewer : {X Y : Type 0} (f : X → Option Y) (xs : List X) → length (filter_map f xs) ≤ length xs
+pub fewer : {X Y : Type 0} (f : X → Option Y) (xs : List X) → length (filter_map f xs) ≤ length xs
 fewer f [] = omega arith
 fewer f (x ∷ xs) = cons-fewer (f x) (filter_map f xs) (length xs) (fewer f xs)
 
@@ -36,7 +36,7 @@ all-option : {Y : Type 0} (P : Y → Type 0) (o : Option Y) (ys : List Y) → ((
 all-option P None ys f more = more
 all-option P (Some y) ys f more = All-cons P y ys (f y refl) more
 
-all-fit : (scope : Scope) (kinds : List Kind) → map word_of kinds ≡ scope.kinds → (ds : List Data)
+pub all-fit : (scope : Scope) (kinds : List Kind) → map word_of kinds ≡ scope.kinds → (ds : List Data)
     → All (λ (e : Edit). IsEditAmong (length scope.stocks) kinds scope.groups e) (filter_map (λ d. edit_in scope (entry_of d)) ds)
 all-fit scope kinds same [] = All-nil (λ (e : Edit). IsEditAmong (length scope.stocks) kinds scope.groups e)
 all-fit scope kinds same (d ∷ ds) =

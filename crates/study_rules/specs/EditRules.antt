@@ -1,8 +1,9 @@
 -- Edits as a study's entries say them, and the rule that each is one.
 use Rattle.std.specs.Prelude.{ℕ, ◌-◌, unsigned_abs, ℤ, pos, negsuc, int_le, int_lt, Bool, ◌&&◌, true, List, [], Option, None, Some, Ok, Err, is_none, is_some, option_map, if◌then◌else◌, length, map, position, slice_index, slice_index_or, unwrap_or, codes}
 use Rattle.std.specs.Option.{option_or}
+use Rattle.std.specs.List.{filter_map}
 use Rattle.std.specs.Str.{bytes_eq}
-use Rattle.toml.specs.Data.{Members}
+use Rattle.toml.specs.Data.{Data, Members}
 use Rattle.hex.specs.Hex.{decode_of}
 use Rattle.market_types.specs.declared.order.Inbound.{Inbound}
 use Rattle.market_rules.specs.declared.edit.Edit.{Edit}
@@ -17,8 +18,8 @@ use Rattle.study_file.specs.Values.{number_at, string_at, list_at, is_between, h
 use Rattle.study_market.specs.StockRules.{band_in, has_bands, has_fees}
 use Rattle.study_market.specs.AgentForms.{ordering, valuing, making}
 use Rattle.study_market.specs.ChangeRules.{is_kind}
-use Rattle.study_rules.specs.Entries.{branch_entries}
-use Rattle.study_rules.specs.BranchRules.{first_edit}
+use Rattle.study_rules.specs.Entries.{entry_of, branch_entries}
+use Rattle.study_rules.specs.BranchRules.{first_edit, forms_broken}
 use Rattle.study_rules.specs.Scope.{Scope, scope_of}
 
 -- the second step, where the first gives a value
@@ -176,3 +177,11 @@ is_edit scope e = is_some (edit_in scope e)
 
 abbrev pub edits_broken : Members → Option ℕ
 edits_broken t = first_edit (first_failing (is_edit (scope_of t))) 0 (branch_entries t)
+
+-- The edits that a list of entries says, where it keeps the rules of a branch's edits: there are at most 16, each has its keys with
+-- their types and no other, and each says an edit.
+abbrev pub edit_list_in : Scope → List Data → Option (List Edit)
+edit_list_in scope entries =
+    if is_none (forms_broken entries) && is_none (first_failing (is_edit scope) entries)
+    then Some (filter_map (λ d. edit_in scope (entry_of d)) entries)
+    else None

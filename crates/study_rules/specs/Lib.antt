@@ -2,6 +2,7 @@ pub mod Forms
 pub mod Entries
 pub mod BranchRules
 pub mod Scope
+pub mod Speakable
 pub mod EditRules
 pub mod FirstBroken
 pub mod Branches

@@ -371,8 +371,8 @@ pub fn edit_in(alloc: Global, scope: &Scope<'_>, edit: &Table) -> Result<Option<
 
 // An entry says an edit.
 #[derive(Drop)]
-struct IsEdit<'a> {
-    scope: Scope<'a>,
+pub struct IsEdit<'a> {
+    pub scope: Scope<'a>,
 }
 
 impl<'a> EntryTrial for IsEdit<'a> {
@@ -386,7 +386,7 @@ impl<'a> EntryTrial for IsEdit<'a> {
 }
 
 // The first of a branch's edits that is none.
-fn edit_broken(alloc: Global, rule: &IsEdit<'_>, edits: &[Value]) -> Result<Option<u32>, Memory>
+pub fn edit_broken(alloc: Global, rule: &IsEdit<'_>, edits: &[Value]) -> Result<Option<u32>, Memory>
     requires { length edits.now ≤ 16 }
     ensures place { IfOk result (λ found. found ≡ first_failing_of (edit_among rule.now.scope) (map view edits.now)) }
     ensures low { IfOk result (λ found. IfSome found (λ at. at < 16)) }

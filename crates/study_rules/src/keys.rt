@@ -144,7 +144,7 @@ impl EntryRule for HasKeys {
 }
 
 // The first of a branch's edits that hasn't its keys, and 0 where there are more than 16.
-fn forms_broken(edits: &[Value]) -> Option<u32>
+pub fn forms_broken(edits: &[Value]) -> Option<u32>
     ensures place { result ≡ forms_of (map view edits.now) }
     ensures low { IfSome result (λ at. at < 16) }
 {

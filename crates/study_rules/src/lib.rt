@@ -1,6 +1,8 @@
 //! A study's branches, and whether the whole study is accepted.
 #![tactic(auto)]
 
+mod acceptance;
+mod edit_list;
 mod edit_rules;
 mod entries;
 mod keys;
@@ -13,7 +15,10 @@ mod stops;
 mod study;
 pub mod worked;
 
+pub use acceptance::accept;
+pub use edit_list::read_edit_list;
 pub use made::branches;
+pub use names::is_name;
 pub use refusal::branch_refusal;
-pub use study::{AcceptError, Study, accept};
+pub use study::{AcceptError, Study};
 pub use study_market::Refusal;

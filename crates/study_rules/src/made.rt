@@ -101,7 +101,7 @@ fn add(edits: &mut Vec<Edit>, found: Option<Edit>) -> Result<(), Memory>
 }
 
 // The edits that entries say.
-fn read_edits(alloc: Global, scope: &Scope<'_>, entries: &[Value]) -> Result<Vec<Edit>, Memory>
+pub fn read_edits(alloc: Global, scope: &Scope<'_>, entries: &[Value]) -> Result<Vec<Edit>, Memory>
     ensures { IfOk result (λ edits. edits.items ≡ filter_map (λ d. edit_of scope.now (entry_of d)) (map view entries.now)) }
 {
     let mut edits = Vec::new(alloc);

@@ -26,8 +26,8 @@ fn has_name_bytes(text: &str) -> bool
     text.as_bytes().iter().all(|byte| is_name_byte(*byte))
 }
 
-// Whether a text is a name.
-fn is_name(text: &str) -> bool
+/// Whether a text is a branch's name: 1 to 32 bytes of `a` to `z`, `0` to `9`, `_` and `-`.
+pub fn is_name(text: &str) -> bool
     ensures { result ≡ name_text text.now }
 {
     matches!(text.len(), 1..=32) && has_name_bytes(text)

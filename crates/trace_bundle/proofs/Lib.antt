@@ -5,3 +5,4 @@ pub mod Kept
 pub mod Held
 pub mod Tallies
 pub mod Sums
+pub mod SegmentTallies

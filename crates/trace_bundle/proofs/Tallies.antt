@@ -1,12 +1,12 @@
 -- Tallies of a bundle's parts, one behind another.
-use Rattle.std.proofs.Common.{◌≡◌, ℕ, ◌+◌, ◌*◌, ◌^◌, ◌≤◌, List, ◌++◌, length, sym, ap, ◌∙◌, subst, arith, add-one, append_assoc, length-append, Result, Ok, Err}
+use Rattle.std.proofs.Common.{◌≡◌, ℕ, ◌+◌, ◌*◌, ◌^◌, ◌≤◌, List, ◌++◌, length, arith, length-append, Result, Ok, Err}
 use Rattle.std.specs.List.{sum}
 use Rattle.std.specs.Result.{IfOk}
 use Rattle.std.proofs.lemmas.List.Sums.{sum_by-append}
 use Rattle.plain_lists.specs.declared.memory.Memory.{Memory}
 use Rattle.bundle_frames.specs.Frames.{end_frame}
 use Rattle.kernel_copy.specs.Courses.{CourseTold}
-use Rattle.trace_bundle.specs.Bundle.{header_of, trace_of, traces_of}
+use Rattle.trace_bundle.specs.Bundle.{header_of, traces_of}
 use Rattle.trace_bundle.specs.Report.{bundle_size, byte_sum}
 use Rattle.trace_bundle.specs.Tallied.{IsTallyOf}
 use Rattle.trace_bundle.specs.declared.tally.Tally.{Tally}
@@ -21,12 +21,19 @@ part-more t u before bytes parts count total short small is = record {
   small = small;
 }
 
--- the trace of one branch more
-pub branch-more : (c : CourseTold) (b : ℕ) (t : Tally) → IsTallyOf t ((header_of c ++ traces_of c b) ++ trace_of c b) (b + 1 + 1)
-    → IsTallyOf t (header_of c ++ traces_of c (b + 1)) (b + 1 + 1)
-branch-more c b t =
-    subst (λ (bytes : List ℕ). IsTallyOf t bytes (b + 1 + 1))
-    (append_assoc (header_of c) (traces_of c b) (trace_of c b) ∙ ap (λ (n : ℕ). header_of c ++ traces_of c n) (sym (add-one b)))
+-- parts of two tallies, one behind another
+pub tallies-joined : (t u v : Tally) (before after : List ℕ) (parts more : ℕ) → v.count ≡ t.count + u.count → v.total ≡ t.total + u.total
+    → IsTallyOf t before parts → IsTallyOf u after more → IsTallyOf v (before ++ after) (parts + more)
+tallies-joined t u v before after parts more count total is also = record {
+  count = omega (arith, count, is.count, also.count, length-append before after);
+  total = omega (arith, total, is.total, also.total, sum_by-append (λ (b : ℕ). b) before after);
+  few = omega (arith, count, is.few, also.few);
+  small = omega (arith, count, total, is.small, also.small);
+}
+
+-- bytes in so many parts or fewer
+pub parts-more : (t : Tally) (bytes : List ℕ) (parts most : ℕ) → parts ≤ most → IsTallyOf t bytes parts → IsTallyOf t bytes most
+parts-more t bytes parts most less is = record { count = is.count; total = is.total; few = omega (arith, less, is.few); small = is.small }
 
 -- the tally of all parts
 pub bundle-count : (c : CourseTold) (parts : ℕ) (r : Result Tally Memory) (t : Tally)

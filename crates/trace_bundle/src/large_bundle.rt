@@ -2,13 +2,15 @@
 
 ghost use Rattle.std.specs.Prelude.{◌≡◌, ◌<◌, ◌≤◌, ◌+◌, ◌*◌, ◌^◌, ◌++◌, [], ℕ, List, IfOk, length};
 ghost use Rattle.bundle_frames.specs.Frames.{end_frame};
-ghost use Rattle.trace_bundle.specs.Bundle.{bundle_of, header_of, trace_of, traces_of};
+ghost use Rattle.branch_tree.specs.Segments.{segments_in};
+ghost use Rattle.trace_bundle.specs.Bundle.{bundle_of, header_of};
 ghost use Rattle.trace_bundle.specs.Ran.{IsRunOf};
-ghost use Rattle.trace_bundle.specs.Tallied.{IsTallyOf};
+ghost use Rattle.trace_bundle.specs.Tallied.{AreTalliesOf, IsTallyBefore, IsTallyOf};
 ghost use Rattle.trace_bundle.specs.Report.{bundle_size, byte_sum};
 
+use crate::segment_tallies::segment_tallies;
 use crate::tally::Tally;
-use crate::{Ran, write_branch, write_header};
+use crate::{Ran, ending_bytes, opening_bytes, write_header};
 use bundle_frames::put_end;
 use kernel_copy::Course;
 use plain_lists::Memory;
@@ -23,23 +25,27 @@ fn header(alloc: Global, course: &Course) -> Result<Tally, Memory>
     Ok(Tally::new().with(&bytes))
 }
 
-// The tally with a branch's trace, which is made in place of what stands in `bytes`.
+// The tally with a branch's trace: what stands before the entries, the entries up to the end of the branch's last segment, and
+// what stands behind them.
 fn with_branch<W: Ran>(
+    alloc: Global,
     course: &Course,
     ran: &W,
     branch: u16,
-    bytes: &mut Vec<u8>,
+    segments: &[Tally],
     tally: Tally,
 ) -> Result<Tally, Memory>
     requires branch { branch < length course.now.plan.branches }
     requires ran { IsRunOf course.now (W.count ran.now) (W.kept_of ran.now) (W.closing_of ran.now) }
-    requires room { tally.count ≤ 2 ^ 96 }
-    requires small { tally.total ≤ 255 * tally.count }
-    ensures { IfOk result (λ t. (before : List ℕ) (parts : ℕ) → IsTallyOf tally before parts → IsTallyOf t (before ++ trace_of course.now branch) (parts + 1)) }
+    requires segments { AreTalliesOf course.now (length (segments_in course.now.plan)) segments.now }
+    requires before { IsTallyBefore course.now branch tally }
+    ensures { IfOk result (λ t. IsTallyBefore course.now (branch + 1) t) }
 {
-    bytes.clear();
-    write_branch(course, ran, branch, bytes)?;
-    Ok(tally.with(bytes))
+    let _ = course.opening();
+    let start = opening_bytes(alloc, course, ran, branch)?;
+    let end = ending_bytes(alloc, course, ran, branch)?;
+    let entries = segments[course.last_segment(branch) as usize];
+    Ok(tally.with(&start).followed_by(entries).with(&end))
 }
 
 // The tally with the traces of all branches.
@@ -51,12 +57,12 @@ fn with_branches<W: Ran>(
 ) -> Result<Tally, Memory>
     requires ran { IsRunOf course.now (W.count ran.now) (W.kept_of ran.now) (W.closing_of ran.now) }
     requires header { IsTallyOf tally (header_of course.now) 1 }
-    ensures { IfOk result (λ t. IsTallyOf t (header_of course.now ++ traces_of course.now (length course.now.plan.branches)) (length course.now.plan.branches + 1)) }
+    ensures { IfOk result (λ t. IsTallyBefore course.now (length course.now.plan.branches) t) }
 {
+    let segments = segment_tallies(alloc, course, ran)?;
     let count = course.plan().branches().len() as u16;
-    let mut bytes = Vec::new(alloc);
     for branch in 0..count {
-        tally = with_branch(course, ran, branch, &mut bytes, tally)?;
+        tally = with_branch(alloc, course, ran, branch, &segments, tally)?;
     }
     Ok(tally)
 }
@@ -72,7 +78,8 @@ fn with_end(alloc: Global, branches: u16, tally: Tally) -> Result<Tally, Memory>
     Ok(tally.with(&bytes))
 }
 
-/// The tally of a study's bundle, whose segments ran. The trace of one branch is held at a time.
+/// The tally of a study's bundle, whose segments ran. The entries of each segment are summed once, where they are kept, and
+/// no branch's bytes are put together.
 ///
 /// # Errors
 /// Want of memory alone.

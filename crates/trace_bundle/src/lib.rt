@@ -12,6 +12,7 @@ mod lines;
 mod listed;
 mod outcomes;
 mod ran;
+mod segment_tallies;
 mod tally;
 pub mod worked;
 

@@ -12,15 +12,15 @@ pub struct Tally {
     pub total: u128,
 }
 
-// The sum of at most 4,096 bytes, in a number that several bytes are added to at a time.
-fn part_total(bytes: &[u8]) -> u32
-    requires { length bytes.now ≤ 4096 }
+// The sum of at most 256 bytes, in a number that several bytes are added to at a time.
+fn part_total(bytes: &[u8]) -> u16
+    requires { length bytes.now ≤ 256 }
     ensures value { result ≡ sum bytes.now }
     ensures small { result ≤ 255 * length bytes.now }
 {
     let mut total = 0;
     for byte in bytes {
-        total += u32::from(*byte);
+        total += u16::from(*byte);
     }
     total
 }
@@ -31,7 +31,7 @@ fn total(bytes: &[u8]) -> u128
     ensures small { result ≤ 255 * length bytes.now }
 {
     let mut total = 0;
-    for part in bytes.chunks(4096) {
+    for part in bytes.chunks(256) {
         total += u128::from(part_total(part));
     }
     total
@@ -54,6 +54,20 @@ impl Tally {
         Tally {
             count: self.count + bytes.len() as u128,
             total: self.total + total(bytes),
+        }
+    }
+
+    /// The tally of these bytes with those of another tally behind them.
+    pub fn followed_by(self, next: Tally) -> Tally
+        requires room { self.count ≤ 2 ^ 96 }
+        requires small { self.total ≤ 255 * self.count }
+        requires next_room { next.count ≤ 2 ^ 96 }
+        requires next_small { next.total ≤ 255 * next.count }
+        ensures { (before after : List ℕ) (parts more : ℕ) → IsTallyOf self before parts → IsTallyOf next after more → IsTallyOf result (before ++ after) (parts + more) }
+    {
+        Tally {
+            count: self.count + next.count,
+            total: self.total + next.total,
         }
     }
 }

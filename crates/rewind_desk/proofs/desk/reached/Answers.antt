@@ -3,9 +3,11 @@ use Rattle.std.specs.Prelude.{min}
 use Rattle.branch_tree.specs.Segments.{segment_at}
 use Rattle.market_floor.specs.declared.opening.Opening.{Opening}
 use Rattle.kernel_copy.specs.Courses.{CourseTold}
+use Rattle.kernel_copy.specs.Full.{full}
 use Rattle.kernel_copy.specs.Segmentwise.{segment_end}
 use Rattle.rewind_desk.specs.Nearest.{IsHeld}
 use Rattle.rewind_desk.specs.Reach.{IsAt}
+use Rattle.rewind_desk.proofs.Arrivals.{at-last}
 use Rattle.rewind_desk.proofs.Lasts.{best-is}
 use Rattle.rewind_desk.proofs.Nears.{arrived, chain-of, held-at, last-within}
 use Rattle.rewind_desk.proofs.desk.reached.Goals as goal
@@ -71,6 +73,16 @@ returns-clause-state g c =
     let limit = ap (λ (o : Opening). o.limit) c.opening.ensures.value in
     (arrived k c.args.branch c.args.event c.lesser-most.result c.in_ok-arrival.arrival.kernel c.in_ok-arrival.arrival.has_more c.opening.ensures.course c.requires.branch (omega (arith, limit, c.lesser-most.ensures))
     (subst (λ (s : ℕ). IsAt k s c.lesser-most.result c.in_ok-arrival.arrival.kernel c.in_ok-arrival.arrival.has_more) c.last_segment-last.ensures.last c.in_ok-arrival.ensures.at)).state
+
+pub returns-clause-along : goal.returns-clause-along
+returns-clause-along g c few =
+    let k : CourseTold = c.args.course.now in
+    let b = c.args.branch in
+    let limit = ap (λ (o : Opening). o.limit) c.opening.ensures.value in
+    let same : c.lesser-most.result ≡ c.args.event = omega (arith, limit, c.lesser-most.ensures, few) in
+    at-last k b c.lesser-most.result c.in_ok-arrival.arrival.kernel c.in_ok-arrival.arrival.has_more c.opening.ensures.course c.requires.branch (omega (arith, same, few))
+    (subst (λ (s : ℕ). IsAt k s c.lesser-most.result c.in_ok-arrival.arrival.kernel c.in_ok-arrival.arrival.has_more) c.last_segment-last.ensures.last c.in_ok-arrival.ensures.at)
+    ∙ ap (λ (x : ℕ). (full k.opening k.plan b x).state) same
 
 pub returns-clause-exists : goal.returns-clause-exists
 returns-clause-exists g c =

@@ -7,6 +7,6 @@ abbrev pub invariant-loop-part : goal.invariant-loop-part
 invariant-loop-part l =
     goal.iterator-loop-part.can_next l.part-iterator
     × goal.iterator-loop-part.is_finite l.part-iterator
-    × (chunks_size l.part-iterator ≡ 4096)
+    × (chunks_size l.part-iterator ≡ 256)
     × (l.total + sum (chunks_rest l.part-iterator) ≡ sum l.bytes)
     × (l.total + 255 * length (chunks_rest l.part-iterator) ≤ 255 * length l.bytes)

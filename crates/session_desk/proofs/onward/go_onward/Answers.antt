@@ -1,0 +1,64 @@
+use Rattle.std.proofs.Common.{◌≡◌, false, refl, sym, ap, ◌∙◌, subst, arith}
+use Rattle.branch_tree.specs.declared.stop.Stop.TheVariants.{At}
+use Rattle.kernel_core.specs.Edited.{edited}
+use Rattle.kernel_core.specs.Until.{Run}
+use Rattle.kernel_core.proofs.Stops.{until-within}
+use Rattle.kernel_copy.specs.Courses.{CourseTold}
+use Rattle.rewind_desk.specs.Reach.{has_more}
+use Rattle.session_desk.specs.Along.{BeginWith, onward}
+use Rattle.session_desk.proofs.Along.{edited-onward}
+use Rattle.session_desk.proofs.Traces.{begin-on, made-begins, until-begins}
+use Rattle.session_desk.proofs.onward.go_onward.Goals as goal
+
+pub returns-in_err-make_edits-clause-part : goal.returns-in_err-make_edits-clause-part
+returns-in_err-make_edits-clause-part g c =
+    let s = c.args.session.now in
+    let b = c.args.branch in
+    let e = c.args.event in
+    let o = c.opening-o.result.now in
+    let es = c.edits_of.result.now in
+    let first : Run = record { state = c.args.kernel.now; entries = c.args.trace.now.list } in
+    let same : o ≡ s.course.opening = c.opening-o.ensures.value ∙ ap (λ (k : CourseTold). k.opening) (c.deref.ensures ∙ c.course.ensures.value) in
+    let less : has_more o (At c.stop_of.result) c.args.kernel.now ≡ false = sym c.has_more.ensures ∙ c.if-has_more.false in
+    let whole = edited-onward s o b e c.stop_of.result es first (edited b es first) same c.stop_of.ensures c.edits_of.ensures.value less refl in
+    let all = onward s.course.opening s.branches b e first in
+    begin-on c.make_edits.new.trace.list (edited b es first).entries all.entries c.make_edits.ensures.part
+    (subst (λ (r : Run). BeginWith r.entries (edited b es first).entries) whole (until-begins o e (edited b es first)))
+
+pub returns-in_err-run_until-clause-part : goal.returns-in_err-run_until-clause-part
+returns-in_err-run_until-clause-part g c =
+    let s = c.args.session.now in
+    let b = c.args.branch in
+    let e = c.args.event in
+    let o = c.opening-o.result.now in
+    let es = c.edits_of.result.now in
+    let first : Run = record { state = c.args.kernel.now; entries = c.args.trace.now.list } in
+    let next : Run = record { state = c.make_edits.new.kernel; entries = c.make_edits.new.trace.list } in
+    let same : o ≡ s.course.opening = c.opening-o.ensures.value ∙ ap (λ (k : CourseTold). k.opening) (c.deref.ensures ∙ c.course.ensures.value) in
+    let less : has_more o (At c.stop_of.result) c.args.kernel.now ≡ false = sym c.has_more.ensures ∙ c.if-has_more.false in
+    let whole = edited-onward s o b e c.stop_of.result es first next same c.stop_of.ensures c.edits_of.ensures.value less c.in_ok-make_edits.ensures.made in
+    subst (λ (r : Run). BeginWith r.entries c.run_until.new.trace.list) whole (made-begins o e next c.run_until.new.self c.run_until.new.trace.list c.run_until.ensures.made c.run_until.ensures.within)
+
+pub returns-clause-part : goal.returns-clause-part
+returns-clause-part g c =
+    let s = c.args.session.now in
+    let b = c.args.branch in
+    let e = c.args.event in
+    let o = c.opening-o.result.now in
+    let es = c.edits_of.result.now in
+    let first : Run = record { state = c.args.kernel.now; entries = c.args.trace.now.list } in
+    let next : Run = record { state = c.make_edits.new.kernel; entries = c.make_edits.new.trace.list } in
+    let same : o ≡ s.course.opening = c.opening-o.ensures.value ∙ ap (λ (k : CourseTold). k.opening) (c.deref.ensures ∙ c.course.ensures.value) in
+    let less : has_more o (At c.stop_of.result) c.args.kernel.now ≡ false = sym c.has_more.ensures ∙ c.if-has_more.false in
+    let whole = edited-onward s o b e c.stop_of.result es first next same c.stop_of.ensures c.edits_of.ensures.value less c.in_ok-make_edits.ensures.made in
+    subst (λ (r : Run). BeginWith r.entries c.run_until.new.trace.list) whole (made-begins o e next c.run_until.new.self c.run_until.new.trace.list c.run_until.ensures.made c.run_until.ensures.within)
+
+pub returns-in_err-run_until-clause-within : goal.returns-in_err-run_until-clause-within
+returns-in_err-run_until-clause-within g c =
+    let next : Run = record { state = c.make_edits.new.kernel; entries = c.make_edits.new.trace.list } in
+    omega (arith, c.run_until.ensures.within, until-within c.opening-o.result.now c.args.event next (omega (arith, c.make_edits.ensures.events, c.requires.early)))
+
+pub returns-clause-within : goal.returns-clause-within
+returns-clause-within g c =
+    let next : Run = record { state = c.make_edits.new.kernel; entries = c.make_edits.new.trace.list } in
+    omega (arith, c.run_until.ensures.within, until-within c.opening-o.result.now c.args.event next (omega (arith, c.make_edits.ensures.events, c.requires.early)))

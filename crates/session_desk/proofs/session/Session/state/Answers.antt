@@ -1,0 +1,31 @@
+use Rattle.std.proofs.Common.{◌≡◌, ◌<◌, inr, min, ap, ◌∙◌, arith}
+use Rattle.market_floor.specs.declared.opening.Opening.{Opening}
+use Rattle.kernel_copy.specs.Courses.{CourseTold}
+use Rattle.session_desk.proofs.Along.{reached-event, reached-last}
+use Rattle.session_desk.proofs.Refused.{not-refused, refused-event}
+use Rattle.session_desk.proofs.session.Session.state.Goals as goal
+
+pub returns-then-events-event-clause-refused : goal.returns-then-events-event-clause-refused
+returns-then-events-event-clause-refused g c =
+    let s = c.args.self.now in
+    let b = c.args.branch in
+    let e = c.args.event in
+    let k = c.in-Ok.kernel in
+    let limit : c.opening.result.now.limit ≡ s.course.opening.limit =
+    ap (λ (o : Opening). o.limit) (c.opening.ensures.value ∙ ap (λ (x : CourseTold). x.opening) (c.deref.ensures ∙ c.course.ensures.value)) in
+    let most : c.lesser-most.result ≡ min e s.course.opening.limit = omega (arith, limit, c.lesser-most.ensures) in
+    let less : k.events < e = omega (arith, c.events-events.ensures, c.if-events-event.true) in
+    let last = reached-last s b e c.lesser-most.result k most c.in-Ok.ensures.state less c.in-Ok.ensures.early in
+    inr (refused-event s b e c.events-events.result (c.lacks.ensures.there c.if-lacks.false) (c.events-events.ensures ∙ last) c.if-events-event.true)
+
+pub returns-else-events-event-clause-made : goal.returns-else-events-event-clause-made
+returns-else-events-event-clause-made g c =
+    let s = c.args.self.now in
+    let b = c.args.branch in
+    let e = c.args.event in
+    let k = c.in-Ok.kernel in
+    let limit : c.opening.result.now.limit ≡ s.course.opening.limit =
+    ap (λ (o : Opening). o.limit) (c.opening.ensures.value ∙ ap (λ (x : CourseTold). x.opening) (c.deref.ensures ∙ c.course.ensures.value)) in
+    let most : c.lesser-most.result ≡ min e s.course.opening.limit = omega (arith, limit, c.lesser-most.ensures) in
+    let there = reached-event s b e c.lesser-most.result k most c.in-Ok.ensures.state (omega (arith, c.events-events.ensures, c.if-events-event.false)) c.in-Ok.ensures.early in
+    not-refused s b e (c.lacks.ensures.there c.if-lacks.false) there.1

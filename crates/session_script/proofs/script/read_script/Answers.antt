@@ -1,0 +1,28 @@
+use Rattle.std.proofs.Common.{◌∙◌, inl, inr, List, ℕ, Err, ap, sym}
+use Rattle.toml.specs.Data.{Members}
+use Rattle.toml.specs.View.{table_view}
+use Rattle.kernel_copy.specs.Courses.{CourseTold}
+use Rattle.session_script.specs.Script.{acts_in, script_of}
+use Rattle.session_script.proofs.Told.{script-acts, script-none, ok-by, err-by}
+use Rattle.session_script.proofs.script.read_script.Goals as goal
+
+pub returns-in-Ok-clause-acts : goal.returns-in-Ok-clause-acts
+returns-in-Ok-clause-acts c =
+    let course : CourseTold = c.args.study.now.course.value in
+    let bytes : List ℕ = c.args.bytes.now in
+    let t : Members = table_view c.in-Ok.raw.table in
+    ok-by c.acts_in.result (λ acts. acts.items) (script_of course bytes) (acts_in course t) (script-acts course bytes t c.in-Ok.ensures.table) c.acts_in.ensures.acts
+
+pub returns-in-Ok-clause-refused : goal.returns-in-Ok-clause-refused
+returns-in-Ok-clause-refused c =
+    let course : CourseTold = c.args.study.now.course.value in
+    let bytes : List ℕ = c.args.bytes.now in
+    let t : Members = table_view c.in-Ok.raw.table in
+    err-by c.acts_in.result (script_of course bytes) (acts_in course t) (script-acts course bytes t c.in-Ok.ensures.table) c.acts_in.ensures.refused
+
+pub returns-in-Err-clause-refused : goal.returns-in-Err-clause-refused
+returns-in-Err-clause-refused c =
+    elim c.in-Err.ensures.refused [
+      | inl m ↦ inl m
+      | inr none ↦ inr (script-none c.args.study.now.course.value c.args.bytes.now none.1 ∙ ap Err (sym none.0))
+    ]

@@ -1,0 +1,5 @@
+pub mod Forms
+pub mod Acts
+pub mod Script
+pub mod Fitting
+pub mod Told

@@ -1,6 +1,0 @@
-use Rattle.toml.specs.View.{table_view}
-use Rattle.study_market.proofs.Held.{are-held}
-use Rattle.study_rules.proofs.study.accepted_study.Goals as goal
-
-pub stride-requires : goal.stride-requires
-stride-requires c = (are-held (table_view c.args.table.now) c.args.rows.now c.requires.accepted).limits
