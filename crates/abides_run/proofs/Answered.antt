@@ -3,7 +3,7 @@ use Rattle.std.proofs.Common.{◌≡◌, ◌⊎◌, ◌≤◌, ℕ, List, [], Op
 use Rattle.outside.specs.Rose.{Rose}
 use Rattle.outside.specs.Taken.{TookPrefix}
 use Rattle.abides_run.specs.Words.{asked_of, IsLarge}
-use Rattle.abides_run.specs.Verdict.{Verdict, Files, usage, no_file, file_too_long, refused, no_branch, no_stock, bad_orders, bad_bundle, audit_failed, bad_script, refused_act, no_event, accepted, verdict, IsDue, output, distinct, allowance}
+use Rattle.abides_run.specs.Verdict.{Verdict, Files, usage, no_file, file_too_long, refused, no_branch, no_stock, bad_orders, bad_bundle, audit_failed, bad_script, refused_act, no_event, accepted, verdict, IsDue, output, distinct, allowance, ceiling}
 use Rattle.abides_run.specs.Output.{Probes}
 use Rattle.abides_run.specs.Fetched.{fetched}
 use Rattle.abides_run.specs.Statuses.{Cause, Counts, IsRefusal, Names, status_of}
@@ -39,10 +39,10 @@ nothing_due : (come : Verdict) (st : Status) → status_of come ≡ st → ¬ (s
 nothing_due come st is other s = other (sym is ∙ due_is_ok come s)
 
 -- a refusal that words and files give
-pub refusal : (come : Verdict) (bytes : List ℕ) (events more old new writes steps : ℕ) (taken : Option (List ℕ)) (st : Status)
-    → status_of come ≡ st → ¬ (st ≡ status.Ok) → Cause come st → Counts events more steps steps taken taken st
-    → Fulfilled come bytes events more (record { reads = old; writes = writes; taken = taken; steps = steps }) (record { reads = new; writes = writes; taken = taken; steps = steps }) st
-refusal come bytes events more old new writes steps taken st is other cause counts = record {
+pub refusal : (come : Verdict) (bytes : List ℕ) (events more most old new writes steps : ℕ) (taken : Option (List ℕ)) (st : Status)
+    → status_of come ≡ st → ¬ (st ≡ status.Ok) → Cause come st → Counts events more most steps steps taken taken st
+    → Fulfilled come bytes events more most (record { reads = old; writes = writes; taken = taken; steps = steps }) (record { reads = new; writes = writes; taken = taken; steps = steps }) st
+refusal come bytes events more most old new writes steps taken st is other cause counts = record {
   output = λ e. absurd (other e);
   counter = counts;
   cause = cause;
@@ -55,20 +55,20 @@ refusal come bytes events more old new writes steps taken st is other cause coun
 abbrev pub IsEarly : Status → Type 0
 IsEarly st = (st ≡ status.Usage) ⊎ IsSought st
 
-fulfilled : (come : Verdict) (bytes : List ℕ) (events more old new writes steps : ℕ) (taken : Option (List ℕ)) (st : Status)
+fulfilled : (come : Verdict) (bytes : List ℕ) (events more most old new writes steps : ℕ) (taken : Option (List ℕ)) (st : Status)
     → IsEarly st → Cause come st → (st ≡ status.ReadFault → Rose old new)
-    → Fulfilled come bytes events more (record { reads = old; writes = writes; taken = taken; steps = steps }) (record { reads = new; writes = writes; taken = taken; steps = steps }) st
-fulfilled come bytes events more old new writes steps taken status.Ok (inl early) cause fault = cc
-fulfilled come bytes events more old new writes steps taken status.Ok (inr early) cause fault = absurd early
-fulfilled come bytes events more old new writes steps taken status.Usage early cause fault =
-    refusal come bytes events more old new writes steps taken status.Usage cause (λ e. cc) cause refl
-fulfilled come bytes events more old new writes steps taken status.NoStudy early cause fault =
-    refusal come bytes events more old new writes steps taken status.NoStudy cause (λ e. cc) cause refl
-fulfilled come bytes events more old new writes steps taken status.TooLong early cause fault =
-    refusal come bytes events more old new writes steps taken status.TooLong cause (λ e. cc) cause refl
-fulfilled come bytes events more old new writes steps taken (status.Refused rule place) early cause fault =
-    refusal come bytes events more old new writes steps taken (status.Refused rule place) cause (λ e. cc) cause refl
-fulfilled come bytes events more old new writes steps taken status.ReadFault early cause fault = record {
+    → Fulfilled come bytes events more most (record { reads = old; writes = writes; taken = taken; steps = steps }) (record { reads = new; writes = writes; taken = taken; steps = steps }) st
+fulfilled come bytes events more most old new writes steps taken status.Ok (inl early) cause fault = cc
+fulfilled come bytes events more most old new writes steps taken status.Ok (inr early) cause fault = absurd early
+fulfilled come bytes events more most old new writes steps taken status.Usage early cause fault =
+    refusal come bytes events more most old new writes steps taken status.Usage cause (λ e. cc) cause refl
+fulfilled come bytes events more most old new writes steps taken status.NoStudy early cause fault =
+    refusal come bytes events more most old new writes steps taken status.NoStudy cause (λ e. cc) cause refl
+fulfilled come bytes events more most old new writes steps taken status.TooLong early cause fault =
+    refusal come bytes events more most old new writes steps taken status.TooLong cause (λ e. cc) cause refl
+fulfilled come bytes events more most old new writes steps taken (status.Refused rule place) early cause fault =
+    refusal come bytes events more most old new writes steps taken (status.Refused rule place) cause (λ e. cc) cause refl
+fulfilled come bytes events more most old new writes steps taken status.ReadFault early cause fault = record {
   output = λ e. cc;
   counter = refl;
   cause = cause;
@@ -76,25 +76,25 @@ fulfilled come bytes events more old new writes steps taken status.ReadFault ear
   prefix = nothing_taken taken bytes;
   complete = λ s r w. absurd (r (fault refl));
 }
-fulfilled come bytes events more old new writes steps taken status.WriteFault (inl early) cause fault = cc
-fulfilled come bytes events more old new writes steps taken status.WriteFault (inr early) cause fault = absurd early
-fulfilled come bytes events more old new writes steps taken status.NoBranch (inl early) cause fault = cc
-fulfilled come bytes events more old new writes steps taken status.NoBranch (inr early) cause fault = absurd early
-fulfilled come bytes events more old new writes steps taken status.NoStock (inl early) cause fault = cc
-fulfilled come bytes events more old new writes steps taken status.NoStock (inr early) cause fault = absurd early
-fulfilled come bytes events more old new writes steps taken (status.BadOrders number) (inl early) cause fault = cc
-fulfilled come bytes events more old new writes steps taken (status.BadBundle reason at) (inl early) cause fault = cc
-fulfilled come bytes events more old new writes steps taken (status.AuditFailed branch reference) (inl early) cause fault = cc
-fulfilled come bytes events more old new writes steps taken (status.BadScript act) (inl early) cause fault = cc
-fulfilled come bytes events more old new writes steps taken (status.ActRefused act) (inl early) cause fault = cc
-fulfilled come bytes events more old new writes steps taken (status.BadOrders number) (inr early) cause fault = absurd early
-fulfilled come bytes events more old new writes steps taken (status.BadBundle reason at) (inr early) cause fault = absurd early
-fulfilled come bytes events more old new writes steps taken (status.AuditFailed branch reference) (inr early) cause fault = absurd early
-fulfilled come bytes events more old new writes steps taken (status.BadScript act) (inr early) cause fault = absurd early
-fulfilled come bytes events more old new writes steps taken (status.ActRefused act) (inr early) cause fault = absurd early
-fulfilled come bytes events more old new writes steps taken status.NoEvent (inl early) cause fault = cc
-fulfilled come bytes events more old new writes steps taken status.NoEvent (inr early) cause fault = absurd early
-fulfilled come bytes events more old new writes steps taken status.Memory early cause fault = record {
+fulfilled come bytes events more most old new writes steps taken status.WriteFault (inl early) cause fault = cc
+fulfilled come bytes events more most old new writes steps taken status.WriteFault (inr early) cause fault = absurd early
+fulfilled come bytes events more most old new writes steps taken status.NoBranch (inl early) cause fault = cc
+fulfilled come bytes events more most old new writes steps taken status.NoBranch (inr early) cause fault = absurd early
+fulfilled come bytes events more most old new writes steps taken status.NoStock (inl early) cause fault = cc
+fulfilled come bytes events more most old new writes steps taken status.NoStock (inr early) cause fault = absurd early
+fulfilled come bytes events more most old new writes steps taken (status.BadOrders number) (inl early) cause fault = cc
+fulfilled come bytes events more most old new writes steps taken (status.BadBundle reason at) (inl early) cause fault = cc
+fulfilled come bytes events more most old new writes steps taken (status.AuditFailed branch reference) (inl early) cause fault = cc
+fulfilled come bytes events more most old new writes steps taken (status.BadScript act) (inl early) cause fault = cc
+fulfilled come bytes events more most old new writes steps taken (status.ActRefused act) (inl early) cause fault = cc
+fulfilled come bytes events more most old new writes steps taken (status.BadOrders number) (inr early) cause fault = absurd early
+fulfilled come bytes events more most old new writes steps taken (status.BadBundle reason at) (inr early) cause fault = absurd early
+fulfilled come bytes events more most old new writes steps taken (status.AuditFailed branch reference) (inr early) cause fault = absurd early
+fulfilled come bytes events more most old new writes steps taken (status.BadScript act) (inr early) cause fault = absurd early
+fulfilled come bytes events more most old new writes steps taken (status.ActRefused act) (inr early) cause fault = absurd early
+fulfilled come bytes events more most old new writes steps taken status.NoEvent (inl early) cause fault = cc
+fulfilled come bytes events more most old new writes steps taken status.NoEvent (inr early) cause fault = absurd early
+fulfilled come bytes events more most old new writes steps taken status.Memory early cause fault = record {
   output = λ e. cc;
   counter = (omega arith, omega arith, λ n. absurd (n refl));
   cause = tt;
@@ -105,10 +105,10 @@ fulfilled come bytes events more old new writes steps taken status.Memory early 
 
 early_told : (files : Option Files) (words : List (List ℕ)) (probes : Probes) (name : List ℕ) (old new writes steps : ℕ) (taken : Option (List ℕ)) (st : Status)
     → IsEarly st → IfSome files (λ library. Ends (verdict library words) (fetched library words) st name) → (st ≡ status.ReadFault → Rose old new)
-    → IfSome files (λ library. Fulfilled (verdict library words) (output probes (verdict library words)) (distinct (verdict library words)) (allowance (verdict library words)) (record { reads = old; writes = writes; taken = taken; steps = steps }) (record { reads = new; writes = writes; taken = taken; steps = steps }) st)
+    → IfSome files (λ library. Fulfilled (verdict library words) (output probes (verdict library words)) (distinct (verdict library words)) (allowance (verdict library words)) (ceiling (verdict library words)) (record { reads = old; writes = writes; taken = taken; steps = steps }) (record { reads = new; writes = writes; taken = taken; steps = steps }) st)
 early_told None words probes name old new writes steps taken st early ends fault = tt
 early_told (Some library) words probes name old new writes steps taken st early ends fault =
-    fulfilled (verdict library words) (output probes (verdict library words)) (distinct (verdict library words)) (allowance (verdict library words)) old new writes steps taken st early ends.cause fault
+    fulfilled (verdict library words) (output probes (verdict library words)) (distinct (verdict library words)) (allowance (verdict library words)) (ceiling (verdict library words)) old new writes steps taken st early ends.cause fault
 
 early_write : (st : Status) → IsEarly st → ¬ (st ≡ status.WriteFault)
 early_write st (inl e) w = let other : status.Usage ≡ status.WriteFault = sym e ∙ w in cc
@@ -148,10 +148,10 @@ final_usage st f e = subst IsFinal e f
 
 finished_told : (files : Option Files) (words : List (List ℕ)) (probes : Probes) (arguments : List (List ℕ)) (come : Verdict) (before after : Seen) (st : Status) (name : List ℕ)
     → IfSome files (λ library. verdict library words ≡ come) → Finished come probes arguments before after st name
-    → IfSome files (λ library. Fulfilled (verdict library words) (output probes (verdict library words)) (distinct (verdict library words)) (allowance (verdict library words)) before after st)
+    → IfSome files (λ library. Fulfilled (verdict library words) (output probes (verdict library words)) (distinct (verdict library words)) (allowance (verdict library words)) (ceiling (verdict library words)) before after st)
 finished_told None words probes arguments come before after st name is f = tt
 finished_told (Some library) words probes arguments come before after st name is f =
-    subst (λ (v : Verdict). Fulfilled v (output probes v) (distinct v) (allowance v) before after st) (sym is) f.fulfilled
+    subst (λ (v : Verdict). Fulfilled v (output probes v) (distinct v) (allowance v) (ceiling v) before after st) (sym is) f.fulfilled
 
 -- something was done with the study, or what is asked for of it isn't there
 pub finished_answers : (files : Option Files) (words : List (List ℕ)) (probes : Probes) (arguments : List (List ℕ)) (come : Verdict) (before after : Seen) (st : Status) (name : List ℕ)
@@ -186,32 +186,32 @@ pub ended_named : (files : Option Files) (words : List (List ℕ)) (st : Status)
 ended_named None words st name ends = tt
 ended_named (Some library) words st name ends = ends.named
 
-turned_counter : (events more old new : ℕ) (before after : Option (List ℕ)) (st : Status) → ¬ (st ≡ status.Ok) → (IsRefusal st → after ≡ before)
-    → Counts events more old new before after st → Counts events more old new before after status.Memory
-turned_counter events more old new before after status.Ok other still h = absurd (other refl)
-turned_counter events more old new before after status.Usage other still h = (omega (arith, h), omega (arith, h), λ n. absurd (n (still tt)))
-turned_counter events more old new before after status.NoStudy other still h = (omega (arith, h), omega (arith, h), λ n. absurd (n (still tt)))
-turned_counter events more old new before after status.TooLong other still h = (omega (arith, h), omega (arith, h), λ n. absurd (n (still tt)))
-turned_counter events more old new before after (status.Refused rule place) other still h = (omega (arith, h), omega (arith, h), λ n. absurd (n (still tt)))
-turned_counter events more old new before after status.ReadFault other still h = (omega (arith, h), omega (arith, h), λ n. absurd (n (still tt)))
-turned_counter events more old new before after status.WriteFault other still h = (omega (arith, h.0), h.1, λ n. h.0)
-turned_counter events more old new before after status.NoBranch other still h = (omega (arith, h), omega (arith, h), λ n. absurd (n (still tt)))
-turned_counter events more old new before after status.NoStock other still h = (omega (arith, h), omega (arith, h), λ n. absurd (n (still tt)))
-turned_counter events more old new before after (status.BadOrders number) other still h = (omega (arith, h), omega (arith, h), λ n. absurd (n (still tt)))
-turned_counter events more old new before after (status.BadBundle reason at) other still h = (omega (arith, h), omega (arith, h), λ n. absurd (n (still tt)))
-turned_counter events more old new before after (status.AuditFailed branch reference) other still h = (omega (arith, h), omega (arith, h), λ n. absurd (n (still tt)))
-turned_counter events more old new before after (status.BadScript act) other still h = (omega (arith, h), omega (arith, h), λ n. absurd (n (still tt)))
-turned_counter events more old new before after (status.ActRefused act) other still h = (omega (arith, h), omega (arith, h), λ n. absurd (n (still tt)))
-turned_counter events more old new before after status.NoEvent other still h = (omega (arith, h.0), h.1, λ n. h.0)
-turned_counter events more old new before after status.Memory other still h = h
+turned_counter : (events more most old new : ℕ) (before after : Option (List ℕ)) (st : Status) → ¬ (st ≡ status.Ok) → (IsRefusal st → after ≡ before)
+    → Counts events more most old new before after st → Counts events more most old new before after status.Memory
+turned_counter events more most old new before after status.Ok other still h = absurd (other refl)
+turned_counter events more most old new before after status.Usage other still h = (omega (arith, h), omega (arith, h), λ n. absurd (n (still tt)))
+turned_counter events more most old new before after status.NoStudy other still h = (omega (arith, h), omega (arith, h), λ n. absurd (n (still tt)))
+turned_counter events more most old new before after status.TooLong other still h = (omega (arith, h), omega (arith, h), λ n. absurd (n (still tt)))
+turned_counter events more most old new before after (status.Refused rule place) other still h = (omega (arith, h), omega (arith, h), λ n. absurd (n (still tt)))
+turned_counter events more most old new before after status.ReadFault other still h = (omega (arith, h), omega (arith, h), λ n. absurd (n (still tt)))
+turned_counter events more most old new before after status.WriteFault other still h = (omega (arith, h.0), h.1, λ n. h.0)
+turned_counter events more most old new before after status.NoBranch other still h = (omega (arith, h), omega (arith, h), λ n. absurd (n (still tt)))
+turned_counter events more most old new before after status.NoStock other still h = (omega (arith, h), omega (arith, h), λ n. absurd (n (still tt)))
+turned_counter events more most old new before after (status.BadOrders number) other still h = (omega (arith, h), omega (arith, h), λ n. absurd (n (still tt)))
+turned_counter events more most old new before after (status.BadBundle reason at) other still h = (omega (arith, h), omega (arith, h), λ n. absurd (n (still tt)))
+turned_counter events more most old new before after (status.AuditFailed branch reference) other still h = (omega (arith, h), omega (arith, h), λ n. absurd (n (still tt)))
+turned_counter events more most old new before after (status.BadScript act) other still h = (omega (arith, h), omega (arith, h), λ n. absurd (n (still tt)))
+turned_counter events more most old new before after (status.ActRefused act) other still h = (omega (arith, h), omega (arith, h), λ n. absurd (n (still tt)))
+turned_counter events more most old new before after status.NoEvent other still h = (omega (arith, h.0), h.1, λ n. h.0)
+turned_counter events more most old new before after status.Memory other still h = h
 
 turned_told : (files : Option Files) (words : List (List ℕ)) (probes : Probes) (before after : Seen) (st : Status) → ¬ (st ≡ status.Ok) → (IsRefusal st → after.taken ≡ before.taken)
-    → IfSome files (λ library. Fulfilled (verdict library words) (output probes (verdict library words)) (distinct (verdict library words)) (allowance (verdict library words)) before after st)
-    → IfSome files (λ library. Fulfilled (verdict library words) (output probes (verdict library words)) (distinct (verdict library words)) (allowance (verdict library words)) before after status.Memory)
+    → IfSome files (λ library. Fulfilled (verdict library words) (output probes (verdict library words)) (distinct (verdict library words)) (allowance (verdict library words)) (ceiling (verdict library words)) before after st)
+    → IfSome files (λ library. Fulfilled (verdict library words) (output probes (verdict library words)) (distinct (verdict library words)) (allowance (verdict library words)) (ceiling (verdict library words)) before after status.Memory)
 turned_told None words probes before after st other still f = tt
 turned_told (Some library) words probes before after st other still f = record {
   output = λ e. cc;
-  counter = turned_counter (distinct (verdict library words)) (allowance (verdict library words)) before.steps after.steps before.taken after.taken st other still f.counter;
+  counter = turned_counter (distinct (verdict library words)) (allowance (verdict library words)) (ceiling (verdict library words)) before.steps after.steps before.taken after.taken st other still f.counter;
   cause = tt;
   exact = λ n r. inr refl;
   prefix = f.prefix;

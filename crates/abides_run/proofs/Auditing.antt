@@ -56,7 +56,7 @@ failing-finishes r b failing probes reads writes steps taken st name is found sa
 
 -- none does, and that was told
 pub passed-finishes : (r : Read) (b : BundleTold) (probes : Probes) (before after : Seen) (st told : Status) (name : List ℕ)
-    → r ≡ read b → None ≡ audit_of b → told ≡ st → Performed (audit_line b) 0 0 before after st
+    → r ≡ read b → None ≡ audit_of b → told ≡ st → Performed (audit_line b) 0 0 0 before after st
     → Finished (verdict_on_read r) probes [] before after told name
 passed-finishes r b probes before after st told name is none same p =
     subst (λ (v : Verdict). Finished v probes [] before after told name) (sym (audit_comes r b None is none))

@@ -18,14 +18,21 @@ use Rattle.order_file.specs.Orders.{orders_of}
 use Rattle.reopening_desk.specs.declared.stock.StockNamed.{StockNamed}
 use Rattle.reopening_desk.specs.Stocks.{stock_of}
 use Rattle.study_file.specs.LargeStudy.{large_study}
+use Rattle.session_script.specs.declared.act.Act.{Act}
+use Rattle.session_script.specs.declared.act.ScriptError.{ScriptError}
+use Rattle.session_script.specs.Script.{script_of}
+use Rattle.session_desk.specs.Session.{first_session}
+use Rattle.session_answers.specs.declared.end.PastAct.{PastAct}
+use Rattle.session_answers.specs.Refused.{act_refused}
+use Rattle.session_answers.specs.Past.{past_act}
 use Rattle.abides_run.specs.declared.ending.Ending.{Ending}
 use Rattle.abides_run.specs.declared.found.Found.{Found}
 use Rattle.abides_run.specs.declared.request.Request.{Request}
 use Rattle.abides_run.specs.declared.request.Request.TheVariants.{File, Large, Bundle}
 use Rattle.abides_run.specs.declared.request.Task.{Task}
-use Rattle.abides_run.specs.declared.request.Task.TheVariants.{Run, Check, Table, Lines, Rewind, Cross}
+use Rattle.abides_run.specs.declared.request.Task.TheVariants.{Run, Check, Table, Lines, Rewind, Cross, Session}
 use Rattle.abides_run.specs.Words.{asked_of, further_of, IsLarge}
-use Rattle.abides_run.specs.Verdict.{Verdict, Files, no_file, file_too_long, verdict_on_past, verdict_on_aimed, verdict_on_late, verdict_on_orders, verdict_on_stock, verdict_on_branch, verdict_on_found, verdict_on_file, verdict_on_further, most_bytes, series_of, judged, verdict_on_series, verdict_on_table, verdict_on_bytes, verdict_on_study, verdict_on_text, verdict_on_large, verdict_on_failing, verdict_on_read, verdict_on_bundle, verdict_for, verdict, IsAsked, large_limit, most_bundle_bytes}
+use Rattle.abides_run.specs.Verdict.{Verdict, Files, no_file, file_too_long, verdict_on_past, verdict_on_aimed, verdict_on_late, verdict_on_orders, verdict_on_stock, verdict_on_branch, verdict_on_past_act, verdict_on_acts, verdict_on_script, verdict_on_found, verdict_on_file, verdict_on_further, most_bytes, series_of, judged, verdict_on_series, verdict_on_table, verdict_on_bytes, verdict_on_study, verdict_on_text, verdict_on_large, verdict_on_failing, verdict_on_read, verdict_on_bundle, verdict_for, verdict, IsAsked, large_limit, most_bundle_bytes}
 use Rattle.bundle_reader.specs.Told.{BundleTold}
 use Rattle.bundle_reading.specs.Reading.{Read, read, cut, bad_frame, bad_order, reading_of}
 use Rattle.audit_desk.specs.declared.failing.Failing.{Failing}
@@ -63,6 +70,18 @@ branch_asked : (crossing : Crossing) (places : ℕ) (text : List ℕ) (s : Study
 branch_asked crossing places text s None = tt
 branch_asked crossing places text s (Some target) = stock_asked crossing target places text s (stock_of s.course.opening.stocks crossing.symbol)
 
+past_act_asked : (acts : List Act) (places : ℕ) (s : StudyTold) (past : Option PastAct) → IsAsked (verdict_on_past_act acts places s past)
+past_act_asked acts places s None = tt
+past_act_asked acts places s (Some past) = tt
+
+acts_asked : (acts : List Act) (places : ℕ) (s : StudyTold) (refused : Option ℕ) → IsAsked (verdict_on_acts acts places s refused)
+acts_asked acts places s None = past_act_asked acts places s (past_act (first_session s.course) acts)
+acts_asked acts places s (Some act) = tt
+
+script_asked : (places : ℕ) (s : StudyTold) (script : Result (List Act) ScriptError) → IsAsked (verdict_on_script places s script)
+script_asked places s (Err error) = tt
+script_asked places s (Ok acts) = acts_asked acts places s (act_refused (first_session s.course) acts)
+
 found_asked : (task : Task) (further : Option (List ℕ)) (s : StudyTold) → IsAsked (verdict_on_found task further s)
 found_asked Run further s = tt
 found_asked Check further s = tt
@@ -70,6 +89,7 @@ found_asked Table further s = tt
 found_asked (Lines bytes) further s = tt
 found_asked (Rewind marks places) further s = aimed_asked marks places s (aimed_at s.course.plan.branches marks)
 found_asked (Cross crossing places) further s = branch_asked crossing places (unwrap_or further []) s (target_of s.course.plan.branches crossing.mark)
+found_asked (Session script places) further s = script_asked places s (script_of s.course (unwrap_or further []))
 
 file_asked : (task : Task) (s : StudyTold) (name : List ℕ) (answer : Content) → IsAsked (verdict_on_file task s name answer)
 file_asked task s name absent = tt

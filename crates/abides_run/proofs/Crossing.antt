@@ -14,7 +14,7 @@ use Rattle.abides_run.specs.Fetched.{IsAmong}
 use Rattle.abides_run.specs.Notes.{past_event}
 use Rattle.abides_run.specs.Output.{Probes, crossed, study_events}
 use Rattle.abides_run.specs.Rewinds.{lasts_of, steps_to, target_state}
-use Rattle.abides_run.specs.Verdict.{Verdict, accepted, verdict_on_crossing, verdict_on_branch, verdict_on_late, verdict_on_orders, verdict_on_stock, distinct}
+use Rattle.abides_run.specs.Verdict.{Verdict, accepted, verdict_on_crossing, verdict_on_branch, verdict_on_late, verdict_on_orders, verdict_on_stock, ceiling}
 use Rattle.abides_run.specs.Headline.{Seen}
 use Rattle.abides_run.specs.Performed.{Finished, Performed}
 use Rattle.abides_run.specs.declared.status.Status.{Status}
@@ -40,11 +40,11 @@ pub crossing-orders : (crossing : Crossing) (places : ℕ) (text : List ℕ) (s 
 crossing-orders crossing places text s target stock orders aims named read =
     crossing-stock crossing places text s target (Some stock) aims named ∙ ap (λ (r : Result (List Interest) ℕ). verdict_on_orders crossing.mark.word target stock places s r) read
 
--- the study is simulated
+-- the study may be simulated
 simulated-late : (word : List ℕ) (target : Target) (stock : StockNamed) (orders : List Interest) (places : ℕ) (s : StudyTold) (past : Option Past)
-    → distinct (verdict_on_late word target stock orders places s past) ≡ study_events s.course
-simulated-late word target stock orders places s None = refl
-simulated-late word target stock orders places s (Some past) = refl
+    → study_events s.course ≤ ceiling (verdict_on_late word target stock orders places s past)
+simulated-late word target stock orders places s None = omega arith
+simulated-late word target stock orders places s (Some past) = omega arith
 
 -- memory was wanting once the study was simulated or before
 pub late-wanting : (word : List ℕ) (target : Target) (stock : StockNamed) (orders : List Interest) (places : ℕ) (s : StudyTold) (past : Option Past) (probes : Probes) (arguments : List (List ℕ)) (reads writes old new : ℕ) (taken : Option (List ℕ)) (st : Status) (name : List ℕ)
@@ -65,7 +65,7 @@ late-eventless word target stock orders places s past probes arguments reads wri
 -- it is there, and the answer was written, or why not
 pub late-finishes : (word : List ℕ) (target : Target) (stock : StockNamed) (orders : List Interest) (places : ℕ) (s : StudyTold) (probes : Probes) (arguments : List (List ℕ)) (before after : Seen) (st told : Status) (name : List ℕ)
     → past_of (lasts_of s.course) (target ∷ []) ≡ None → told ≡ st
-    → Performed (reopened (target_state s.course target) stock orders) (study_events s.course) (steps_to s places target) before after st
+    → Performed (reopened (target_state s.course target) stock orders) (study_events s.course) (steps_to s places target) (study_events s.course + steps_to s places target) before after st
     → Finished (verdict_on_late word target stock orders places s (past_of (lasts_of s.course) (target ∷ []))) probes arguments before after told name
 late-finishes word target stock orders places s probes arguments before after st told name none same p =
     let due = crossed target stock orders places s in

@@ -12,7 +12,7 @@ use Rattle.study_rules.specs.Accepted.{StudyTold}
 use Rattle.abides_run.specs.Fetched.{IsAmong}
 use Rattle.abides_run.specs.Notes.{past_event}
 use Rattle.abides_run.specs.Output.{Probes, rewound, study_events}
-use Rattle.abides_run.specs.Verdict.{Verdict, accepted, no_branch, no_event, verdict_on_aimed, verdict_on_past, verdict_on_found, output, distinct, allowance}
+use Rattle.abides_run.specs.Verdict.{Verdict, accepted, no_branch, no_event, verdict_on_aimed, verdict_on_past, verdict_on_found, output, distinct, allowance, ceiling}
 use Rattle.abides_run.specs.Headline.{Seen}
 use Rattle.abides_run.specs.Performed.{Finished, IsFinal, Performed}
 use Rattle.abides_run.specs.declared.status.Status.{Status}
@@ -21,13 +21,13 @@ use Rattle.abides_run.specs.Statuses.{Cause, Counts, IsStill, Names, NamesOne, s
 use Rattle.abides_run.proofs.Answered.{nothing_taken, refusal}
 use Rattle.abides_run.proofs.Performing.{performed_finishes}
 
--- where each mark has a target, the study is simulated
-pub simulated-past : (marks : List Mark) (targets : List Target) (places : ℕ) (s : StudyTold) (past : Option Past) → distinct (verdict_on_past marks targets places s past) ≡ study_events s.course
-simulated-past marks targets places s None = refl
-simulated-past marks targets places s (Some past) = refl
+-- where each mark has a target, the study may be simulated
+pub simulated-past : (marks : List Mark) (targets : List Target) (places : ℕ) (s : StudyTold) (past : Option Past) → study_events s.course ≤ ceiling (verdict_on_past marks targets places s past)
+simulated-past marks targets places s None = omega arith
+simulated-past marks targets places s (Some past) = omega arith
 
 wants : (come : Verdict) (probes : Probes) (arguments : List (List ℕ)) (reads writes old new : ℕ) (taken : Option (List ℕ)) (name : List ℕ)
-    → old ≤ new → new ≤ old + distinct come + allowance come
+    → old ≤ new → new ≤ old + ceiling come
     → Finished come probes arguments (record { reads = reads; writes = writes; taken = taken; steps = old }) (record { reads = reads; writes = writes; taken = taken; steps = new }) status.Memory name
 wants come probes arguments reads writes old new taken name least most = record {
   final = tt;
@@ -51,29 +51,29 @@ wants come probes arguments reads writes old new taken name least most = record 
 
 -- memory was wanting before anything was sent
 pub wanting-finishes : (come : Verdict) (probes : Probes) (arguments : List (List ℕ)) (reads writes old new : ℕ) (taken : Option (List ℕ)) (st : Status) (name : List ℕ)
-    → st ≡ status.Memory → old ≤ new → new ≤ old + distinct come + allowance come
+    → st ≡ status.Memory → old ≤ new → new ≤ old + ceiling come
     → Finished come probes arguments (record { reads = reads; writes = writes; taken = taken; steps = old }) (record { reads = reads; writes = writes; taken = taken; steps = new }) st name
 wanting-finishes come probes arguments reads writes old new taken st name is least most =
     subst (λ (x : Status). Finished come probes arguments (record { reads = reads; writes = writes; taken = taken; steps = old }) (record { reads = reads; writes = writes; taken = taken; steps = new }) x name) (sym is)
     (wants come probes arguments reads writes old new taken name least most)
 
-still-counts : (events more steps : ℕ) (taken : Option (List ℕ)) (st : Status) → IsStill st → Counts events more steps steps taken taken st
-still-counts events more steps taken status.Ok still = absurd still
-still-counts events more steps taken status.Usage still = refl
-still-counts events more steps taken status.NoStudy still = refl
-still-counts events more steps taken status.TooLong still = refl
-still-counts events more steps taken (status.Refused rule place) still = refl
-still-counts events more steps taken status.ReadFault still = refl
-still-counts events more steps taken status.WriteFault still = absurd still
-still-counts events more steps taken status.NoBranch still = refl
-still-counts events more steps taken status.NoStock still = refl
-still-counts events more steps taken (status.BadOrders number) still = refl
-still-counts events more steps taken (status.BadBundle reason at) still = refl
-still-counts events more steps taken (status.AuditFailed branch reference) still = refl
-still-counts events more steps taken (status.BadScript act) still = refl
-still-counts events more steps taken (status.ActRefused act) still = refl
-still-counts events more steps taken status.NoEvent still = absurd still
-still-counts events more steps taken status.Memory still = absurd still
+still-counts : (events more most steps : ℕ) (taken : Option (List ℕ)) (st : Status) → IsStill st → Counts events more most steps steps taken taken st
+still-counts events more most steps taken status.Ok still = absurd still
+still-counts events more most steps taken status.Usage still = refl
+still-counts events more most steps taken status.NoStudy still = refl
+still-counts events more most steps taken status.TooLong still = refl
+still-counts events more most steps taken (status.Refused rule place) still = refl
+still-counts events more most steps taken status.ReadFault still = refl
+still-counts events more most steps taken status.WriteFault still = absurd still
+still-counts events more most steps taken status.NoBranch still = refl
+still-counts events more most steps taken status.NoStock still = refl
+still-counts events more most steps taken (status.BadOrders number) still = refl
+still-counts events more most steps taken (status.BadBundle reason at) still = refl
+still-counts events more most steps taken (status.AuditFailed branch reference) still = refl
+still-counts events more most steps taken (status.BadScript act) still = refl
+still-counts events more most steps taken (status.ActRefused act) still = refl
+still-counts events more most steps taken status.NoEvent still = absurd still
+still-counts events more most steps taken status.Memory still = absurd still
 
 -- a status that words and files give before the first step, once a study was found, is its own cause
 still-cause : (come : Verdict) (st : Status) → IsStill st → IsFinal st → status_of come ≡ st → Cause come st
@@ -103,9 +103,9 @@ pub refused-still : (come : Verdict) (probes : Probes) (arguments : List (List �
     → Finished come probes arguments seen seen st name
 refused-still come probes arguments seen st name is still final names argument = record {
   final = final;
-  fulfilled = refusal come (output probes come) (distinct come) (allowance come) seen.reads seen.reads seen.writes seen.steps seen.taken st is
+  fulfilled = refusal come (output probes come) (distinct come) (allowance come) (ceiling come) seen.reads seen.reads seen.writes seen.steps seen.taken st is
       (still-other st status.Ok still (λ ok. ok)) (still-cause come st still final is)
-      (still-counts (distinct come) (allowance come) seen.steps seen.taken st still);
+      (still-counts (distinct come) (allowance come) (ceiling come) seen.steps seen.taken st still);
   named = names;
   argument = argument;
   fault = λ e. absurd (still-other st status.WriteFault still (λ fault. fault) e);
@@ -204,7 +204,7 @@ aimed-eventless marks places s targets past probes arguments reads writes old ne
 -- each mark has a target, none of which is past its branch's last event, and their states were written, or why not
 pub aimed-finishes : (marks : List Mark) (places : ℕ) (s : StudyTold) (targets : List Target) (probes : Probes) (arguments : List (List ℕ)) (before after : Seen) (st told : Status) (name : List ℕ)
     → aimed_at s.course.plan.branches marks ≡ At targets → past_of (lasts_of s.course) targets ≡ None → told ≡ st
-    → Performed (rewinds_of s.course targets) (study_events s.course) (steps_to_all s places targets) before after st
+    → Performed (rewinds_of s.course targets) (study_events s.course) (steps_to_all s places targets) (study_events s.course + steps_to_all s places targets) before after st
     → Finished (verdict_on_found (Rewind marks places) None s) probes arguments before after told name
 aimed-finishes marks places s targets probes arguments before after st told name aims none same p =
     let due = rewound targets places s in

@@ -2,6 +2,7 @@ pub mod Aiming
 pub mod Among
 pub mod Answered
 pub mod Bundles
+pub mod Carrying
 pub mod Come
 pub mod Auditing
 pub mod Crossing

@@ -6,10 +6,10 @@ use Rattle.outside.specs.Taken.{appended, TookPrefix}
 use Rattle.study_rules.specs.Accepted.{StudyTold}
 use Rattle.abides_run.specs.declared.request.Task.{Task}
 use Rattle.command_words.specs.declared.asked.Crossing.{Crossing}
-use Rattle.abides_run.specs.declared.request.Task.TheVariants.{Rewind, Cross}
+use Rattle.abides_run.specs.declared.request.Task.TheVariants.{Rewind, Cross, Session}
 use Rattle.abides_run.specs.Fetched.{arguments_of}
-use Rattle.abides_run.specs.Output.{Probes, Due, written, simulated, allowed}
-use Rattle.abides_run.specs.Verdict.{Verdict, accepted, verdict_on_crossing, verdict_on_found, IsDue}
+use Rattle.abides_run.specs.Output.{Probes, Due, written, simulated, allowed, most_for}
+use Rattle.abides_run.specs.Verdict.{Verdict, accepted, verdict_on_crossing, verdict_on_session, verdict_on_found, IsDue}
 use Rattle.abides_run.specs.Statuses.{Cause, Counts, IsRefusal, IsStill, Names, NamesOne}
 use Rattle.abides_run.specs.Headline.{Seen, Fulfilled}
 use Rattle.abides_run.specs.Performed.{Finished, IsFinal, Performed, Sent, IsUnsent}
@@ -18,24 +18,24 @@ use Rattle.abides_run.specs.declared.status.Status.TheVariants as status
 use Rattle.abides_run.proofs.Answered.{nothing_taken}
 
 -- enough steps were counted before anything was sent, and no more than may be
-unsent_counts : (events more old new : ℕ) (took_before took : Option (List ℕ)) (st : Status) → IsUnsent st → old + events ≤ new → new ≤ old + events + more
-    → Counts events more old new took_before took st
-unsent_counts events more old new took_before took status.Ok u least most = absurd u
-unsent_counts events more old new took_before took status.Usage u least most = absurd u
-unsent_counts events more old new took_before took status.NoStudy u least most = absurd u
-unsent_counts events more old new took_before took status.TooLong u least most = absurd u
-unsent_counts events more old new took_before took (status.Refused rule place) u least most = absurd u
-unsent_counts events more old new took_before took status.ReadFault u least most = absurd u
-unsent_counts events more old new took_before took status.WriteFault u least most = (least, most)
-unsent_counts events more old new took_before took status.NoBranch u least most = absurd u
-unsent_counts events more old new took_before took status.NoStock u least most = absurd u
-unsent_counts events more old new took_before took (status.BadOrders number) u least most = absurd u
-unsent_counts events more old new took_before took (status.BadBundle reason at) u least most = absurd u
-unsent_counts events more old new took_before took (status.AuditFailed branch reference) u least most = absurd u
-unsent_counts events more old new took_before took (status.BadScript act) u least most = absurd u
-unsent_counts events more old new took_before took (status.ActRefused act) u least most = absurd u
-unsent_counts events more old new took_before took status.NoEvent u least most = absurd u
-unsent_counts events more old new took_before took status.Memory u least most = (omega (arith, least), most, λ n. least)
+unsent_counts : (events more most old new : ℕ) (took_before took : Option (List ℕ)) (st : Status) → IsUnsent st → old + events ≤ new → new ≤ old + most
+    → Counts events more most old new took_before took st
+unsent_counts events more most old new took_before took status.Ok u least within = absurd u
+unsent_counts events more most old new took_before took status.Usage u least within = absurd u
+unsent_counts events more most old new took_before took status.NoStudy u least within = absurd u
+unsent_counts events more most old new took_before took status.TooLong u least within = absurd u
+unsent_counts events more most old new took_before took (status.Refused rule place) u least within = absurd u
+unsent_counts events more most old new took_before took status.ReadFault u least within = absurd u
+unsent_counts events more most old new took_before took status.WriteFault u least within = (least, within)
+unsent_counts events more most old new took_before took status.NoBranch u least within = absurd u
+unsent_counts events more most old new took_before took status.NoStock u least within = absurd u
+unsent_counts events more most old new took_before took (status.BadOrders number) u least within = absurd u
+unsent_counts events more most old new took_before took (status.BadBundle reason at) u least within = absurd u
+unsent_counts events more most old new took_before took (status.AuditFailed branch reference) u least within = absurd u
+unsent_counts events more most old new took_before took (status.BadScript act) u least within = absurd u
+unsent_counts events more most old new took_before took (status.ActRefused act) u least within = absurd u
+unsent_counts events more most old new took_before took status.NoEvent u least within = absurd u
+unsent_counts events more most old new took_before took status.Memory u least within = (omega (arith, least), within, λ n. least)
 
 unsent_other : (st : Status) → IsUnsent st → ¬ (st ≡ status.Ok)
 unsent_other st u e = subst IsUnsent e u
@@ -45,13 +45,13 @@ whole_taken : (old new : Option (List ℕ)) (bytes : List ℕ) → new ≡ appen
 whole_taken old new bytes took = record { part = bytes; rest = []; split = append-nil bytes; took = took }
 
 -- the bytes were sent
-pub sent_all : (bytes : List ℕ) (events more reads writes now old new : ℕ) (before after : Option (List ℕ)) → old + events ≤ new → new ≤ old + events + more
+pub sent_all : (bytes : List ℕ) (events more most reads writes now old new : ℕ) (before after : Option (List ℕ)) → old + events ≤ new → new ≤ old + events + more
     → Sent bytes writes now before after (Ok tt)
-    → Performed bytes events more (record { reads = reads; writes = writes; taken = before; steps = old }) (record { reads = reads; writes = now; taken = after; steps = new }) status.Ok
-sent_all bytes events more reads writes now old new before after least most s = record {
+    → Performed bytes events more most (record { reads = reads; writes = writes; taken = before; steps = old }) (record { reads = reads; writes = now; taken = after; steps = new }) status.Ok
+sent_all bytes events more most reads writes now old new before after least within s = record {
   ended = inl refl;
   whole = λ e. s.whole;
-  counter = (least, most);
+  counter = (least, within);
   cut = whole_taken before after bytes s.whole;
   fault = λ e. cc;
   steady = λ e. s.steady;
@@ -59,13 +59,13 @@ sent_all bytes events more reads writes now old new before after least most s = 
 }
 
 -- they were not, or not all
-pub sent_some : (bytes : List ℕ) (events more reads writes now old new : ℕ) (before after : Option (List ℕ)) (st : Status) → old + events ≤ new → new ≤ old + events + more
+pub sent_some : (bytes : List ℕ) (events more most reads writes now old new : ℕ) (before after : Option (List ℕ)) (st : Status) → old + events ≤ new → new ≤ old + most
     → Sent bytes writes now before after (Err st)
-    → Performed bytes events more (record { reads = reads; writes = writes; taken = before; steps = old }) (record { reads = reads; writes = now; taken = after; steps = new }) st
-sent_some bytes events more reads writes now old new before after st least most s = record {
+    → Performed bytes events more most (record { reads = reads; writes = writes; taken = before; steps = old }) (record { reads = reads; writes = now; taken = after; steps = new }) st
+sent_some bytes events more most reads writes now old new before after st least within s = record {
   ended = inr s.unsent;
   whole = λ e. absurd (unsent_other st s.unsent e);
-  counter = unsent_counts events more old new before after st s.unsent least most;
+  counter = unsent_counts events more most old new before after st s.unsent least within;
   cut = s.cut;
   fault = s.fault;
   steady = λ e. absurd (unsent_other st s.unsent e);
@@ -73,12 +73,12 @@ sent_some bytes events more reads writes now old new before after st least most 
 }
 
 -- memory was wanting before anything was sent
-pub wanting : (bytes : List ℕ) (events more reads writes old new : ℕ) (taken : Option (List ℕ)) → old ≤ new → new ≤ old + events + more
-    → Performed bytes events more (record { reads = reads; writes = writes; taken = taken; steps = old }) (record { reads = reads; writes = writes; taken = taken; steps = new }) status.Memory
-wanting bytes events more reads writes old new taken least most = record {
+pub wanting : (bytes : List ℕ) (events more most reads writes old new : ℕ) (taken : Option (List ℕ)) → old ≤ new → new ≤ old + most
+    → Performed bytes events more most (record { reads = reads; writes = writes; taken = taken; steps = old }) (record { reads = reads; writes = writes; taken = taken; steps = new }) status.Memory
+wanting bytes events more most reads writes old new taken least within = record {
   ended = inr tt;
   whole = λ e. cc;
-  counter = (least, most, λ n. absurd (n refl));
+  counter = (least, within, λ n. absurd (n refl));
   cut = nothing_taken taken bytes;
   fault = λ e. cc;
   steady = λ e. cc;
@@ -132,8 +132,8 @@ performed_complete st old new (inl ok) fault r = inl ok
 performed_complete st old new (inr u) fault r = inr (unsent_wanting st old new u fault r)
 
 performed_fulfils : (probes : Probes) (due : Due) (before after : Seen) (st : Status)
-    → Performed (written probes due) (simulated due) (allowed due) before after st
-    → Fulfilled (accepted due) (written probes due) (simulated due) (allowed due) before after st
+    → Performed (written probes due) (simulated due) (allowed due) (most_for due) before after st
+    → Fulfilled (accepted due) (written probes due) (simulated due) (allowed due) (most_for due) before after st
 performed_fulfils probes due before after st p = record {
   output = p.whole;
   counter = p.counter;
@@ -176,7 +176,7 @@ performed_done st (inr u) = unsent_done st u
 
 -- what is due was done
 pub performed_finishes : (probes : Probes) (due : Due) (arguments : List (List ℕ)) (before after : Seen) (st : Status) (name : List ℕ)
-    → Performed (written probes due) (simulated due) (allowed due) before after st
+    → Performed (written probes due) (simulated due) (allowed due) (most_for due) before after st
     → Finished (accepted due) probes arguments before after st name
 performed_finishes probes due arguments before after st name p =
     let done = performed_done st p.ended in record {
@@ -195,7 +195,7 @@ performed_finishes probes due arguments before after st name p =
 -- A task of which this is due was performed, and its status told with a name.
 pub task_finishes : (probes : Probes) (t u : Task) (further : Option (List ℕ)) (due : Due) (s : StudyTold) (writes now old new : ℕ) (before after : Option (List ℕ)) (st told : Status) (name : List ℕ)
     → t ≡ u → told ≡ st → verdict_on_found u further s ≡ accepted due
-    → ((reads : ℕ) → Performed (written probes due) (simulated due) (allowed due) (record { reads = reads; writes = writes; taken = before; steps = old }) (record { reads = reads; writes = now; taken = after; steps = new }) st)
+    → ((reads : ℕ) → Performed (written probes due) (simulated due) (allowed due) (most_for due) (record { reads = reads; writes = writes; taken = before; steps = old }) (record { reads = reads; writes = now; taken = after; steps = new }) st)
     → (reads : ℕ) → Finished (verdict_on_found t further s) probes (arguments_of t) (record { reads = reads; writes = writes; taken = before; steps = old }) (record { reads = reads; writes = now; taken = after; steps = new }) told name
 task_finishes probes t u further due s writes now old new before after st told name is same come p reads =
     let was : Seen = record { reads = reads; writes = writes; taken = before; steps = old } in
@@ -227,3 +227,14 @@ cross_finishes probes t further crossing shown places text s writes now old new 
     let whole : Cross shown places ≡ t = ap (λ (x : Crossing). Cross x places) same ∙ sym is in
     subst (λ (x : Task). Finished (verdict_on_found x further s) probes (arguments_of x) was seen st name) whole
     (subst (λ (bytes : List ℕ). Finished (verdict_on_crossing shown places bytes s) probes (arguments_of (Cross shown places)) was seen st name) read (f reads probes))
+
+-- the same of a session with the bytes of its script
+pub session_finishes : (probes : Probes) (t : Task) (further : Option (List ℕ)) (script : List ℕ) (places : ℕ) (text : List ℕ) (s : StudyTold) (writes now old new : ℕ) (before after : Option (List ℕ)) (st : Status) (name : List ℕ)
+    → t ≡ Session script places → text ≡ unwrap_or further []
+    → ((reads : ℕ) → Finished (verdict_on_session places text s) probes (arguments_of (Session script places)) (record { reads = reads; writes = writes; taken = before; steps = old }) (record { reads = reads; writes = now; taken = after; steps = new }) st name)
+    → (reads : ℕ) → Finished (verdict_on_found t further s) probes (arguments_of t) (record { reads = reads; writes = writes; taken = before; steps = old }) (record { reads = reads; writes = now; taken = after; steps = new }) st name
+session_finishes probes t further script places text s writes now old new before after st name is read f reads =
+    let was : Seen = record { reads = reads; writes = writes; taken = before; steps = old } in
+    let seen : Seen = record { reads = reads; writes = now; taken = after; steps = new } in
+    subst (λ (x : Task). Finished (verdict_on_found x further s) probes (arguments_of x) was seen st name) (sym is)
+    (subst (λ (bytes : List ℕ). Finished (verdict_on_session places bytes s) probes (arguments_of (Session script places)) was seen st name) read (f reads))

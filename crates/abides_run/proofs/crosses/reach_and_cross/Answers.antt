@@ -1,4 +1,4 @@
-use Rattle.std.proofs.Common.{◌≡◌, ◌<◌, ◌∙◌, ℕ, List, [], ◌∷◌, None, Some, length, sym, ap, arith}
+use Rattle.std.proofs.Common.{◌≡◌, ◌<◌, ◌+◌, ◌∙◌, ℕ, List, [], ◌∷◌, None, Some, length, sym, ap, arith}
 use Rattle.std.proofs.lemmas.List.Elements.{All-cons, All-head, All-nil}
 use Rattle.kernel_copy.specs.Courses.{CourseTold}
 use Rattle.reopening_desk.specs.Reopened.{reopened}
@@ -47,5 +47,5 @@ returns-in-Ok-send_cross g c =
     let none : past_of (lasts_of k) (t ∷ []) ≡ None = ap (λ (l : List ℕ). past_of l (t ∷ [])) (sym lasts) ∙ sym c.in_default.ensures in
     λ reads probes arguments among. late-finishes c.args.word.now t c.args.stock c.args.orders.now c.args.places s probes arguments _ _ _ c.nameless-in-Ok-send_cross.result.status _
     none c.nameless-in-Ok-send_cross.ensures
-    (sent_all (reopened (target_state k t) c.args.stock c.args.orders.now) (study_events k) (steps_to s c.args.places t) reads (g.O.Sink.faults c.args.out.now) (g.O.Sink.faults c.send_cross.new.out) c.args.steps.now c.send_cross.new.steps (g.O.Sink.taken c.args.out.now) (g.O.Sink.taken c.send_cross.new.out)
+    (sent_all (reopened (target_state k t) c.args.stock c.args.orders.now) (study_events k) (steps_to s c.args.places t) (study_events k + steps_to s c.args.places t) reads (g.O.Sink.faults c.args.out.now) (g.O.Sink.faults c.send_cross.new.out) c.args.steps.now c.send_cross.new.steps (g.O.Sink.taken c.args.out.now) (g.O.Sink.taken c.send_cross.new.out)
     (omega (arith, c.in-Ok.ensures.rose, c.send_cross.ensures.least)) (omega (arith, c.in-Ok.ensures.rose, c.send_cross.ensures.most, c.in-Ok.ensures.near t)) c.in-Ok-send_cross.ensures.sent)

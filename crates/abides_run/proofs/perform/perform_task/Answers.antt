@@ -1,8 +1,8 @@
 use Rattle.std.proofs.Common.{◌≡◌, option_map, refl, rules, vec_items}
 use Rattle.study_rules.specs.Accepted.{study_told}
-use Rattle.abides_run.specs.declared.request.Task.TheVariants.{Run, Check, Table, Lines, Rewind, Cross}
+use Rattle.abides_run.specs.declared.request.Task.TheVariants.{Run, Check, Table, Lines, Rewind, Cross, Session}
 use Rattle.abides_run.specs.Output.{bundled, compared, counted, described}
-use Rattle.abides_run.proofs.Performing.{cross_finishes, rewind_finishes, task_finishes}
+use Rattle.abides_run.proofs.Performing.{cross_finishes, rewind_finishes, session_finishes, task_finishes}
 use Rattle.abides_run.proofs.perform.perform_task.Goals as goal
 
 pub returns-in-Run : goal.returns-in-Run
@@ -46,3 +46,10 @@ returns-in-Cross g c =
     let is : f.task ≡ Cross c.in-Cross.crossing c.in-Cross.places = search rules in
     cross_finishes _ f.task (option_map vec_items f.further) c.in-Cross.crossing c.in-Cross.crossing c.in-Cross.places c.further_text-text.result.now (study_told f.study) (g.O.Sink.faults c.args.out.now) (g.O.Sink.faults c.cross_study.new.out) c.args.steps.now c.cross_study.new.steps (g.O.Sink.taken c.args.out.now) (g.O.Sink.taken c.cross_study.new.out) c.cross_study.result.status _
     is refl c.further_text-text.ensures c.cross_study.ensures
+
+pub returns-in-Session : goal.returns-in-Session
+returns-in-Session g c =
+    let f = c.args.found.now in
+    let is : f.task ≡ Session c.in-Session.field-0 c.in-Session.places = search rules in
+    session_finishes _ f.task (option_map vec_items f.further) c.in-Session.field-0 c.in-Session.places c.further_text-text-2.result.now (study_told f.study) (g.O.Sink.faults c.args.out.now) (g.O.Sink.faults c.session_study.new.out) c.args.steps.now c.session_study.new.steps (g.O.Sink.taken c.args.out.now) (g.O.Sink.taken c.session_study.new.out) c.session_study.result.status _
+    is c.further_text-text-2.ensures c.session_study.ensures

@@ -11,21 +11,21 @@ pub returns-in-Err : goal.returns-in-Err
 unfolding study_events
 returns-in-Err g c =
     let k = c.args.study.now.course.value in
-    λ reads. wanting (study_bundle k) (study_events k) 0 reads (g.O.Sink.faults c.args.out.now) c.args.steps.now c.work.new.steps (g.O.Sink.taken c.args.out.now)
+    λ reads. wanting (study_bundle k) (study_events k) 0 (study_events k) reads (g.O.Sink.faults c.args.out.now) c.args.steps.now c.work.new.steps (g.O.Sink.taken c.args.out.now)
     c.work.ensures.least (omega (arith, c.work.ensures.most))
 
 pub returns-in-Ok-send_bundle : goal.returns-in-Ok-send_bundle
 unfolding study_events
 returns-in-Ok-send_bundle g c =
     let k = c.args.study.now.course.value in
-    λ reads. sent_all (study_bundle k) (study_events k) 0 reads (g.O.Sink.faults c.args.out.now) (g.O.Sink.faults c.send_bundle.new.out) c.args.steps.now c.work.new.steps (g.O.Sink.taken c.args.out.now) (g.O.Sink.taken c.send_bundle.new.out)
+    λ reads. sent_all (study_bundle k) (study_events k) 0 (study_events k) reads (g.O.Sink.faults c.args.out.now) (g.O.Sink.faults c.send_bundle.new.out) c.args.steps.now c.work.new.steps (g.O.Sink.taken c.args.out.now) (g.O.Sink.taken c.send_bundle.new.out)
     (omega (arith, c.in-Ok.ensures.rose)) (omega (arith, c.in-Ok.ensures.rose)) (rw c.deref.ensures at c.in-Ok-send_bundle.ensures)
 
 pub returns : goal.returns
 unfolding study_events
 returns g c =
     let k = c.args.study.now.course.value in
-    λ reads. sent_some (study_bundle k) (study_events k) 0 reads (g.O.Sink.faults c.args.out.now) (g.O.Sink.faults c.send_bundle.new.out) c.args.steps.now c.work.new.steps (g.O.Sink.taken c.args.out.now) (g.O.Sink.taken c.send_bundle.new.out) c.in-Err-send_bundle.status
+    λ reads. sent_some (study_bundle k) (study_events k) 0 (study_events k) reads (g.O.Sink.faults c.args.out.now) (g.O.Sink.faults c.send_bundle.new.out) c.args.steps.now c.work.new.steps (g.O.Sink.taken c.args.out.now) (g.O.Sink.taken c.send_bundle.new.out) c.in-Err-send_bundle.status
     (omega (arith, c.in-Ok.ensures.rose)) (omega (arith, c.in-Ok.ensures.rose)) (rw c.deref.ensures at c.in-Err-send_bundle.ensures)
 
 pub send_bundle-requires : goal.send_bundle-requires

@@ -11,19 +11,19 @@ use Rattle.abides_run.proofs.perform.tell_study.Goals as goal
 pub returns-in-Err : goal.returns-in-Err
 unfolding study_events
 returns-in-Err g c =
-    λ reads. wanting (study_lines c.args.bytes c.args.study.now.course.value) (study_events c.args.study.now.course.value) 0 reads (g.O.Sink.faults c.args.out.now) c.args.steps.now c.work.new.steps (g.O.Sink.taken c.args.out.now)
+    λ reads. wanting (study_lines c.args.bytes c.args.study.now.course.value) (study_events c.args.study.now.course.value) 0 (study_events c.args.study.now.course.value) reads (g.O.Sink.faults c.args.out.now) c.args.steps.now c.work.new.steps (g.O.Sink.taken c.args.out.now)
     c.work.ensures.least (omega (arith, c.work.ensures.most))
 
 pub returns-in-Err-big_lines : goal.returns-in-Err-big_lines
 unfolding study_events
 returns-in-Err-big_lines g c =
-    λ reads. wanting (study_lines c.args.bytes c.args.study.now.course.value) (study_events c.args.study.now.course.value) 0 reads (g.O.Sink.faults c.args.out.now) c.args.steps.now c.work.new.steps (g.O.Sink.taken c.args.out.now)
+    λ reads. wanting (study_lines c.args.bytes c.args.study.now.course.value) (study_events c.args.study.now.course.value) 0 (study_events c.args.study.now.course.value) reads (g.O.Sink.faults c.args.out.now) c.args.steps.now c.work.new.steps (g.O.Sink.taken c.args.out.now)
     c.work.ensures.least (omega (arith, c.work.ensures.most))
 
 pub returns-in-Ok-send : goal.returns-in-Ok-send
 unfolding study_events study_lines
 returns-in-Ok-send g c =
-    λ reads. sent_all _ (study_events c.args.study.now.course.value) 0 reads (g.O.Sink.faults c.args.out.now) (g.O.Sink.faults c.send.new.out) c.args.steps.now c.work.new.steps (g.O.Sink.taken c.args.out.now) (g.O.Sink.taken c.send.new.out)
+    λ reads. sent_all _ (study_events c.args.study.now.course.value) 0 (study_events c.args.study.now.course.value) reads (g.O.Sink.faults c.args.out.now) (g.O.Sink.faults c.send.new.out) c.args.steps.now c.work.new.steps (g.O.Sink.taken c.args.out.now) (g.O.Sink.taken c.send.new.out)
     (omega (arith, c.in-Ok.ensures.rose)) (omega (arith, c.in-Ok.ensures.rose))
     (subst (λ (bytes : List ℕ). Sent bytes (g.O.Sink.faults c.args.out.now) (g.O.Sink.faults c.send.new.out) (g.O.Sink.taken c.args.out.now) (g.O.Sink.taken c.send.new.out) (Ok tt))
     (c.as_bytes.ensures.value ∙ (rw c.deref.ensures at c.in-Ok-big_lines.ensures)) c.in-Ok-send.ensures)
@@ -31,7 +31,7 @@ returns-in-Ok-send g c =
 pub returns : goal.returns
 unfolding study_events study_lines
 returns g c =
-    λ reads. sent_some _ (study_events c.args.study.now.course.value) 0 reads (g.O.Sink.faults c.args.out.now) (g.O.Sink.faults c.send.new.out) c.args.steps.now c.work.new.steps (g.O.Sink.taken c.args.out.now) (g.O.Sink.taken c.send.new.out) c.in-Err-send.status
+    λ reads. sent_some _ (study_events c.args.study.now.course.value) 0 (study_events c.args.study.now.course.value) reads (g.O.Sink.faults c.args.out.now) (g.O.Sink.faults c.send.new.out) c.args.steps.now c.work.new.steps (g.O.Sink.taken c.args.out.now) (g.O.Sink.taken c.send.new.out) c.in-Err-send.status
     (omega (arith, c.in-Ok.ensures.rose)) (omega (arith, c.in-Ok.ensures.rose))
     (subst (λ (bytes : List ℕ). Sent bytes (g.O.Sink.faults c.args.out.now) (g.O.Sink.faults c.send.new.out) (g.O.Sink.taken c.args.out.now) (g.O.Sink.taken c.send.new.out) (Err c.in-Err-send.status))
     (c.as_bytes.ensures.value ∙ (rw c.deref.ensures at c.in-Ok-big_lines.ensures)) c.in-Err-send.ensures)

@@ -1,4 +1,4 @@
-use Rattle.std.proofs.Common.{◌≡◌, ◌<◌, ◌≤◌, ◌∙◌, ℕ, List, None, Some, length, sum_by, sym, ap, arith}
+use Rattle.std.proofs.Common.{◌≡◌, ◌<◌, ◌≤◌, ◌+◌, ◌∙◌, ℕ, List, None, Some, length, sum_by, sym, ap, arith}
 use Rattle.kernel_copy.specs.Courses.{CourseTold}
 use Rattle.rewind_desk.specs.Targets.{past_of}
 use Rattle.study_rules.specs.Accepted.{study_told}
@@ -71,7 +71,7 @@ returns-in-Ok-send_rewinds g c =
     let saved : sum_by (steps_from shelf) ts ≤ sum_by (steps_to s c.args.places) ts = sum-fewer (steps_from shelf) (steps_to s c.args.places) ts c.in-Ok.ensures.near in
     λ reads probes. aimed-finishes c.args.marks.now c.args.places s ts probes _ _ _ _ c.nameless-in-Ok-send_rewinds.result.status _
     c.requires.targets none c.nameless-in-Ok-send_rewinds.ensures
-    (sent_all (rewinds_of k ts) (study_events k) (sum_by (steps_to s c.args.places) ts) reads (g.O.Sink.faults c.args.out.now) (g.O.Sink.faults c.send_rewinds.new.out) c.args.steps.now c.send_rewinds.new.steps (g.O.Sink.taken c.args.out.now) (g.O.Sink.taken c.send_rewinds.new.out)
+    (sent_all (rewinds_of k ts) (study_events k) (sum_by (steps_to s c.args.places) ts) (study_events k + sum_by (steps_to s c.args.places) ts) reads (g.O.Sink.faults c.args.out.now) (g.O.Sink.faults c.send_rewinds.new.out) c.args.steps.now c.send_rewinds.new.steps (g.O.Sink.taken c.args.out.now) (g.O.Sink.taken c.send_rewinds.new.out)
     (omega (arith, c.in-Ok.ensures.rose, c.send_rewinds.ensures.least)) (omega (arith, c.in-Ok.ensures.rose, c.send_rewinds.ensures.most, saved)) c.in-Ok-send_rewinds.ensures.sent)
 
 pub returns : goal.returns
@@ -85,5 +85,5 @@ returns g c =
     let saved : sum_by (steps_from shelf) ts ≤ sum_by (steps_to s c.args.places) ts = sum-fewer (steps_from shelf) (steps_to s c.args.places) ts c.in-Ok.ensures.near in
     λ reads probes. aimed-finishes c.args.marks.now c.args.places s ts probes _ _ _ _ c.nameless-in-Err-send_rewinds.result.status _
     c.requires.targets none c.nameless-in-Err-send_rewinds.ensures
-    (sent_some (rewinds_of k ts) (study_events k) (sum_by (steps_to s c.args.places) ts) reads (g.O.Sink.faults c.args.out.now) (g.O.Sink.faults c.send_rewinds.new.out) c.args.steps.now c.send_rewinds.new.steps (g.O.Sink.taken c.args.out.now) (g.O.Sink.taken c.send_rewinds.new.out) c.in-Err-send_rewinds.status
+    (sent_some (rewinds_of k ts) (study_events k) (sum_by (steps_to s c.args.places) ts) (study_events k + sum_by (steps_to s c.args.places) ts) reads (g.O.Sink.faults c.args.out.now) (g.O.Sink.faults c.send_rewinds.new.out) c.args.steps.now c.send_rewinds.new.steps (g.O.Sink.taken c.args.out.now) (g.O.Sink.taken c.send_rewinds.new.out) c.in-Err-send_rewinds.status
     (omega (arith, c.in-Ok.ensures.rose, c.send_rewinds.ensures.least)) (omega (arith, c.in-Ok.ensures.rose, c.send_rewinds.ensures.most, saved)) c.in-Err-send_rewinds.ensures.sent)
