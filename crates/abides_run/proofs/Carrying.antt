@@ -1,9 +1,13 @@
 -- How a session ends.
-use Rattle.std.proofs.Common.{◌≡◌, ◌⊎◌, ◌<◌, ◌≤◌, ◌+◌, ◌*◌, ℕ, zero, suc, nat_lt, true, false, List, [], ◌∷◌, Option, None, Some, Result, Ok, Err, length, refl, sym, ap, ◌∙◌, subst, inl, inr, arith}
+use Rattle.std.proofs.Common.{◌≡◌, ◌⊎◌, ◌<◌, ◌≤◌, ◌+◌, ◌*◌, ℕ, zero, suc, nat_lt, Bool, true, false, ◌&&◌, not, if◌then◌else◌, List, [], ◌∷◌, Option, None, Some, Result, Ok, Err, length, refl, sym, ap, ◌∙◌, subst, inl, inr, arith}
+use Rattle.toml.specs.Data.{Members}
+use Rattle.kernel_copy.specs.Courses.{CourseTold}
+use Rattle.study_file.specs.Tables.{table_of}
 use Rattle.session_script.specs.declared.act.Act.{Act}
 use Rattle.session_script.specs.declared.act.ScriptError.{ScriptError}
 use Rattle.session_script.specs.declared.act.ScriptError.TheVariants as error
-use Rattle.session_script.specs.Script.{script_of}
+use Rattle.study_rules.specs.Scope.{scope_of_opening}
+use Rattle.session_script.specs.Script.{act_entries, acts_in, acts_of, forks_by_time, is_fit, is_script, script_of}
 use Rattle.session_desk.specs.Session.{SessionTold, first_session}
 use Rattle.session_answers.specs.declared.end.PastAct.{PastAct}
 use Rattle.session_answers.specs.Acting.{after_act}
@@ -76,6 +80,25 @@ unread-script-finishes (error.BadAct i) places text s probes reads writes steps 
     refuses-script i (verdict_on_session places text s) probes act_words reads writes steps taken st name (ap (λ (r : Result (List Act) ScriptError). verdict_on_script places s r) is) same
 unread-script-finishes error.Memory places text s probes reads writes steps taken st name why same =
     wanting-finishes (verdict_on_session places text s) probes act_words reads writes steps steps taken st name same (omega arith) (omega arith)
+
+-- a script says acts only over a study that forks by event number
+fits : (c : CourseTold) (t : Members) (whole : Bool) (acts : List Act) → (if whole then acts_of (scope_of_opening c.opening) (act_entries t) else Err (error.BadAct 64)) ≡ Ok acts → whole ≡ true
+fits c t true acts is = refl
+fits c t false acts is = cc
+
+unlike-times : (whole times : Bool) → (whole && not times) ≡ true → times ≡ false
+unlike-times whole false is = refl
+unlike-times true true is = sym is
+unlike-times false true is = sym is
+
+said-numbers : (c : CourseTold) (acts : List Act) (table : Option Members)
+    → ◌≡◌ {A = Result (List Act) ScriptError} (elim table [ None ↦ Err error.NotToml | Some t ↦ acts_in c t ]) (Ok acts) → forks_by_time c ≡ false
+said-numbers c acts None is = absurd (cc is)
+said-numbers c acts (Some t) is = unlike-times (is_script t) (forks_by_time c) (fits c t (is_fit c t) acts is)
+
+pub numbers-alone : (c : CourseTold) (bytes : List ℕ) (acts : List Act) → script_of c bytes ≡ Ok acts → forks_by_time c ≡ false
+unfolding script_of
+numbers-alone c bytes acts is = said-numbers c acts (table_of bytes) is
 
 -- the script says acts
 script-comes : (places : ℕ) (text : List ℕ) (s : StudyTold) (acts : List Act) (refused : Option ℕ) → script_of s.course text ≡ Ok acts → act_refused (first_session s.course) acts ≡ refused

@@ -1,6 +1,6 @@
 //! Sessions: the acts of a script over a study's tree of branches, each answered in the tree as it then stands.
 
-ghost use Rattle.std.specs.Prelude.{◌≡◌, ◌⊎◌, ◌≤◌, ◌<◌, ◌^◌, ℕ, None, All, IfOk, length, map, string_bytes};
+ghost use Rattle.std.specs.Prelude.{◌≡◌, ◌⊎◌, ◌≤◌, ◌<◌, ◌^◌, ℕ, false, None, All, length, map, IfOk, string_bytes};
 ghost use Rattle.branch_tree.specs.Stops.{is_time};
 ghost use Rattle.session_script.specs.Fitting.{FitsOpening};
 ghost use Rattle.session_desk.specs.Session.{first_session};
@@ -19,6 +19,7 @@ use crate::status::Status;
 use outside::{Gate, Ledger, Sink, Steps};
 use plain_lists::Memory;
 use probe_desk::Probe;
+use session_answers::laws::{branches_fork_by_number, nearer_states_leave_less};
 use session_answers::{PastAct, SessionEnd, carry_out, first_refused};
 use session_script::{Act, ScriptError, read_script};
 use std::alloc::{AllocError, Global};
@@ -83,6 +84,7 @@ fn reach_and_answer<R: Threads + Wait + Sync, O: Sink, G: Gate + Sync, D: Ledger
         (record { reads = reads; writes = O.faults out.new; taken = O.taken out.new; steps = steps.new })
         result.status (string_bytes result.name) }
 {
+    nearer_states_leave_less();
     let _ = study.course.opening();
     let simulated = match simulate_kept(rt, alloc, study, places, workers, gate, steps) {
         Ok(simulated) => simulated,
@@ -126,6 +128,7 @@ pub fn session_study<R: Threads + Wait + Sync, O: Sink, G: Gate + Sync, D: Ledge
         (record { reads = reads; writes = O.faults out.new; taken = O.taken out.new; steps = steps.new })
         result.status (string_bytes result.name) }
 {
+    branches_fork_by_number();
     let acts = match read_script(alloc, text, study) {
         Ok(acts) => acts,
         Err(error) => return nameless(alloc, status_for(error)),

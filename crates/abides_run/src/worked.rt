@@ -1,13 +1,15 @@
 //! What the definitions give on worked studies, words and statuses.
 
-ghost use Rattle.std.specs.Prelude.{◌≡◌, ◌∷◌, ◌++◌, [], ℕ, Some, None, codes, length};
+ghost use Rattle.std.specs.Prelude.{◌≡◌, ◌∷◌, ◌++◌, [], ℕ, Some, None, Ok, codes, length};
 ghost use Rattle.outside.specs.Files.{absent, too_long, whole};
-ghost use Rattle.abides_run.specs.Output.{audit_line, audited, counts_line, crossed, rewound, study_bundle, study_events};
+ghost use Rattle.abides_run.specs.Output.{audit_line, audited, carried_out, counts_line, crossed, rewound, study_bundle, study_events};
 ghost use Rattle.branch_tree.specs.declared.stop.Stop.TheVariants.{When};
 ghost use Rattle.abides_run.specs.Worked.{crossing_at, first_stock, header_alone, empty_course, empty_run, late_parent, mark_at, no_branches, no_branches_bytes, slower_at_a_time, target_at, three_branches, three_branches_at, three_branches_study, study_with_series};
 ghost use Rattle.abides_run.specs.Rewinds.{lasts_of};
+ghost use Rattle.session_script.specs.declared.act.Act.TheVariants as act;
+ghost use Rattle.abides_run.specs.Sessions.{act_word};
 ghost use Rattle.abides_run.specs.Words.{asked_of};
-ghost use Rattle.abides_run.specs.Verdict.{verdict, usage, no_file, file_too_long, refused, no_branch, no_stock, bad_orders, bad_bundle, no_event, accepted, verdict_on_study, verdict_on_found, verdict_on_bundle};
+ghost use Rattle.abides_run.specs.Verdict.{verdict, usage, no_file, file_too_long, refused, no_branch, no_stock, bad_orders, bad_bundle, bad_script, refused_act, no_event, accepted, verdict_on_study, verdict_on_found, verdict_on_bundle, verdict_on_script};
 ghost use Rattle.abides_run.specs.Fetched.{fetched};
 ghost use Rattle.abides_run.specs.Notes.{note, past_event};
 ghost use Rattle.abides_run.specs.declared.request.Request.TheVariants.{File, Large, Bundle};
@@ -97,6 +99,16 @@ pub fn crosses_of_three_branches()
         ≡ accepted (crossed (target_at 0 6) first_stock [] 16 three_branches_study) }
 {}
 
+/// A script that says no acts comes before an act that the tree refuses, and that before one that goes past its branch's last event.
+pub fn sessions_of_three_branches()
+    ensures asked { asked_of (codes "session" ∷ codes "s" ∷ codes "c" ∷ []) ≡ Some (File (task.Session (codes "c") 16) (codes "s")) }
+    ensures no_toml { verdict_on_found (task.Session (codes "c") 16) (Some (255 ∷ [])) three_branches_study ≡ bad_script 64 }
+    ensures no_acts { verdict_on_found (task.Session (codes "c") 16) (Some []) three_branches_study ≡ bad_script 64 }
+    ensures refused { verdict_on_script 16 three_branches_study (Ok (act.Rewind (codes "root") 7 ∷ act.Values (codes "w") ∷ [])) ≡ refused_act 1 }
+    ensures past { verdict_on_script 16 three_branches_study (Ok (act.Undo ∷ act.Rewind (codes "root") 7 ∷ [])) ≡ no_event (codes "act 1") 6 three_branches_study 200 }
+    ensures there { verdict_on_script 16 three_branches_study (Ok (act.Rewind (codes "z") 6 ∷ [])) ≡ accepted (carried_out (act.Rewind (codes "z") 6 ∷ []) 16 three_branches_study) }
+{}
+
 /// An audit fetches its bundle alone. Of no bytes a frame is cut; a letter that no frame has is a bad frame, an end where the header
 /// must stand a bad place; and a bundle of no branches passes.
 pub fn audits_of_small_bytes()
@@ -121,6 +133,13 @@ pub fn lines_of_audits()
 pub fn lines_of_refused_crosses()
     ensures no_stock { note (codes "XYZ") Status.NoStock ≡ codes "no stock: XYZ\n" }
     ensures bad_orders { note [] (Status.BadOrders 3) ≡ codes "orders refused: record 3\n" }
+{}
+
+/// The lines of refused scripts and acts, and the last act that a script may have.
+pub fn lines_of_refused_sessions()
+    ensures bad_script { note [] (Status.BadScript 64) ≡ codes "script refused: act 64\n" }
+    ensures act_refused { note [] (Status.ActRefused 0) ≡ codes "act refused: 0\n" }
+    ensures no_event { note (past_event (act_word 63) 6) Status.NoEvent ≡ codes "no event: act 63, last event 6\n" }
 {}
 
 /// The lines of refused rewinds.
