@@ -23,6 +23,7 @@ use checkpoint_shelf::ClosedShelf;
 use command_words::{Crossing, Mark};
 use kernel_copy::laws::courses_stay_in_range;
 use kernel_copy::{Checkpoint, Course};
+use market_laws::laws::live_orders_of_courses_are_small;
 use order_file::{OrdersError, read_orders};
 use outside::{Gate, Ledger, Sink, Steps};
 use plain_lists::Memory;
@@ -85,12 +86,14 @@ fn crossed_bytes<L: Ledger>(
     ensures most { steps.new ≤ steps.old + steps_from shelf.now target }
 {
     courses_stay_in_range();
+    live_orders_of_courses_are_small();
     let _ = course.opening();
     let rewound = match rewind(alloc, course, shelf, target.branch, target.event, steps) {
         Ok(rewound) => rewound,
         Err(RewindError::Memory) => return Err(Memory),
         Err(_) => unreachable!(),
     };
+    let _ = rewound.kernel.exchange();
     reopening(alloc, &rewound.kernel, stock, orders)
 }
 

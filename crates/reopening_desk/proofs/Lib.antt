@@ -1,3 +1,4 @@
+mod Clearing
 mod Few
-mod Follows
+mod Interests
 mod Together

@@ -1,6 +1,5 @@
 -- How the parts of the answer come together.
 use Rattle.std.proofs.Common.{◌≡◌, ◌∙◌, ℕ, ◌+◌, List, [], ◌∷◌, ◌++◌, Option, ap, drop, length, map, refl}
-use Rattle.price_time_book.specs.declared.resting.Resting.{Resting}
 use Rattle.exchange_agent.specs.State.{stock_at}
 use Rattle.kernel_core.specs.State.{State}
 use Rattle.reopen_cross.specs.declared.cross.Cross.{Cross}
@@ -26,12 +25,11 @@ moment-is s stock time matches t m =
     ∙ ap (λ (x : ℕ). record { time = s.time; locate = stock.number + 1; symbol = stock.symbol; matches = x }) m
 
 -- a book's orders and a file's
-pub list-is : (s : State) (k orders : ℕ) (filed book list : List Interest) (resting : List Resting) → orders ≡ s.floor.exchange.counts.orders
-    → resting ≡ (stock_at s.floor.exchange k).book → book ≡ map interest_of resting → list ≡ book ++ map (numbered_after orders) filed
+pub list-is : (s : State) (k orders : ℕ) (filed book list : List Interest) → orders ≡ s.floor.exchange.counts.orders
+    → book ≡ map interest_of (stock_at s.floor.exchange k).book → list ≡ book ++ map (numbered_after orders) filed
     → list ≡ interests_of s k filed
-list-is s k orders filed book list resting counted read made joined =
-    joined ∙ ap (λ (n : ℕ). book ++ map (numbered_after n) filed) counted
-    ∙ ap (λ (xs : List Interest). xs ++ joining s filed) (made ∙ ap (map interest_of) read)
+list-is s k orders filed book list counted made joined =
+    joined ∙ ap (λ (n : ℕ). book ++ map (numbered_after n) filed) counted ∙ ap (λ (xs : List Interest). xs ++ joining s filed) made
 
 -- of which the file's stand behind the book's
 pub tail-is : (s : State) (orders n : ℕ) (filed book list : List Interest) → orders ≡ s.floor.exchange.counts.orders

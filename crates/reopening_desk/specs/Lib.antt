@@ -1,2 +1,3 @@
-pub mod Stocks
+pub mod Books
 pub mod Reopened
+pub mod Stocks

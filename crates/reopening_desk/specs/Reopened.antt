@@ -1,13 +1,13 @@
 -- What a stock's book and a file's orders come to in a state.
-use Rattle.std.specs.Prelude.{ℕ, ◌+◌, Bool, ◌&&◌, nat_le, nat_lt, List, [], ◌++◌, Option, None, Some, map}
-use Rattle.market_types.specs.Limits.{highest_price}
+use Rattle.std.specs.Prelude.{◌≡◌, ℕ, ◌+◌, List, [], ◌++◌, Option, None, Some, IfSome, map}
 use Rattle.price_time_book.specs.declared.resting.Resting.{Resting}
 use Rattle.exchange_agent.specs.State.{stock_at}
 use Rattle.kernel_core.specs.State.{State}
 use Rattle.reopen_cross.specs.declared.cross.Cross.{Cross}
 use Rattle.reopen_cross.specs.declared.cross.Interest.{Interest}
 use Rattle.reopen_cross.specs.declared.cross.Part.{Part}
-use Rattle.reopen_cross.specs.Cross.{cross_of}
+use Rattle.reopen_cross.specs.Clearing.{IsClearing}
+use Rattle.reopen_cross.specs.Cross.{cross_of, executed}
 use Rattle.reopen_cross.specs.Parts.{parts_of}
 use Rattle.order_file.specs.Filed.{numbered_after}
 use Rattle.cross_frames.specs.declared.whole.Reopening.{Reopening}
@@ -17,12 +17,6 @@ use Rattle.reopening_desk.specs.declared.stock.StockNamed.{StockNamed}
 -- an order of a book
 abbrev pub interest_of : Resting → Interest
 interest_of r = record { reference = r.reference; side = r.side; price = r.price; left = r.left; shown = r.shown }
-
--- An order may come behind others, the last of which has this reference or a lower one, where no order has a greater reference
--- than another number: it is in its ranges.
-abbrev pub may_follow : ℕ → ℕ → Interest → Bool
-may_follow before last o =
-    nat_lt before o.reference && (nat_le o.reference last && (nat_le 1 o.left && (nat_le o.left 999999 && (nat_le 1 o.price && nat_le o.price highest_price))))
 
 -- the orders of a file, under the references after the state's last
 abbrev pub joining : State → List Interest → List Interest
@@ -53,3 +47,9 @@ told_of at filed list = reopening_frames at filed (cross_of list) (parts_in list
 -- What is told of a stock's reopening in a state, if the orders of a file joined its book.
 unfoldable pub reopened : State → StockNamed → List Interest → List ℕ
 reopened s stock filed = told_of (reopening_at s stock) (joining s filed) (interests_of s stock.number filed)
+
+-- The price at which a list of interest crosses clears it: no price executes more shares, and the certificate shows that. Where
+-- there is no such price, no share would trade at any.
+pub record Clears (list : List Interest) : Type 0 where
+  pub crossed : IfSome (cross_of list) (IsClearing list)
+  pub uncrossed : cross_of list ≡ None → (p : ℕ) → executed list p ≡ 0

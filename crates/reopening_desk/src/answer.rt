@@ -4,20 +4,18 @@ ghost use Rattle.std.specs.Prelude.{◌≡◌, ◌<◌, IfOk, length};
 ghost use Rattle.order_file.specs.Filed.{AreFiled};
 ghost use Rattle.reopen_cross.specs.Cross.{cross_of};
 ghost use Rattle.reopen_cross.specs.Orderly.{AreInterests};
-ghost use Rattle.reopening_desk.specs.Reopened.{parts_in, reopened};
+ghost use Rattle.exchange_laws.specs.Small.{IsSmallExchange};
+ghost use Rattle.reopening_desk.specs.Reopened.{Clears, interests_of, parts_in, reopened};
 
 use crate::book::interests;
+use crate::laws::{live_orders_are_in_range, reopenings_clear};
 use crate::stock::StockNamed;
 use cross_frames::{Reopening, put_reopening};
 use kernel_core::Kernel;
 use market_types::Memory;
 use order_file::join;
-use reopen_cross::laws::crosses_clear;
 use reopen_cross::{Cross, Interest, Part, choose, parts};
 use std::alloc::Global;
-
-// No run counts so many orders or matches.
-const MOST_COUNTED: u64 = 1 << 62;
 
 // What each order trades, where there is a cross.
 fn parts_in(alloc: Global, list: &[Interest], cross: Option<Cross>) -> Result<Vec<Part>, Memory>
@@ -32,8 +30,8 @@ fn parts_in(alloc: Global, list: &[Interest], cross: Option<Cross>) -> Result<Ve
 }
 
 /// All that is told of a stock's reopening in the kernel's state, if these orders of a file joined its book: at which price most
-/// shares would trade, and what each order trades there. The state stays as it is. Of a state that no run comes to, with orders out
-/// of their ranges, nothing is told, as where memory is wanting.
+/// shares would trade, and what each order trades there. The state stays as it is. The numbers of the exchange's orders are
+/// small, as they are in every state of a study.
 ///
 /// # Errors
 /// Want of memory alone.
@@ -46,16 +44,17 @@ pub fn reopening(
     requires stock { stock.number < length kernel.now.floor.exchange.stocks }
     requires few { stock.number < 16 }
     requires orders { AreFiled orders.now }
-    ensures { IfOk result (λ v. v.items ≡ reopened kernel.now stock orders.now) }
+    requires small { IsSmallExchange (length kernel.now.floor.exchange.cash) kernel.now.events kernel.now.floor.exchange }
+    ensures told { IfOk result (λ v. v.items ≡ reopened kernel.now stock orders.now) }
+    ensures clears { Clears (interests_of kernel.now stock.number orders.now) }
 {
-    crosses_clear();
+    live_orders_are_in_range();
+    reopenings_clear();
+    let _ = kernel.events();
     let exchange = kernel.exchange();
     let counts = exchange.counts();
-    if counts.orders > MOST_COUNTED || counts.matches > MOST_COUNTED {
-        return Err(Memory);
-    }
-    let resting = exchange.orders(alloc, stock.number)?;
-    let mut list = interests(alloc, &resting, counts.orders)?;
+    let mut list = interests(alloc, exchange, stock.number)?;
+    let resting = list.len();
     join(&mut list, counts.orders, orders)?;
     let cross = choose(alloc, &list)?;
     let parts = parts_in(alloc, &list, cross)?;
@@ -66,6 +65,6 @@ pub fn reopening(
         matches: counts.matches,
     };
     let mut out = Vec::new(alloc);
-    put_reopening(&mut out, &at, &list[resting.len()..], cross, &parts)?;
+    put_reopening(&mut out, &at, &list[resting..], cross, &parts)?;
     Ok(out)
 }

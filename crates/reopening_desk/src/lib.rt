@@ -3,6 +3,7 @@
 
 mod answer;
 mod book;
+pub mod laws;
 mod stock;
 
 pub use answer::reopening;

@@ -1,3 +1,4 @@
 pub mod Entries
 pub mod Reading
 pub mod Told
+pub mod Fits

@@ -122,3 +122,13 @@ table-none c (Some t) h =
 pub no-table : (c : CourseTold) (bytes : List ℕ) → script_of c bytes ≡ Err NotToml → table_of bytes ≡ None
 unfolding script_of
 no-table c bytes h = table-none c (table_of bytes) h
+
+-- a script that is taken is a table
+
+taken-table : (c : CourseTold) (o : Option Members) (acts : List Act) → with_table c o ≡ Ok acts → (t : Members) × (o ≡ Some t)
+taken-table c None acts h = absurd (cc h)
+taken-table c (Some t) acts h = (t, refl)
+
+pub is-table : (c : CourseTold) (bytes : List ℕ) (acts : List Act) → script_of c bytes ≡ Ok acts → (t : Members) × (table_of bytes ≡ Some t)
+unfolding script_of
+is-table c bytes acts h = taken-table c (table_of bytes) acts h

@@ -1,20 +1,38 @@
-use Rattle.std.proofs.Common.{◌≡◌, ◌+◌, ◌++◌, ◌∷◌, ◌∙◌, [], ap, arith, rules, subst, sym, true}
+use Rattle.std.proofs.Common.{◌≡◌, ◌≤◌, ◌∙◌, ◌++◌, ◌∷◌, [], All, List, ap, length, map, subst, sym}
+use Rattle.std.proofs.lemmas.List.{take_all}
+use Rattle.exchange_agent.specs.State.{State as Exchange, stock_at}
 use Rattle.reopen_cross.specs.declared.cross.Interest.{Interest}
-use Rattle.reopening_desk.specs.Reopened.{may_follow}
-use Rattle.reopening_desk.proofs.Follows.{IsSoFar, one-more, one-so-far}
+use Rattle.reopen_cross.specs.Orderly.{AreInterests}
+use Rattle.reopening_desk.specs.Reopened.{interest_of}
+use Rattle.reopening_desk.proofs.Interests.{are-interests, few-interests, last-interests, one-more}
 use Rattle.reopening_desk.proofs.book.interests.Goals as goal
 
 pub loop-order-preserved : goal.loop-order-preserved
 loop-order-preserved c =
-    let i = c.loop-order.order-index in
     let list = c.loop-order.list.items in
-    let o = c.interest_of-interest.result in
-    let new = c.push.new.self.items in
-    let joined : new ≡ list ++ o ∷ [] = c.in_ok-push.ensures.items in
-    let may : may_follow c.loop-order.before c.args.last o ≡ true = search rules in
-    let made = c.interest_of-interest.ensures in record {
-      same = joined ∙ ap (λ (x : Interest). list ++ x ∷ []) made ∙ one-more c.args.orders.now i _ list c.loop-order-test.true c.loop-order.invariant.same;
-      few = c.loop-order.invariant.few;
-      so_far = subst (IsSoFar (i + 1) o.reference c.args.last) (sym joined)
-          (one-so-far i c.loop-order.before c.args.last list o c.an_order_joins.ensures.one c.loop-order.invariant.so_far (omega (arith, c.loop-order-test.true, c.loop-order.invariant.few)) may);
-    }
+    c.in_ok-push.ensures.items ∙ ap (λ (x : Interest). list ++ x ∷ []) c.interest_of.ensures
+    ∙ one-more c.as_slice-order-items.result.now c.loop-order.order-index _ list c.loop-order-test.true c.loop-order.invariant
+
+-- all orders of the book were taken
+all-taken : (c : goal.After-drop-orders-2) → c.loop-order.list.items ≡ map interest_of (stock_at c.args.exchange.now c.args.stock).book
+all-taken c =
+    c.loop-order.invariant ∙ ap (map interest_of) (take_all c.loop-order.order-index c.as_slice-order-items.result.now c.loop-order-test.false)
+    ∙ ap (map interest_of) (c.as_slice-order-items.ensures.value ∙ c.in_ok-orders.ensures)
+
+pub returns-clause-same : goal.returns-clause-same
+returns-clause-same c = all-taken c
+
+pub returns-clause-few : goal.returns-clause-few
+returns-clause-few c =
+    let x : Exchange = c.args.exchange.now in
+    subst (λ (xs : List Interest). length xs ≤ 16384) (sym (all-taken c)) (few-interests x.counts.orders (stock_at x c.args.stock).book c.requires.resting)
+
+pub returns-clause-last : goal.returns-clause-last
+returns-clause-last c =
+    let x : Exchange = c.args.exchange.now in
+    subst (λ (xs : List Interest). All (λ (o : Interest). o.reference ≤ x.counts.orders) xs) (sym (all-taken c)) (last-interests x.counts.orders (stock_at x c.args.stock).book c.requires.resting)
+
+pub returns-clause-interests : goal.returns-clause-interests
+returns-clause-interests c =
+    let x : Exchange = c.args.exchange.now in
+    subst AreInterests (sym (all-taken c)) (are-interests x.counts.orders (stock_at x c.args.stock).book c.requires.resting)
