@@ -145,7 +145,7 @@ lacks-event word last s past probes arguments reads writes old new taken least m
   final = tt;
   fulfilled = record {
     output = λ e. cc;
-    counter = (least, most);
+    counter = (least, omega (arith, most));
     cause = refl;
     exact = λ n r. inl refl;
     prefix = nothing_taken taken (output probes (no_event word last s past));
@@ -173,7 +173,7 @@ eventless-finishes come word last s past probes arguments reads writes old new t
   where
     by : (st ≡ status.Memory) ⊎ ((st ≡ status.NoEvent) × (name ≡ past_event word last))
         → Finished (no_event word last s past) probes arguments (record { reads = reads; writes = writes; taken = taken; steps = old }) (record { reads = reads; writes = writes; taken = taken; steps = new }) st name
-    by (inl wanting) = wanting-finishes (no_event word last s past) probes arguments reads writes old new taken st name wanting (omega (arith, least)) most
+    by (inl wanting) = wanting-finishes (no_event word last s past) probes arguments reads writes old new taken st name wanting (omega (arith, least)) (omega (arith, most))
     by (inr is) =
         let was : Seen = record { reads = reads; writes = writes; taken = taken; steps = old } in
         let seen : Seen = record { reads = reads; writes = writes; taken = taken; steps = new } in

@@ -15,6 +15,9 @@ fn told(alloc: Global, asked: &Asked<'_>) -> Result<String, Fail> {
             format!(in alloc; "cross {} {symbol} {file}", study.as_str())?
         }
         Command::Audit(bundle) => format!(in alloc; "audit {}", bundle.as_str())?,
+        Command::Session(study, script) => {
+            format!(in alloc; "session {} {}", study.as_str(), script.as_str())?
+        }
     };
     if let Command::Cross(_, crossing) = &asked.command {
         let mark = &crossing.mark;
@@ -85,6 +88,10 @@ fn lines_that_are_taken(rt: HostRuntime) -> Result<(), Fail> {
             "audit --places 0 b --workers=2",
             "audit b, 2 workers, 0 places",
         ),
+        (
+            "session s --places=128 c",
+            "session s c, 1 workers, 128 places",
+        ),
     ];
     for (line, wanted) in rows.iter() {
         assert_eq!(rt; answer(alloc, line)?.as_str(), *wanted);
@@ -125,6 +132,10 @@ fn lines_that_are_refused(rt: HostRuntime) -> Result<(), Fail> {
         "audit b c",
         "audit b --workers 65",
         "audit b --places 129",
+        "session s",
+        "session s ",
+        "session s c d",
+        "session s c --places 129",
         "run s --help",
         "--help",
         "--version",

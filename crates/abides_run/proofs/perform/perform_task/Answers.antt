@@ -51,5 +51,5 @@ pub returns-in-Session : goal.returns-in-Session
 returns-in-Session g c =
     let f = c.args.found.now in
     let is : f.task ≡ Session c.in-Session.field-0 c.in-Session.places = search rules in
-    session_finishes _ f.task (option_map vec_items f.further) c.in-Session.field-0 c.in-Session.places c.further_text-text-2.result.now (study_told f.study) (g.O.Sink.faults c.args.out.now) (g.O.Sink.faults c.session_study.new.out) c.args.steps.now c.session_study.new.steps (g.O.Sink.taken c.args.out.now) (g.O.Sink.taken c.session_study.new.out) c.session_study.result.status _
-    is c.further_text-text-2.ensures c.session_study.ensures
+    session_finishes _ f.task (option_map vec_items f.further) c.in-Session.field-0 c.in-Session.places c.further_text-text-in-Session.result.now (study_told f.study) (g.O.Sink.faults c.args.out.now) (g.O.Sink.faults c.session_study.new.out) c.args.steps.now c.session_study.new.steps (g.O.Sink.taken c.args.out.now) (g.O.Sink.taken c.session_study.new.out) c.session_study.result.status _
+    is c.further_text-text-in-Session.ensures c.session_study.ensures
