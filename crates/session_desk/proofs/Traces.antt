@@ -48,10 +48,14 @@ pub onward-begins : (o : Opening) (bs : List Branch) (b e : ℕ) (r : Run) → B
 onward-begins o bs b e r = begin-by (λ (q : Run). onward o bs b e q) r (λ xs q. onward-behind o bs b e xs q)
 
 -- some events of a run to a number
-advanced-begins : (n : ℕ) (o : Opening) (r : Run) → BeginWith (advanced_by n o r).entries r.entries
+pub advanced-begins : (n : ℕ) (o : Opening) (r : Run) → BeginWith (advanced_by n o r).entries r.entries
 advanced-begins n o r =
     let same : until o (r.state.events + n) r ≡ advanced_by n o r = let k : r.state.events + n - r.state.events ≡ n = omega arith in ap (λ (m : ℕ). advanced_by m o r) k in
     subst (λ (q : Run). BeginWith q.entries r.entries) same (until-begins o (r.state.events + n) r)
+
+-- As much of a run as was made begins with what was there.
+pub made-keeps : (o : Opening) (n : ℕ) (r : Run) (s : State) (es : List EntryTold) → record { state = s; entries = es } ≡ advanced_by n o r → BeginWith es r.entries
+made-keeps o n r s es made = subst (λ (q : Run). BeginWith q.entries r.entries) (sym made) (advanced-begins n o r)
 
 -- As much of a run as was made is what the whole begins with.
 pub made-begins : (o : Opening) (n : ℕ) (r : Run) (s : State) (es : List EntryTold) → record { state = s; entries = es } ≡ advanced_by (s.events - r.state.events) o r → s.events ≤ (until o n r).state.events
@@ -71,7 +75,7 @@ made-begins o n r s es made within =
           subst (λ (q : Run). BeginWith q.entries es) (sym whole) (advanced-begins rest o (record { state = s; entries = es }))
     ]
 
-one-begins : (b i : ℕ) (e : Edit) (r : Run) → BeginWith (edited_one b i e r).entries r.entries
+pub one-begins : (b i : ℕ) (e : Edit) (r : Run) → BeginWith (edited_one b i e r).entries r.entries
 unfolding edited_one
 one-begins b i e r = (edited_entry (mark_of b i e r.state) ∷ [], refl)
 

@@ -115,7 +115,7 @@ impl Session {
     ///
     /// # Errors
     /// `NoBranch` exactly where the tree hasn't the branch: the trace is then unchanged. And want of memory: the trace then holds
-    /// the entries that were made, the first of the full run, and the counter rose by no more than the study's limit of events.
+    /// what it held and behind it the entries that were made, the first of the full run, and the counter rose by no more than the study's limit of events.
     pub fn records<L: Ledger>(
         &self,
         branch: u16,
@@ -132,6 +132,7 @@ impl Session {
         // The entries are those of the full run over the tree as it stands.
         ensures entries { OnOk result (trace.new.list ≡ trace.old.list ++ (full_run_in self.now branch).entries) }
         ensures part { branch < length self.now.branches → BeginWith (trace.old.list ++ (full_run_in self.now branch).entries) trace.new.list }
+        ensures kept { BeginWith trace.new.list trace.old.list }
         ensures unchanged { length self.now.branches ≤ branch → trace.new.list ≡ trace.old.list }
 
         // The counter.

@@ -27,6 +27,7 @@ pub(crate) fn make_edits(
     requires edits { AreEdits o.now edits.now }
     ensures made { OnOk result (record { state = kernel.new; entries = trace.new.list } ≡ edited branch edits.now (record { state = kernel.old; entries = trace.old.list })) }
     ensures part { BeginWith (edited branch edits.now (record { state = kernel.old; entries = trace.old.list })).entries trace.new.list }
+    ensures kept { BeginWith trace.new.list trace.old.list }
     ensures events { kernel.new.events ≡ kernel.old.events }
     ensures fitting { Fits o.now kernel.new }
 {

@@ -46,6 +46,7 @@ pub(crate) fn go_onward<L: Ledger>(
     requires count { steps.old + (event - kernel.old.events) < 2 ^ 64 }
     ensures ran { OnOk result (record { state = kernel.new; entries = trace.new.list } ≡ onward session.now.course.opening session.now.branches branch event (record { state = kernel.old; entries = trace.old.list })) }
     ensures part { BeginWith (onward session.now.course.opening session.now.branches branch event (record { state = kernel.old; entries = trace.old.list })).entries trace.new.list }
+    ensures kept { BeginWith trace.new.list trace.old.list }
     ensures ticks { steps.new + kernel.old.events ≡ steps.old + kernel.new.events }
     ensures grows { kernel.old.events ≤ kernel.new.events }
     ensures within { kernel.new.events ≤ event }

@@ -73,6 +73,7 @@ fn record_root<L: Ledger>(
     requires count { steps.old + event < 2 ^ 64 }
     ensures ran { IfOk result (λ k. record { state = k; entries = trace.new.list } ≡ behind trace.old.list (full_in session.now 0 event)) }
     ensures part { BeginWith (trace.old.list ++ (full_in session.now 0 event).entries) trace.new.list }
+    ensures kept { BeginWith trace.new.list trace.old.list }
     ensures ticks { IfOk result (λ k. steps.new ≡ steps.old + k.events) }
     ensures early { IfOk result (λ k. k.events ≤ event) }
     ensures least { steps.old ≤ steps.new }
@@ -98,6 +99,7 @@ pub(crate) fn recorded<L: Ledger>(
     requires count { steps.old + event < 2 ^ 64 }
     ensures ran { IfOk result (λ k. record { state = k; entries = trace.new.list } ≡ behind trace.old.list (full_in session.now branch event)) }
     ensures part { BeginWith (trace.old.list ++ (full_in session.now branch event).entries) trace.new.list }
+    ensures kept { BeginWith trace.new.list trace.old.list }
     ensures ticks { IfOk result (λ k. steps.new ≡ steps.old + k.events) }
     ensures early { IfOk result (λ k. k.events ≤ event) }
     ensures least { steps.old ≤ steps.new }

@@ -9,7 +9,7 @@ use Rattle.kernel_copy.specs.Reached.{IsReached}
 use Rattle.kernel_copy.proofs.Reaching.{edit-of, one-reached, roomy}
 use Rattle.market_types.specs.Told.{EntryTold}
 use Rattle.session_desk.specs.Along.{BeginWith}
-use Rattle.session_desk.proofs.Traces.{edits-begin}
+use Rattle.session_desk.proofs.Traces.{begin-on, edits-begin, one-begins}
 use Rattle.session_desk.proofs.edits.make_edits.Goals as goal
 
 pub apply-requires-clause-edit : goal.apply-requires-clause-edit
@@ -47,6 +47,8 @@ loop-i-preserved c =
           ∙ sym (ap (λ (es : List Edit). edited_from c.args.branch i es before) left) ∙ c.loop-i.invariant.rest;
       reached = subst (λ (n : ℕ). IsReached o n c.apply.new.self) more (subst (λ (r : Run). IsReached o (4080 + i + 1) r.state) (sym c.in_ok-apply.ensures.made) one);
       events = c.apply.ensures.events ∙ c.loop-i.invariant.events;
+      kept = begin-on c.args.trace.now.list c.loop-i.trace.list c.apply.new.trace.list c.loop-i.invariant.kept
+          (subst (λ (r : Run). BeginWith r.entries c.loop-i.trace.list) (sym c.in_ok-apply.ensures.made) (one-begins c.args.branch i x before));
     }
 
 pub returns-in_err-apply-clause-part : goal.returns-in_err-apply-clause-part
@@ -57,3 +59,8 @@ returns-in_err-apply-clause-part c =
     let whole = edited_from c.args.branch 0 c.args.edits.now first in
     let same : c.apply.new.trace.list ≡ c.loop-i.trace.list = search rules in
     subst (λ (es : List EntryTold). BeginWith whole.entries es) (sym same) (edits-begin c.args.branch i (drop i c.args.edits.now) before whole c.loop-i.invariant.rest)
+
+pub returns-in_err-apply-clause-kept : goal.returns-in_err-apply-clause-kept
+returns-in_err-apply-clause-kept c =
+    let same : c.apply.new.trace.list ≡ c.loop-i.trace.list = search rules in
+    subst (λ (es : List EntryTold). BeginWith es c.args.trace.now.list) (sym same) c.loop-i.invariant.kept
