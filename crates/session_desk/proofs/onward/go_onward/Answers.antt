@@ -7,7 +7,7 @@ use Rattle.kernel_copy.specs.Courses.{CourseTold}
 use Rattle.rewind_desk.specs.Reach.{has_more}
 use Rattle.session_desk.specs.Along.{BeginWith, onward}
 use Rattle.session_desk.proofs.Along.{edited-onward}
-use Rattle.session_desk.proofs.Traces.{begin-on, made-begins, until-begins}
+use Rattle.session_desk.proofs.Traces.{begin-on, made-begins, made-count, made-keeps, until-begins}
 use Rattle.session_desk.proofs.onward.go_onward.Goals as goal
 
 pub returns-in_err-make_edits-clause-part : goal.returns-in_err-make_edits-clause-part
@@ -62,3 +62,23 @@ pub returns-clause-within : goal.returns-clause-within
 returns-clause-within g c =
     let next : Run = record { state = c.make_edits.new.kernel; entries = c.make_edits.new.trace.list } in
     omega (arith, c.run_until.ensures.within, until-within c.opening-o.result.now c.args.event next (omega (arith, c.make_edits.ensures.events, c.requires.early)))
+
+pub returns-in_err-run_until-clause-kept : goal.returns-in_err-run_until-clause-kept
+returns-in_err-run_until-clause-kept g c =
+    let next : Run = record { state = c.make_edits.new.kernel; entries = c.make_edits.new.trace.list } in
+    begin-on c.args.trace.now.list next.entries c.run_until.new.trace.list c.make_edits.ensures.kept (made-keeps c.opening-o.result.now next c.run_until.new.self c.run_until.new.trace.list c.run_until.ensures.made)
+
+pub returns-in_err-run_until-clause-counted : goal.returns-in_err-run_until-clause-counted
+returns-in_err-run_until-clause-counted g c =
+    let next : Run = record { state = c.make_edits.new.kernel; entries = c.make_edits.new.trace.list } in
+    omega (arith, c.make_edits.ensures.counted, c.run_until.ensures.ticks, made-count c.opening-o.result.now next c.run_until.new.self c.run_until.new.trace.list c.run_until.ensures.made)
+
+pub returns-clause-kept : goal.returns-clause-kept
+returns-clause-kept g c =
+    let next : Run = record { state = c.make_edits.new.kernel; entries = c.make_edits.new.trace.list } in
+    begin-on c.args.trace.now.list next.entries c.run_until.new.trace.list c.make_edits.ensures.kept (made-keeps c.opening-o.result.now next c.run_until.new.self c.run_until.new.trace.list c.run_until.ensures.made)
+
+pub returns-clause-counted : goal.returns-clause-counted
+returns-clause-counted g c =
+    let next : Run = record { state = c.make_edits.new.kernel; entries = c.make_edits.new.trace.list } in
+    omega (arith, c.make_edits.ensures.counted, c.run_until.ensures.ticks, made-count c.opening-o.result.now next c.run_until.new.self c.run_until.new.trace.list c.run_until.ensures.made)
