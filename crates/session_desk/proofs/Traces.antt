@@ -1,7 +1,7 @@
 -- Traces begin with what was made before.
-use Rattle.std.proofs.Common.{◌≡◌, ◌<◌, ◌≤◌, ◌+◌, ◌-◌, ℕ, List, [], ◌∷◌, ◌++◌, refl, sym, ap, ◌∙◌, subst, arith, append_assoc, append-nil, length, min, inl, inr}
+use Rattle.std.proofs.Common.{◌≡◌, ◌<◌, ◌≤◌, ◌+◌, ◌-◌, ℕ, List, [], ◌∷◌, ◌++◌, refl, sym, ap, ◌∙◌, subst, arith, append_assoc, append-nil, length, min, suc, zero, inl, inr}
 use Rattle.std.proofs.lemmas.Bool.{cases_lt}
-use Rattle.market_types.specs.Told.{EntryTold, edit as edited_entry}
+use Rattle.market_types.specs.Told.{EntryTold, event, edit as edited_entry}
 use Rattle.market_rules.specs.declared.edit.Edit.{Edit}
 use Rattle.branch_tree.specs.declared.branch.Branch.{Branch}
 use Rattle.branch_tree.specs.declared.stop.Stop.TheVariants.{At}
@@ -9,13 +9,14 @@ use Rattle.branch_tree.specs.Plan.{parent_at, stop_at}
 use Rattle.market_floor.specs.declared.opening.Opening.{Opening}
 use Rattle.kernel_core.specs.State.{State}
 use Rattle.kernel_core.specs.Edited.{edited, edited_from, edited_one, mark_of}
-use Rattle.kernel_core.specs.Until.{Run, advanced_by, behind, until}
+use Rattle.kernel_core.specs.Until.{Run, advanced, advanced_by, behind, until}
 use Rattle.kernel_core.proofs.EditRuns.{edited-behind}
-use Rattle.kernel_core.proofs.Runs.{advanced_by-add}
-use Rattle.kernel_core.proofs.Stops.{until-behind, until-past, until-within}
+use Rattle.kernel_core.proofs.Runs.{advanced_by-add, advanced_ended, advanced_going}
+use Rattle.kernel_core.proofs.Stops.{advanced-events, end_cases, next-message, until-behind, until-past, until-within}
+use Rattle.kernel_core.specs.Step.{end_of, event_of}
 use Rattle.kernel_copy.specs.Segmentwise.{afresh}
 use Rattle.kernel_copy.proofs.Pieces.{fresh}
-use Rattle.session_desk.specs.Along.{BeginWith, onward}
+use Rattle.session_desk.specs.Along.{BeginWith, event_count, onward}
 use Rattle.session_desk.specs.Session.{SessionTold, IsSession, full_in}
 use Rattle.session_desk.proofs.Along.{onward-behind, record-onward}
 
@@ -48,14 +49,10 @@ pub onward-begins : (o : Opening) (bs : List Branch) (b e : ℕ) (r : Run) → B
 onward-begins o bs b e r = begin-by (λ (q : Run). onward o bs b e q) r (λ xs q. onward-behind o bs b e xs q)
 
 -- some events of a run to a number
-pub advanced-begins : (n : ℕ) (o : Opening) (r : Run) → BeginWith (advanced_by n o r).entries r.entries
+advanced-begins : (n : ℕ) (o : Opening) (r : Run) → BeginWith (advanced_by n o r).entries r.entries
 advanced-begins n o r =
     let same : until o (r.state.events + n) r ≡ advanced_by n o r = let k : r.state.events + n - r.state.events ≡ n = omega arith in ap (λ (m : ℕ). advanced_by m o r) k in
     subst (λ (q : Run). BeginWith q.entries r.entries) same (until-begins o (r.state.events + n) r)
-
--- As much of a run as was made begins with what was there.
-pub made-keeps : (o : Opening) (n : ℕ) (r : Run) (s : State) (es : List EntryTold) → record { state = s; entries = es } ≡ advanced_by n o r → BeginWith es r.entries
-made-keeps o n r s es made = subst (λ (q : Run). BeginWith q.entries r.entries) (sym made) (advanced-begins n o r)
 
 -- As much of a run as was made is what the whole begins with.
 pub made-begins : (o : Opening) (n : ℕ) (r : Run) (s : State) (es : List EntryTold) → record { state = s; entries = es } ≡ advanced_by (s.events - r.state.events) o r → s.events ≤ (until o n r).state.events
@@ -75,7 +72,7 @@ made-begins o n r s es made within =
           subst (λ (q : Run). BeginWith q.entries es) (sym whole) (advanced-begins rest o (record { state = s; entries = es }))
     ]
 
-pub one-begins : (b i : ℕ) (e : Edit) (r : Run) → BeginWith (edited_one b i e r).entries r.entries
+one-begins : (b i : ℕ) (e : Edit) (r : Run) → BeginWith (edited_one b i e r).entries r.entries
 unfolding edited_one
 one-begins b i e r = (edited_entry (mark_of b i e r.state) ∷ [], refl)
 
@@ -96,3 +93,42 @@ entries-onward s b e n q m h pos l is few parent before =
     let r = full_in s q m in
     let whole = record-onward s b e n q m [] r h pos l is few parent before refl in
     subst (λ (x : Run). BeginWith x.entries r.entries) whole (onward-begins s.course.opening s.branches b e r)
+
+-- How many events joined: as many as a run made.
+count-push : (xs ys : List EntryTold) → event_count (xs ++ ys) ≡ event_count xs + event_count ys
+count-push [] ys = omega arith
+count-push (event x ∷ xs) ys = omega (arith, count-push xs ys)
+count-push (edited_entry x ∷ xs) ys = count-push xs ys
+
+one-count : (o : Opening) (r : Run) → event_count (advanced o r).entries + r.state.events ≡ event_count r.entries + (advanced o r).state.events
+one-count o r = elim (end_cases (end_of o r.state)) [
+  | inr over ↦
+      let same = advanced_ended o r over.0 over.1 in
+      omega (arith, ap (λ (q : Run). event_count q.entries) same, ap (λ (q : Run). q.state.events) same)
+  | inl going ↦
+      let m = next-message o r.state going in
+      let same = advanced_going o r m.0 going m.1 in
+      let joined = count-push r.entries (event (event_of o r.state m.0).entry ∷ []) in
+      omega (arith, ap (λ (q : Run). event_count q.entries) same, joined, advanced-events o r going)
+]
+
+pub advanced-count : (n : ℕ) (o : Opening) (r : Run) → event_count (advanced_by n o r).entries + r.state.events ≡ event_count r.entries + (advanced_by n o r).state.events
+advanced-count zero o r = refl
+advanced-count (suc n) o r = omega (arith, one-count o r, advanced-count n o (advanced o r))
+
+pub made-count : (o : Opening) (r : Run) (s : State) (es : List EntryTold) → record { state = s; entries = es } ≡ advanced_by (s.events - r.state.events) o r → event_count es + r.state.events ≡ event_count r.entries + s.events
+made-count o r s es made =
+    let n = s.events - r.state.events in
+    omega (arith, advanced-count n o r, ap (λ (q : Run). event_count q.entries) made, ap (λ (q : Run). q.state.events) made)
+
+-- and its entries begin with those before
+pub made-keeps : (o : Opening) (r : Run) (s : State) (es : List EntryTold) → record { state = s; entries = es } ≡ advanced_by (s.events - r.state.events) o r → BeginWith es r.entries
+made-keeps o r s es made = subst (λ (q : Run). BeginWith q.entries r.entries) (sym made) (advanced-begins (s.events - r.state.events) o r)
+
+-- an edit is none of them
+pub edit-count : (b i : ℕ) (e : Edit) (r q : Run) → q ≡ edited_one b i e r → event_count q.entries ≡ event_count r.entries
+unfolding edited_one
+edit-count b i e r q is = omega (arith, ap (λ (x : Run). event_count x.entries) is, count-push r.entries (edited_entry (mark_of b i e r.state) ∷ []))
+
+pub edit-keeps : (b i : ℕ) (e : Edit) (r q : Run) → q ≡ edited_one b i e r → BeginWith q.entries r.entries
+edit-keeps b i e r q is = subst (λ (x : Run). BeginWith x.entries r.entries) (sym is) (one-begins b i e r)

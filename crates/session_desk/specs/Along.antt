@@ -1,6 +1,6 @@
 -- Runs that go on along a branch's path.
-use Rattle.std.specs.Prelude.{◌≡◌, ℕ, List, ◌++◌, if◌then◌else◌}
-use Rattle.market_types.specs.Told.{EntryTold}
+use Rattle.std.specs.Prelude.{◌≡◌, ℕ, ◌+◌, List, [], ◌∷◌, ◌++◌, if◌then◌else◌}
+use Rattle.market_types.specs.Told.{EntryTold, event, edit}
 use Rattle.branch_tree.specs.declared.branch.Branch.{Branch}
 use Rattle.branch_tree.specs.Plan.{stop_at}
 use Rattle.market_floor.specs.declared.opening.Opening.{Opening}
@@ -16,3 +16,9 @@ onward o branches b e r = if has_more o (stop_at branches b) r.state then r else
 -- entries begin with others
 abbrev pub BeginWith : List EntryTold → List EntryTold → Type 0
 BeginWith whole part = (rest : List EntryTold) × (part ++ rest ≡ whole)
+
+-- how many of these entries are events
+abbrev pub event_count : List EntryTold → ℕ
+event_count [] = 0
+event_count (event e ∷ entries) = event_count entries + 1
+event_count (edit e ∷ entries) = event_count entries

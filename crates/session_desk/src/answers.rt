@@ -4,7 +4,7 @@ ghost use Rattle.std.specs.Prelude.{◌≡◌, ◌<◌, ◌≤◌, ◌+◌, ◌+
 ghost use Rattle.rewind_desk.specs.Best.{best};
 ghost use Rattle.session_desk.specs.Session.{full_in, full_run_in, last_event_in};
 ghost use Rattle.session_desk.specs.Anchors.{anchor_of, shared_count};
-ghost use Rattle.session_desk.specs.Along.{BeginWith};
+ghost use Rattle.session_desk.specs.Along.{BeginWith, event_count};
 ghost use Rattle.session_desk.specs.Answers.{branch_refusal, state_refusal};
 
 use crate::error::SessionError;
@@ -114,8 +114,9 @@ impl Session {
     /// Appends the entries of a branch's full run over the tree as it stands, which is made from the opening.
     ///
     /// # Errors
-    /// `NoBranch` exactly where the tree hasn't the branch: the trace is then unchanged. And want of memory: the trace then holds
-    /// what it held and behind it the entries that were made, the first of the full run, and the counter rose by no more than the study's limit of events.
+    /// `NoBranch` exactly where the tree hasn't the branch: the trace is then unchanged. And want of memory: the trace then holds,
+    /// behind what it held, the entries that were made, the first of the full run. They have as many events as the counter rose
+    /// by, at most the study's limit.
     pub fn records<L: Ledger>(
         &self,
         branch: u16,
@@ -133,6 +134,7 @@ impl Session {
         ensures entries { OnOk result (trace.new.list ≡ trace.old.list ++ (full_run_in self.now branch).entries) }
         ensures part { branch < length self.now.branches → BeginWith (trace.old.list ++ (full_run_in self.now branch).entries) trace.new.list }
         ensures kept { BeginWith trace.new.list trace.old.list }
+        ensures counted { steps.new + event_count trace.old.list ≡ steps.old + event_count trace.new.list }
         ensures unchanged { length self.now.branches ≤ branch → trace.new.list ≡ trace.old.list }
 
         // The counter.

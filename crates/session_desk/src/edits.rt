@@ -6,7 +6,7 @@ ghost use Rattle.kernel_core.specs.Open.{opened};
 ghost use Rattle.kernel_core.specs.Step.{Fits};
 ghost use Rattle.kernel_copy.specs.Courses.{AreEdits};
 ghost use Rattle.kernel_copy.specs.Reached.{IsReached};
-ghost use Rattle.session_desk.specs.Along.{BeginWith};
+ghost use Rattle.session_desk.specs.Along.{BeginWith, event_count};
 
 use kernel_core::Kernel;
 use market_floor::Opening;
@@ -28,6 +28,7 @@ pub(crate) fn make_edits(
     ensures made { OnOk result (record { state = kernel.new; entries = trace.new.list } ≡ edited branch edits.now (record { state = kernel.old; entries = trace.old.list })) }
     ensures part { BeginWith (edited branch edits.now (record { state = kernel.old; entries = trace.old.list })).entries trace.new.list }
     ensures kept { BeginWith trace.new.list trace.old.list }
+    ensures counted { event_count trace.new.list ≡ event_count trace.old.list }
     ensures events { kernel.new.events ≡ kernel.old.events }
     ensures fitting { Fits o.now kernel.new }
 {

@@ -4,7 +4,7 @@ ghost use Rattle.std.specs.Prelude.{◌≡◌, ◌<◌, ◌≤◌, ◌+◌, ◌-
 ghost use Rattle.branch_tree.specs.declared.stop.Stop.TheVariants.{At};
 ghost use Rattle.kernel_copy.specs.Reached.{IsReached};
 ghost use Rattle.rewind_desk.specs.Reach.{has_more};
-ghost use Rattle.session_desk.specs.Along.{BeginWith, onward};
+ghost use Rattle.session_desk.specs.Along.{BeginWith, event_count, onward};
 
 use crate::edits::make_edits;
 use crate::session::{Session, edits_of, stop_of};
@@ -47,6 +47,7 @@ pub(crate) fn go_onward<L: Ledger>(
     ensures ran { OnOk result (record { state = kernel.new; entries = trace.new.list } ≡ onward session.now.course.opening session.now.branches branch event (record { state = kernel.old; entries = trace.old.list })) }
     ensures part { BeginWith (onward session.now.course.opening session.now.branches branch event (record { state = kernel.old; entries = trace.old.list })).entries trace.new.list }
     ensures kept { BeginWith trace.new.list trace.old.list }
+    ensures counted { steps.new + event_count trace.old.list ≡ steps.old + event_count trace.new.list }
     ensures ticks { steps.new + kernel.old.events ≡ steps.old + kernel.new.events }
     ensures grows { kernel.old.events ≤ kernel.new.events }
     ensures within { kernel.new.events ≤ event }

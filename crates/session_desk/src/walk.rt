@@ -5,7 +5,7 @@ ghost use Rattle.kernel_core.specs.Until.{behind};
 ghost use Rattle.rewind_desk.specs.Best.{best};
 ghost use Rattle.session_desk.specs.Session.{full_in};
 ghost use Rattle.session_desk.specs.Anchors.{anchor_of, follower_of, shared_count};
-ghost use Rattle.session_desk.specs.Along.{BeginWith};
+ghost use Rattle.session_desk.specs.Along.{BeginWith, event_count};
 
 use crate::onward::{go_onward, lesser};
 use crate::session::{Session, parent_of, stop_of};
@@ -74,6 +74,7 @@ fn record_root<L: Ledger>(
     ensures ran { IfOk result (λ k. record { state = k; entries = trace.new.list } ≡ behind trace.old.list (full_in session.now 0 event)) }
     ensures part { BeginWith (trace.old.list ++ (full_in session.now 0 event).entries) trace.new.list }
     ensures kept { BeginWith trace.new.list trace.old.list }
+    ensures counted { steps.new + event_count trace.old.list ≡ steps.old + event_count trace.new.list }
     ensures ticks { IfOk result (λ k. steps.new ≡ steps.old + k.events) }
     ensures early { IfOk result (λ k. k.events ≤ event) }
     ensures least { steps.old ≤ steps.new }
@@ -100,6 +101,7 @@ pub(crate) fn recorded<L: Ledger>(
     ensures ran { IfOk result (λ k. record { state = k; entries = trace.new.list } ≡ behind trace.old.list (full_in session.now branch event)) }
     ensures part { BeginWith (trace.old.list ++ (full_in session.now branch event).entries) trace.new.list }
     ensures kept { BeginWith trace.new.list trace.old.list }
+    ensures counted { steps.new + event_count trace.old.list ≡ steps.old + event_count trace.new.list }
     ensures ticks { IfOk result (λ k. steps.new ≡ steps.old + k.events) }
     ensures early { IfOk result (λ k. k.events ≤ event) }
     ensures least { steps.old ≤ steps.new }

@@ -8,8 +8,8 @@ use Rattle.kernel_core.specs.Until.{Run}
 use Rattle.kernel_copy.specs.Reached.{IsReached}
 use Rattle.kernel_copy.proofs.Reaching.{edit-of, one-reached, roomy}
 use Rattle.market_types.specs.Told.{EntryTold}
-use Rattle.session_desk.specs.Along.{BeginWith}
-use Rattle.session_desk.proofs.Traces.{begin-on, edits-begin, one-begins}
+use Rattle.session_desk.specs.Along.{BeginWith, event_count}
+use Rattle.session_desk.proofs.Traces.{begin-on, edit-count, edit-keeps, edits-begin}
 use Rattle.session_desk.proofs.edits.make_edits.Goals as goal
 
 pub apply-requires-clause-edit : goal.apply-requires-clause-edit
@@ -37,6 +37,7 @@ loop-i-preserved c =
     let P : Edit → Type 0 = λ e. IsEditOf (opened o) e in
     let fit : P x = subst P (sym c.index-edits-i.is) (All-get_or P c.args.edits.now i x (omega (arith, c.loop-i-test.true)) c.requires.edits.fit) in
     let before : Run = record { state = c.loop-i.kernel; entries = c.loop-i.trace.list } in
+    let after : Run = record { state = c.apply.new.self; entries = c.apply.new.trace.list } in
     let one = one-reached o (4080 + i) c.args.branch i x before fit c.loop-i.invariant.reached in
     let xs = c.args.edits.now in
     let left : drop i xs ≡ x ∷ drop (i + 1) xs =
@@ -46,9 +47,9 @@ loop-i-preserved c =
       rest = ap (λ (r : Run). edited_from c.args.branch (i + 1) (drop (i + 1) xs) r) c.in_ok-apply.ensures.made
           ∙ sym (ap (λ (es : List Edit). edited_from c.args.branch i es before) left) ∙ c.loop-i.invariant.rest;
       reached = subst (λ (n : ℕ). IsReached o n c.apply.new.self) more (subst (λ (r : Run). IsReached o (4080 + i + 1) r.state) (sym c.in_ok-apply.ensures.made) one);
+      kept = begin-on c.args.trace.now.list c.loop-i.trace.list c.apply.new.trace.list c.loop-i.invariant.kept (edit-keeps c.args.branch i x before after c.in_ok-apply.ensures.made);
+      counted = edit-count c.args.branch i x before after c.in_ok-apply.ensures.made ∙ c.loop-i.invariant.counted;
       events = c.apply.ensures.events ∙ c.loop-i.invariant.events;
-      kept = begin-on c.args.trace.now.list c.loop-i.trace.list c.apply.new.trace.list c.loop-i.invariant.kept
-          (subst (λ (r : Run). BeginWith r.entries c.loop-i.trace.list) (sym c.in_ok-apply.ensures.made) (one-begins c.args.branch i x before));
     }
 
 pub returns-in_err-apply-clause-part : goal.returns-in_err-apply-clause-part
@@ -64,3 +65,8 @@ pub returns-in_err-apply-clause-kept : goal.returns-in_err-apply-clause-kept
 returns-in_err-apply-clause-kept c =
     let same : c.apply.new.trace.list ≡ c.loop-i.trace.list = search rules in
     subst (λ (es : List EntryTold). BeginWith es c.args.trace.now.list) (sym same) c.loop-i.invariant.kept
+
+pub returns-in_err-apply-clause-counted : goal.returns-in_err-apply-clause-counted
+returns-in_err-apply-clause-counted c =
+    let same : c.apply.new.trace.list ≡ c.loop-i.trace.list = search rules in
+    ap (λ (es : List EntryTold). event_count es) same ∙ c.loop-i.invariant.counted

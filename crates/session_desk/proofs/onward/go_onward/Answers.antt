@@ -1,4 +1,4 @@
-use Rattle.std.proofs.Common.{◌≡◌, ◌-◌, false, refl, sym, ap, ◌∙◌, subst, arith}
+use Rattle.std.proofs.Common.{◌≡◌, false, refl, sym, ap, ◌∙◌, subst, arith}
 use Rattle.branch_tree.specs.declared.stop.Stop.TheVariants.{At}
 use Rattle.kernel_core.specs.Edited.{edited}
 use Rattle.kernel_core.specs.Until.{Run}
@@ -7,7 +7,7 @@ use Rattle.kernel_copy.specs.Courses.{CourseTold}
 use Rattle.rewind_desk.specs.Reach.{has_more}
 use Rattle.session_desk.specs.Along.{BeginWith, onward}
 use Rattle.session_desk.proofs.Along.{edited-onward}
-use Rattle.session_desk.proofs.Traces.{begin-all, begin-on, made-begins, made-keeps, until-begins}
+use Rattle.session_desk.proofs.Traces.{begin-on, made-begins, made-count, made-keeps, until-begins}
 use Rattle.session_desk.proofs.onward.go_onward.Goals as goal
 
 pub returns-in_err-make_edits-clause-part : goal.returns-in_err-make_edits-clause-part
@@ -66,11 +66,19 @@ returns-clause-within g c =
 pub returns-in_err-run_until-clause-kept : goal.returns-in_err-run_until-clause-kept
 returns-in_err-run_until-clause-kept g c =
     let next : Run = record { state = c.make_edits.new.kernel; entries = c.make_edits.new.trace.list } in
-    begin-on c.args.trace.now.list c.make_edits.new.trace.list c.run_until.new.trace.list c.make_edits.ensures.kept
-    (made-keeps c.opening-o.result.now (c.run_until.new.self.events - c.make_edits.new.kernel.events) next c.run_until.new.self c.run_until.new.trace.list c.run_until.ensures.made)
+    begin-on c.args.trace.now.list next.entries c.run_until.new.trace.list c.make_edits.ensures.kept (made-keeps c.opening-o.result.now next c.run_until.new.self c.run_until.new.trace.list c.run_until.ensures.made)
+
+pub returns-in_err-run_until-clause-counted : goal.returns-in_err-run_until-clause-counted
+returns-in_err-run_until-clause-counted g c =
+    let next : Run = record { state = c.make_edits.new.kernel; entries = c.make_edits.new.trace.list } in
+    omega (arith, c.make_edits.ensures.counted, c.run_until.ensures.ticks, made-count c.opening-o.result.now next c.run_until.new.self c.run_until.new.trace.list c.run_until.ensures.made)
 
 pub returns-clause-kept : goal.returns-clause-kept
 returns-clause-kept g c =
     let next : Run = record { state = c.make_edits.new.kernel; entries = c.make_edits.new.trace.list } in
-    begin-on c.args.trace.now.list c.make_edits.new.trace.list c.run_until.new.trace.list c.make_edits.ensures.kept
-    (made-keeps c.opening-o.result.now (c.run_until.new.self.events - c.make_edits.new.kernel.events) next c.run_until.new.self c.run_until.new.trace.list c.run_until.ensures.made)
+    begin-on c.args.trace.now.list next.entries c.run_until.new.trace.list c.make_edits.ensures.kept (made-keeps c.opening-o.result.now next c.run_until.new.self c.run_until.new.trace.list c.run_until.ensures.made)
+
+pub returns-clause-counted : goal.returns-clause-counted
+returns-clause-counted g c =
+    let next : Run = record { state = c.make_edits.new.kernel; entries = c.make_edits.new.trace.list } in
+    omega (arith, c.make_edits.ensures.counted, c.run_until.ensures.ticks, made-count c.opening-o.result.now next c.run_until.new.self c.run_until.new.trace.list c.run_until.ensures.made)

@@ -71,5 +71,11 @@ returns-clause-ran g t c =
 pub returns-in_err-go_onward-clause-kept : goal.returns-in_err-go_onward-clause-kept
 returns-in_err-go_onward-clause-kept g t c = begin-on c.args.trace.now.list c.recorded.new.trace.list c.go_onward.new.trace.list c.recorded.ensures.kept c.go_onward.ensures.kept
 
+pub returns-in_err-go_onward-clause-counted : goal.returns-in_err-go_onward-clause-counted
+returns-in_err-go_onward-clause-counted g t c = omega (arith, c.recorded.ensures.counted, c.go_onward.ensures.counted)
+
 pub returns-clause-kept : goal.returns-clause-kept
 returns-clause-kept g t c = begin-on c.args.trace.now.list c.recorded.new.trace.list c.go_onward.new.trace.list c.recorded.ensures.kept c.go_onward.ensures.kept
+
+pub returns-clause-counted : goal.returns-clause-counted
+returns-clause-counted g t c = omega (arith, c.recorded.ensures.counted, c.go_onward.ensures.counted)

@@ -1,11 +1,11 @@
-use Rattle.std.proofs.Common.{◌≡◌, ◌-◌, ap, ◌∙◌, subst, arith}
+use Rattle.std.proofs.Common.{◌≡◌, ap, ◌∙◌, subst, arith}
 use Rattle.kernel_core.specs.State.{State}
 use Rattle.kernel_core.specs.Until.{Run}
 use Rattle.kernel_core.proofs.Stops.{until-within}
 use Rattle.kernel_copy.specs.Courses.{CourseTold}
 use Rattle.session_desk.specs.Along.{BeginWith}
 use Rattle.session_desk.proofs.Along.{root-run}
-use Rattle.session_desk.proofs.Traces.{made-begins, made-keeps}
+use Rattle.session_desk.proofs.Traces.{made-begins, made-count, made-keeps}
 use Rattle.session_desk.proofs.walk.record_root.Goals as goal
 
 pub returns-in_err-run_until-clause-part : goal.returns-in_err-run_until-clause-part
@@ -54,9 +54,19 @@ returns-clause-early g c =
 pub returns-in_err-run_until-clause-kept : goal.returns-in_err-run_until-clause-kept
 returns-in_err-run_until-clause-kept g c =
     let first : Run = record { state = c.in_ok-kernel.kernel; entries = c.args.trace.now.list } in
-    made-keeps c.opening-o.result.now (c.run_until.new.self.events - c.in_ok-kernel.kernel.events) first c.run_until.new.self c.run_until.new.trace.list c.run_until.ensures.made
+    made-keeps c.opening-o.result.now first c.run_until.new.self c.run_until.new.trace.list c.run_until.ensures.made
+
+pub returns-in_err-run_until-clause-counted : goal.returns-in_err-run_until-clause-counted
+returns-in_err-run_until-clause-counted g c =
+    let first : Run = record { state = c.in_ok-kernel.kernel; entries = c.args.trace.now.list } in
+    omega (arith, c.run_until.ensures.ticks, made-count c.opening-o.result.now first c.run_until.new.self c.run_until.new.trace.list c.run_until.ensures.made)
 
 pub returns-clause-kept : goal.returns-clause-kept
 returns-clause-kept g c =
     let first : Run = record { state = c.in_ok-kernel.kernel; entries = c.args.trace.now.list } in
-    made-keeps c.opening-o.result.now (c.run_until.new.self.events - c.in_ok-kernel.kernel.events) first c.run_until.new.self c.run_until.new.trace.list c.run_until.ensures.made
+    made-keeps c.opening-o.result.now first c.run_until.new.self c.run_until.new.trace.list c.run_until.ensures.made
+
+pub returns-clause-counted : goal.returns-clause-counted
+returns-clause-counted g c =
+    let first : Run = record { state = c.in_ok-kernel.kernel; entries = c.args.trace.now.list } in
+    omega (arith, c.run_until.ensures.ticks, made-count c.opening-o.result.now first c.run_until.new.self c.run_until.new.trace.list c.run_until.ensures.made)
