@@ -20,4 +20,6 @@ mod rewind_examples;
 #[cfg(test)]
 mod rewind_targets_tests;
 #[cfg(test)]
+mod session_examples;
+#[cfg(test)]
 mod study_report_tests;

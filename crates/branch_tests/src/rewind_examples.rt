@@ -1,6 +1,6 @@
 //! Rewinds over the shelf that workers of a small course give back.
 
-mod market;
+pub(crate) mod market;
 
 ghost use Rattle.std.specs.Prelude.{◌≡◌, ◌≤◌, IfOk};
 ghost use Rattle.rewind_desk.specs.AfterWork.{IsAfterWork};
@@ -21,7 +21,7 @@ use std::test::Fail;
 use std::thread::Threads;
 
 // The shelf that three workers of a course give back, with so many places for the grid of stride 5.
-fn left<R: Threads + Wait + Sync>(
+pub(crate) fn left<R: Threads + Wait + Sync>(
     rt: &R,
     alloc: Global,
     course: &Arc<Course>,

@@ -96,6 +96,15 @@ one-more limit kept ms first acts before i s out steps a then more stepped way w
       most = omega (arith, upper, most);
     })
 
+-- one more act's steps are within those of all
+pub one-within : (limit : ℕ) (kept : Kept) (ms : List Meaning) (first : SessionTold) (acts : List Act) (before i : ℕ) (s : SessionTold) (out : List ℕ) (steps : ℕ) (a : Act) (stepped : ℕ)
+    → IsUnderWay limit kept ms first acts before i s out steps → i < length acts → a ≡ get_or acts i a → stepped ≤ steps + limit
+    → stepped ≤ before + length acts * limit
+one-within limit kept ms first acts before i s out steps a stepped way within is most =
+    let upper : steps + length (a ∷ drop (i + 1) acts) * limit ≤ before + length acts * limit =
+    subst (λ (xs : List Act). steps + length xs * limit ≤ before + length acts * limit) (next-is acts i a within is) way.most in
+    omega (arith, upper, most)
+
 -- once no act is left, what was done is what all come to
 pub all-answered : (limit : ℕ) (kept : Kept) (ms : List Meaning) (first : SessionTold) (acts : List Act) (before i : ℕ) (s : SessionTold) (out : List ℕ) (steps : ℕ)
     → IsUnderWay limit kept ms first acts before i s out steps → length acts ≤ i → out ≡ answers_of ms first acts

@@ -73,7 +73,7 @@ fn root(alloc: Global) -> Result<Vec<Branch>, Memory>
 }
 
 // Another latency between all agents.
-fn latency(alloc: Global, base: u64) -> Result<Vec<Edit>, Memory>
+pub(crate) fn latency(alloc: Global, base: u64) -> Result<Vec<Edit>, Memory>
     requires { base ≤ 1000 }
     ensures { IfOk result (λ v. AreEdits small v.items) }
 {
@@ -106,7 +106,9 @@ fn fork(branches: &mut Vec<Branch>, name: u8, stop: Stop, edits: Vec<Edit>) -> R
 }
 
 // A root and two branches that leave it at one stop: one makes the latency 50, and one makes it 7. Each runs to event 6.
-pub(super) fn course(alloc: Global, stop: Stop) -> Result<Arc<Course>, Fail> {
+pub(crate) fn course(alloc: Global, stop: Stop) -> Result<Arc<Course>, Fail>
+    ensures { IfOk result (λ c. c.value.opening ≡ small) }
+{
     let mut branches = root(alloc)?;
     fork(&mut branches, b'x', stop, latency(alloc, 50)?)?;
     fork(&mut branches, b'y', stop, latency(alloc, 7)?)?;

@@ -1,24 +1,33 @@
-use Rattle.std.proofs.Common.{◌∙◌, ◌≤◌, ◌+◌, ◌*◌, ◌++◌, ◌∷◌, List, ℕ, length, drop, ap, subst, arith}
+use Rattle.std.proofs.Common.{◌∙◌, ◌+◌, ◌++◌, List, ℕ, length, ap, arith}
 use Rattle.kernel_copy.specs.Courses.{CourseTold}
 use Rattle.bundle_frames.specs.Frames.{end_frame}
 use Rattle.probe_desk.specs.Probe.{Meaning}
 use Rattle.session_desk.specs.Session.{first_session}
 use Rattle.session_answers.specs.Answered.{answer_of, session_bytes}
-use Rattle.session_script.specs.declared.act.Act.{Act}
-use Rattle.session_answers.proofs.Turns.{all-answered, handed-on, next-ends, next-is, one-more}
+use Rattle.session_answers.proofs.Turns.{all-answered, handed-on, next-ends, one-more, one-within}
 use Rattle.session_answers.proofs.carrying.carry_out.Goals as goal
 
 pub put_answer-requires-clause-count : goal.put_answer-requires-clause-count
 put_answer-requires-clause-count g c =
     let way = c.loop-i.invariant.way in
-    let acts = c.args.acts.now in
-    let a = c.index-acts-i.result in
     let limit = c.args.course.now.value.opening.limit in
-    let most : c.loop-i.steps + length (a ∷ drop (c.loop-i.i + 1) acts) * limit ≤ c.args.steps.now + length acts * limit =
-    subst (λ (xs : List Act). c.loop-i.steps + length xs * limit ≤ c.args.steps.now + length acts * limit)
-    (next-is acts c.loop-i.i a c.loop-i-test.true c.index-acts-i.is) way.most in
     let same = ap (λ (k : CourseTold). k.opening.limit) way.course in
-    omega (arith, most, same, c.requires.count)
+    let all = one-within _ _ _ _ c.args.acts.now _ c.loop-i.i _ _ c.loop-i.steps c.index-acts-i.result (c.loop-i.steps + limit) way c.loop-i-test.true c.index-acts-i.is (omega arith) in
+    omega (arith, all, same, c.requires.count)
+
+pub returns-in_err-put_answer-clause-most : goal.returns-in_err-put_answer-clause-most
+returns-in_err-put_answer-clause-most g c =
+    let way = c.loop-i.invariant.way in
+    let same = ap (λ (k : CourseTold). k.opening.limit) way.course in
+    one-within _ _ _ _ c.args.acts.now _ c.loop-i.i _ _ c.loop-i.steps c.index-acts-i.result c.put_answer.new.steps way c.loop-i-test.true c.index-acts-i.is
+    (omega (arith, same, c.in_err-put_answer.ensures.most))
+
+pub returns-in_err-make-clause-most : goal.returns-in_err-make-clause-most
+returns-in_err-make-clause-most g c =
+    let way = c.loop-i.invariant.way in
+    let same = ap (λ (k : CourseTold). k.opening.limit) way.course in
+    one-within _ _ _ _ c.args.acts.now _ c.loop-i.i _ _ c.loop-i.steps c.index-acts-i.result c.put_answer.new.steps way c.loop-i-test.true c.index-acts-i.is
+    (omega (arith, same, c.in_ok-put_answer.ensures.most))
 
 pub loop-i-preserved : goal.loop-i-preserved
 loop-i-preserved g c =

@@ -1,0 +1,134 @@
+//! A session over the shelf that workers of a small course give back.
+
+ghost use Rattle.std.specs.Prelude.{◌≡◌, IfOk, IfErr, OnOk, length};
+ghost use Rattle.branch_workers.specs.Example.{small};
+
+use crate::rewind_examples::left;
+use crate::rewind_examples::market::{course, latency};
+use branch_tree::{Branch, Name, Stop};
+use checkpoint_shelf::ClosedShelf;
+use kernel_copy::{Checkpoint, Course};
+use market_types::{Sequence, Time, Trace};
+use outside::{Counted, Steps};
+use session_desk::{Session, SessionError, forks_by_number};
+use std::alloc::Global;
+use std::sync::Arc;
+use std::test::Fail;
+
+// A session over a course, whose branches leave at event numbers.
+fn begun(alloc: Global, course: &Arc<Course>) -> Result<Session, Fail>
+    ensures { IfOk result (λ s. s.course ≡ course.now.value) }
+{
+    if !forks_by_number(course.plan()) {
+        return Err(Fail::from("a branch leaves at a time"));
+    }
+    let session = Session::open(alloc, course)?;
+    Ok(session)
+}
+
+// A branch of this name leaves the root at event 2 and makes the latency 50.
+fn fork(alloc: Global, session: &mut Session, name: u8) -> Result<(), Fail>
+    requires { session.old.course.opening ≡ small }
+    ensures { session.new.course ≡ session.old.course }
+{
+    let edits = latency(alloc, 50)?;
+    let Some(name) = Name::new(&[name]) else {
+        return Err(Fail::from("no name"));
+    };
+    let branch = Branch {
+        name,
+        parent: 0,
+        stop: Stop::At(2),
+        edits: Sequence::new(edits),
+    };
+    match session.fork(branch) {
+        Ok(()) => Ok(()),
+        Err(_) => Err(Fail::from("no fork")),
+    }
+}
+
+// A branch makes the latency 7.
+fn edit(alloc: Global, session: &mut Session, branch: u16) -> Result<(), Fail>
+    requires { session.old.course.opening ≡ small }
+    ensures { session.new.course ≡ session.old.course }
+{
+    let edits = latency(alloc, 7)?;
+    match session.edit(branch, edits) {
+        Ok(()) => Ok(()),
+        Err(_) => Err(Fail::from("no edit")),
+    }
+}
+
+// The time of a branch's state after so many events, or why there is none; and how many events were counted.
+fn came(
+    session: &Session,
+    shelf: &ClosedShelf<Checkpoint>,
+    branch: u16,
+    event: u32,
+) -> (Result<Time, SessionError>, u64)
+    requires { shelf.now.course ≡ session.now.course }
+{
+    let _ = session.tree();
+    let mut steps: Steps<Counted> = Steps::new();
+    let came = match session.state(shelf, branch, event, &mut steps) {
+        Ok(kernel) => Ok(kernel.time()),
+        Err(refused) => Err(refused),
+    };
+    (came, steps.close())
+}
+
+// How many entries a branch's run has over the tree, and how many events were counted.
+fn recorded(alloc: Global, session: &Session, branch: u16) -> (Result<usize, SessionError>, u64) {
+    let _ = session.tree();
+    let mut steps: Steps<Counted> = Steps::new();
+    let mut trace = Trace::new(alloc);
+    let recorded = match session.records(branch, &mut trace, &mut steps) {
+        Ok(()) => Ok(trace.len()),
+        Err(refused) => Err(refused),
+    };
+    (recorded, steps.close())
+}
+
+// The number of the last event of a branch's run, and how many events were counted.
+fn last(
+    session: &Session,
+    shelf: &ClosedShelf<Checkpoint>,
+    branch: u16,
+) -> (Result<u32, SessionError>, u64)
+    requires { shelf.now.course ≡ session.now.course }
+{
+    let _ = session.tree();
+    let mut steps: Steps<Counted> = Steps::new();
+    let last = match session.full(shelf, branch, &mut steps) {
+        Ok(kernel) => Ok(kernel.events()),
+        Err(refused) => Err(refused),
+    };
+    (last, steps.close())
+}
+
+// A fork at event 2 with the first branch's latency stands at event 5 when that branch did. The first branch with the second's
+// latency stands there when the second does. Both go on from the root's state at the fork, and the second from its own.
+#[test]
+fn a_session_over_a_small_course(rt: HostRuntime) -> Result<(), Fail> {
+    let alloc = rt.alloc();
+    let course = course(alloc, Stop::At(2))?;
+    let shelf = left(&rt, alloc, &course, 128)?;
+    let mut session = begun(alloc, &course)?;
+    fork(alloc, &mut session, b'v')?;
+    assert_eq!(rt; came(&session, &shelf, 3, 5), (Ok(1055), 3));
+    edit(alloc, &mut session, 1)?;
+    assert_eq!(rt; came(&session, &shelf, 1, 5), (Ok(1012), 3));
+    assert_eq!(rt; session.undo().is_ok(), true);
+    assert_eq!(rt; came(&session, &shelf, 2, 4), (Ok(1005), 2));
+    assert_eq!(rt;
+        came(&session, &shelf, 3, 4),
+        (Err(SessionError::NoBranch), 0)
+    );
+    assert_eq!(rt;
+        came(&session, &shelf, 1, 7),
+        (Err(SessionError::NoEvent(6)), 4)
+    );
+    assert_eq!(rt; last(&session, &shelf, 1), (Ok(6), 4));
+    assert_eq!(rt; recorded(alloc, &session, 1), (Ok(7), 6));
+    Ok(())
+}
