@@ -1,5 +1,5 @@
 -- What is promised of a run. The clauses of the one call stand here, as the fields of records.
-use Rattle.std.specs.Prelude.{◌≡◌, ◌⊎◌, ◌≤◌, ℕ, List, Option, IfSome, None, Some, Result}
+use Rattle.std.specs.Prelude.{◌≡◌, ◌⊎◌, ◌≤◌, ℕ, List, Option, IfSome, None, Some}
 use Rattle.std.specs.Prelude as prelude
 use Rattle.toml.specs.Data.{Members}
 use Rattle.outside.specs.Files.{whole, held, content}
