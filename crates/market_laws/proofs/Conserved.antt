@@ -46,12 +46,13 @@ record IsConservedExchange (o : Opening) (s : Exchange) : Type 0 where
 conserved-exchange : (o : Opening) (acts : List Act) → IsConserved o.stocks (cash_of o) o.hidden acts → IsConservedExchange o (run (first_exchange o) acts)
 conserved-exchange o acts h = record { money = h.money; positions = h.positions; uncrossed = h.uncrossed }
 
-pub conserved-market : (o : Opening) (r : Run) (acts : List Act) → IsOpening o → RunsAreConserved → MatchesAreTold → IsMetAs o r acts → IsConservedMarket o r
-conserved-market o r acts opening law told met =
+pub conserved-market : (o : Opening) (r : Run) (acts : List Act) → IsOpening o → length o.stocks ≡ length r.state.floor.exchange.stocks → RunsAreConserved → MatchesAreTold → IsMetAs o r acts → IsConservedMarket o r
+conserved-market o r acts opening same law told met =
     let possible = possible-accounts o acts met.possible in
     let h = law o.stocks (cash_of o) o.hidden acts opening.market possible in
     let here = subst (λ (s : Exchange). IsConservedExchange o s) (sym met.exchange) (conserved-exchange o acts h) in
     record {
+      stocks = sym same;
       money = here.money;
       positions = here.positions;
       matched = λ k.

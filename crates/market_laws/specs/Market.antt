@@ -1,5 +1,5 @@
 -- What a run keeps of its market.
-use Rattle.std.specs.Prelude.{◌≡◌, ℕ, pos, ◌+ℤ◌, All}
+use Rattle.std.specs.Prelude.{◌≡◌, ℕ, pos, ◌+ℤ◌, All, length}
 use Rattle.exchange_agent.specs.Runs.{IsUncrossed, fees_taken, total}
 use Rattle.exchange_agent.specs.State.{State as Exchange, stock_at}
 use Rattle.branch_tree.specs.Plan.{Plan}
@@ -17,6 +17,8 @@ exchange_of r = r.state.floor.exchange
 
 -- What stays constant from a study's opening on.
 pub record IsConservedMarket (o : Opening) (r : Run) : Type 0 where
+  -- there are the opening's stocks, and no others
+  pub stocks : length (exchange_of r).stocks ≡ length o.stocks
   -- the settled cash of all traders and all fees are together the opening cash
   pub money : total (exchange_of r).cash +ℤ fees_taken (exchange_of r).stocks ≡ total (cash_of o)
   -- the positions of each stock sum to zero

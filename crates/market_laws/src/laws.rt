@@ -13,6 +13,7 @@ ghost use Rattle.market_laws.specs.Market.{IsConservedMarket, IsStateOf, exchang
 
 use exchange_agent::laws::runs_are_conserved;
 use exchange_laws::small::{live_orders_are_small, matches_are_told};
+use kernel_copy::laws::courses_stay_in_range;
 use price_time_book::keeping::{a_match_keeps, a_reduce_keeps, fills_add_up, orderly_books_stay};
 use price_time_book::laws::{matching_ends, next_is_best};
 
@@ -38,6 +39,7 @@ pub fn markets_are_conserved()
         IsConservedMarket c.opening (full c.opening c.plan b e) }
 {
     runs_are_what_the_exchange_met();
+    courses_stay_in_range();
     runs_are_conserved();
     matches_are_told();
 }
