@@ -9,6 +9,7 @@ pub mod Crossing
 pub mod Fetching
 pub mod Finishing
 pub mod Holding
+pub mod Honesty
 pub mod Performing
 pub mod Speaking
 pub mod Strides

@@ -1,15 +1,20 @@
 -- What is promised of a run. The clauses of the one call stand here, as the fields of records.
-use Rattle.std.specs.Prelude.{◌≡◌, ◌⊎◌, ◌≤◌, ℕ, List, Option, IfSome, None}
+use Rattle.std.specs.Prelude.{◌≡◌, ◌⊎◌, ◌≤◌, ℕ, List, Option, IfSome, None, Some}
+use Rattle.std.specs.Prelude as prelude
+use Rattle.toml.specs.Data.{Members}
+use Rattle.outside.specs.Files.{whole, held, content}
 use Rattle.outside.specs.Rose.{Rose}
 use Rattle.outside.specs.Taken.{appended, TookPrefix}
+use Rattle.study_rules.specs.Accepted.{StudyTold, study_of}
+use Rattle.abides_run.specs.declared.request.Request.TheVariants.{Bundle}
 use Rattle.abides_run.specs.Words.{asked_of, IsLarge}
-use Rattle.abides_run.specs.Verdict.{Verdict, Files, verdict, IsDue, output, distinct, allowance, ceiling}
-use Rattle.abides_run.specs.Output.{Probes}
+use Rattle.abides_run.specs.Verdict.{Verdict, Files, most_bundle_bytes, verdict, IsDue, output, distinct, allowance, ceiling}
+use Rattle.abides_run.specs.Output.{Probes, study_bundle}
 use Rattle.abides_run.specs.Fetched.{arguments_in, fetched}
 use Rattle.abides_run.specs.Statuses.{Cause, Counts, IsRefusal, IsStill, Names, SpeaksFor, NamesOne, status_of}
 use Rattle.abides_run.specs.Notes.{note}
 use Rattle.abides_run.specs.declared.status.Status.{Status}
-use Rattle.abides_run.specs.declared.status.Status.TheVariants.{Ok, Usage, ReadFault, WriteFault, Memory}
+use Rattle.abides_run.specs.declared.status.Status.TheVariants.{Ok, Usage, ReadFault, WriteFault, BadBundle, AuditFailed, Memory}
 
 -- What is seen at one moment: how many reads of the library failed, how many writes to out, what out has taken where it
 -- tells its bytes, and how many steps were counted.
@@ -66,6 +71,25 @@ pub record Named (files : Option Files) (words : List (List ℕ)) (status : Stat
   pub always : SpeaksFor words status name
   -- or one of the arguments
   pub argument : NamesOne (arguments_in (asked_of words)) status name
+
+-- The bytes are those of the bundle of a study that the rules accept.
+pub record IsHonest (bytes : List ℕ) : Type 0 where
+  pub table : Members
+  pub series : Option (List ℕ)
+  pub study : StudyTold
+  pub accepted : study_of table series ≡ prelude.Ok study
+  pub is : bytes ≡ study_bundle study.course
+
+-- Neither the status for bytes that are no bundle nor the one for a branch that fails.
+pub record Passes (status : Status) : Type 0 where
+  pub bundle : (reason at : ℕ) → ¬ (status ≡ BadBundle reason at)
+  pub audit : (branch reference : ℕ) → ¬ (status ≡ AuditFailed branch reference)
+
+-- An honest bundle passes: where the library holds under the name of the bundle to audit the bytes of the bundle of any study that
+-- the rules accept, and they are not too many, neither status comes.
+pub record Honest (files : Option Files) (words : List (List ℕ)) (status : Status) : Type 0 where
+  pub passes : IfSome files (λ library. (name : List ℕ) → asked_of words ≡ Some (Bundle name)
+      → (bytes : List ℕ) → content (held library name) most_bundle_bytes ≡ whole bytes → IsHonest bytes → Passes status)
 
 -- What holds of the note, where the status speaks of this name: the counts of failed writes to the notes, and
 -- what the notes have taken, before and after.

@@ -2,13 +2,14 @@
 
 ghost use Rattle.std.specs.Prelude.{◌≡◌, ◌≤◌, ◌^◌, ℕ, List, map, string_bytes};
 ghost use Rattle.abides_run.specs.Words.{texts};
-ghost use Rattle.abides_run.specs.Headline.{Answered, Named, Noted};
+ghost use Rattle.abides_run.specs.Headline.{Answered, Honest, Named, Noted};
 
 use crate::ending::Ending;
 use crate::find::find_asked;
 use crate::notes::write_note;
 use crate::perform::perform;
 use crate::status::Status;
+use audit_laws::honest::honest_bundles_pass;
 use outside::{Gate, Ledger, Library, Sink, Steps};
 use probe_desk::Probe;
 use std::alloc::Global;
@@ -50,7 +51,8 @@ fn answer<R: Threads + Wait + Sync, L: Library, O: Sink, G: Gate + Sync, D: Ledg
 ///
 /// What is promised of it are the fields of two records. `Answered` has the output, the rise of the counter, the cause of
 /// each status and the status of each cause, what stands at a refusal, and that want of memory is the only other end.
-/// `Noted` has the line of the status, with the file or the argument that the status speaks of, and `Named` which that is.
+/// `Noted` has the line of the status, with the file or the argument that the status speaks of, and `Named` which that is. `Honest`
+/// says that the bundle of a study that the rules accept passes its audit.
 pub fn run<
     R: Threads + Wait + Sync,
     L: Library,
@@ -77,8 +79,10 @@ pub fn run<
         result }
     ensures noted { (name : List ℕ) × Named (L.files library.old) (texts words.now) result name
         × Noted name (N.faults notes.old) (N.faults notes.new) (N.taken notes.old) (N.taken notes.new) result }
+    ensures honest { Honest (L.files library.old) (texts words.now) result }
     ensures files { L.files library.new ≡ L.files library.old }
 {
+    honest_bundles_pass();
     let mut probes = probes;
     let ending = answer(rt, alloc, words, library, out, &mut probes, gate, steps);
     write_note(alloc, ending.name.as_str(), ending.status, notes)

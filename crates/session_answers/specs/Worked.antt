@@ -1,6 +1,7 @@
 -- Acts over a small tree, for worked examples.
 use Rattle.std.specs.Prelude.{ℕ, List, [], ◌∷◌}
-use Rattle.branch_tree.specs.Worked.{nested}
+use Rattle.branch_tree.specs.declared.stop.Stop.TheVariants.{At}
+use Rattle.branch_tree.specs.Worked.{branch, nested, root}
 use Rattle.market_floor.specs.OpeningWorked.{market, watcher}
 use Rattle.kernel_copy.specs.Courses.{CourseTold}
 use Rattle.session_desk.specs.Session.{SessionTold, first_session}
@@ -13,6 +14,13 @@ small_course = record { opening = market 2000 0 (watcher 1000 ∷ []); plan = re
 
 abbrev pub small_session : SessionTold
 small_session = first_session small_course
+
+-- the same market with a branch `x` of the root at 1 and a branch `y` of that one at 2
+abbrev pub early_session : SessionTold
+early_session = first_session (record {
+  opening = market 2000 0 (watcher 1000 ∷ []);
+  plan = record { branches = root ∷ (branch 120 0 (At 1) ∷ (branch 121 1 (At 2) ∷ [])); limit = 100 };
+})
 
 -- a fork and an edit without edits
 abbrev pub fork_at : List ℕ → List ℕ → ℕ → Act

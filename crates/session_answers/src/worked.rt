@@ -5,8 +5,9 @@ ghost use Rattle.std.specs.Prelude.{◌≡◌, ◌∷◌, [], None, Some, codes,
 ghost use Rattle.session_script.specs.declared.act.Act.TheVariants as act;
 ghost use Rattle.session_answers.specs.Acting.{number_in, after_all};
 ghost use Rattle.session_answers.specs.Answered.{session_bytes, value_frame};
+ghost use Rattle.session_answers.specs.Counted.{all_reached};
 ghost use Rattle.session_answers.specs.Refused.{act_refused};
-ghost use Rattle.session_answers.specs.Worked.{small_session, fork_at, no_edits};
+ghost use Rattle.session_answers.specs.Worked.{early_session, small_session, fork_at, no_edits};
 
 /// A branch is there until an act undoes it, and from the act on that forks it.
 pub fn branches_come_and_go()
@@ -33,4 +34,15 @@ pub fn frames_of_answers()
     ensures positive { value_frame (pos 258) ≡ (0 ∷ 17 ∷ 118 ∷ 0 ∷ 0 ∷ 0 ∷ 0 ∷ 0 ∷ 0 ∷ 0 ∷ 0 ∷ 0 ∷ 0 ∷ 0 ∷ 0 ∷ 0 ∷ 0 ∷ 1 ∷ 2 ∷ []) }
     ensures negative { value_frame (negsuc 1) ≡ (0 ∷ 17 ∷ 118 ∷ 255 ∷ 255 ∷ 255 ∷ 255 ∷ 255 ∷ 255 ∷ 255 ∷ 255 ∷ 255 ∷ 255 ∷ 255 ∷ 255 ∷ 255 ∷ 255 ∷ 255 ∷ 254 ∷ []) }
     ensures changes { session_bytes [] small_session (act.Undo ∷ no_edits (codes "x") ∷ []) ≡ (0 ∷ 3 ∷ 122 ∷ 0 ∷ 2 ∷ []) }
+{}
+
+/// What is left to run where each state is kept: nothing of a branch that is the study's own, with all before it on its path. Of one
+/// that an act forked, or that has an edited branch on its path, the events behind the stop of the first such branch; and where
+/// no state is kept, all.
+pub fn steps_to_answers()
+    ensures own { all_reached (λ b e. e) early_session (act.Rewind (codes "y") 3 ∷ []) ≡ 0 }
+    ensures edited { all_reached (λ b e. e) early_session (no_edits (codes "y") ∷ act.Rewind (codes "y") 3 ∷ []) ≡ 1 }
+    ensures before { all_reached (λ b e. e) early_session (no_edits (codes "x") ∷ act.Rewind (codes "y") 3 ∷ act.Rewind (codes "y") 1 ∷ []) ≡ 2 }
+    ensures forked { all_reached (λ b e. e) early_session (act.Undo ∷ fork_at (codes "y") (codes "x") 2 ∷ act.Rewind (codes "y") 3 ∷ []) ≡ 1 }
+    ensures opening { all_reached (λ b e. 0) early_session (act.Rewind (codes "y") 3 ∷ no_edits (codes "x") ∷ act.Rewind (codes "y") 2 ∷ []) ≡ 5 }
 {}
