@@ -10,6 +10,8 @@ use Rattle.study_rules.specs.Scope.{scope_of_opening}
 use Rattle.session_script.specs.Script.{act_entries, acts_in, acts_of, forks_by_time, is_fit, is_script, script_of}
 use Rattle.session_desk.specs.Session.{SessionTold, first_session}
 use Rattle.session_answers.specs.declared.end.PastAct.{PastAct}
+use Rattle.session_answers.specs.declared.end.SessionEnd.{SessionEnd}
+use Rattle.session_answers.specs.declared.end.SessionEnd.TheVariants as end
 use Rattle.session_answers.specs.Acting.{after_act}
 use Rattle.session_answers.specs.Answered.{session_bytes}
 use Rattle.session_answers.specs.Counted.{all_reached, all_run, surely_kept}
@@ -58,6 +60,14 @@ past-below i s (a ∷ acts) p is =
 
 pub past-among : (s : SessionTold) (acts : List Act) (p : PastAct) → past_act s acts ≡ Some p → length acts ≤ 64 → IsAmong (act_word p.act) act_words
 past-among s acts p is few = act-among 64 p.act (omega (arith, past-below 0 s acts p is, few))
+
+-- the end of acts that says which goes past a last event
+pub told-past : (e : SessionEnd) (past : PastAct) (found : Option PastAct) → e ≡ end.NoEvent past → (e ≡ end.Memory) ⊎ ((p : PastAct) × (e ≡ end.NoEvent p) × (found ≡ Some p)) → found ≡ Some past
+told-past e past found is (inl wanting) = let bad : end.NoEvent past ≡ end.Memory = sym is ∙ wanting in cc
+told-past e past found is (inr (p, told, first)) =
+    let same : end.NoEvent p ≡ end.NoEvent past = sym told ∙ is in
+    let one : p ≡ past = cc in
+    first ∙ ap Some one
 
 -- the script says no acts, or memory was wanting to read it
 refuses-script : (place : ℕ) (come : Verdict) (probes : Probes) (arguments : List (List ℕ)) (reads writes steps : ℕ) (taken : Option (List ℕ)) (st : Status) (name : List ℕ)
