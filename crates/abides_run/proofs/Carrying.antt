@@ -21,7 +21,7 @@ use Rattle.study_rules.specs.Accepted.{StudyTold}
 use Rattle.abides_run.specs.Fetched.{IsAmong}
 use Rattle.abides_run.specs.Notes.{past_event}
 use Rattle.abides_run.specs.Output.{Probes, carried_out, study_events}
-use Rattle.abides_run.specs.Sessions.{act_word, act_words, act_words_before, bad_act, status_for}
+use Rattle.abides_run.specs.Sessions.{act_word, act_words, act_words_before, status_for}
 use Rattle.abides_run.specs.Verdict.{Verdict, accepted, bad_script, refused_act, ceiling, verdict_on_acts, verdict_on_past_act, verdict_on_script, verdict_on_session}
 use Rattle.abides_run.specs.Headline.{Seen}
 use Rattle.abides_run.specs.Performed.{Finished, Performed}

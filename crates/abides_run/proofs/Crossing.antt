@@ -1,5 +1,5 @@
 -- How a cross ends.
-use Rattle.std.proofs.Common.{◌≡◌, ◌⊎◌, ◌≤◌, ◌+◌, ℕ, List, [], ◌∷◌, Option, None, Some, Result, length, refl, sym, ap, ◌∙◌, subst, arith}
+use Rattle.std.proofs.Common.{◌≡◌, ◌⊎◌, ◌≤◌, ◌+◌, ℕ, List, [], ◌∷◌, Option, None, Some, Result, length, sym, ap, ◌∙◌, subst, arith}
 use Rattle.command_words.specs.declared.asked.Crossing.{Crossing}
 use Rattle.reopen_cross.specs.declared.cross.Interest.{Interest}
 use Rattle.order_file.specs.Orders.{orders_of}

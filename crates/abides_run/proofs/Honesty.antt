@@ -1,10 +1,10 @@
 -- The bundle of a study that the rules accept passes its audit.
-use Rattle.std.proofs.Common.{◌≡◌, ℕ, List, Option, Some, None, IfSome, Result, Ok, refl, sym, ap, ◌∙◌, subst}
+use Rattle.std.proofs.Common.{◌≡◌, ℕ, List, Option, Some, None, Ok, ap, ◌∙◌, subst}
 use Rattle.toml.specs.Data.{Members}
 use Rattle.outside.specs.Files.{Content, whole, held, content}
 use Rattle.study_rules.specs.Accepted.{StudyTold, study_of}
 use Rattle.bundle_reader.specs.Told.{BundleTold}
-use Rattle.bundle_reading.specs.Reading.{Read, read, reading_of}
+use Rattle.bundle_reading.specs.Reading.{read, reading_of}
 use Rattle.trace_bundle.specs.Bundle.{bundle_of}
 use Rattle.audit_desk.specs.declared.failing.Failing.{Failing}
 use Rattle.audit_desk.specs.Audited.{audit_of}
