@@ -61,6 +61,13 @@ impl FeedList {
         self.feeds.as_slice()
     }
 
+    /// Empties the list. It holds on to its memory, so that what is appended next takes none, though no place counts as kept.
+    pub fn clear(&mut self)
+        ensures { self.new ≡ record { list = []; spare = 0 } }
+    {
+        self.feeds.clear();
+    }
+
     /// Makes room for `n` more messages.
     pub fn reserve(&mut self, n: usize) -> Result<(), Memory>
         ensures list { self.new.list ≡ self.old.list }

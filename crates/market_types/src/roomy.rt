@@ -76,6 +76,14 @@ impl<T: Drop> Roomy<T> {
         Ok(())
     }
 
+    /// Empties the list. It holds on to its memory, so that what is appended next takes none, though no place counts as kept.
+    pub fn clear(&mut self)
+        ensures { self.new ≡ record { list = []; spare = 0 } }
+    {
+        self.items.clear();
+        self.spare = 0;
+    }
+
     /// Appends a value.
     pub fn push(&mut self, value: T) -> Result<(), Memory>
         ensures pushed { OnOk result (self.new ≡ record { list = self.old.list ++ value ∷ []; spare = self.old.spare - 1 }) }
