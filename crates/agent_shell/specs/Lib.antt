@@ -3,6 +3,7 @@ pub mod Bounds
 pub mod Choice
 pub mod Decide
 pub mod Fills
+pub mod Hashing
 pub mod Maker
 pub mod Momentum
 pub mod Noise

@@ -2,6 +2,7 @@
 //! parts of a decision that are the same for each kind.
 #![tactic(auto)]
 
+mod hashing;
 pub mod laws;
 mod parts;
 mod placing;

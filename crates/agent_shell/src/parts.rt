@@ -148,7 +148,7 @@ impl Parts {
         Ok(Parts {
             setting: self.setting,
             shell,
-            stream: Stream::new(u64::from(self.shell.agent())),
+            stream: self.stream.copy(),
             draws: self.draws,
             quotes: self.quotes,
         })

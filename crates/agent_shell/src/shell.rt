@@ -1,13 +1,15 @@
 //! A trader's own account, its own list of open orders, and its tokens.
 
-ghost use Rattle.std.specs.Prelude.{◌≡◌, ◌<◌, ◌≤◌, ◌+◌, ◌^◌, pos, ◌≤ℤ◌, None, IsOk, IfOk, OnOk, OnErr, length, option_map, slice_get};
+ghost use Rattle.std.specs.Prelude.{◌≡◌, ◌<◌, ◌≤◌, ◌+◌, ◌^◌, pos, ◌≤ℤ◌, None, Some, IsOk, IfOk, OnOk, OnErr, length, option_map, slice_get};
+ghost use Rattle.indexmap.specs.IndexMap.{index_of_by};
 ghost use Rattle.agent_shell.specs.Bounds.{IsNear};
-ghost use Rattle.agent_shell.specs.Own.{own_order, lowered, without};
+ghost use Rattle.agent_shell.specs.Own.{own_order, lowered, same_token, without};
 ghost use Rattle.agent_shell.specs.Shell.{IsModest, executed, orders_at_opening, replied, with_order};
 ghost use Rattle.agent_shell.specs.Sound.{IsOwn};
 ghost use Rattle.agent_shell.specs.Tokens.{token_of};
 ghost use Rattle.agent_shell.specs.Account.{cost_of, traded};
 
+use crate::hashing::TokenHashing;
 use crate::tokens::token_of;
 use indexmap::IndexMap;
 use market_types::{Account, AgentNo, Memory, Money, Reply, Side, Token};
@@ -16,6 +18,9 @@ use std::marker::Model;
 
 // An own list has at most so many orders.
 pub(crate) const MOST_OWN: usize = 64;
+
+// An own list has room for so many when it is opened. Most never have more, and grow where they do.
+const FIRST_OWN: usize = 8;
 
 /// An open order of a trader's own list.
 #[derive(Clone, Copy, PartialEq, Eq, Debug)]
@@ -31,7 +36,7 @@ pub struct Shell {
     agent: AgentNo,
     tokens: u32,
     account: Account,
-    own: IndexMap<Token, OwnOrder>,
+    own: IndexMap<Token, OwnOrder, TokenHashing>,
 }
 
 impl Model for Shell {
@@ -76,21 +81,35 @@ fn traded(account: Account, side: Side, price: u32, shares: u32) -> Account
     }
 }
 
-// The open shares of the order of a token fall, to 0 at least; at 0 it is removed.
-fn lower(own: &mut IndexMap<Token, OwnOrder>, token: &Token, shares: u32)
-    ensures { own.new.entries ≡ lowered token.now shares own.old.entries }
+// The open shares of the order at a place fall, to 0 at least; at 0 it is removed.
+fn lower_at(
+    own: &mut IndexMap<Token, OwnOrder, TokenHashing>,
+    at: usize,
+    order: OwnOrder,
+    shares: u32,
+)
+    requires { at < length own.old.entries }
+    ensures { (token : Token) → index_of_by (same_token token) own.old ≡ Some at → own_order token own.old.entries ≡ Some order → own.new.entries ≡ lowered token shares own.old.entries }
 {
-    let Some(order) = own.get(token).copied() else {
-        return;
-    };
     if order.left <= shares {
-        own.shift_remove(token);
-    } else if let Some(held) = own.get_mut(token) {
-        *held = OwnOrder {
+        own.shift_remove_index(at);
+    } else {
+        own[at] = OwnOrder {
             side: order.side,
             left: order.left - shares,
         };
     }
+}
+
+// The open shares of the order of a token fall, to 0 at least; at 0 it is removed.
+fn lower(own: &mut IndexMap<Token, OwnOrder, TokenHashing>, token: &Token, shares: u32)
+    ensures { own.new.entries ≡ lowered token.now shares own.old.entries }
+{
+    let Some(at) = own.get_index_of(token) else {
+        return;
+    };
+    let order = own[at];
+    lower_at(own, at, order, shares);
 }
 
 impl Shell {
@@ -101,7 +120,7 @@ impl Shell {
     pub fn open(alloc: Global, agent: AgentNo, cash: i64) -> Result<Shell, Memory>
         ensures { IfOk result (λ s. s.orders ≡ orders_at_opening agent cash) }
     {
-        let own = IndexMap::with_capacity(alloc, MOST_OWN)?;
+        let own = IndexMap::with_capacity_and_hasher(alloc, FIRST_OWN, TokenHashing)?;
         Ok(Shell {
             agent,
             tokens: 0,
@@ -163,11 +182,12 @@ impl Shell {
         ensures cash { IsNear (2 ^ 71) self.old.orders.account.cash self.new.orders.account.cash }
         ensures value { self.new.orders ≡ executed (own_order token.now self.old.orders.own) token.now price shares self.old.orders }
     {
-        let Some(order) = self.own.get(token).copied() else {
+        let Some(at) = self.own.get_index_of(token) else {
             return;
         };
+        let order = self.own[at];
         self.account = traded(self.account, order.side, price, shares);
-        lower(&mut self.own, token, shares);
+        lower_at(&mut self.own, at, order, shares);
     }
 
     /// The trader's number.

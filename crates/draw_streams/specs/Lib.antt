@@ -1,3 +1,4 @@
 pub mod Below
 pub mod Centred
 pub mod Draw
+pub mod Keys

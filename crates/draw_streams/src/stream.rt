@@ -1,7 +1,8 @@
 //! One stream that keeps a run of its words.
 
-ghost use Rattle.std.specs.Prelude.{◌≡◌, ◌+◌, ◌<◌, ℕ, slice_index};
+ghost use Rattle.std.specs.Prelude.{◌≡◌, ◌+◌, ◌<◌, ◌≤◌, ℕ, bytes_eq, slice_index};
 ghost use Rattle.draw_streams.specs.Draw.{draw_of};
+ghost use Rattle.draw_streams.specs.Keys.{number_at, same_numbers};
 ghost use Rattle.rand_chacha.specs.ChaCha.{key_of};
 
 use rand_chacha::ChaCha20Rng;
@@ -65,6 +66,40 @@ fn words_from(key: &[u8; 32], number: u64, first: u64) -> [u32; KEPT]
     words
 }
 
+// The number of the eight bytes of a key from a place on, the first byte the lowest.
+fn number_at(key: &[u8; 32], at: usize) -> u64
+    requires { at ≤ 24 }
+    ensures { result ≡ number_at key.now at }
+{
+    u64::from_le_bytes([
+        key[at],
+        key[at + 1],
+        key[at + 2],
+        key[at + 3],
+        key[at + 4],
+        key[at + 5],
+        key[at + 6],
+        key[at + 7],
+    ])
+}
+
+// Whether the four numbers of two keys are the same.
+fn has_same_numbers(left: &[u8; 32], right: &[u8; 32]) -> bool
+    ensures { result ≡ same_numbers left.now right.now }
+{
+    number_at(left, 0) == number_at(right, 0)
+        && number_at(left, 8) == number_at(right, 8)
+        && number_at(left, 16) == number_at(right, 16)
+        && number_at(left, 24) == number_at(right, 24)
+}
+
+// Whether two keys are the same.
+fn is_same(left: &[u8; 32], right: &[u8; 32]) -> bool
+    ensures { result ≡ bytes_eq left.now right.now }
+{
+    has_same_numbers(left, right)
+}
+
 impl Stream {
     /// The stream of this number.
     pub fn new(number: u64) -> Stream
@@ -79,17 +114,39 @@ impl Stream {
         }
     }
 
+    /// An equal stream, which keeps the same words.
+    pub fn copy(&self) -> Stream
+        ensures { result ≡ self.now }
+    {
+        Stream {
+            number: self.number,
+            key: self.key,
+            first: self.first,
+            count: self.count,
+            words: self.words,
+        }
+    }
+
     /// The draw at a place under a key.
     pub fn draw(&mut self, key: &[u8; 32], place: u64) -> u32
         ensures value { result ≡ draw_of key.now self.old place }
         ensures stream { self.new ≡ self.old }
     {
-        if self.key == *key && self.first <= place {
-            let ahead = place - self.first;
-            if ahead < self.count {
-                return self.words[ahead as usize];
-            }
+        if place < self.first {
+            return self.refill(key, place);
         }
+        let ahead = place - self.first;
+        if ahead < self.count && is_same(&self.key, key) {
+            return self.words[ahead as usize];
+        }
+        self.refill(key, place)
+    }
+
+    // The draw at a place, whose block is made anew and kept with those after it.
+    fn refill(&mut self, key: &[u8; 32], place: u64) -> u32
+        ensures value { result ≡ draw_of key.now self.old place }
+        ensures stream { self.new ≡ self.old }
+    {
         let ahead = place % BLOCK;
         self.first = place - ahead;
         self.words = words_from(key, self.number, self.first);

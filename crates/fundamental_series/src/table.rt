@@ -6,7 +6,7 @@ ghost use Rattle.fundamental_series.specs.Ranges.{IsInRange, IsPrice};
 ghost use Rattle.fundamental_series.specs.Table.{IsTable};
 
 use crate::rule::{SeriesRule, stepped};
-use draw_streams::draw;
+use draw_streams::Stream;
 use market_types::{Memory, StockNo, Time};
 use std::alloc::Global;
 use std::marker::Model;
@@ -92,12 +92,12 @@ fn values_of(
     ensures long { IfOk result (λ v. length v.items ≡ count) }
     ensures table { IfOk result (λ v. IsTable key.now stock rule.now v.items) }
 {
-    let stream = SERIES_STREAMS + u64::from(stock);
+    let mut stream = Stream::new(SERIES_STREAMS + u64::from(stock));
     let mut values = Vec::new(alloc);
     let mut value = rule.start;
     for step in 0..count {
         values.push(value)?;
-        value = stepped(rule, value, draw(key, stream, step as u64));
+        value = stepped(rule, value, stream.draw(key, step as u64));
     }
     Ok(values)
 }
