@@ -1,6 +1,6 @@
 pub mod Accepts
 pub mod Admissions
-pub mod Bytewise
+pub mod Agents
 pub mod Conserved
 pub mod Crossings
 pub mod Ends
@@ -9,6 +9,7 @@ pub mod Knowns
 pub mod Numbers
 pub mod Pairs
 pub mod Replied
+pub mod Risings
 pub mod Shorts
 pub mod States
 pub mod Steps

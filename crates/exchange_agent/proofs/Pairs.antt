@@ -1,5 +1,5 @@
 -- A set of pairs with one more.
-use Rattle.std.proofs.Common.{◌≡◌, ◌+◌, Bool, true, false, ◌||◌, List, [], ◌∷◌, length, arith, refl}
+use Rattle.std.proofs.Common.{◌≡◌, ◌≤◌, ◌+◌, Bool, true, false, ◌||◌, List, [], ◌∷◌, length, arith, refl}
 use Rattle.std.specs.List.{list_any}
 use Rattle.std.specs.Ordering.{match_ordering, is_eq}
 use Rattle.std.specs.BTreeSet.{insert_key}
@@ -17,7 +17,17 @@ pub length-insert_key : {K : Type 0} (cmp : K → K → Ordering) (k : K) (ks : 
 length-insert_key cmp k [] e = omega arith
 length-insert_key cmp k (x ∷ xs) e = step-length (cmp k x) k x xs (insert_key cmp xs k) (list_any (is_at (cmp k)) xs) e (length-insert_key cmp k xs)
 
-or-right : (a b : Bool) → b ≡ true → (a || b) ≡ true
+bounds-step : {K : Type 0} (o : Ordering) (k x : K) (xs ys : List K) → (length xs ≤ length ys) × (length ys ≤ length xs + 1) → (length (x ∷ xs) ≤ length (match_ordering o (k ∷ x ∷ xs) (x ∷ xs) (x ∷ ys))) × (length (match_ordering o (k ∷ x ∷ xs) (x ∷ xs) (x ∷ ys)) ≤ length (x ∷ xs) + 1)
+bounds-step Less k x xs ys h = omega arith
+bounds-step Equal k x xs ys h = omega arith
+bounds-step Greater k x xs ys h = omega (arith, h)
+
+-- a key that comes is one more at most
+pub bounds-insert_key : {K : Type 0} (cmp : K → K → Ordering) (k : K) (ks : List K) → (length ks ≤ length (insert_key cmp ks k)) × (length (insert_key cmp ks k) ≤ length ks + 1)
+bounds-insert_key cmp k [] = omega arith
+bounds-insert_key cmp k (x ∷ xs) = bounds-step (cmp k x) k x xs (insert_key cmp xs k) (bounds-insert_key cmp k xs)
+
+pub or-right : (a b : Bool) → b ≡ true → (a || b) ≡ true
 or-right true b e = refl
 or-right false b e = e
 

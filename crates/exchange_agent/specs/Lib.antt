@@ -5,6 +5,7 @@ pub mod Market
 pub mod Open
 pub mod Outcome
 pub mod Pairs
+pub mod Remembered
 pub mod Runs
 pub mod Settle
 pub mod Sound

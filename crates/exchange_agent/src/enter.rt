@@ -13,12 +13,13 @@ use crate::exchange::Exchange;
 use crate::handled::Handled;
 use crate::listing::Listing;
 use crate::pair::Pair;
+use crate::remembered::Remembered;
 use crate::settle::Taking;
 use crate::told::Counts;
 use crate::verdict::Verdict;
 use market_types::{AgentNo, Body, Enter, Memory, Money, Reply, Symbol, Time};
+use price_time_book::bytes::is_same;
 use price_time_book::keeping::changes_keep;
-use std::collections::BTreeSet;
 
 // How many pairs are remembered at most.
 const MOST_PAIRS: usize = 131_072;
@@ -61,7 +62,7 @@ fn has_strange_price(listing: &Listing, e: &Enter) -> bool
 fn place_of(stocks: &[Listing], symbol: &Symbol) -> Option<usize>
     ensures { result ≡ position (λ k. bytes_eq k.symbol.0 symbol.now.0) stocks.now }
 {
-    stocks.iter().position(|k| k.symbol == *symbol)
+    stocks.iter().position(|k| is_same(&k.symbol.0, &symbol.0))
 }
 
 // The number of the stock with a symbol.
@@ -239,7 +240,7 @@ fn forget(time: Time, from: AgentNo, e: &Enter, reason: u8, out: &mut Handled) -
 fn admit(
     listing: &mut Listing,
     cash: &mut Vec<Money>,
-    pairs: &mut BTreeSet<Pair>,
+    pairs: &mut Remembered,
     counts: &mut Counts,
     taking: &Taking,
     e: &Enter,
@@ -252,6 +253,7 @@ fn admit(
     requires exists { taking.now.agent ≤ length cash.old.items }
     requires stock { IsSoundStock (length cash.old.items) counts.old.orders pairs.old.keys (stock_of listing.old) }
     requires some_orders { counts.old.orders < 131072 }
+    requires some_pairs { length pairs.old.keys < 131072 }
     requires matches { counts.old.matches ≤ 1000000 * counts.old.orders }
     requires money { All (IsWithin (2 ^ 63 + 2 ^ 61 * counts.old.orders)) cash.old.items }
     requires no_fee { out.old.fee ≡ pos 0 }
@@ -273,7 +275,7 @@ fn admit(
     ensures fee_refused { OnErr result (out.new.fee ≡ out.old.fee) }
 {
     changes_keep();
-    let most = listing.book.crossing(e.side, e.price);
+    let most = listing.book.most_fills(e.side, e.price);
     out.reserve(2 * most + 2, most + 1)?;
     listing.book.reserve(1)?;
     let pair = Pair {

@@ -6,11 +6,10 @@ ghost use Rattle.exchange_agent.specs.View.{stock_of};
 ghost use Rattle.exchange_agent.specs.Sound.{IsWithin};
 
 use crate::listing::Listing;
-use crate::pair::Pair;
+use crate::remembered::Remembered;
 use crate::told::{Counts, StockRules};
 use market_types::{Memory, Money};
 use std::alloc::Global;
-use std::collections::BTreeSet;
 use std::marker::Model;
 
 /// The exchange's state between two messages.
@@ -18,7 +17,7 @@ use std::marker::Model;
 pub struct Exchange {
     pub(crate) stocks: Vec<Listing>,
     pub(crate) cash: Vec<Money>,
-    pub(crate) pairs: BTreeSet<Pair>,
+    pub(crate) pairs: Remembered,
     pub(crate) counts: Counts,
     pub(crate) hidden: bool,
 }
@@ -96,7 +95,7 @@ impl Exchange {
         Ok(Exchange {
             stocks,
             cash,
-            pairs: BTreeSet::new(alloc),
+            pairs: Remembered::new(alloc),
             counts: Counts {
                 orders: 0,
                 matches: 0,
@@ -114,7 +113,7 @@ impl Exchange {
         let stocks = copies(alloc, self.stocks.as_slice())?;
         let mut cash = Vec::new(alloc);
         cash.extend_from_slice(self.cash.as_slice())?;
-        let pairs = self.pairs.clone()?;
+        let pairs = self.pairs.copy(alloc)?;
         Ok(Exchange {
             stocks,
             cash,

@@ -34,6 +34,22 @@ impl Handled {
         }
     }
 
+    /// Nothing so far, as at first; what is handled next finds the memory of what was.
+    pub fn clear(&mut self)
+        ensures { self.new ≡ record { replies = record { list = []; spare = 0 }; feed = record { list = []; spare = 0 }; fee = pos 0 } }
+    {
+        self.replies.clear();
+        self.feed.clear();
+        self.fee = 0;
+    }
+
+    /// The replies with their receivers.
+    pub fn replies(&self) -> &[Outgoing]
+        ensures { result.now ≡ self.now.replies.list }
+    {
+        self.replies.as_slice()
+    }
+
     /// How many replies there are.
     pub fn len(&self) -> usize
         ensures { result ≡ length self.now.replies.list }

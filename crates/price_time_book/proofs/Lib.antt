@@ -1,4 +1,5 @@
 pub mod Bests
+pub mod Bytewise
 pub mod Changes
 pub mod Counts
 pub mod Earliest

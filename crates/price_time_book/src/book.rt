@@ -21,6 +21,9 @@ use std::marker::Model;
 // How many orders may have left before the vector of arrival is made anew.
 const LEFT_BEHIND: usize = 32;
 
+// Of how many orders of a side it is not worth while to count those that cross.
+const FEW_ORDERS: usize = 64;
+
 /// The resting orders of one stock.
 ///
 /// The orders stand in one vector in order of arrival, those that have left at 0 open shares. Over it
@@ -313,6 +316,22 @@ impl Book {
             return 0;
         }
         crossing_in(self.orders.as_slice(), side, limit)
+    }
+
+    /// A number that the fills of no match of an incoming order of `side` with this limit exceed. Where few orders rest on
+    /// the other side it is their number, or 0 where none crosses, and the orders are not gone over.
+    pub fn most_fills(&self, side: Side, limit: u32) -> usize
+        ensures enough { crossing_of side limit self.now.list ≤ result }
+        ensures few { result ≤ length self.now.list }
+    {
+        let depth = self.depth(side.opposite());
+        if depth > FEW_ORDERS {
+            return self.crossing(side, limit);
+        }
+        if self.is_met(side, limit) {
+            return depth;
+        }
+        0
     }
 
     /// How many orders rest in the book.

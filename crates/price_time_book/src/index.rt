@@ -13,6 +13,7 @@ ghost use Rattle.price_time_book.specs.Index.{IsByReference, IsByToken, by_pair,
 ghost use Rattle.price_time_book.specs.Indexed.{nothing, open_orders};
 ghost use Rattle.price_time_book.specs.Orders.{order_of, order_with};
 
+use crate::bytes::compared;
 use crate::resting::Resting;
 use market_types::{AgentNo, Token};
 use std::cmp::Ordering;
@@ -43,11 +44,14 @@ fn compare_reference(entry: &ReferenceEntry, reference: u64) -> Ordering
 fn compare_token(entry: &TokenEntry, agent: AgentNo, token: &Token) -> Ordering
     ensures { result ≡ by_pair (pair_at entry.now) (agent, token.now.0) }
 {
-    entry.agent.cmp(&agent).then(entry.token.0.cmp(&token.0))
+    match entry.agent.cmp(&agent) {
+        Ordering::Equal => compared(&entry.token.0, &token.0),
+        order => order,
+    }
 }
 
-// Where the first entry stands whose key is not below a reference.
-fn reference_from(entries: &[ReferenceEntry], reference: u64) -> usize
+// Where the first entry stands whose key is not below a reference, by halving.
+fn reference_between(entries: &[ReferenceEntry], reference: u64) -> usize
     ensures within { result ≤ length entries.now }
     ensures below { (d : ReferenceEntry) → 0 < result → is_lt (nat_cmp (slice_index_or entries.now (result - 1) d).reference reference) ≡ true }
     ensures above { (d : ReferenceEntry) → result < length entries.now →
@@ -64,6 +68,23 @@ fn reference_from(entries: &[ReferenceEntry], reference: u64) -> usize
         }
     }
     low
+}
+
+// The same place; the last entry is looked at first, since an order that joins is above all.
+fn reference_from(entries: &[ReferenceEntry], reference: u64) -> usize
+    ensures within { result ≤ length entries.now }
+    ensures below { (d : ReferenceEntry) → 0 < result → is_lt (nat_cmp (slice_index_or entries.now (result - 1) d).reference reference) ≡ true }
+    ensures above { (d : ReferenceEntry) → result < length entries.now →
+        is_lt (nat_cmp (slice_index_or entries.now result d).reference reference) ≡ false }
+{
+    let end = entries.len();
+    if end == 0 {
+        return 0;
+    }
+    if compare_reference(&entries[end - 1], reference).is_lt() {
+        return end;
+    }
+    reference_between(entries, reference)
 }
 
 // Whether the entry at a place has this key.

@@ -8,6 +8,7 @@
 #![tactic(auto)]
 
 mod book;
+pub mod bytes;
 mod index;
 pub mod keeping;
 pub mod laws;

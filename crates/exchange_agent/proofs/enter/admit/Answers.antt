@@ -11,6 +11,7 @@ use Rattle.exchange_agent.specs.Sound.{IsSmall, IsSoundStock, is_known, is_trade
 use Rattle.exchange_agent.specs.View.{stock_of, way_at}
 use Rattle.exchange_agent.proofs.Accepts.{lacks-known, later-known, sound-traded, started, traders-known, money-traded}
 use Rattle.exchange_agent.proofs.Admissions.{not-there}
+use Rattle.exchange_agent.proofs.Agents.{has-with_pair}
 use Rattle.exchange_agent.proofs.Knowns.{and-both, known-more}
 use Rattle.exchange_agent.proofs.Withins.{small-more}
 use Rattle.exchange_agent.proofs.enter.admit.Goals as goal
@@ -71,7 +72,7 @@ returns-clause-stock c =
     let pair = pair_of agent e.token in
     let v = way_at c.trade.new.self c.trade.new.cash.items c.trade.new.matches c.trade.new.out in
     let keys : after ≡ with_pair pair pairs = c.in_ok-insert.ensures.keys in
-    let new : has_pair pair after ≡ true = c.in_ok-insert.ensures.updates.1 in
+    let new : has_pair pair after ≡ true = subst (λ (ps : List Pair). has_pair pair ps ≡ true) (sym keys) (has-with_pair pair pairs) in
     let p = is_known n (orders + 1) after in
     let old : All (λ (o : Resting). p o ≡ true) c.args.listing.now.book.list =
     subst (λ (ps : List Pair). All (λ (o : Resting). is_known n (orders + 1) ps o ≡ true) c.args.listing.now.book.list) (sym keys)

@@ -1,7 +1,7 @@
 use Rattle.std.proofs.Common.{◌≡◌, ◌≤◌, ◌<◌, ◌+◌, ◌-◌, ℕ, true, false, length, get_or}
 use Rattle.std.specs.Ordering.{is_lt, nat_cmp}
 use Rattle.price_time_book.specs.declared.index.ReferenceEntry.{ReferenceEntry}
-use Rattle.price_time_book.proofs.index.reference_from.Given as goal
+use Rattle.price_time_book.proofs.index.reference_between.Given as goal
 
 abbrev pub invariant-loop-low : goal.invariant-loop-low
 invariant-loop-low l = record {

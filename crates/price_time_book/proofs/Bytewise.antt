@@ -55,7 +55,7 @@ onward_eight (a ∷ b ∷ c ∷ d ∷ e ∷ f ∷ g ∷ h ∷ []) len = omega ar
 onward_eight _ len = absurd (omega arith)
 
 -- eight bytes
-eight_cmp : (xs ys : List ℕ) → length xs ≡ 8 → length ys ≡ 8 → ((i : ℕ) → get_or xs i 0 < 256) → ((i : ℕ) → get_or ys i 0 < 256)
+pub eight_cmp : (xs ys : List ℕ) → length xs ≡ 8 → length ys ≡ 8 → ((i : ℕ) → get_or xs i 0 < 256) → ((i : ℕ) → get_or ys i 0 < 256)
     → nat_cmp (from_be_bytes w64 xs) (from_be_bytes w64 ys) ≡ slice_cmp nat_cmp xs ys
 eight_cmp xs ys k l p q =
     (λ i. nat_cmp (onward_eight xs k i) (onward_eight ys l i)) ∙ sym (onward_cmp 0 0 xs ys (k ∙ sym l) p q)

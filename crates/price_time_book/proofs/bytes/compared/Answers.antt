@@ -4,8 +4,8 @@ use Rattle.std.specs.Int.{w64, from_be_bytes}
 use Rattle.std.specs.Ordering.{nat_cmp, ordering_then}
 use Rattle.std.specs.declared.cmp.Ordering.{Ordering}
 use Rattle.std.specs.declared.cmp.Ordering.TheVariants.{Less, Equal, Greater}
-use Rattle.exchange_agent.proofs.Bytewise.{fourteen_cmp}
-use Rattle.exchange_agent.proofs.pair.compared.Goals as goal
+use Rattle.price_time_book.proofs.Bytewise.{fourteen_cmp}
+use Rattle.price_time_book.proofs.bytes.compared.Goals as goal
 
 -- an order that is not Equal stands
 other : (o p : Ordering) → (o ≡ Equal → ⊥) → ordering_then o p ≡ o
