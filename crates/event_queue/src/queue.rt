@@ -9,7 +9,7 @@ ghost use Rattle.event_queue.specs.Waiting.{before, least, IsNew, joined, withou
 
 use crate::due::Due;
 use crate::heaps::Heaps;
-use market_types::{Body, Memory, Message, Time, copied};
+use market_types::{AgentNo, Body, Memory, Message, Time, copied};
 use std::alloc::Global;
 use std::marker::Model;
 
@@ -94,13 +94,20 @@ impl Queue {
         ensures joins { self.new ≡ record { list = joined m self.old.list; spare = self.old.spare - 1 } }
         ensures grows { length self.new.list ≡ length self.old.list + 1 }
     {
-        let slot = store(&mut self.slots, &mut self.free, m);
-        let due = Due {
-            time: m.time,
-            seq: m.seq,
-            slot,
-        };
-        self.heaps.push(due, matches!(m.body, Body::Wake));
+        self.push_body(m.time, m.seq, m.from, m.to, &m.body);
+    }
+
+    /// A message of these parts joins, due at a time in nanoseconds past midnight. A place was kept for
+    /// it, and no waiting message has its number.
+    pub fn push_body(&mut self, time: Time, seq: u64, from: AgentNo, to: AgentNo, body: &Body)
+        requires room { 0 < self.old.spare }
+        requires fresh { IsNew seq self.old.list }
+        ensures joins { self.new ≡ record { list = joined (record { time = time; seq = seq; from = from; to = to; body = body.now }) self.old.list; spare = self.old.spare - 1 } }
+        ensures grows { length self.new.list ≡ length self.old.list + 1 }
+    {
+        let slot = store(&mut self.slots, &mut self.free, time, seq, from, to, body);
+        let due = Due { time, seq, slot };
+        self.heaps.push(due, matches!(body, Body::Wake));
     }
 
     /// The least message leaves: the one with the least time, and among those the least number.
@@ -112,14 +119,23 @@ impl Queue {
         ensures shrinks { OnSome result (length self.new.list + 1 ≡ length self.old.list) }
         ensures empty { IfNone result (self.new ≡ self.old) }
     {
-        match self.heaps.pop() {
-            Some(due) => {
-                let message = self.slots[due.slot];
-                put(&mut self.free, due.slot);
-                Some(message)
-            }
-            None => None,
-        }
+        let least = self.peek_least()?;
+        let message = *least;
+        self.drop_least();
+        Some(message)
+    }
+
+    /// The least message leaves, as by `pop_least`, and isn't read. Where none waits, nothing changes.
+    pub fn drop_least(&mut self)
+        ensures left { IfSome (least self.old.list) (λ m. self.new ≡ record { list = without m.seq self.old.list; spare = self.old.spare + 1 }) }
+        ensures gone { IfSome (least self.old.list) (λ m. IsNew m.seq self.new.list) }
+        ensures shrinks { OnSome (least self.old.list) (length self.new.list + 1 ≡ length self.old.list) }
+        ensures empty { IfNone (least self.old.list) (self.new ≡ self.old) }
+    {
+        let Some(due) = self.heaps.pop() else {
+            return;
+        };
+        put(&mut self.free, due.slot);
     }
 
     /// The least message gets another time, in nanoseconds past midnight, and another number, as if it
@@ -132,8 +148,24 @@ impl Queue {
         ensures same { length self.new.list ≡ length self.old.list }
         ensures empty { IfNone result (self.new ≡ self.old) }
     {
-        let due = self.heaps.move_first(time, seq)?;
-        Some(rewrite(&mut self.slots, due.slot, time, seq))
+        let least = self.peek_least()?;
+        let message = *least;
+        self.delay_least(time, seq);
+        Some(message)
+    }
+
+    /// The least message gets another time and another number, as by `replace_least`, and isn't read.
+    /// Where none waits, nothing changes.
+    pub fn delay_least(&mut self, time: Time, seq: u64)
+        requires fresh { IfSome (least self.old.list) (λ m. IsNew seq (without m.seq self.old.list)) }
+        ensures replaced { IfSome (least self.old.list) (λ m. self.new ≡ record { list = joined (record m { time = time; seq = seq }) (without m.seq self.old.list); spare = self.old.spare }) }
+        ensures same { length self.new.list ≡ length self.old.list }
+        ensures empty { IfNone (least self.old.list) (self.new ≡ self.old) }
+    {
+        let Some(due) = self.heaps.move_first(time, seq) else {
+            return;
+        };
+        rewrite(&mut self.slots, due.slot, time, seq);
     }
 
     /// The least message, which stays. `None` where none waits.
@@ -182,11 +214,19 @@ fn put<T: Drop>(list: &mut Vec<T>, value: T)
     }
 }
 
-// Writes a message into a free slot, or into a new one where none is free.
-fn store(slots: &mut Vec<Message>, free: &mut Vec<usize>, m: Message) -> usize
+// Writes a message of these parts into a free slot, or into a new one where none is free.
+fn store(
+    slots: &mut Vec<Message>,
+    free: &mut Vec<usize>,
+    time: Time,
+    seq: u64,
+    from: AgentNo,
+    to: AgentNo,
+    body: &Body,
+) -> usize
     requires within { All (λ n. n < length slots.old.items) free.old.items }
     requires room { vec_len free.old ≡ 0 → vec_len slots.old < vec_capacity slots.old }
-    ensures written { slice_index_or slots.new.items result vacant ≡ m }
+    ensures written { slice_index_or slots.new.items result vacant ≡ record { time = time; seq = seq; from = from; to = to; body = body.now } }
     ensures others { (n : ℕ) → n ≢ result → slice_index_or slots.new.items n vacant ≡ slice_index_or slots.old.items n vacant }
     ensures unheld { (if nat_lt result (length slots.old.items) then 1 else 0) ≤ times_free result free.old.items }
     ensures taken { (n : ℕ) → (if result == n then 1 else 0) + times_free n free.new.items + (if nat_lt n (length slots.old.items) then 1 else 0) ≡ times_free n free.old.items + (if nat_lt n (length slots.new.items) then 1 else 0) }
@@ -197,29 +237,56 @@ fn store(slots: &mut Vec<Message>, free: &mut Vec<usize>, m: Message) -> usize
 {
     match free.pop() {
         Some(slot) => {
-            slots[slot] = m;
+            let place = &mut slots[slot];
+            place.time = time;
+            place.seq = seq;
+            place.from = from;
+            place.to = to;
+            place.body = *body;
             slot
         }
-        None => {
-            let slot = slots.len();
-            put(slots, m);
-            slot
-        }
+        None => append(slots, time, seq, from, to, body),
     }
 }
 
-// A message gets another time and number in its slot. It comes back as it was.
-fn rewrite(slots: &mut Vec<Message>, slot: usize, time: Time, seq: u64) -> Message
+// Writes a message of these parts into a new slot.
+fn append(
+    slots: &mut Vec<Message>,
+    time: Time,
+    seq: u64,
+    from: AgentNo,
+    to: AgentNo,
+    body: &Body,
+) -> usize
+    requires { vec_len slots.old < vec_capacity slots.old }
+    ensures last { result ≡ length slots.old.items }
+    ensures items { slots.new.items ≡ slots.old.items ++ record { time = time; seq = seq; from = from; to = to; body = body.now } ∷ [] }
+    ensures len { vec_len slots.new ≡ vec_len slots.old + 1 }
+    ensures capacity { vec_capacity slots.old ≤ vec_capacity slots.new }
+{
+    let slot = slots.len();
+    put(
+        slots,
+        Message {
+            time,
+            seq,
+            from,
+            to,
+            body: *body,
+        },
+    );
+    slot
+}
+
+// A message gets another time and number in its slot.
+fn rewrite(slots: &mut Vec<Message>, slot: usize, time: Time, seq: u64)
     requires within { slot < length slots.old.items }
-    ensures found { result ≡ slice_index_or slots.old.items slot vacant }
-    ensures written { slice_index_or slots.new.items slot vacant ≡ record result { time = time; seq = seq } }
+    ensures written { slice_index_or slots.new.items slot vacant ≡ record (slice_index_or slots.old.items slot vacant) { time = time; seq = seq } }
     ensures others { (n : ℕ) → n ≢ slot → slice_index_or slots.new.items n vacant ≡ slice_index_or slots.old.items n vacant }
     ensures same { length slots.new.items ≡ length slots.old.items }
     ensures len { vec_len slots.new ≡ vec_len slots.old }
     ensures capacity { vec_capacity slots.new ≡ vec_capacity slots.old }
 {
-    let message = slots[slot];
     slots[slot].time = time;
     slots[slot].seq = seq;
-    message
 }

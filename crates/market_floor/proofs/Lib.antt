@@ -3,6 +3,7 @@ pub mod Markets
 pub mod Changes
 pub mod Halting
 pub mod Opened
+pub mod Places
 pub mod Posts
 pub mod Reactions
 pub mod Rulings

@@ -1,5 +1,6 @@
 -- A floor on which the changes that are due are made.
-use Rattle.std.proofs.Common.{◌≡◌, ℕ, ◌≤◌, List, [], length, All, None, ap, refl, subst, ◌∙◌, sym}
+use Rattle.std.proofs.Common.{◌≡◌, ℕ, ◌≤◌, Bool, false, ltb, List, [], length, All, None, ap, arith, refl, subst, ◌∙◌, sym}
+use Rattle.std.proofs.lemmas.Bool.Decides.{nat_tests}
 use Rattle.market_types.specs.declared.feed.Feed.{Feed}
 use Rattle.market_rules.specs.Changes.{dated_by, dates_refusal}
 use Rattle.exchange_agent.specs.State.{State}
@@ -12,7 +13,14 @@ use Rattle.market_floor.specs.Sound.{FitsFloor, IsSoundFloor}
 use Rattle.market_floor.proofs.Changes.{ChangesKeepBooks, FirstAreDue, IsBy, by-all, due-by, like-all, none-due, short-all}
 use Rattle.market_floor.proofs.Sounds.{like-sound}
 
+-- the parts are those of the floor
+pub whole : (g : FloorState) (s : State) (ps : List PartyState) (os xs : List ℤ) → xs ≡ os → floor_of s ps os ≡ g → floor_of s ps xs ≡ g
+whole g s ps os xs same is = ap (λ (l : List ℤ). floor_of s ps l) same ∙ is
+
 -- none is due
+pub not-due : (applied due : ℕ) (b : Bool) → b ≡ ltb applied due → b ≡ false → due ≤ applied
+not-due applied due b e h = grind (arith, nat_tests)
+
 pub ruled-none : (o : Opening) (applied time : ℕ) (f : FloorState) → dated_by o.dated time ≤ applied → f ≡ (ruled o applied time f).floor
 unfolding ruled
 ruled-none o applied time f le = rw (none-due o applied time le) refl

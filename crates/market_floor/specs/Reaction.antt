@@ -1,6 +1,8 @@
 -- What the receiver of a message does.
 use Rattle.std.specs.Prelude.{◌≡◌, ◌≤◌, ℕ, ◌==◌, ℤ, pos, if◌then◌else◌, List, [], All, length, map, slice_index_or}
 use Rattle.market_types.specs.declared.feed.Feed.{Feed}
+use Rattle.market_types.specs.declared.message.Body.{Body}
+use Rattle.market_types.specs.declared.message.Body.TheVariants.{Wake, Order, Answer, Ask, Quote}
 use Rattle.market_types.specs.declared.message.Message.{Message}
 use Rattle.fundamental_series.specs.Made.{value_of}
 use Rattle.fundamental_series.specs.Value.{with_offset_of}
@@ -42,6 +44,24 @@ sight_at o exchange offsets stock time = record {
   key = o.key;
   symbol = (slice_index_or o.stocks stock no_rules).symbol;
   value = value_at o offsets stock time;
+  bands = (stock_at exchange stock).bands;
+}
+
+-- the value that is looked up for a body: a trader judges by its stock's value where it hears a quote, and nowhere else
+abbrev pub value_for : Opening → List ℤ → ℕ → ℕ → Body → ℕ
+value_for o offsets stock time Wake = 1
+value_for o offsets stock time (Order inbound) = 1
+value_for o offsets stock time (Answer reply) = 1
+value_for o offsets stock time (Ask asked) = 1
+value_for o offsets stock time (Quote q) = value_at o offsets stock time
+
+-- what a trader is shown with a body
+abbrev pub sight_for : Opening → State → List ℤ → ℕ → ℕ → Body → Sight
+sight_for o exchange offsets stock time body = record {
+  time = time;
+  key = o.key;
+  symbol = (slice_index_or o.stocks stock no_rules).symbol;
+  value = value_for o offsets stock time body;
   bands = (stock_at exchange stock).bands;
 }
 

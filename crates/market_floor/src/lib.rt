@@ -21,6 +21,6 @@ pub mod worked;
 pub use floor::Floor;
 pub use opening::{Opening, group_number};
 pub use party::Party;
-pub use posting::Posting;
+pub use posting::{Posting, PostingSeen};
 pub use postings::{Happening, Postings};
 pub use ruling::applied_by;

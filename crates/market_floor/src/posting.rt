@@ -14,3 +14,16 @@ pub enum Posting {
     /// In nanoseconds past midnight.
     WakeAt(Time),
 }
+
+/// A posting whose message stays where it is.
+#[derive(Clone, Copy)]
+pub enum PostingSeen<'a> {
+    To {
+        to: AgentNo,
+        body: &'a Body,
+        /// Nanoseconds from the end of the agent's computation to its leaving.
+        extra: Time,
+    },
+    /// In nanoseconds past midnight.
+    WakeAt(Time),
+}

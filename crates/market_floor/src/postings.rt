@@ -1,38 +1,44 @@
 //! What the receiver of a message gives to the mail.
 
-ghost use Rattle.std.specs.Prelude.{◌≡◌, length, slice_get};
-ghost use Rattle.market_floor.specs.Posted.{postings_of, to_exchange, to_receiver};
+ghost use Rattle.std.specs.Prelude.{◌≡◌, ◌<◌, ◌≤◌, ◌+◌, ◌^◌, ℕ, [], pos, All, IfOk, OnOk, OnErr, length, map, option_map, slice_get};
+ghost use Rattle.agent_shell.specs.Bounds.{AreSendings, IsAfter};
+ghost use Rattle.agent_shell.specs.Sight.{sight_of};
+ghost use Rattle.exchange_agent.specs.Market.{IsAskable, market};
+ghost use Rattle.exchange_agent.specs.Outcome.{IsToTrader};
+ghost use Rattle.market_floor.specs.Party.{reacted, with_trader};
+ghost use Rattle.market_floor.specs.Posted.{posting_of, to_exchange, to_receiver};
 
-use crate::Posting;
+use crate::{Party, Posting, PostingSeen};
 use agent_shell::{Sending, Sends};
-use exchange_agent::Handled;
-use market_types::{FeedList, Time};
+use exchange_agent::{Exchange, Handled};
+use market_rules::View;
+use market_types::{Body, FeedList, Memory, Message, Time};
+use std::alloc::Global;
 use std::marker::Model;
+use std::mem::swap;
 
-// Replies of the exchange, or what a trader sends.
-#[derive(Drop)]
-pub(crate) enum Form {
-    Replies(Handled),
-    Sendings(Sends),
-}
-
-/// What is given to the mail, in its order. It is read one by one and takes no memory.
+/// What is given to the mail, in its order: the exchange's replies, or what a trader sends. It is read one by one and
+/// takes no memory. Its lists are filled again with each message, one of them at a time.
 #[derive(Drop)]
 pub struct Postings {
-    pub(crate) form: Form,
+    answer: Handled,
+    sends: Sends,
 }
 
 impl Model for Postings {
-    ghost use Rattle.std.specs.Prelude.{List};
+    ghost use Rattle.std.specs.Prelude.{◌≡◌, ◌<◌, List, [], length};
     ghost use Rattle.market_floor.specs.declared.posting.Posting.{Posting};
     ghost use Rattle.market_floor.specs.Posted.{postings_of};
 
     ghost Value = { List Posting };
 
-    ghost view = { λ p. postings_of p.form };
+    ghost view = { λ p. postings_of p.answer p.sends };
+
+    ghost invariant = { λ p. 0 < length p.answer.replies.list → p.sends.list ≡ [] };
 }
 
-/// What happened when a message was delivered.
+/// What happened when a message was delivered. It is filled again with each message, and keeps the memory of its
+/// lists.
 #[derive(Drop)]
 pub struct Happening {
     /// The feed of the dated changes that were made first.
@@ -47,28 +53,73 @@ pub struct Happening {
     pub fee: i64,
 }
 
+impl Happening {
+    /// Nothing happened so far. It takes no memory, and later calls take theirs from `alloc`.
+    pub fn new(alloc: Global) -> Happening
+        ensures { result ≡ record { before = record { list = []; spare = 0 }; postings = []; delay = 0; after = record { list = []; spare = 0 }; fee = pos 0 } }
+    {
+        Happening {
+            before: FeedList::new(alloc),
+            postings: Postings::new(alloc),
+            delay: 0,
+            after: FeedList::new(alloc),
+            fee: 0,
+        }
+    }
+}
+
+// A reply goes to its receiver. It is the one at a place, from 0.
+fn reply_seen(answer: &Handled, i: usize) -> Option<PostingSeen<'_>>
+    ensures { option_map posting_of result ≡ slice_get (map to_receiver answer.now.replies.list) i }
+{
+    match answer.get(i) {
+        Some((to, body)) => Some(PostingSeen::To { to, body, extra: 0 }),
+        None => None,
+    }
+}
+
 // What a trader sends goes to the exchange.
-fn to_exchange(sending: &Sending) -> Posting
-    ensures { result ≡ to_exchange sending.now }
+fn to_exchange(sending: &Sending) -> PostingSeen<'_>
+    ensures { posting_of result ≡ to_exchange sending.now }
 {
     match sending {
-        Sending::To { body, extra } => Posting::To {
+        Sending::To { body, extra } => PostingSeen::To {
             to: 0,
-            body: *body,
+            body,
             extra: *extra,
         },
-        Sending::WakeAt(time) => Posting::WakeAt(*time),
+        Sending::WakeAt(time) => PostingSeen::WakeAt(*time),
+    }
+}
+
+// What a trader sends, at a place from 0.
+fn sending_seen(sends: &Sends, i: usize) -> Option<PostingSeen<'_>>
+    ensures { option_map posting_of result ≡ slice_get (map to_exchange sends.now.list) i }
+{
+    match sends.get(i) {
+        Some(sending) => Some(to_exchange(sending)),
+        None => None,
     }
 }
 
 impl Postings {
+    // None so far.
+    pub(crate) fn new(alloc: Global) -> Postings
+        ensures { result ≡ [] }
+    {
+        Postings {
+            answer: Handled::new(alloc),
+            sends: Sends::new(alloc),
+        }
+    }
+
     /// How many there are.
     pub fn len(&self) -> usize
         ensures { result ≡ length self.now }
     {
-        match &self.form {
-            Form::Replies(out) => out.len(),
-            Form::Sendings(out) => out.as_slice().len(),
+        match self.answer.len() {
+            0 => self.sends.len(),
+            replies => replies,
         }
     }
 
@@ -76,16 +127,76 @@ impl Postings {
     pub fn get(&self, i: usize) -> Option<Posting>
         ensures { result ≡ slice_get self.now i }
     {
-        match &self.form {
-            Form::Replies(out) => match out.get(i) {
-                Some((to, body)) => Some(Posting::To {
-                    to,
-                    body: *body,
-                    extra: 0,
-                }),
-                None => None,
-            },
-            Form::Sendings(out) => out.as_slice().get(i).map(to_exchange),
+        match self.seen(i)? {
+            PostingSeen::To { to, body, extra } => Some(Posting::To {
+                to,
+                body: *body,
+                extra,
+            }),
+            PostingSeen::WakeAt(time) => Some(Posting::WakeAt(time)),
         }
+    }
+
+    /// The one at a place, from 0, whose message stays where it is. `None` exactly where there are not so many.
+    pub fn seen(&self, i: usize) -> Option<PostingSeen<'_>>
+        ensures { option_map posting_of result ≡ slice_get self.now i }
+    {
+        match reply_seen(&self.answer, i) {
+            Some(reply) => Some(reply),
+            None => sending_seen(&self.sends, i - self.answer.len()),
+        }
+    }
+
+    // The exchange's answer to a message takes the place of what was. Its feed is told apart, and the sum of fees
+    // comes back.
+    pub(crate) fn take_answer(
+        &mut self,
+        exchange: &mut Exchange,
+        m: &Message,
+        feed: &mut FeedList,
+    ) -> Result<i64, Memory>
+        requires trader { 1 ≤ m.now.from }
+        requires exists { m.now.from ≤ length exchange.old.cash }
+        requires askable { IsAskable (length exchange.old.stocks) m.now.body }
+        requires enters { exchange.old.counts.enters < 2 ^ 63 }
+        requires cancels { exchange.old.counts.cancels < 2 ^ 63 }
+        ensures exchange { OnOk result (exchange.new ≡ (market exchange.old m.now.time m.now.from m.now.body).state) }
+        ensures postings { OnOk result (self.new ≡ map to_receiver (market exchange.old m.now.time m.now.from m.now.body).replies) }
+        ensures feed { OnOk result (feed.new.list ≡ (market exchange.old m.now.time m.now.from m.now.body).feed) }
+        ensures fee { IfOk result (λ n. n ≡ (market exchange.old m.now.time m.now.from m.now.body).fee) }
+        ensures receivers { OnOk result (All (IsToTrader (length exchange.old.cash)) (market exchange.old m.now.time m.now.from m.now.body).replies) }
+        ensures times { OnOk result (All (λ f. f.time ≡ m.now.time) feed.new.list) }
+        ensures stocks { length exchange.new.stocks ≡ length exchange.old.stocks }
+        ensures traders { length exchange.new.cash ≡ length exchange.old.cash }
+        ensures ignored_enters { exchange.new.counts.enters ≤ exchange.old.counts.enters + 1 }
+        ensures ignored_cancels { exchange.new.counts.cancels ≤ exchange.old.counts.cancels + 1 }
+        ensures refused { OnErr result (exchange.new ≡ exchange.old) }
+    {
+        self.sends.clear();
+        self.answer.clear();
+        exchange.handle(m.time, m.from, &m.body, &mut self.answer)?;
+        swap(feed, &mut self.answer.feed);
+        Ok(self.answer.fee)
+    }
+
+    // What a trader sends after a message takes the place of what was.
+    pub(crate) fn take_sends(
+        &mut self,
+        party: &mut Party,
+        view: &View,
+        body: &Body,
+    ) -> Result<(), Memory>
+        requires time { view.now.time < 2 ^ 62 }
+        requires few { IsAfter 1000000 party.old.trader }
+        ensures party { OnOk result (party.new ≡ with_trader (reacted (sight_of view.now) party.old body.now).trader party.old) }
+        ensures postings { OnOk result (self.new ≡ map to_exchange (reacted (sight_of view.now) party.old body.now).sends) }
+        ensures refused { OnErr result (party.new ≡ party.old) }
+        ensures sendings { AreSendings (sight_of view.now) party.old.trader (reacted (sight_of view.now) party.old body.now).sends }
+        ensures setting { party.new.trader.setting ≡ party.old.trader.setting }
+        ensures after { (n : ℕ) → IsAfter n party.old.trader → IsAfter (n + 1) party.new.trader }
+    {
+        self.answer.clear();
+        self.sends.clear();
+        party.react(view, body, &mut self.sends)
     }
 }

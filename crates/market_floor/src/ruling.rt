@@ -20,7 +20,11 @@ pub fn applied_by(o: &Opening, applied: usize, time: Time) -> usize
     ensures more { applied ≤ result }
     ensures within { applied ≤ length o.now.dated → result ≤ length o.now.dated }
 {
-    applied.max(o.dated.rules_at(time))
+    if o.dated.is_due(applied, time) {
+        o.dated.rules_at(time)
+    } else {
+        applied
+    }
 }
 
 // Makes dated changes on an exchange, each at its own date.
@@ -82,7 +86,7 @@ impl Floor {
         books_stay_short();
         first_changes_are_due();
         let mut feed = FeedList::new(alloc);
-        if o.dated.rules_at(time) <= applied {
+        if !o.dated.is_due(applied, time) {
             return Ok(feed);
         }
         self.exchange = changed(alloc, o, &self.exchange, applied, time, &mut feed)?;

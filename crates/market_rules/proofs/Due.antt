@@ -1,7 +1,7 @@
 -- Lemmas on the changes that are due at a time.
-use Rattle.std.proofs.Common.{◌≡◌, ℕ, ◌+◌, ◌<◌, ◌≤◌, Bool, true, false, cond, leb, List, [], ◌∷◌, Some, None, Option, option_map, length, get_or, count_by, refl, arith, suc, zero}
+use Rattle.std.proofs.Common.{◌≡◌, ℕ, ◌+◌, ◌<◌, ◌≤◌, Bool, true, false, cond, leb, ltb, List, [], ◌∷◌, Some, None, Option, option_map, length, get_or, count_by, refl, arith, suc, zero}
 use Rattle.std.proofs.lemmas.Bool.Decides.{nat_tests}
-use Rattle.std.proofs.lemmas.List.Sums.{sum_by-cons}
+use Rattle.std.proofs.lemmas.List.Sums.{count_by-le-length, sum_by-cons}
 use Rattle.market_rules.specs.declared.changes.Dated.{Dated}
 use Rattle.market_rules.specs.declared.error.RuleError.TheVariants.{DatesNotRising}
 use Rattle.market_rules.specs.Breaks.{break_after, first_break}
@@ -77,6 +77,19 @@ later_rest [] time k d e m l = absurd (omega arith)
 later_rest (x ∷ xs) time k d e m l =
     let r = in_order (x ∷ xs) e in
     later_step (leb x.time time) time x xs refl (none_due time x 1 xs r) (later_after time x 1 xs r) k d (omega (arith, counted time x xs)) l
+
+-- the change after the first so many tells whether more than those are due
+tells : (dated time k n : ℕ) → (k < n → dated ≤ time) → (n ≤ k → time < dated) → leb dated time ≡ ltb k n
+tells dated time k n due later = grind (arith, nat_tests, due, later)
+
+pub next-tells : (list : List Dated) (time k : ℕ) (d : Dated) → dates_refusal list ≡ None → k < length list → leb (get_or list k d).time time ≡ ltb k (dated_by list time)
+next-tells list time k d e l = tells (get_or list k d).time time k (dated_by list time) (due_first list time k d e) (λ m. later_rest list time k d e m l)
+
+none-more : (k n m : ℕ) → n ≤ m → m ≤ k → false ≡ ltb k n
+none-more k n m h g = grind (arith, nat_tests)
+
+pub past-none : (list : List Dated) (time k : ℕ) → length list ≤ k → false ≡ ltb k (dated_by list time)
+past-none list time k h = none-more k (dated_by list time) (length list) (count_by-le-length (is_due time) list) h
 
 -- no fewer are due later
 no_fewer : (t earlier later : ℕ) → earlier ≤ later → cond (leb t earlier) 1 0 ≤ cond (leb t later) 1 0

@@ -1,6 +1,6 @@
 //! Changes of a stock's rules, and when they are made.
 
-ghost use Rattle.std.specs.Prelude.{◌≡◌, IfOk, IfSome, IfNone, Ok, Err};
+ghost use Rattle.std.specs.Prelude.{◌≡◌, IfOk, IfSome, IfNone, Ok, Err, nat_lt};
 ghost use Rattle.market_rules.specs.Changes.{dates_refusal, dated_by};
 
 use crate::error::RuleError;
@@ -86,6 +86,18 @@ impl DatedList {
         ensures dates { dates_refusal result.now ≡ None }
     {
         self.list.as_slice()
+    }
+
+    /// Whether a change after the first so many is dated at this time, in nanoseconds past midnight, or earlier. Since
+    /// dates never fall, the next one tells.
+    pub fn is_due(&self, applied: usize, time: Time) -> bool
+        ensures { result ≡ nat_lt applied (dated_by self.now time) }
+    {
+        let dated = self.list.as_slice();
+        if dated.len() <= applied {
+            return false;
+        }
+        dated[applied].time <= time
     }
 
     /// How many changes are dated at this time, in nanoseconds past midnight, or earlier.

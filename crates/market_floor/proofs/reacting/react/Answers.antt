@@ -1,5 +1,6 @@
-use Rattle.std.proofs.Common.{◌≡◌, ◌<◌, ◌-◌, ℕ, length, refl, arith, ap, ◌∙◌, subst, sym}
-use Rattle.std.specs.Prelude.{IfOk, slice_set}
+use Rattle.std.proofs.Common.{◌≡◌, ◌<◌, ◌-◌, ℕ, All, length, refl, arith, ap, ◌∙◌, subst, sym}
+use Rattle.std.specs.Prelude.{OnOk, slice_set}
+use Rattle.market_types.specs.declared.feed.Feed.{Feed}
 use Rattle.exchange_agent.specs.Market.{market}
 use Rattle.exchange_agent.specs.State.{State}
 use Rattle.market_floor.specs.Party.{PartyState, with_trader}
@@ -21,7 +22,7 @@ returns-then-m-eq0-clause-floor c =
 pub returns-then-m-eq0-clause-told : goal.returns-then-m-eq0-clause-told
 returns-then-m-eq0-clause-told c =
     let f : FloorState = floor_of c.args.exchange.now c.args.parties.now.items c.args.offsets.now in
-    subst (λ (r : Reaction). IfOk c.answer.result (λ h. IsTold r h)) (sym (to-exchange c.args.o.now f c.args.m.now c.if-m-eq0.true)) (c.answer.ensures.told f)
+    subst (λ (r : Reaction). OnOk c.answer.result (IsTold r c.answer.new.out)) (sym (to-exchange c.args.o.now f c.args.m.now c.if-m-eq0.true)) (c.answer.ensures.told f)
 
 pub returns-then-m-eq0-clause-sound : goal.returns-then-m-eq0-clause-sound
 returns-then-m-eq0-clause-sound c =
@@ -60,15 +61,17 @@ returns-clause-told c =
     let p = c.index_mut-party.result.now in
     let within : k - 1 < length ps = omega (arith, c.from.ensures, c.if-m-eq0.false, c.requires.among.to) in
     let here : p ≡ party_at f m.to = party-here f m.to k p c.from.ensures within c.index_mut-party.ensures.value in
-    subst (λ (r : Reaction). IfOk c.decide.result (λ h. IsTold r h)) (sym (to-trader o f m (not-zero m.to c.if-m-eq0.false)))
-    (subst (λ (q : PartyState). IfOk c.decide.result (λ h. IsTold (trader_reaction f m.to q (decided_by o s os q m)) h)) here (c.decide.ensures.told f))
+    subst (λ (r : Reaction). OnOk c.decide.result (IsTold r c.decide.new.out)) (sym (to-trader o f m (not-zero m.to c.if-m-eq0.false)))
+    (subst (λ (q : PartyState). OnOk c.decide.result (IsTold (trader_reaction f m.to q (decided_by o s os q m)) c.decide.new.out)) here (c.decide.ensures.told f))
 
 pub returns-clause-times : goal.returns-clause-times
 returns-clause-times c =
     let f : FloorState = floor_of c.args.exchange.now c.args.parties.now.items c.args.offsets.now in
     let m = c.args.m.now in
     let p = c.index_mut-party.result.now in
-    tells-none c.decide.result (trader_reaction f m.to p (decided_by c.args.o.now c.args.exchange.now c.args.offsets.now p m)) m.time refl (c.decide.ensures.told f)
+    let w = trader_reaction f m.to p (decided_by c.args.o.now c.args.exchange.now c.args.offsets.now p m) in
+    let h = c.decide.new.out in
+    ok-map c.decide.result (IsTold w h) (All (λ (x : Feed). x.time ≡ m.time) h.after.list) (tells-none h w m.time refl) (c.decide.ensures.told f)
 
 pub returns-clause-sound : goal.returns-clause-sound
 returns-clause-sound c =

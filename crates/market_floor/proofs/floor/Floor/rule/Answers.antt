@@ -1,4 +1,4 @@
-use Rattle.std.proofs.Common.{◌≡◌, ◌≤◌, ◌++◌, List, length, All, arith, ap, ◌∙◌, subst, sym}
+use Rattle.std.proofs.Common.{◌≡◌, ◌≤◌, ◌++◌, List, length, All, ap, ◌∙◌, subst, sym}
 use Rattle.market_types.specs.declared.feed.Feed.{Feed}
 use Rattle.market_types.specs.Room.{Room}
 use Rattle.market_rules.specs.Changes.{dated_by}
@@ -6,17 +6,17 @@ use Rattle.market_floor.specs.Floor.{FloorState}
 use Rattle.market_floor.specs.Ruled.{all_changed, due}
 use Rattle.market_floor.specs.Sound.{IsSoundFloor}
 use Rattle.market_floor.proofs.Changes.{IsBy}
-use Rattle.market_floor.proofs.Rulings.{ruled-made, ruled-none, ruled-sound, ruled-stocks, ruled-times, ruled-told, untold-none}
+use Rattle.market_floor.proofs.Rulings.{not-due, ruled-made, ruled-none, ruled-sound, ruled-stocks, ruled-times, ruled-told, untold-none}
 use Rattle.market_floor.proofs.floor.Floor.rule.Goals as goal
 
-pub returns-then-rules_at-applied-clause-floor : goal.returns-then-rules_at-applied-clause-floor
-returns-then-rules_at-applied-clause-floor c =
-    let none : dated_by c.args.o.now.dated c.args.time ≤ c.args.applied = omega (arith, c.rules_at.ensures, c.if-rules_at-applied.true) in
+pub returns-then-not-is_due-clause-floor : goal.returns-then-not-is_due-clause-floor
+returns-then-not-is_due-clause-floor c =
+    let none : dated_by c.args.o.now.dated c.args.time ≤ c.args.applied = not-due c.args.applied (dated_by c.args.o.now.dated c.args.time) c.is_due.result c.is_due.ensures c.if-not-is_due.true in
     ruled-none c.args.o.now c.args.applied c.args.time c.args.self.now none
 
-pub returns-then-rules_at-applied-clause-feed : goal.returns-then-rules_at-applied-clause-feed
-returns-then-rules_at-applied-clause-feed c =
-    let none : dated_by c.args.o.now.dated c.args.time ≤ c.args.applied = omega (arith, c.rules_at.ensures, c.if-rules_at-applied.true) in
+pub returns-then-not-is_due-clause-feed : goal.returns-then-not-is_due-clause-feed
+returns-then-not-is_due-clause-feed c =
+    let none : dated_by c.args.o.now.dated c.args.time ≤ c.args.applied = not-due c.args.applied (dated_by c.args.o.now.dated c.args.time) c.is_due.result c.is_due.ensures c.if-not-is_due.true in
     ap (λ (l : Room Feed). l.list) c.new-feed.ensures ∙ untold-none c.args.o.now c.args.applied c.args.time c.args.self.now none
 
 pub returns-clause-floor : goal.returns-clause-floor

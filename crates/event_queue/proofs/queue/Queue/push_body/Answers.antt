@@ -7,7 +7,7 @@ use Rattle.event_queue.specs.declared.due.Due.{Due}
 use Rattle.event_queue.specs.Dues.{held}
 use Rattle.event_queue.specs.Numbered.{by_number}
 use Rattle.event_queue.specs.Waiting.{joined}
-use Rattle.event_queue.proofs.queue.Queue.push.Goals as goal
+use Rattle.event_queue.proofs.queue.Queue.push_body.Goals as goal
 
 pub store-slot-requires-clause-within : goal.store-slot-requires-clause-within
 store-slot-requires-clause-within c =
@@ -16,10 +16,11 @@ store-slot-requires-clause-within c =
 pub invariant_of-self : goal.invariant_of-self
 invariant_of-self c =
     let v = c.self.inside.heaps.list in
-    let new = subst (λ (r : Room Message). All (λ (x : Message). x.seq ≢ c.args.m.seq) r.list) (sym c.self.view_is) c.requires.fresh in
+    let new = subst (λ (r : Room Message). All (λ (x : Message). x.seq ≢ c.args.seq) r.list) (sym c.self.view_is) c.requires.fresh in
     let s = c.store-slot.ensures in
-    let d : Due = record { time = c.args.m.time; seq = c.args.m.seq; slot = c.store-slot.result } in
-    let p = join c.self.inside.slots.items c.store-slot.new.slots.items c.self.inside.free.items c.store-slot.new.free.items v c.push.new.self.list c.args.m d
+    let m : Message = record { time = c.args.time; seq = c.args.seq; from = c.args.from; to = c.args.to; body = c.args.body.now } in
+    let d : Due = record { time = c.args.time; seq = c.args.seq; slot = c.store-slot.result } in
+    let p = join c.self.inside.slots.items c.store-slot.new.slots.items c.self.inside.free.items c.store-slot.new.free.items v c.push.new.self.list m d
     c.self.invariant.shared_out c.self.invariant.told c.self.invariant.apart new (refl, refl) s.written s.others s.unheld s.taken c.push.ensures.joins in
     record {
       slot_room = search rules;
@@ -34,17 +35,19 @@ invariant_of-self c =
 pub returns-clause-joins : goal.returns-clause-joins
 returns-clause-joins c =
     let v = c.self.inside.heaps.list in
-    let new = subst (λ (r : Room Message). All (λ (x : Message). x.seq ≢ c.args.m.seq) r.list) (sym c.self.view_is) c.requires.fresh in
+    let new = subst (λ (r : Room Message). All (λ (x : Message). x.seq ≢ c.args.seq) r.list) (sym c.self.view_is) c.requires.fresh in
     let s = c.store-slot.ensures in
-    let d : Due = record { time = c.args.m.time; seq = c.args.m.seq; slot = c.store-slot.result } in
-    let p = join c.self.inside.slots.items c.store-slot.new.slots.items c.self.inside.free.items c.store-slot.new.free.items v c.push.new.self.list c.args.m d
+    let m : Message = record { time = c.args.time; seq = c.args.seq; from = c.args.from; to = c.args.to; body = c.args.body.now } in
+    let d : Due = record { time = c.args.time; seq = c.args.seq; slot = c.store-slot.result } in
+    let p = join c.self.inside.slots.items c.store-slot.new.slots.items c.self.inside.free.items c.store-slot.new.free.items v c.push.new.self.list m d
     c.self.invariant.shared_out c.self.invariant.told c.self.invariant.apart new (refl, refl) s.written s.others s.unheld s.taken c.push.ensures.joins in
-    let list = joined c.args.m (by_number (held c.self.inside.slots.items v)) in
+    let list = joined m (by_number (held c.self.inside.slots.items v)) in
     rw (p.messages.joins, ← c.self.view_is) (ap {B = Room Message} (λ (x : ℕ). record { list = list; spare = x }) c.push.ensures.spare)
 
 pub returns-clause-grows : goal.returns-clause-grows
 returns-clause-grows c =
     let v = c.self.inside.heaps.list in
     let w = c.push.new.self.list in
-    let d : Due = record { time = c.args.m.time; seq = c.args.m.seq; slot = c.store-slot.result } in
+    let m : Message = record { time = c.args.time; seq = c.args.seq; from = c.args.from; to = c.args.to; body = c.args.body.now } in
+    let d : Due = record { time = c.args.time; seq = c.args.seq; slot = c.store-slot.result } in
     omega (arith, length_seen c.self.inside.slots.items v, length_seen c.store-slot.new.slots.items w, length_permutation (d ∷ v) w c.push.ensures.joins, ap (λ (r : Room Message). length r.list) c.self.view_is)
