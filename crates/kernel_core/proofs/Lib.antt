@@ -11,4 +11,7 @@ pub mod Kept
 pub mod Possible
 pub mod Stops
 pub mod Times
+pub mod Fresh
+pub mod Making
+pub mod Traces
 pub mod EditRuns

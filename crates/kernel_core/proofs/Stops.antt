@@ -113,7 +113,7 @@ pub advanced-behind : (o : Opening) (xs : List EntryTold) (r : Run) → advanced
 unfolding advanced
 advanced-behind o xs r = with_event-behind xs r (step_of o r.state)
 
-advanced_by-behind : (n : ℕ) (o : Opening) (xs : List EntryTold) (r : Run) → advanced_by n o (behind xs r) ≡ behind xs (advanced_by n o r)
+pub advanced_by-behind : (n : ℕ) (o : Opening) (xs : List EntryTold) (r : Run) → advanced_by n o (behind xs r) ≡ behind xs (advanced_by n o r)
 advanced_by-behind zero o xs r = refl
 advanced_by-behind (suc n) o xs r =
     ap (λ (q : Run). advanced_by n o q) (advanced-behind o xs r) ∙ advanced_by-behind n o xs (advanced o r)

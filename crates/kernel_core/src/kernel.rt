@@ -7,12 +7,13 @@ ghost use Rattle.agent_shell.specs.Trader.{told_of};
 ghost use Rattle.event_queue.specs.InOrder.{in_order};
 ghost use Rattle.event_queue.specs.Waiting.{before, least};
 ghost use Rattle.market_floor.specs.Floor.{offset_at, party_at};
+ghost use Rattle.kernel_core.specs.EndBy.{end_by};
 ghost use Rattle.kernel_core.specs.Step.{end_of};
 
 use crate::Mail;
 use exchange_agent::Exchange;
 use latency_model::Groups;
-use market_floor::{Floor, Opening};
+use market_floor::{Floor, Happening, Opening};
 use market_types::{AgentNo, End, Memory, Message, StockNo, Time, TraderTold, copied};
 use std::alloc::Global;
 use std::marker::Model;
@@ -27,6 +28,9 @@ pub struct Kernel {
     pub(crate) own: Vec<Time>,
     pub(crate) floor: Floor,
     pub(crate) groups: Groups,
+    // What happened in the last event that was delivered. It is used again at each, so that its lists keep their memory, and no
+    // contract sees it.
+    pub(crate) happening: Happening,
 }
 
 impl Model for Kernel {
@@ -52,6 +56,30 @@ pub struct KernelTold {
     pub dropped: u64,
 }
 
+// The message of the next event where so many stand, or why there is none.
+pub(crate) fn next_of<'a>(mail: &'a Mail, events: u32, o: &Opening) -> Result<&'a Message, End>
+    ensures least { IfOk result (λ m. least mail.now.waiting ≡ Some m.now) }
+    ensures going { OnOk result (end_by o.now mail.now events ≡ None) }
+    ensures ended { IfErr result (λ end. end_by o.now mail.now events ≡ Some end) }
+{
+    if mail.dropped() > 0 {
+        return Err(End::QueueFull);
+    }
+    if events == o.limit {
+        return Err(End::EventLimit);
+    }
+    match mail.least() {
+        None => Err(End::Quiet),
+        Some(m) => {
+            if m.time > o.close {
+                Err(End::Closed)
+            } else {
+                Ok(m)
+            }
+        }
+    }
+}
+
 impl Kernel {
     /// An equal kernel.
     ///
@@ -72,6 +100,7 @@ impl Kernel {
             own,
             floor,
             groups,
+            happening: Happening::new(alloc),
         })
     }
 
@@ -91,27 +120,12 @@ impl Kernel {
     }
 
     // The message of the next event, or why there is none.
-    pub(crate) fn next(&self, o: &Opening) -> Result<Message, End>
-        ensures least { IfOk result (λ m. least self.now.post.waiting ≡ Some m) }
+    pub(crate) fn next(&self, o: &Opening) -> Result<&Message, End>
+        ensures least { IfOk result (λ m. least self.now.post.waiting ≡ Some m.now) }
         ensures going { OnOk result (end_of o.now self.now ≡ None) }
         ensures ended { IfErr result (λ end. end_of o.now self.now ≡ Some end) }
     {
-        if self.mail.dropped() > 0 {
-            return Err(End::QueueFull);
-        }
-        if self.events == o.limit {
-            return Err(End::EventLimit);
-        }
-        match self.mail.least() {
-            None => Err(End::Quiet),
-            Some(m) => {
-                if m.time > o.close {
-                    Err(End::Closed)
-                } else {
-                    Ok(*m)
-                }
-            }
-        }
+        next_of(&self.mail, self.events, o)
     }
 
     /// Why the state has no next event, if it has none.

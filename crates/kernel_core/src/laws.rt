@@ -1,11 +1,14 @@
 //! Laws of runs and of edits.
 
 ghost use Rattle.std.specs.Prelude.{◌≡◌, ◌<◌, ◌≤◌, ◌⊎◌, ℕ, false, List};
+ghost use Rattle.std.specs.List.{AllByRecursion};
 ghost use Rattle.market_types.specs.Told.{EntryTold};
 ghost use Rattle.market_rules.specs.declared.edit.Edit.{Edit};
 ghost use Rattle.market_floor.specs.declared.opening.Opening.{Opening};
 ghost use Rattle.kernel_core.specs.Edited.{edited};
 ghost use Rattle.kernel_core.specs.Due.{due_by, until_time};
+ghost use Rattle.kernel_core.specs.Seen.{IsEvent, afresh};
+ghost use Rattle.kernel_core.specs.State.{State};
 ghost use Rattle.kernel_core.specs.Until.{Run, advanced_by, behind, until};
 
 /// A run that stops and goes on is as if it had not stopped, wherever it did not pass the later stop. It never goes back, nor
@@ -41,4 +44,10 @@ pub fn runs_to_times()
 pub fn edits_are_no_events()
     ensures events { (branch : ℕ) (es : List Edit) (r : Run) → (edited branch es r).state.events ≡ r.state.events }
     ensures behind { (branch : ℕ) (es : List Edit) (xs : List EntryTold) (r : Run) → edited branch es (behind xs r) ≡ behind xs (edited branch es r) }
+{}
+
+/// A run adds events to the trace, and nothing else.
+pub fn runs_add_events()
+    ensures until { (o : Opening) (n : ℕ) (s : State) → AllByRecursion IsEvent (until o n (afresh s)).entries }
+    ensures until_time { (o : Opening) (w most : ℕ) (s : State) → AllByRecursion IsEvent (until_time o w most (afresh s)).entries }
 {}

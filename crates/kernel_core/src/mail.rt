@@ -5,15 +5,16 @@ ghost use Rattle.std.specs.List.Sorted.{IsPermutation, IsSortedBy};
 ghost use Rattle.market_types.specs.Limits.{most_waiting};
 ghost use Rattle.event_queue.specs.InOrder.{in_order};
 ghost use Rattle.event_queue.specs.Waiting.{before, least};
+ghost use Rattle.market_floor.specs.Posted.{posting_of};
 ghost use Rattle.market_floor.specs.Postings.{IsAddressed};
 ghost use Rattle.kernel_core.specs.Post.{IsOrderly, joins, nothing_waits, put_back, taken};
-ghost use Rattle.kernel_core.specs.Send.{injected, message_of, sent, under_way};
+ghost use Rattle.kernel_core.specs.Send.{injected, sent, under_way};
 ghost use Rattle.kernel_core.specs.Sendable.{IsGrouped};
 
 use crate::jitter::Jitter;
 use event_queue::Queue;
 use latency_model::Groups;
-use market_floor::{Opening, Posting, group_number};
+use market_floor::{Opening, Posting, PostingSeen, group_number};
 use market_types::{AgentNo, Body, Inbound, MOST_WAITING, Memory, Message, Time};
 use std::alloc::Global;
 use std::marker::Model;
@@ -55,39 +56,6 @@ fn latency(
 {
     let word = jitter.word(&o.key, seq);
     groups.delay(group_number(o, from), group_number(o, to), word)
-}
-
-// The message that a posting becomes.
-fn message_for(
-    jitter: &mut Jitter,
-    o: &Opening,
-    groups: &Groups,
-    from: AgentNo,
-    leave: Time,
-    posting: Posting,
-    seq: u64,
-) -> Message
-    requires fits { IsGrouped o.now groups.now }
-    requires addressed { IsAddressed (length o.now.traders) (length o.now.stocks) from posting }
-    requires leaves { leave < 2 ^ 60 }
-    ensures { result ≡ message_of o.now groups.now from leave posting seq }
-{
-    match posting {
-        Posting::To { to, body, extra } => Message {
-            time: leave + extra + latency(jitter, o, groups, from, to, seq),
-            seq,
-            from,
-            to,
-            body,
-        },
-        Posting::WakeAt(time) => Message {
-            time,
-            seq,
-            from,
-            to: from,
-            body: Body::Wake,
-        },
-    }
 }
 
 impl Mail {
@@ -187,19 +155,71 @@ impl Mail {
         self.queue.replace_least(time, seq)
     }
 
-    // A message that has the next number joins, or is dropped.
-    fn join(&mut self, m: Message)
-        requires number { m.seq ≡ self.old.next_seq }
+    /// The next message leaves, as by `take`, and isn't read. Where none waits, nothing changes.
+    pub fn drop_least(&mut self)
+        ensures left { IfSome (least self.old.waiting) (λ m. self.new ≡ taken self.old m) }
+        ensures few { length self.new.waiting ≤ most_waiting }
+        ensures none { IfNone (least self.old.waiting) (self.new ≡ self.old) }
+    {
+        self.queue.drop_least();
+    }
+
+    /// The next message is put back to a time, in nanoseconds past midnight, under its old number, as by `put_back`, and
+    /// isn't read. Where none waits, nothing changes.
+    pub fn delay_least(&mut self, time: Time)
+        ensures back { IfSome (least self.old.waiting) (λ m. self.new ≡ put_back self.old m time) }
+        ensures same { length self.new.waiting ≡ length self.old.waiting }
+        ensures few { length self.new.waiting ≤ most_waiting }
+        ensures none { IfNone (least self.old.waiting) (self.new ≡ self.old) }
+    {
+        let Some(m) = self.queue.peek_least() else {
+            return;
+        };
+        let seq = m.seq;
+        self.queue.delay_least(time, seq);
+    }
+
+    // A message of these parts joins under the next number, or is dropped.
+    fn join(&mut self, time: Time, from: AgentNo, to: AgentNo, body: &Body)
         requires numbers { self.old.next_seq + 1 < 2 ^ 64 }
         requires drops { self.old.dropped + 1 < 2 ^ 64 }
-        ensures joins { self.new ≡ joins self.old (λ _. m) }
+        ensures joins { self.new ≡ joins self.old (λ seq. record { time = time; seq = seq; from = from; to = to; body = body.now }) }
         ensures counted { self.new.next_seq + self.new.dropped ≡ self.old.next_seq + self.old.dropped + 1 }
     {
         if self.queue.len() < MOST_WAITING {
-            self.queue.push(m);
-            self.next_seq += 1;
+            let seq = self.next_seq;
+            self.queue.push_body(time, seq, from, to, body);
+            self.next_seq = seq + 1;
         } else {
             self.dropped += 1;
+        }
+    }
+
+    /// A posting of an agent that leaves at a time, in nanoseconds past midnight, joins under the next number and is due after
+    /// its latency, or is dropped. What it says is read where it stands.
+    pub fn post(
+        &mut self,
+        o: &Opening,
+        groups: &Groups,
+        from: AgentNo,
+        leave: Time,
+        posting: PostingSeen,
+    )
+        requires fits { IsGrouped o.now groups.now }
+        requires addressed { IsAddressed (length o.now.traders) (length o.now.stocks) from (posting_of posting) }
+        requires leaves { leave < 2 ^ 60 }
+        requires numbers { self.old.next_seq + 1 < 2 ^ 64 }
+        requires drops { self.old.dropped + 1 < 2 ^ 64 }
+        ensures sent { self.new ≡ sent o.now groups.now from leave self.old (posting_of posting.entry) }
+        ensures counted { self.new.next_seq + self.new.dropped ≡ self.old.next_seq + self.old.dropped + 1 }
+    {
+        match posting {
+            PostingSeen::To { to, body, extra } => {
+                let seq = self.next_seq;
+                let under_way = latency(&mut self.jitter, o, groups, from, to, seq);
+                self.join(leave + extra + under_way, from, to, body);
+            }
+            PostingSeen::WakeAt(time) => self.join(time, from, from, &Body::Wake),
         }
     }
 
@@ -221,9 +241,19 @@ impl Mail {
         ensures sent { self.new ≡ sent o.now groups.now from leave self.old posting }
         ensures counted { self.new.next_seq + self.new.dropped ≡ self.old.next_seq + self.old.dropped + 1 }
     {
-        let seq = self.next_seq;
-        let m = message_for(&mut self.jitter, o, groups, from, leave, posting, seq);
-        self.join(m);
+        match &posting {
+            Posting::To { to, body, extra } => {
+                let seen = PostingSeen::To {
+                    to: *to,
+                    body,
+                    extra: *extra,
+                };
+                self.post(o, groups, from, leave, seen);
+            }
+            Posting::WakeAt(time) => {
+                self.post(o, groups, from, leave, PostingSeen::WakeAt(*time));
+            }
+        }
     }
 
     /// An order of a trader joins under the next number and is due at a time, in nanoseconds past
@@ -234,12 +264,7 @@ impl Mail {
         ensures injected { self.new ≡ injected from time order self.old }
         ensures counted { self.new.next_seq + self.new.dropped ≡ self.old.next_seq + self.old.dropped + 1 }
     {
-        self.join(Message {
-            time,
-            seq: self.next_seq,
-            from,
-            to: 0,
-            body: Body::Order(order),
-        });
+        let body = Body::Order(order);
+        self.join(time, from, 0, &body);
     }
 }

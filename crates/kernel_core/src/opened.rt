@@ -10,7 +10,7 @@ use crate::Mail;
 use crate::kernel::Kernel;
 use crate::mail_laws::{mail_stays_sound, openings_are_grouped};
 use agent_shell::TraderSetting;
-use market_floor::{Floor, Opening, Posting};
+use market_floor::{Floor, Happening, Opening, Posting};
 use market_types::Memory;
 use std::alloc::Global;
 
@@ -58,6 +58,7 @@ impl Kernel {
             own,
             floor,
             groups,
+            happening: Happening::new(alloc),
         })
     }
 }

@@ -32,9 +32,9 @@ pub(crate) fn send_all(
 {
     openings_are_grouped();
     for i in 0..postings.len() {
-        let Some(posting) = postings.get(i) else {
+        let Some(posting) = postings.seen(i) else {
             unreachable!()
         };
-        mail.send(o, groups, from, leave, posting);
+        mail.post(o, groups, from, leave, posting);
     }
 }

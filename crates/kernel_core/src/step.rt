@@ -1,131 +1,122 @@
 //! The kernel: its events.
 
-ghost use Rattle.std.specs.Prelude.{◌≡◌, ◌<◌, ◌≤◌, ◌+◌, ◌-◌, ◌^◌, Some, None, OnOk, OnErr, IfOk, IsNone, All, max};
-ghost use Rattle.market_types.specs.Told.{event_told};
-ghost use Rattle.market_types.specs.Timely.{AreTimely, IsTimely};
+ghost use Rattle.std.specs.Prelude.{◌≡◌, ◌<◌, ◌≤◌, ◌+◌, ◌-◌, ◌^◌, true, Some, None, OnOk, OnErr, IfOk, IfErr, IsNone, All, max};
+ghost use Rattle.market_types.specs.Told.{event};
+ghost use Rattle.market_types.specs.Timely.{IsTimely};
 ghost use Rattle.event_queue.specs.Waiting.{least};
 ghost use Rattle.kernel_core.specs.Edited.{IsEditOf};
-ghost use Rattle.kernel_core.specs.Step.{Fits, answer_by, end_of, event_back, event_delivered, event_of, raised};
+ghost use Rattle.kernel_core.specs.Seen.{afresh, first_of, folded};
+ghost use Rattle.kernel_core.specs.Step.{Fits, answer_by, end_of, event_of, raised};
 ghost use Rattle.kernel_core.specs.Until.{advanced, advanced_by, until};
 
-use crate::kernel::Kernel;
+use crate::keeper::Keeper;
+use crate::kernel::{Kernel, next_of};
 use crate::mail_laws::mail_stays_sound;
 use crate::post::send_all;
 use crate::stepped::Stepped;
+use crate::telling::{tell_back, tell_delivery};
 use market_floor::laws::floors_stay_sound;
-use market_floor::{Happening, Opening, applied_by};
+use market_floor::{Opening, applied_by};
 use market_rules::Edit;
-use market_types::{End, Entry, FeedList, Memory, Message, Record, Time, Trace};
+use market_types::{End, Memory, Time, Trace};
 use outside::{Ledger, Steps};
 use std::alloc::Global;
 
 impl Kernel {
-    // The next message goes back to its receiver's own time, once the dated changes up to its time are made.
-    fn back(
+    // The event of the next message, unless the state is ended. The answer is its end, or whether the keeper took the event: it
+    // is made all the same.
+    fn happen<K: Keeper>(
         &mut self,
         alloc: Global,
         o: &Opening,
-        m: Message,
-        until: Time,
-    ) -> Result<Record, Memory>
+        keeper: &mut K,
+    ) -> Result<Result<bool, End>, Memory>
         requires fits { Fits o.now self.old }
-        requires next { least self.old.post.waiting ≡ Some m }
-        requires going { end_of o.now self.old ≡ None }
-        requires later { m.time ≤ until }
-        ensures state { OnOk result (self.new ≡ (event_back o.now self.old m until).state) }
-        ensures entry { IfOk result (λ r. event_told r ≡ (event_back o.now self.old m until).entry) }
-        ensures timely { IfOk result (λ r. AreTimely r.before.list) }
-        ensures own_timely { IfOk result (λ r. AreTimely r.after.list) }
+        ensures ended { IfOk result (λ r. IfErr r (λ end. end_of o.now self.old ≡ Some end)) }
+        ensures same { IfOk result (λ r. OnErr r (self.new ≡ self.old)) }
+        ensures keeper_same { IfOk result (λ r. OnErr r (K.told keeper.new ≡ K.told keeper.old)) }
+        ensures going { IfOk result (λ r. OnOk r (end_of o.now self.old ≡ None)) }
+        ensures next { IfOk result (λ r. OnOk r (least self.old.post.waiting ≡ Some (first_of self.old))) }
+        ensures state { IfOk result (λ r. OnOk r (self.new ≡ (event_of o.now self.old (first_of self.old)).state)) }
+        ensures taken { IfOk result (λ r. IfOk r (λ kept. kept ≡ true → K.told keeper.new ≡ K.with (K.told keeper.old) (event_of o.now self.old (first_of self.old)).entry)) }
+        ensures sure { IfOk result (λ r. IfOk r (λ kept. K.is_sure → kept ≡ true)) }
+        ensures timely { IfOk result (λ r. OnOk r (IsTimely (event (event_of o.now self.old (first_of self.old)).entry))) }
         ensures fitting { Fits o.now self.new }
-        ensures drops { OnOk result (self.new.post.dropped ≤ 2000002) }
+        ensures drops { IfOk result (λ r. OnOk r (self.new.post.dropped ≤ 2000002)) }
+        ensures counted { IfOk result (λ r. OnOk r (self.new.events ≡ self.old.events + 1)) }
         ensures refused { OnErr result (self.new ≡ self.old) }
+        ensures keeper_refused { OnErr result (K.told keeper.new ≡ K.told keeper.old) }
     {
         mail_stays_sound();
         floors_stay_sound();
-        let before = self.floor.rule(alloc, o, self.applied, m.time)?;
-        let _ = self.mail.put_back(until);
-        self.applied = applied_by(o, self.applied, m.time);
-        self.events += 1;
-        self.time = m.time;
-        Ok(Record {
-            number: self.events,
-            time: m.time,
-            seq: m.seq,
-            from: m.from,
-            to: m.to,
-            put_back: true,
-            until,
-            fee: 0,
-            body: m.body,
-            before,
-            after: FeedList::new(alloc),
-        })
-    }
-
-    // The next message is delivered, once the dated changes up to its time are made.
-    fn deliver(&mut self, alloc: Global, o: &Opening, m: Message) -> Result<Record, Memory>
-        requires fits { Fits o.now self.old }
-        requires next { least self.old.post.waiting ≡ Some m }
-        requires going { end_of o.now self.old ≡ None }
-        ensures state { OnOk result (self.new ≡ (event_delivered o.now self.old m).state) }
-        ensures entry { IfOk result (λ r. event_told r ≡ (event_delivered o.now self.old m).entry) }
-        ensures timely { IfOk result (λ r. AreTimely r.before.list) }
-        ensures own_timely { IfOk result (λ r. AreTimely r.after.list) }
-        ensures fitting { Fits o.now self.new }
-        ensures drops { OnOk result (self.new.post.dropped ≤ 2000002) }
-        ensures refused { OnErr result (self.new ≡ self.old) }
-    {
-        mail_stays_sound();
-        floors_stay_sound();
-        let Happening {
-            before,
-            postings,
-            delay,
-            after,
-            fee,
-        } = self.floor.deliver(alloc, o, self.applied, &m)?;
-        let until = m.time + delay;
-        let _ = self.mail.take();
-        send_all(&mut self.mail, o, &self.groups, m.to, until, &postings);
-        self.own[usize::from(m.to)] = until;
-        self.applied = applied_by(o, self.applied, m.time);
-        self.events += 1;
-        self.time = m.time;
-        Ok(Record {
-            number: self.events,
-            time: m.time,
-            seq: m.seq,
-            from: m.from,
-            to: m.to,
-            put_back: false,
-            until,
-            fee,
-            body: m.body,
-            before,
-            after,
-        })
-    }
-
-    // The event of the next message.
-    fn happen(&mut self, alloc: Global, o: &Opening, m: Message) -> Result<Record, Memory>
-        requires fits { Fits o.now self.old }
-        requires going { end_of o.now self.old ≡ None }
-        requires next { least self.old.post.waiting ≡ Some m }
-        ensures state { OnOk result (self.new ≡ (event_of o.now self.old m).state) }
-        ensures entry { IfOk result (λ r. event_told r ≡ (event_of o.now self.old m).entry) }
-        ensures timely { IfOk result (λ r. AreTimely r.before.list) }
-        ensures own_timely { IfOk result (λ r. AreTimely r.after.list) }
-        ensures fitting { Fits o.now self.new }
-        ensures drops { OnOk result (self.new.post.dropped ≤ 2000002) }
-        ensures refused { OnErr result (self.new ≡ self.old) }
-    {
-        mail_stays_sound();
-        let own = self.own[usize::from(m.to)];
+        let m = match next_of(&self.mail, self.events, o) {
+            Ok(m) => m,
+            Err(end) => return Ok(Err(end)),
+        };
+        keeper.room()?;
+        let time = m.time;
+        let from = m.to;
+        let to = usize::from(from);
+        let number = self.events + 1;
+        let own = self.own[to];
+        let applied = self.applied;
+        let floor = &mut self.floor;
+        let out = &mut self.happening;
         if m.time < own {
-            self.back(alloc, o, m, own)
-        } else {
-            self.deliver(alloc, o, m)
+            let kept = tell_back(alloc, o, applied, number, own, m, floor, out, keeper)?;
+            self.mail.delay_least(own);
+            self.applied = applied_by(o, applied, time);
+            self.events = number;
+            self.time = time;
+            return Ok(Ok(kept));
         }
+        let kept = tell_delivery(alloc, o, applied, number, m, floor, out, keeper)?;
+        let out = &self.happening;
+        let until = time + out.delay;
+        self.mail.drop_least();
+        send_all(&mut self.mail, o, &self.groups, from, until, &out.postings);
+        self.own[to] = until;
+        self.applied = applied_by(o, applied, time);
+        self.events = number;
+        self.time = time;
+        Ok(Ok(kept))
+    }
+
+    // One event, unless the state is ended, told to a keeper. The counter ticks once for an event and for nothing else. After
+    // want of memory kernel and counter are those after the event, where it was made, and else as they were.
+    pub(crate) fn step_into<K: Keeper, L: Ledger>(
+        &mut self,
+        alloc: Global,
+        o: &Opening,
+        keeper: &mut K,
+        steps: &mut Steps<L>,
+    ) -> Result<Stepped, Memory>
+        requires fits { Fits o.now self.old }
+        requires count { steps.old + 1 < 2 ^ 64 }
+        ensures answer { IfOk result (λ a. a ≡ answer_by self.old (end_of o.now self.old)) }
+        ensures events { IfOk result (λ a. self.new.events ≡ self.old.events + raised a) }
+        ensures kept { OnOk result (K.told keeper.new ≡ folded K.with (K.told keeper.old) (advanced_by (self.new.events - self.old.events) o.now (afresh self.old)).entries) }
+        ensures made { self.new ≡ (advanced_by (self.new.events - self.old.events) o.now (afresh self.old)).state }
+        ensures timely { All IsTimely (advanced_by (self.new.events - self.old.events) o.now (afresh self.old)).entries }
+        ensures ticks { steps.new + self.old.events ≡ steps.old + self.new.events }
+        ensures grows { self.old.events ≤ self.new.events }
+        ensures one { self.new.events ≤ self.old.events + 1 }
+        ensures fitting { Fits o.now self.new }
+        ensures offsets { self.new.floor.offsets ≡ self.old.floor.offsets }
+        ensures editable { (e : Edit) → IsEditOf self.old e → IsEditOf self.new e }
+        ensures drops { self.new.post.dropped ≤ max self.old.post.dropped 2000002 }
+        ensures refused { OnErr result (K.is_sure → self.new ≡ self.old) }
+        ensures keeper_refused { OnErr result (K.is_sure → K.told keeper.new ≡ K.told keeper.old) }
+    {
+        let kept = match self.happen(alloc, o, keeper)? {
+            Ok(kept) => kept,
+            Err(end) => return Ok(Stepped::Ended(end)),
+        };
+        steps.tick();
+        if kept {
+            return Ok(Stepped::Event(self.events));
+        }
+        Err(Memory)
     }
 
     /// One event, unless the state is ended. The counter ticks once for an event and for nothing else.
@@ -155,16 +146,47 @@ impl Kernel {
         ensures trace_refused { OnErr result (trace.new.list ≡ trace.old.list) }
         ensures steps_refused { OnErr result (steps.new ≡ steps.old) }
     {
-        let m = match self.next(o) {
-            Ok(m) => m,
-            Err(end) => return Ok(Stepped::Ended(end)),
-        };
-        trace.reserve(1)?;
-        let entry = self.happen(alloc, o, m)?;
-        let number = entry.number;
-        trace.put(Entry::Event(entry));
-        steps.tick();
-        Ok(Stepped::Event(number))
+        self.step_into(alloc, o, trace, steps)
+    }
+
+    /// Events until so many of them stand or the state is ended: then the answer is its end. A keeper takes each as it is made.
+    ///
+    /// # Errors
+    /// Want of memory alone. Kernel and counter are then those after the events that were made, and what the keeper took is left
+    /// open, unless it is one that refuses nothing.
+    pub fn run_into<K: Keeper, L: Ledger>(
+        &mut self,
+        alloc: Global,
+        o: &Opening,
+        stop: u32,
+        keeper: &mut K,
+        steps: &mut Steps<L>,
+    ) -> Result<Option<End>, Memory>
+        requires fits { Fits o.now self.old }
+        requires count { steps.old + (stop - self.old.events) < 2 ^ 64 }
+        ensures answer { IfOk result (λ e. e ≡ end_of o.now self.new) }
+        ensures reached { IfOk result (λ e. IsNone e → stop ≤ self.new.events) }
+        ensures ran { OnOk result (self.new ≡ (until o.now stop (afresh self.old)).state) }
+        ensures kept { OnOk result (K.told keeper.new ≡ folded K.with (K.told keeper.old) (until o.now stop (afresh self.old)).entries) }
+        ensures made { self.new ≡ (advanced_by (self.new.events - self.old.events) o.now (afresh self.old)).state }
+        ensures made_kept { K.is_sure → K.told keeper.new ≡ folded K.with (K.told keeper.old) (advanced_by (self.new.events - self.old.events) o.now (afresh self.old)).entries }
+        ensures timely { All IsTimely (advanced_by (self.new.events - self.old.events) o.now (afresh self.old)).entries }
+        ensures ticks { steps.new + self.old.events ≡ steps.old + self.new.events }
+        ensures grows { self.old.events ≤ self.new.events }
+        ensures within { self.new.events ≤ (until o.now stop (afresh self.old)).state.events }
+        ensures time { self.old.time ≤ o.now.close → self.new.time ≤ o.now.close }
+        ensures offsets { self.new.floor.offsets ≡ self.old.floor.offsets }
+        ensures editable { (e : Edit) → IsEditOf self.old e → IsEditOf self.new e }
+        ensures drops { self.new.post.dropped ≤ max self.old.post.dropped 2000002 }
+        ensures fitting { Fits o.now self.new }
+    {
+        'events: while self.events() < stop {
+            match self.step_into(alloc, o, keeper, steps)? {
+                Stepped::Ended(end) => return Ok(Some(end)),
+                Stepped::Event(_) => {}
+            }
+        }
+        Ok(self.end(o))
     }
 
     /// Events until so many of them stand or the state is ended: then the answer is its end.
@@ -195,12 +217,6 @@ impl Kernel {
         ensures drops { self.new.post.dropped ≤ max self.old.post.dropped 2000002 }
         ensures fitting { Fits o.now self.new }
     {
-        'events: while self.events() < stop {
-            match self.step(alloc, o, trace, steps)? {
-                Stepped::Ended(end) => return Ok(Some(end)),
-                Stepped::Event(_) => {}
-            }
-        }
-        Ok(self.end(o))
+        self.run_into(alloc, o, stop, trace, steps)
     }
 }

@@ -99,7 +99,8 @@ fn deliver(
         to,
         body,
     };
-    let happening = floor.deliver(alloc, o, 0, &m)?;
+    let mut happening = Happening::new(alloc);
+    floor.deliver(alloc, o, 0, &m, &mut happening)?;
     Ok(happening)
 }
 

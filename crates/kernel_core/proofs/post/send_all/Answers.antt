@@ -1,5 +1,6 @@
-use Rattle.std.proofs.Common.{◌≡◌, ◌+◌, Some, sym, ap, ◌∙◌, arith, drop, rules}
+use Rattle.std.proofs.Common.{◌≡◌, ◌+◌, Some, sym, ap, ◌∙◌, arith, drop}
 use Rattle.std.specs.Prelude.{slice_get}
+use Rattle.market_floor.specs.Posted.{posting_of}
 use Rattle.kernel_core.specs.Post.{Post}
 use Rattle.kernel_core.specs.Send.{all_sent, message_of, sent}
 use Rattle.kernel_core.proofs.Posted.{all_sent-next, joins-counts}
@@ -12,9 +13,9 @@ loop-i-preserved c =
     let from = c.args.from in
     let leave = c.args.leave in
     let p = c.loop-i.mail in
-    let x = c.in-Some.posting in
-    let next : slice_get c.args.postings.now c.loop-i.i ≡ Some x = search rules in
-    let sends : c.send.new.self ≡ sent o groups from leave p x = c.send.ensures.sent in
+    let x = posting_of c.in-Some.posting in
+    let next : slice_get c.args.postings.now c.loop-i.i ≡ Some x = sym c.in-Some.ensures in
+    let sends : c.post.new.self ≡ sent o groups from leave p x = c.post.ensures.sent in
     let counts = joins-counts p (message_of o groups from leave x) in
     record {
       rest = ap (λ (q : Post). all_sent o groups from leave q (drop (c.loop-i.i + 1) c.args.postings.now)) sends ∙ sym (all_sent-next o groups from leave p c.args.postings.now c.loop-i.i x next) ∙ c.loop-i.invariant.rest;

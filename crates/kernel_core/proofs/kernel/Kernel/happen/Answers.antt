@@ -1,54 +1,268 @@
-use Rattle.std.proofs.Common.{◌≡◌, Some, OnOk, IfOk, slice_index, sym, ap, subst, ◌∙◌, arith, rules}
-use Rattle.market_types.specs.Told.{event_told}
-use Rattle.market_types.specs.declared.entry.Record.{Record}
-use Rattle.event_queue.specs.Waiting.{least}
-use Rattle.kernel_core.specs.Step.{Happened, event_back}
+use Rattle.std.proofs.Common.{◌≡◌, ◌+◌, ◌<◌, ◌≤◌, ◌^◌, None, length, refl, sym, ap, ◌∙◌, subst, arith, slice_index, slice_set}
+use Rattle.std.proofs.lemmas.List.{length-set}
+use Rattle.std.proofs.lemmas.List.Elements.{All-nil}
+use Rattle.market_types.specs.declared.feed.Feed.{Feed}
+use Rattle.market_types.specs.declared.message.Message.{Message}
+use Rattle.market_types.specs.Timely.{IsTimely}
+use Rattle.market_types.specs.Told.{event}
+use Rattle.kernel_core.specs.Post.{Post, put_back, taken}
+use Rattle.kernel_core.specs.Seen.{first_of}
+use Rattle.kernel_core.specs.Send.{all_sent}
+use Rattle.kernel_core.specs.SoundMail.{IsSoundMail}
+use Rattle.kernel_core.specs.State.{State}
+use Rattle.kernel_core.specs.Step.{Fits, Happened, end_of, event_back, event_delivered, event_of}
 use Rattle.kernel_core.specs.View.{state_of}
+use Rattle.kernel_core.proofs.Fresh.{first-is}
+use Rattle.kernel_core.proofs.Making.{at-some, back-made, delivered-made}
 use Rattle.kernel_core.proofs.Runs.{event-busy, event-free}
-use Rattle.kernel_core.proofs.Sound.{next-within, own-read}
+use Rattle.kernel_core.proofs.Sound.{IsOfSize, fits-after, next-is, next-within, own-read, sound-after}
 use Rattle.kernel_core.proofs.kernel.Kernel.happen.Goals as goal
 
 pub index-own-requires : goal.index-own-requires
-index-own-requires c =
+index-own-requires g c =
     let k = c.self.inside in
-    let next : least k.mail.waiting ≡ Some c.args.m = search rules in
-    let within = next-within c.mail_stays_sound.ensures.next (state_of k) c.args.m c.self.invariant next in
-    omega (arith, within, c.from.ensures, k.own.ok.0)
+    let within = next-within c.mail_stays_sound.ensures.next (state_of k) c.in-Ok.m.now c.self.invariant c.in-Ok.ensures.least in
+    omega (arith, within, c.from-to.ensures, k.own.ok.0)
+
+-- the message goes back
+pub invariant_of-self-then-m-own : goal.invariant_of-self-then-m-own
+invariant_of-self-then-m-own g c =
+    let k = c.self.inside in
+    let s = state_of k in
+    let o = c.args.o.now in
+    let m = c.in-Ok.m.now in
+    let traders = length k.floor.parties in
+    let stocks = length k.floor.exchange.stocks in
+    let fits = subst (λ (q : State). Fits o q) (sym c.self.view_is) c.requires.fits in
+    let going : end_of o s ≡ None = c.in-Ok.ensures.going in
+    let later : m.time ≤ c.index-own.result.now = omega (arith, c.if-m-own.true) in
+    let next = c.in-Ok.ensures.least in
+    let n = next-is o s m fits next going in
+    let size : IsOfSize s k.own.items c.tell_back.new.floor = record { own = refl; stocks = c.tell_back.ensures.stocks; traders = c.tell_back.ensures.traders } in
+    let post = at-some (λ (x : Message). c.delay_least.new.self ≡ put_back k.mail x c.index-own.result.now) _ m (sym c.in-Ok.ensures.least) c.delay_least.ensures.back in
+    let mail = c.mail_stays_sound.ensures.put_back traders stocks k.time k.events c.index-own.result.now k.mail m next later c.self.invariant.mail in
+    let floor = c.floors_stay_sound.ensures k.events (k.events + 1) c.tell_back.new.floor (omega arith) (c.tell_back.ensures.sound k.events c.self.invariant.floor) in
+    sound-after s m.time (k.events + 1) c.applied_by-self-inside.result c.delay_least.new.self k.own.items c.tell_back.new.floor k.groups size
+    (subst (λ (p : Post). IsSoundMail traders stocks m.time (k.events + 1) p) (sym post) mail) floor n.early (omega (arith, n.few)) c.self.invariant
 
 pub returns-then-m-own-clause-state : goal.returns-then-m-own-clause-state
-returns-then-m-own-clause-state c =
+returns-then-m-own-clause-state g c =
     let s = c.args.self.now in
     let k = c.self.inside in
-    let next : least k.mail.waiting ≡ Some c.args.m = search rules in
-    let within = next-within c.mail_stays_sound.ensures.next (state_of k) c.args.m c.self.invariant next in
-    let own : c.index-own.result.now ≡ slice_index s.own c.args.m.to = own-read (state_of k) s c.from.result c.args.m.to c.index-own.result.now c.self.view_is within c.from.ensures c.index-own.ensures in
-    let same = ap (event_back c.args.o.now s c.args.m) own ∙ sym (event-busy c.args.o.now s c.args.m (omega (arith, own))) in
-    subst (λ (h : Happened). OnOk c.back.result (c.back.new.self ≡ h.state)) same c.back.ensures.state
+    let o = c.args.o.now in
+    let m = c.in-Ok.m.now in
+    let until = c.index-own.result.now in
+    let first : m ≡ first_of s = first-is (state_of k) m (sym c.in-Ok.ensures.least) ∙ ap first_of c.self.view_is in
+    let within = next-within c.mail_stays_sound.ensures.next (state_of k) m c.self.invariant c.in-Ok.ensures.least in
+    let read = own-read (state_of k) s c.from-to.result m.to until c.self.view_is within c.from-to.ensures c.index-own.ensures in
+    let own : until ≡ slice_index s.own (first_of s).to = read ∙ ap (λ (x : Message). slice_index s.own x.to) first in
+    let time = ap (λ (x : Message). x.time) first in
+    let same : event_back o (state_of k) m until ≡ event_of o s (first_of s) =
+    ap (λ (q : State). event_back o q m until) c.self.view_is
+    ∙ ap (λ (x : Message). event_back o s x until) first
+    ∙ ap (event_back o s (first_of s)) own
+    ∙ sym (event-busy o s (first_of s) (omega (arith, own, time, c.if-m-own.true))) in
+    let post = at-some (λ (x : Message). c.delay_least.new.self ≡ put_back k.mail x until) _ m (sym c.in-Ok.ensures.least) c.delay_least.ensures.back in
+    back-made o (state_of k) m until c.applied_by-self-inside.result c.delay_least.new.self c.tell_back.new.floor c.applied_by-self-inside.ensures.value post c.in_ok-kept.ensures.floor
+    ∙ ap (λ (h : Happened). h.state) same
 
-pub returns-then-m-own-clause-entry : goal.returns-then-m-own-clause-entry
-returns-then-m-own-clause-entry c =
+pub returns-then-m-own-clause-taken : goal.returns-then-m-own-clause-taken
+returns-then-m-own-clause-taken g c kept =
     let s = c.args.self.now in
     let k = c.self.inside in
-    let next : least k.mail.waiting ≡ Some c.args.m = search rules in
-    let within = next-within c.mail_stays_sound.ensures.next (state_of k) c.args.m c.self.invariant next in
-    let own : c.index-own.result.now ≡ slice_index s.own c.args.m.to = own-read (state_of k) s c.from.result c.args.m.to c.index-own.result.now c.self.view_is within c.from.ensures c.index-own.ensures in
-    let same = ap (event_back c.args.o.now s c.args.m) own ∙ sym (event-busy c.args.o.now s c.args.m (omega (arith, own))) in
-    subst (λ (h : Happened). IfOk c.back.result (λ (r : Record). event_told r ≡ h.entry)) same c.back.ensures.entry
+    let o = c.args.o.now in
+    let m = c.in-Ok.m.now in
+    let until = c.index-own.result.now in
+    let first : m ≡ first_of s = first-is (state_of k) m (sym c.in-Ok.ensures.least) ∙ ap first_of c.self.view_is in
+    let within = next-within c.mail_stays_sound.ensures.next (state_of k) m c.self.invariant c.in-Ok.ensures.least in
+    let read = own-read (state_of k) s c.from-to.result m.to until c.self.view_is within c.from-to.ensures c.index-own.ensures in
+    let own : until ≡ slice_index s.own (first_of s).to = read ∙ ap (λ (x : Message). slice_index s.own x.to) first in
+    let time = ap (λ (x : Message). x.time) first in
+    let same : event_back o (state_of k) m until ≡ event_of o s (first_of s) =
+    ap (λ (q : State). event_back o q m until) c.self.view_is
+    ∙ ap (λ (x : Message). event_back o s x until) first
+    ∙ ap (event_back o s (first_of s)) own
+    ∙ sym (event-busy o s (first_of s) (omega (arith, own, time, c.if-m-own.true))) in
+    c.in_ok-kept.ensures.taken kept ∙ ap (λ (t : g.K.Keeper.Told). g.K.Keeper.with t (event_back o (state_of k) m until).entry) c.in_ok-room.ensures.same
+    ∙ ap (λ (h : Happened). g.K.Keeper.with (g.K.Keeper.told c.args.keeper.now) h.entry) same
 
-pub returns-else-m-own-clause-state : goal.returns-else-m-own-clause-state
-returns-else-m-own-clause-state c =
+pub returns-then-m-own-clause-timely : goal.returns-then-m-own-clause-timely
+returns-then-m-own-clause-timely g c =
     let s = c.args.self.now in
     let k = c.self.inside in
-    let next : least k.mail.waiting ≡ Some c.args.m = search rules in
-    let within = next-within c.mail_stays_sound.ensures.next (state_of k) c.args.m c.self.invariant next in
-    let own : c.index-own.result.now ≡ slice_index s.own c.args.m.to = own-read (state_of k) s c.from.result c.args.m.to c.index-own.result.now c.self.view_is within c.from.ensures c.index-own.ensures in
-    subst (λ (h : Happened). OnOk c.deliver.result (c.deliver.new.self ≡ h.state)) (sym (event-free c.args.o.now s c.args.m (omega (arith, own)))) c.deliver.ensures.state
+    let o = c.args.o.now in
+    let m = c.in-Ok.m.now in
+    let until = c.index-own.result.now in
+    let first : m ≡ first_of s = first-is (state_of k) m (sym c.in-Ok.ensures.least) ∙ ap first_of c.self.view_is in
+    let within = next-within c.mail_stays_sound.ensures.next (state_of k) m c.self.invariant c.in-Ok.ensures.least in
+    let read = own-read (state_of k) s c.from-to.result m.to until c.self.view_is within c.from-to.ensures c.index-own.ensures in
+    let own : until ≡ slice_index s.own (first_of s).to = read ∙ ap (λ (x : Message). slice_index s.own x.to) first in
+    let time = ap (λ (x : Message). x.time) first in
+    let same : event_back o (state_of k) m until ≡ event_of o s (first_of s) =
+    ap (λ (q : State). event_back o q m until) c.self.view_is
+    ∙ ap (λ (x : Message). event_back o s x until) first
+    ∙ ap (event_back o s (first_of s)) own
+    ∙ sym (event-busy o s (first_of s) (omega (arith, own, time, c.if-m-own.true))) in
+    let here : IsTimely (event (event_back o (state_of k) m until).entry) = (c.in_ok-kept.ensures.timely, All-nil (λ (f : Feed). f.time < 2 ^ 48)) in
+    subst (λ (h : Happened). IsTimely (event h.entry)) same here
 
-pub returns-else-m-own-clause-entry : goal.returns-else-m-own-clause-entry
-returns-else-m-own-clause-entry c =
+pub returns-then-m-own-clause-fitting : goal.returns-then-m-own-clause-fitting
+returns-then-m-own-clause-fitting g c =
+    let k = c.self.inside in
+    let s = state_of k in
+    let o = c.args.o.now in
+    let m = c.in-Ok.m.now in
+    let fits = subst (λ (q : State). Fits o q) (sym c.self.view_is) c.requires.fits in
+    let going : end_of o s ≡ None = c.in-Ok.ensures.going in
+    let next = c.in-Ok.ensures.least in
+    let n = next-is o s m fits next going in
+    let size : IsOfSize s k.own.items c.tell_back.new.floor = record { own = refl; stocks = c.tell_back.ensures.stocks; traders = c.tell_back.ensures.traders } in
+    let later = c.mail_stays_sound.ensures.soonest (length k.floor.parties) (length k.floor.exchange.stocks) k.time k.events k.mail m next c.self.invariant.mail in
+    let q : State = record {
+      time = m.time;
+      events = k.events + 1;
+      applied = c.applied_by-self-inside.result;
+      post = c.delay_least.new.self;
+      own = k.own.items;
+      floor = c.tell_back.new.floor;
+      groups = k.groups;
+    } in
+    fits-after o s q fits size refl (c.applied_by-self-inside.ensures.within fits.dated) later (omega (arith, n.below))
+
+-- the message is delivered
+pub tell_delivery-requires-clause-sound : goal.tell_delivery-requires-clause-sound
+tell_delivery-requires-clause-sound g c =
+    let k = c.self.inside in
+    c.floors_stay_sound.ensures k.events 1000000 k.floor c.self.invariant.events c.self.invariant.floor
+
+pub tell_delivery-requires-clause-among : goal.tell_delivery-requires-clause-among
+tell_delivery-requires-clause-among g c =
+    let k = c.self.inside in
+    c.mail_stays_sound.ensures.next (length k.floor.parties) (length k.floor.exchange.stocks) k.time k.events k.mail c.in-Ok.m.now c.in-Ok.ensures.least c.self.invariant.mail
+
+pub tell_delivery-requires-clause-start : goal.tell_delivery-requires-clause-start
+tell_delivery-requires-clause-start g c =
+    let k = c.self.inside in
+    let fits = subst (λ (q : State). Fits c.args.o.now q) (sym c.self.view_is) c.requires.fits in
+    let later = c.mail_stays_sound.ensures.soonest (length k.floor.parties) (length k.floor.exchange.stocks) k.time k.events k.mail c.in-Ok.m.now c.in-Ok.ensures.least c.self.invariant.mail in
+    omega (arith, later, fits.start)
+
+pub index_mut-requires : goal.index_mut-requires
+index_mut-requires g c =
+    let k = c.self.inside in
+    let within = next-within c.mail_stays_sound.ensures.next (state_of k) c.in-Ok.m.now c.self.invariant c.in-Ok.ensures.least in
+    omega (arith, within, c.from-to.ensures, k.own.ok.0)
+
+pub invariant_of-self-2 : goal.invariant_of-self-2
+invariant_of-self-2 g c =
+    let k = c.self.inside in
+    let s = state_of k in
+    let o = c.args.o.now in
+    let m = c.in-Ok.m.now in
+    let h = c.tell_delivery.new.out in
+    let until = m.time + h.delay in
+    let traders = length k.floor.parties in
+    let stocks = length k.floor.exchange.stocks in
+    let fits = subst (λ (q : State). Fits o q) (sym c.self.view_is) c.requires.fits in
+    let going : end_of o s ≡ None = c.in-Ok.ensures.going in
+    let next = c.in-Ok.ensures.least in
+    let n = next-is o s m fits next going in
+    let times = slice_set k.own.items c.from-to.result until in
+    let size : IsOfSize s times c.tell_delivery.new.floor = record { own = length-set k.own.items c.from-to.result until; stocks = c.tell_delivery.ensures.stocks; traders = c.tell_delivery.ensures.traders } in
+    let posted = c.in_ok-kept-2.ensures.posted in
+    let gone = at-some (λ (x : Message). c.drop_least.new.self ≡ taken k.mail x) _ m (sym c.in-Ok.ensures.least) c.drop_least.ensures.left in
+    let post : c.send_all.new.mail ≡ all_sent o k.groups m.to until (taken k.mail m) h.postings =
+    c.send_all.ensures.mail ∙ ap (λ (p : Post). all_sent o k.groups m.to until p h.postings) gone in
+    let left = c.mail_stays_sound.ensures.taken traders stocks k.time k.events k.mail m next c.self.invariant.mail in
+    let mail = c.mail_stays_sound.ensures.sent o k.groups traders stocks m.time (k.events + 1) m.to until (taken k.mail m) h.postings (omega arith) posted.addressed posted.ahead left in
+    sound-after s m.time (k.events + 1) c.applied_by-self-inside-2.result c.send_all.new.mail times c.tell_delivery.new.floor k.groups size
+    (subst (λ (p : Post). IsSoundMail traders stocks m.time (k.events + 1) p) (sym post) mail) (c.tell_delivery.ensures.sound k.events c.self.invariant.floor) n.early (omega (arith, n.few)) c.self.invariant
+
+pub returns-clause-state : goal.returns-clause-state
+returns-clause-state g c =
     let s = c.args.self.now in
     let k = c.self.inside in
-    let next : least k.mail.waiting ≡ Some c.args.m = search rules in
-    let within = next-within c.mail_stays_sound.ensures.next (state_of k) c.args.m c.self.invariant next in
-    let own : c.index-own.result.now ≡ slice_index s.own c.args.m.to = own-read (state_of k) s c.from.result c.args.m.to c.index-own.result.now c.self.view_is within c.from.ensures c.index-own.ensures in
-    subst (λ (h : Happened). IfOk c.deliver.result (λ (r : Record). event_told r ≡ h.entry)) (sym (event-free c.args.o.now s c.args.m (omega (arith, own)))) c.deliver.ensures.entry
+    let o = c.args.o.now in
+    let m = c.in-Ok.m.now in
+    let busy = c.index-own.result.now in
+    let first : m ≡ first_of s = first-is (state_of k) m (sym c.in-Ok.ensures.least) ∙ ap first_of c.self.view_is in
+    let within = next-within c.mail_stays_sound.ensures.next (state_of k) m c.self.invariant c.in-Ok.ensures.least in
+    let read = own-read (state_of k) s c.from-to.result m.to busy c.self.view_is within c.from-to.ensures c.index-own.ensures in
+    let own : busy ≡ slice_index s.own (first_of s).to = read ∙ ap (λ (x : Message). slice_index s.own x.to) first in
+    let time = ap (λ (x : Message). x.time) first in
+    let same : event_delivered o (state_of k) m ≡ event_of o s (first_of s) =
+    ap (λ (q : State). event_delivered o q m) c.self.view_is
+    ∙ ap (λ (x : Message). event_delivered o s x) first
+    ∙ sym (event-free o s (first_of s) (omega (arith, own, time, c.if-m-own.false))) in
+    let h = c.tell_delivery.new.out in
+    let until = m.time + h.delay in
+    let gone = at-some (λ (x : Message). c.drop_least.new.self ≡ taken k.mail x) _ m (sym c.in-Ok.ensures.least) c.drop_least.ensures.left in
+    let post = c.send_all.ensures.mail ∙ ap (λ (p : Post). all_sent o k.groups m.to until p h.postings) gone
+    ∙ ap (all_sent o k.groups m.to until (taken k.mail m)) c.in_ok-kept-2.ensures.postings in
+    let times = ap (λ i. slice_set k.own.items i until) c.from-to.ensures in
+    delivered-made o (state_of k) m until c.applied_by-self-inside-2.result c.send_all.new.mail (slice_set k.own.items c.from-to.result until) c.tell_delivery.new.floor
+    (ap (λ d. m.time + d) c.in_ok-kept-2.ensures.delay) c.applied_by-self-inside-2.ensures.value post times c.in_ok-kept-2.ensures.floor
+    ∙ ap (λ (h : Happened). h.state) same
+
+pub returns-clause-taken : goal.returns-clause-taken
+returns-clause-taken g c kept =
+    let s = c.args.self.now in
+    let k = c.self.inside in
+    let o = c.args.o.now in
+    let m = c.in-Ok.m.now in
+    let busy = c.index-own.result.now in
+    let first : m ≡ first_of s = first-is (state_of k) m (sym c.in-Ok.ensures.least) ∙ ap first_of c.self.view_is in
+    let within = next-within c.mail_stays_sound.ensures.next (state_of k) m c.self.invariant c.in-Ok.ensures.least in
+    let read = own-read (state_of k) s c.from-to.result m.to busy c.self.view_is within c.from-to.ensures c.index-own.ensures in
+    let own : busy ≡ slice_index s.own (first_of s).to = read ∙ ap (λ (x : Message). slice_index s.own x.to) first in
+    let time = ap (λ (x : Message). x.time) first in
+    let same : event_delivered o (state_of k) m ≡ event_of o s (first_of s) =
+    ap (λ (q : State). event_delivered o q m) c.self.view_is
+    ∙ ap (λ (x : Message). event_delivered o s x) first
+    ∙ sym (event-free o s (first_of s) (omega (arith, own, time, c.if-m-own.false))) in
+    c.in_ok-kept-2.ensures.taken kept ∙ ap (λ (t : g.K.Keeper.Told). g.K.Keeper.with t (event_delivered o (state_of k) m).entry) c.in_ok-room.ensures.same
+    ∙ ap (λ (h : Happened). g.K.Keeper.with (g.K.Keeper.told c.args.keeper.now) h.entry) same
+
+pub returns-clause-timely : goal.returns-clause-timely
+returns-clause-timely g c =
+    let s = c.args.self.now in
+    let k = c.self.inside in
+    let o = c.args.o.now in
+    let m = c.in-Ok.m.now in
+    let busy = c.index-own.result.now in
+    let first : m ≡ first_of s = first-is (state_of k) m (sym c.in-Ok.ensures.least) ∙ ap first_of c.self.view_is in
+    let within = next-within c.mail_stays_sound.ensures.next (state_of k) m c.self.invariant c.in-Ok.ensures.least in
+    let read = own-read (state_of k) s c.from-to.result m.to busy c.self.view_is within c.from-to.ensures c.index-own.ensures in
+    let own : busy ≡ slice_index s.own (first_of s).to = read ∙ ap (λ (x : Message). slice_index s.own x.to) first in
+    let time = ap (λ (x : Message). x.time) first in
+    let same : event_delivered o (state_of k) m ≡ event_of o s (first_of s) =
+    ap (λ (q : State). event_delivered o q m) c.self.view_is
+    ∙ ap (λ (x : Message). event_delivered o s x) first
+    ∙ sym (event-free o s (first_of s) (omega (arith, own, time, c.if-m-own.false))) in
+    let here : IsTimely (event (event_delivered o (state_of k) m).entry) = (c.in_ok-kept-2.ensures.timely, c.in_ok-kept-2.ensures.own_timely) in
+    subst (λ (h : Happened). IsTimely (event h.entry)) same here
+
+pub returns-clause-fitting : goal.returns-clause-fitting
+returns-clause-fitting g c =
+    let k = c.self.inside in
+    let s = state_of k in
+    let o = c.args.o.now in
+    let m = c.in-Ok.m.now in
+    let until = m.time + c.tell_delivery.new.out.delay in
+    let fits = subst (λ (q : State). Fits o q) (sym c.self.view_is) c.requires.fits in
+    let going : end_of o s ≡ None = c.in-Ok.ensures.going in
+    let next = c.in-Ok.ensures.least in
+    let n = next-is o s m fits next going in
+    let times = slice_set k.own.items c.from-to.result until in
+    let size : IsOfSize s times c.tell_delivery.new.floor = record { own = length-set k.own.items c.from-to.result until; stocks = c.tell_delivery.ensures.stocks; traders = c.tell_delivery.ensures.traders } in
+    let later = c.mail_stays_sound.ensures.soonest (length k.floor.parties) (length k.floor.exchange.stocks) k.time k.events k.mail m next c.self.invariant.mail in
+    let q : State = record {
+      time = m.time;
+      events = k.events + 1;
+      applied = c.applied_by-self-inside-2.result;
+      post = c.send_all.new.mail;
+      own = times;
+      floor = c.tell_delivery.new.floor;
+      groups = k.groups;
+    } in
+    fits-after o s q fits size refl (c.applied_by-self-inside-2.ensures.within fits.dated) later (omega (arith, n.below))
