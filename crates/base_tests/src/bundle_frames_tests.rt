@@ -1,8 +1,8 @@
 ghost use Rattle.std.specs.Prelude.{◌≡◌, [], IfOk, length};
 
 use bundle_frames::{
-    ClosingAgent, ClosingCounts, ClosingOrder, ClosingStock, Written, put_all, put_branch, put_end,
-    put_header,
+    ClosingAgent, ClosingCounts, ClosingOrder, ClosingStock, EventHead, Written, put_all,
+    put_branch, put_end, put_header, put_parts, put_parts_with_feed,
 };
 use market_types::{Body, EditMark, Entry, Feed, FeedList, Record, Sequence, Side, Token, What};
 use std::alloc::Global;
@@ -42,6 +42,17 @@ const ORDER: ClosingOrder = ClosingOrder {
     price: 100_000,
     tif: 99_999,
     shown: true,
+};
+
+const HEAD: EventHead = EventHead {
+    number: 1,
+    time: 1000,
+    seq: 0,
+    from: 1,
+    to: 0,
+    put_back: false,
+    until: 1000,
+    fee: 0,
 };
 
 fn wakeup(alloc: Global) -> Record
@@ -111,11 +122,13 @@ fn each_frame_has_its_length(rt: HostRuntime) -> Result<(), Fail> {
     assert!(rt; ended.put(&mut out).is_ok());
     assert!(rt; Entry::Event(wakeup(alloc)).put(&mut out).is_ok());
     assert!(rt; Entry::Edit(edit(alloc)).put(&mut out).is_ok());
+    assert!(rt; put_parts(&mut out, &HEAD, &Body::Ask(0)).is_ok());
+    assert!(rt; put_parts_with_feed(&mut out, &HEAD, &Body::Wake, &[], &[]).is_ok());
     assert!(rt; COUNTS.put(&mut out).is_ok());
     assert!(rt; put_all(&mut out, &[STOCK, STOCK]).is_ok());
     assert!(rt; put_all(&mut out, &[ORDER]).is_ok());
     assert!(rt; agent(alloc)?.put(&mut out).is_ok());
     assert!(rt; put_end(&mut out, 1).is_ok());
-    assert!(rt; out.len() == 11 + 16 + 14 + 45 + 20 + 68 + 46 + 46 + 46 + 80 + 5);
+    assert!(rt; out.len() == 11 + 16 + 14 + 45 + 20 + 47 + 45 + 68 + 46 + 46 + 46 + 80 + 5);
     Ok(())
 }

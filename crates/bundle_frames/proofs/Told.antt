@@ -1,39 +1,23 @@
 -- Frames by the case of what they tell.
-use Rattle.std.proofs.Common.{◌≡◌, ℕ, List, ◌++◌, Result, Ok, Err, OnOk, sym, ap, ◌∙◌}
+use Rattle.std.proofs.Common.{◌≡◌, ℕ, List, [], ◌++◌, Result, OnOk, sym, subst}
 use Rattle.market_types.specs.declared.feed.Feed.{Feed}
 use Rattle.market_types.specs.declared.feed.What.{What}
 use Rattle.market_types.specs.declared.message.Body.{Body}
-use Rattle.market_types.specs.Told.{EventTold}
-use Rattle.wire_fields.specs.Values.{number}
-use Rattle.wire_fields.specs.Wire.{spelling}
-use Rattle.itch_codec.specs.Frames.{framed}
-use Rattle.itch_codec.specs.Messages.{what_wire}
-use Rattle.bundle_frames.specs.Wires.{event_wire, body_bytes}
 use Rattle.bundle_frames.specs.Frames.{message_frame, event_frame}
+use Rattle.bundle_frames.specs.Heads.{headed, saying}
+use Rattle.bundle_frames.specs.declared.head.EventHead.{EventHead}
 
 -- what was appended under another name
 pub instead : {A E : Type 0} (r : Result A E) (old new a b : List ℕ) → a ≡ b → OnOk r (new ≡ old ++ a) → OnOk r (new ≡ old ++ b)
-instead (Ok x) old new a b same after = after ∙ ap (λ (l : List ℕ). old ++ l) same
-instead (Err e) old new a b same after = tt
+instead r old new a b same after = subst (λ (l : List ℕ). OnOk r (new ≡ old ++ l)) same after
 
--- a message of the feed that says this
-abbrev saying : Feed → What → List ℕ
-saying m w = framed (spelling (what_wire (number m.locate) (number m.tracking) (number m.time) w))
-
-pub told : (m : Feed) (w : What) (bytes : List ℕ) → m.what ≡ w → bytes ≡ saying m w → bytes ≡ message_frame m
+-- what was appended of a message of the feed that says this
+pub told : {A E : Type 0} (r : Result A E) (old new : List ℕ) (m : Feed) (w : What) → m.what ≡ w → OnOk r (new ≡ old ++ saying m w)
+    → OnOk r (new ≡ old ++ message_frame m)
 unfolding message_frame
-told m w bytes is same = same ∙ ap (λ v. saying m v) (sym is)
+told r old new m w is after = subst (λ (v : What). OnOk r (new ≡ old ++ saying m v)) (sym is) after
 
--- an event of this body
-abbrev carrying : EventTold → Body → List ℕ
-carrying e b = framed (spelling (event_wire e) ++ body_bytes b)
-
-pub carried : (e : EventTold) (b : Body) (bytes : List ℕ) → e.body ≡ b → bytes ≡ carrying e b → bytes ≡ event_frame e
-unfolding event_frame
-carried e b bytes is same = same ∙ ap (λ v. carrying e v) (sym is)
-
--- the same in two parts
-pub in_two : (e : EventTold) (b : Body) (head rest : List ℕ) → e.body ≡ b → head ≡ spelling (event_wire e) → rest ≡ body_bytes b
-    → framed (head ++ rest) ≡ event_frame e
-in_two e b head rest is head_is rest_is =
-    carried e b (framed (head ++ rest)) is (ap (λ (l : List ℕ). framed (l ++ rest)) head_is ∙ ap (λ (l : List ℕ). framed (spelling (event_wire e) ++ l)) rest_is)
+-- what was appended of an event whose body is this
+pub of_body : {A E : Type 0} (r : Result A E) (old new : List ℕ) (h : EventHead) (b d : Body) → b ≡ d → OnOk r (new ≡ old ++ event_frame (headed h d [] []))
+    → OnOk r (new ≡ old ++ event_frame (headed h b [] []))
+of_body r old new h b d is after = subst (λ (x : Body). OnOk r (new ≡ old ++ event_frame (headed h x [] []))) (sym is) after

@@ -1,4 +1,5 @@
 pub mod Frames
+pub mod Heads
 pub mod Layouts
 pub mod Wires
 pub mod Worked

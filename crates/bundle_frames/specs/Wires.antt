@@ -15,6 +15,7 @@ use Rattle.bundle_frames.specs.declared.closing.ClosingAgent.{ClosingAgent}
 use Rattle.bundle_frames.specs.declared.closing.ClosingCounts.{ClosingCounts}
 use Rattle.bundle_frames.specs.declared.closing.ClosingStock.{ClosingStock}
 use Rattle.bundle_frames.specs.declared.closing.ClosingOrder.{ClosingOrder}
+use Rattle.bundle_frames.specs.declared.head.EventHead.{EventHead}
 
 -- a signed number of eight bytes in two's complement
 abbrev pub signed : ℤ → FieldValue
@@ -72,6 +73,16 @@ event_wire e = record {
   values =
       number e.number ∷ number e.time ∷ number e.seq ∷ number e.from ∷ number e.to ∷ byte (letter_of_delivery e.put_back)
       ∷ number e.until ∷ signed e.fee ∷ byte (letter_of_body e.body) ∷ [];
+}
+
+-- the same of this head, and of the body whose letter this is
+abbrev pub head_wire : EventHead → ℕ → Wire
+head_wire h letter = record {
+  letter = 101;
+  kinds = event_kinds;
+  values =
+      number h.number ∷ number h.time ∷ number h.seq ∷ number h.from ∷ number h.to ∷ byte (letter_of_delivery h.put_back)
+      ∷ number h.until ∷ signed h.fee ∷ byte letter ∷ [];
 }
 
 -- `d`

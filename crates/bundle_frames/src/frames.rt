@@ -2,13 +2,14 @@
 
 ghost use Rattle.std.specs.Prelude.{◌≡◌, ◌<◌, ◌/◌, ◌%◌, ◌^◌, length};
 ghost use Rattle.std.specs.Int.{cast_unsigned, w64, w128};
-ghost use Rattle.market_types.specs.Told.{event_told, edit_told};
+ghost use Rattle.market_types.specs.Told.{edit_told};
 ghost use Rattle.wire_fields.specs.Wire.{spelling};
-ghost use Rattle.bundle_frames.specs.Wires.{header_wire, branch_wire, event_wire, edit_wire, counts_wire, stock_wire, order_wire, agent_wire, end_wire, position_bytes, letter_of_delivery, letter_of_silence, letter_of_body, letter_of_order};
+ghost use Rattle.bundle_frames.specs.Wires.{header_wire, branch_wire, head_wire, edit_wire, counts_wire, stock_wire, order_wire, agent_wire, end_wire, position_bytes, letter_of_delivery, letter_of_silence, letter_of_order};
 
 use crate::closing::{ClosingAgent, ClosingCounts, ClosingOrder, ClosingStock};
+use crate::head::EventHead;
 use crate::layouts::{AGENT, BRANCH, COUNTS, EDIT, END, HEADER, ORDER, POSITION, STOCK};
-use market_types::{Body, EditMark, Record};
+use market_types::EditMark;
 use wire_fields::{Value, fields, message};
 
 // The header, for so many agents with the exchange, stocks and branches.
@@ -50,33 +51,22 @@ fn delivery_letter(put_back: bool) -> u8
     if put_back { b'P' } else { b'D' }
 }
 
-fn body_letter(body: &Body) -> u8
-    ensures { result ≡ letter_of_body body.now }
-{
-    match body {
-        Body::Wake => b'w',
-        Body::Order(_) => b'i',
-        Body::Answer(_) => b'o',
-        Body::Ask(_) => b'a',
-        Body::Quote(_) => b'q',
-    }
-}
-
-// An event, before its body. It is written field by field at the offsets of its layout, since most frames are events.
-pub(crate) fn event_head(r: &Record) -> [u8; 43]
-    ensures { result ≡ spelling (event_wire (event_told r.now)) }
+// An event, before its body, of which this letter tells the kind. It is written field by field at the offsets of its layout,
+// since most frames are events.
+pub(crate) fn event_head(h: &EventHead, letter: u8) -> [u8; 43]
+    ensures { result ≡ spelling (head_wire h.now letter) }
 {
     let mut head = [0; 43];
     head[0] = b'e';
-    head[1..5].copy_from_slice(&r.number.to_be_bytes());
-    head[5..13].copy_from_slice(&r.time.to_be_bytes());
-    head[13..21].copy_from_slice(&r.seq.to_be_bytes());
-    head[21..23].copy_from_slice(&r.from.to_be_bytes());
-    head[23..25].copy_from_slice(&r.to.to_be_bytes());
-    head[25] = delivery_letter(r.put_back);
-    head[26..34].copy_from_slice(&r.until.to_be_bytes());
-    head[34..42].copy_from_slice(&r.fee.cast_unsigned().to_be_bytes());
-    head[42] = body_letter(&r.body);
+    head[1..5].copy_from_slice(&h.number.to_be_bytes());
+    head[5..13].copy_from_slice(&h.time.to_be_bytes());
+    head[13..21].copy_from_slice(&h.seq.to_be_bytes());
+    head[21..23].copy_from_slice(&h.from.to_be_bytes());
+    head[23..25].copy_from_slice(&h.to.to_be_bytes());
+    head[25] = delivery_letter(h.put_back);
+    head[26..34].copy_from_slice(&h.until.to_be_bytes());
+    head[34..42].copy_from_slice(&h.fee.cast_unsigned().to_be_bytes());
+    head[42] = letter;
     head
 }
 

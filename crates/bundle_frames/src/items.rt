@@ -1,26 +1,74 @@
 //! The frames of what happens and of a closing.
 
-ghost use Rattle.std.specs.Prelude.{◌≡◌, ◌<◌, ◌≤◌, ◌+◌, ◌++◌, length, OnOk, OnErr};
+ghost use Rattle.std.specs.Prelude.{◌≡◌, ◌<◌, ◌^◌, ◌++◌, OnOk, OnErr};
 ghost use Rattle.market_types.specs.Told.{event_told, edit_told};
-ghost use Rattle.wire_fields.specs.Wire.{spelling};
-ghost use Rattle.ouch_codec.specs.Outbound.{reply_wire};
-ghost use Rattle.itch_codec.specs.Frames.{framed};
-ghost use Rattle.bundle_frames.specs.Frames.{event_frame, edit_frame};
+ghost use Rattle.market_types.specs.declared.feed.What.TheVariants as what;
+ghost use Rattle.bundle_frames.specs.Frames.{message_frame, event_frame, edit_frame};
+ghost use Rattle.bundle_frames.specs.Heads.{saying};
 
 use crate::closing::{Closing, ClosingAgent, ClosingCounts, ClosingOrder, ClosingStock};
+use crate::events::put_parts;
+use crate::head::EventHead;
+use crate::whole::put_whole;
 use crate::written::{Written, put_all};
-use crate::{frames, orders, whole};
+use crate::{frames, whole};
 use itch_codec::{encode_feed, frame, frame_of_two};
-use market_types::{Body, EditMark, Entry, Feed, Inbound, Memory, Record, Reply, What};
-use ouch_codec::encode_reply;
+use market_types::{EditMark, Entry, Feed, Memory, Record, Side, Symbol, What};
 
-// Appends a whole frame. With a length that the compiler knows, it costs a few moves and no call.
-fn put_whole<const N: usize>(out: &mut Vec<u8>, frame: &[u8; N]) -> Result<(), Memory>
-    ensures appended { OnOk result (out.new.items ≡ out.old.items ++ frame.now) }
+// Appends an Add Order.
+fn put_added(
+    out: &mut Vec<u8>,
+    m: &Feed,
+    reference: u64,
+    side: Side,
+    shares: u32,
+    stock: &Symbol,
+    price: u32,
+) -> Result<(), Memory>
+    ensures appended { OnOk result (out.new.items ≡ out.old.items ++ saying m.now (what.Add reference side shares stock.now price)) }
     ensures refused { OnErr result (out.new.items ≡ out.old.items) }
 {
-    out.extend_from_slice(frame)?;
-    Ok(())
+    put_whole(out, &whole::added(m, reference, side, shares, stock, price))
+}
+
+// Appends an Order Executed.
+fn put_executed(
+    out: &mut Vec<u8>,
+    m: &Feed,
+    reference: u64,
+    shares: u32,
+    match_number: u64,
+) -> Result<(), Memory>
+    ensures appended { OnOk result (out.new.items ≡ out.old.items ++ saying m.now (what.Executed reference shares match_number)) }
+    ensures refused { OnErr result (out.new.items ≡ out.old.items) }
+{
+    put_whole(out, &whole::executed(m, reference, shares, match_number))
+}
+
+// Appends an Order Cancel.
+fn put_canceled(out: &mut Vec<u8>, m: &Feed, reference: u64, shares: u32) -> Result<(), Memory>
+    ensures appended { OnOk result (out.new.items ≡ out.old.items ++ saying m.now (what.Cancel reference shares)) }
+    ensures refused { OnErr result (out.new.items ≡ out.old.items) }
+{
+    put_whole(out, &whole::canceled(m, reference, shares))
+}
+
+// Appends an Order Delete.
+fn put_deleted(out: &mut Vec<u8>, m: &Feed, reference: u64) -> Result<(), Memory>
+    ensures appended { OnOk result (out.new.items ≡ out.old.items ++ saying m.now (what.Delete reference)) }
+    ensures refused { OnErr result (out.new.items ≡ out.old.items) }
+{
+    put_whole(out, &whole::deleted(m, reference))
+}
+
+// Appends a message of the feed of any kind.
+#[tactic(auto, unfolding(crate::specs::Frames::message_frame))]
+fn put_any(out: &mut Vec<u8>, m: &Feed) -> Result<(), Memory>
+    requires { m.now.time < 2 ^ 48 }
+    ensures appended { OnOk result (out.new.items ≡ out.old.items ++ message_frame m.now) }
+    ensures refused { OnErr result (out.new.items ≡ out.old.items) }
+{
+    frame(encode_feed(m).as_slice(), out)
 }
 
 impl Written for Feed {
@@ -31,85 +79,24 @@ impl Written for Feed {
 
     ghost fits = { λ m. m.time < 2 ^ 48 };
 
-    #[tactic(auto, unfolding(crate::specs::Frames::message_frame))]
     fn put(&self, out: &mut Vec<u8>) -> Result<(), Memory> {
-        match self.what {
+        match &self.what {
             What::Add {
                 reference,
                 side,
                 shares,
                 stock,
                 price,
-            } => put_whole(
-                out,
-                &whole::added(self, reference, side, shares, stock, price),
-            ),
+            } => put_added(out, self, *reference, *side, *shares, stock, *price),
             What::Executed {
                 reference,
                 shares,
                 number,
-            } => put_whole(out, &whole::executed(self, reference, shares, number)),
-            What::Cancel { reference, shares } => {
-                put_whole(out, &whole::canceled(self, reference, shares))
-            }
-            What::Delete { reference } => put_whole(out, &whole::deleted(self, reference)),
-            _ => frame(encode_feed(self).as_slice(), out),
+            } => put_executed(out, self, *reference, *shares, *number),
+            What::Cancel { reference, shares } => put_canceled(out, self, *reference, *shares),
+            What::Delete { reference } => put_deleted(out, self, *reference),
+            _ => put_any(out, self),
         }
-    }
-}
-
-// Appends a frame whose payload is two arrays. With lengths that the compiler knows, it costs a few moves and no call.
-fn put_arrays<const N: usize, const M: usize>(
-    out: &mut Vec<u8>,
-    head: &[u8; N],
-    rest: &[u8; M],
-) -> Result<(), Memory>
-    requires { N + M ≤ 65535 }
-    ensures appended { OnOk result (out.new.items ≡ out.old.items ++ framed (head.now ++ rest.now)) }
-    ensures refused { OnErr result (out.new.items ≡ out.old.items) }
-{
-    out.reserve(2 + (N + M))?;
-    let len = ((N + M) as u16).to_be_bytes();
-    if out.extend_from_slice(&len).is_err()
-        || out.extend_from_slice(head).is_err()
-        || out.extend_from_slice(rest).is_err()
-    {
-        unreachable!();
-    }
-    Ok(())
-}
-
-// Appends a frame that ends in a reply of the exchange.
-fn put_answer(out: &mut Vec<u8>, head: &[u8; 43], reply: &Reply) -> Result<(), Memory>
-    ensures appended { OnOk result (out.new.items ≡ out.old.items ++ framed (head.now ++ spelling (reply_wire reply.now))) }
-    ensures refused { OnErr result (out.new.items ≡ out.old.items) }
-{
-    match *reply {
-        Reply::System { time, code } => put_arrays(out, head, &orders::system(time, code)),
-        Reply::Canceled {
-            time,
-            token,
-            decrement,
-            reason,
-        } => put_arrays(out, head, &orders::canceled(time, token, decrement, reason)),
-        Reply::Executed {
-            time,
-            token,
-            shares,
-            price,
-            flag,
-            number,
-        } => put_arrays(
-            out,
-            head,
-            &orders::executed(time, token, shares, price, flag, number),
-        ),
-        Reply::Rejected {
-            time,
-            token,
-            reason,
-        } => put_arrays(out, head, &orders::rejected(time, token, reason)),
-        Reply::Accepted { .. } => frame_of_two(head, encode_reply(reply).as_slice(), out),
     }
 }
 
@@ -119,18 +106,17 @@ pub fn put_event(out: &mut Vec<u8>, event: &Record) -> Result<(), Memory>
     ensures appended { OnOk result (out.new.items ≡ out.old.items ++ event_frame (event_told event.now)) }
     ensures refused { OnErr result (out.new.items ≡ out.old.items) }
 {
-    match &event.body {
-        Body::Wake => put_whole(out, &whole::wake(event)),
-        Body::Order(Inbound::Enter(enter)) => {
-            put_arrays(out, &frames::event_head(event), &orders::enter(enter))
-        }
-        Body::Order(Inbound::Cancel(cancel)) => {
-            put_arrays(out, &frames::event_head(event), &orders::cancel(cancel))
-        }
-        Body::Answer(reply) => put_answer(out, &frames::event_head(event), reply),
-        Body::Ask(stock) => put_whole(out, &whole::ask(event, *stock)),
-        Body::Quote(quote) => put_whole(out, &whole::quote(event, quote)),
-    }
+    let head = EventHead {
+        number: event.number,
+        time: event.time,
+        seq: event.seq,
+        from: event.from,
+        to: event.to,
+        put_back: event.put_back,
+        until: event.until,
+        fee: event.fee,
+    };
+    put_parts(out, &head, &event.body)
 }
 
 /// Appends an edit without its feed.

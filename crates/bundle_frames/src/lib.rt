@@ -3,7 +3,9 @@
 
 mod closing;
 mod ends;
+mod events;
 mod frames;
+mod head;
 mod items;
 mod layouts;
 mod orders;
@@ -13,6 +15,8 @@ mod written;
 
 pub use closing::{Closing, ClosingAgent, ClosingCounts, ClosingOrder, ClosingStock};
 pub use ends::{put_branch, put_end, put_header};
+pub use events::{put_parts, put_parts_with_feed};
+pub use head::EventHead;
 pub use items::{put_event, put_mark};
 pub use layouts::{
     AGENT, ASK, BRANCH, COUNTS, EDIT, END, EVENT, HEADER, ORDER, POSITION, QUOTE, STOCK,

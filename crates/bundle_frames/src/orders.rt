@@ -10,7 +10,7 @@ ghost use Rattle.wire_fields.specs.Wire.{spelling};
 ghost use Rattle.ouch_codec.specs.Inbound.{inbound_wire};
 ghost use Rattle.ouch_codec.specs.Outbound.{reply_wire};
 
-use market_types::{Cancel, Enter, Token};
+use market_types::{Cancel, Enter, Side, Symbol, Token};
 use wire_fields::side_letter;
 
 // An Enter Order.
@@ -54,9 +54,48 @@ pub(crate) fn system(time: u64, code: u8) -> [u8; 10]
     body
 }
 
+// An Order Accepted.
+pub(crate) fn accepted(
+    time: u64,
+    token: &Token,
+    side: Side,
+    shares: u32,
+    stock: &Symbol,
+    price: u32,
+    tif: u32,
+    firm: &[u8; 4],
+    display: u8,
+    reference: u64,
+    capacity: u8,
+    sweep: u8,
+    minimum: u32,
+    cross: u8,
+    state: u8,
+    bbo: u8,
+) -> [u8; 66]
+    ensures { result ≡ spelling (reply_wire (reply.Accepted time token.now side shares stock.now price tif firm.now display reference capacity sweep minimum cross state bbo)) }
+{
+    let mut body = [0; 66];
+    body[0] = b'A';
+    body[1..9].copy_from_slice(&time.to_be_bytes());
+    body[23] = side_letter(side);
+    body[24..28].copy_from_slice(&shares.to_be_bytes());
+    body[36..40].copy_from_slice(&price.to_be_bytes());
+    body[40..44].copy_from_slice(&tif.to_be_bytes());
+    body[48] = display;
+    body[49..57].copy_from_slice(&reference.to_be_bytes());
+    body[57..59].copy_from_slice(&[capacity, sweep]);
+    body[59..63].copy_from_slice(&minimum.to_be_bytes());
+    body[63..66].copy_from_slice(&[cross, state, bbo]);
+    body[44..48].copy_from_slice(firm);
+    body[28..36].copy_from_slice(&stock.0);
+    body[9..23].copy_from_slice(&token.0);
+    body
+}
+
 // A Canceled Order.
-pub(crate) fn canceled(time: u64, token: Token, decrement: u32, reason: u8) -> [u8; 28]
-    ensures { result ≡ spelling (reply_wire (reply.Canceled time token decrement reason)) }
+pub(crate) fn canceled(time: u64, token: &Token, decrement: u32, reason: u8) -> [u8; 28]
+    ensures { result ≡ spelling (reply_wire (reply.Canceled time token.now decrement reason)) }
 {
     let mut body = [0; 28];
     body[0] = b'C';
@@ -70,13 +109,13 @@ pub(crate) fn canceled(time: u64, token: Token, decrement: u32, reason: u8) -> [
 // An Executed Order.
 pub(crate) fn executed(
     time: u64,
-    token: Token,
+    token: &Token,
     shares: u32,
     price: u32,
     flag: u8,
     match_number: u64,
 ) -> [u8; 40]
-    ensures { result ≡ spelling (reply_wire (reply.Executed time token shares price flag match_number)) }
+    ensures { result ≡ spelling (reply_wire (reply.Executed time token.now shares price flag match_number)) }
 {
     let mut body = [0; 40];
     body[0] = b'E';
@@ -90,8 +129,8 @@ pub(crate) fn executed(
 }
 
 // A Rejected Order.
-pub(crate) fn rejected(time: u64, token: Token, reason: u8) -> [u8; 24]
-    ensures { result ≡ spelling (reply_wire (reply.Rejected time token reason)) }
+pub(crate) fn rejected(time: u64, token: &Token, reason: u8) -> [u8; 24]
+    ensures { result ≡ spelling (reply_wire (reply.Rejected time token.now reason)) }
 {
     let mut body = [0; 24];
     body[0] = b'J';
