@@ -1,7 +1,7 @@
 -- One more record is seen, one more probe is done.
 use Rattle.std.proofs.Common.{◌≡◌, ◌∙◌, ℕ, ℤ, ◌+◌, ◌<◌, List, [], ◌∷◌, ◌++◌, length, get_or, set, drop, take, map, refl, add-zero, arith, ap, ap₂, sym}
 use Rattle.std.proofs.lemmas.List.{drop-drop, get_or_default, drop-set-lt, get_or-drop, map-append, take_more, take_more_set}
-use Rattle.market_types.specs.Told.{EntryTold, event, edit}
+use Rattle.market_types.specs.Told.{EntryTold, EventTold, event, edit}
 use Rattle.probe_desk.specs.Probe.{Meaning, seen}
 
 seen-push : (m : Meaning) (s : List ℤ) (es : List EntryTold) (e : EntryTold) → seen m s (es ++ e ∷ []) ≡ seen m (seen m s es) (e ∷ [])
@@ -45,3 +45,25 @@ drop_after ps qs i same = sym (drop-add ps i) ∙ ap (drop 1) same ∙ drop-add 
 
 pub drop_set-more : {X : Type 0} (ps qs : List X) (i : ℕ) (w : X) → drop i ps ≡ drop i qs → drop (i + 1) (set ps i w) ≡ drop (i + 1) qs
 drop_set-more ps qs i w same = drop-set-lt (i + 1) ps i w (omega arith) ∙ drop_after ps qs i same
+
+head_same : {Y : Type 0} (a b : Y) (xs ys : List Y) → ◌≡◌ {A = List Y} (a ∷ xs) (b ∷ ys) → a ≡ b
+head_same a b xs ys h = cc
+
+tail_same : {Y : Type 0} (a b : Y) (xs ys : List Y) → ◌≡◌ {A = List Y} (a ∷ xs) (b ∷ ys) → xs ≡ ys
+tail_same a b xs ys h = cc
+
+-- what is made from two lists of as many items is the same wherever they are
+both_same : {X M N Y : Type 0} (mean : X → M) (num : X → N) (want : X → N) (f : M → N → Y) (ps qs : List X) → map mean ps ≡ map mean qs → map num ps ≡ map want qs
+    → map (λ p. f (mean p) (num p)) ps ≡ map (λ q. f (mean q) (want q)) qs
+both_same mean num want f [] [] m n = refl
+both_same mean num want f [] (q ∷ qs) m n = cc
+both_same mean num want f (p ∷ ps) [] m n = cc
+both_same mean num want f (p ∷ ps) (q ∷ qs) m n =
+    ap₂ (λ y ys. y ∷ ys) (ap₂ f (head_same _ _ _ _ m) (head_same _ _ _ _ n))
+    (both_same mean num want f ps qs (tail_same _ _ _ _ m) (tail_same _ _ _ _ n))
+
+-- probes that saw the first record see the rest
+pub seen_one : {X : Type 0} (mean : X → Meaning) (num : X → List ℤ) (ps qs : List X) (e : EventTold) (xs ys : List EntryTold) → map mean ps ≡ map mean qs
+    → map num ps ≡ map (λ q. (mean q).after (num q) e) qs → xs ≡ event e ∷ ys → map (λ p. seen (mean p) (num p) ys) ps ≡ map (λ q. seen (mean q) (num q) xs) qs
+seen_one mean num ps qs e xs ys m n is =
+    both_same mean num (λ q. (mean q).after (num q) e) (λ k s. seen k s ys) ps qs m n ∙ ap (λ (es : List EntryTold). map (λ q. seen (mean q) (num q) es) qs) (sym is)

@@ -15,4 +15,4 @@ pub use price_range::Range;
 pub use probe::Probe;
 pub use spread_sum::SpreadSum;
 pub use volume::Volume;
-pub use watching::{restart_all, values, watch};
+pub use watching::{restart_all, see_all, values, watch, watch_packed};

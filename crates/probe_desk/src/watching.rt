@@ -1,11 +1,12 @@
 //! Probes that watch the records of a trace.
 
-ghost use Rattle.std.specs.Prelude.{◌≡◌, ◌∷◌, [], ◌++◌, IfOk, ℤ, ℕ, List, map, length};
-ghost use Rattle.market_types.specs.Told.{entry_told};
+ghost use Rattle.std.specs.Prelude.{◌≡◌, ◌∷◌, [], ◌++◌, IfOk, OnOk, ℤ, ℕ, List, map, length};
+ghost use Rattle.market_types.specs.Told.{entry_told, event_told};
 ghost use Rattle.probe_desk.specs.Probe.{seen};
 
 use crate::Probe;
-use market_types::{Entry, Memory, Trace};
+use market_types::{EditMark, Entry, Memory, Record, Trace};
+use packed_entries::{Packed, Step, Walk, blank_edit, blank_event};
 use std::alloc::Global;
 
 /// Each probe sees the records of a trace in order; edits are no records.
@@ -40,6 +41,65 @@ fn see_entry(probe: &mut dyn Probe, entry: &Entry)
         Entry::Event(event) => probe.see(event),
         Entry::Edit(_) => {}
     }
+}
+
+/// Each probe sees one record, delivered or put back.
+pub fn see_all(probes: &mut [Box<dyn Probe>], event: &Record)
+    ensures numbers { map (λ p. numbers p) probes.new ≡ map (λ p. (meaning p).after (numbers p) (event_told event.now)) probes.old }
+    ensures meanings { map (λ p. meaning p) probes.new ≡ map (λ p. meaning p) probes.old }
+    ensures titles { map (λ p. title p) probes.new ≡ map (λ p. title p) probes.old }
+{
+    for probe in probes.iter_mut() {
+        see_one(probe.as_mut(), event);
+    }
+}
+
+// One probe sees a record.
+fn see_one(probe: &mut dyn Probe, event: &Record)
+    ensures numbers { numbers probe.new ≡ (meaning probe.old).after (numbers probe.old) (event_told event.now) }
+    ensures meaning { meaning probe.new ≡ meaning probe.old }
+    ensures title { title probe.new ≡ title probe.old }
+{
+    probe.see(event);
+}
+
+// Each probe sees the records that are left to read; an edit is no record.
+fn watch_rest(
+    probes: &mut [Box<dyn Probe>],
+    walk: &mut Walk<'_>,
+    event: &mut Record,
+    edit: &mut EditMark,
+) -> Result<(), Memory>
+    ensures numbers { OnOk result (map (λ p. numbers p) probes.new ≡ map (λ p. seen (meaning p) (numbers p) walk.old) probes.old) }
+    ensures meanings { map (λ p. meaning p) probes.new ≡ map (λ p. meaning p) probes.old }
+    ensures titles { map (λ p. title p) probes.new ≡ map (λ p. title p) probes.old }
+{
+    'entries: loop {
+        match walk.next(event, edit)? {
+            Step::Event => see_all(probes, event),
+            Step::Edit => (),
+            Step::End => return Ok(()),
+        }
+    }
+}
+
+/// Each probe sees the records of entries in order; edits are no records. One record at a time is read.
+///
+/// # Errors
+/// Want of memory alone. The probes have then seen some of the records, the first ones.
+pub fn watch_packed(
+    alloc: Global,
+    probes: &mut [Box<dyn Probe>],
+    records: &Packed,
+) -> Result<(), Memory>
+    ensures numbers { OnOk result (map (λ p. numbers p) probes.new ≡ map (λ p. seen (meaning p) (numbers p) records.now.list) probes.old) }
+    ensures meanings { map (λ p. meaning p) probes.new ≡ map (λ p. meaning p) probes.old }
+    ensures titles { map (λ p. title p) probes.new ≡ map (λ p. title p) probes.old }
+{
+    let mut event = blank_event(alloc);
+    let mut edit = blank_edit(alloc);
+    let mut walk = records.walk();
+    watch_rest(probes, &mut walk, &mut event, &mut edit)
 }
 
 /// Each probe opens anew, as before a branch.
