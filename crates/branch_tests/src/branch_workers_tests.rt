@@ -12,8 +12,9 @@ use branch_workers::work;
 use checkpoint_shelf::{ClosedShelf, Key};
 use kernel_copy::laws::{courses_stay_in_range, segments_have_few_events};
 use kernel_copy::{Checkpoint, Course, Keep, Kept, Outcome, run_segments};
-use market_types::{Entry, Memory, Trace};
+use market_types::{EditMark, Memory, Record};
 use outside::{Counted, Gate, HoldGate, OpenGate, Steps};
+use packed_entries::{Packed, Step, blank_edit, blank_event};
 use std::alloc::Global;
 use std::process::Abort;
 use std::sync::{Arc, Wait};
@@ -76,37 +77,65 @@ fn worked<R: Threads + Wait + Sync, G: Gate + Sync>(
     (told, steps.close())
 }
 
-// Whether two entries are of one event, or of one edit.
-fn are_of_one(a: &Entry, b: &Entry) -> bool {
-    match (a, b) {
-        (Entry::Event(a), Entry::Event(b)) => {
-            (a.number, a.time, a.seq, a.to) == (b.number, b.time, b.seq, b.to)
-        }
-        (Entry::Edit(a), Entry::Edit(b)) => {
-            (a.events, a.time, a.branch, a.index) == (b.events, b.time, b.branch, b.index)
-        }
-        _ => false,
-    }
+// Whether two events are one.
+fn are_one_event(a: &Record, b: &Record) -> bool {
+    (a.number, a.time, a.seq, a.to) == (b.number, b.time, b.seq, b.to)
+}
+
+// Whether two edits are one.
+fn are_one_edit(a: &EditMark, b: &EditMark) -> bool {
+    (a.events, a.time, a.branch, a.index) == (b.events, b.time, b.branch, b.index)
 }
 
 // The entries that an outcome keeps, if it keeps them.
-fn entries_of(outcome: &Outcome) -> Option<&Trace> {
+fn entries_of(outcome: &Outcome) -> Option<&Packed> {
     match &outcome.kept {
-        Kept::Entries(trace) => Some(trace),
+        Kept::Entries(packed) => Some(packed),
         Kept::Frames(_) => None,
     }
 }
 
+// Whether the first of entries is an edit.
+fn begins_with_an_edit(alloc: Global, entries: &Packed) -> Result<bool, Memory> {
+    let mut event = blank_event(alloc);
+    let mut edit = blank_edit(alloc);
+    let step = entries.walk().next(&mut event, &mut edit)?;
+    Ok(step == Step::Edit)
+}
+
+// Whether two lists of entries are of the same events and edits.
+fn have_same_entries(alloc: Global, a: &Packed, b: &Packed) -> Result<bool, Memory> {
+    if a.len() != b.len() {
+        return Ok(false);
+    }
+    let mut first = (blank_event(alloc), blank_edit(alloc));
+    let mut second = (blank_event(alloc), blank_edit(alloc));
+    let mut here = a.walk();
+    let mut there = b.walk();
+    for _ in 0..a.len() {
+        let step = here.next(&mut first.0, &mut first.1)?;
+        let other = there.next(&mut second.0, &mut second.1)?;
+        let is_same = match step {
+            Step::Event => are_one_event(&first.0, &second.0),
+            Step::Edit => are_one_edit(&first.1, &second.1),
+            Step::End => false,
+        };
+        if step != other || !is_same {
+            return Ok(false);
+        }
+    }
+    Ok(true)
+}
+
 // Whether two outcomes tell of one segment, with the same events and counters at the end.
-fn are_one(a: &Outcome, b: &Outcome) -> bool {
+fn are_one(alloc: Global, a: &Outcome, b: &Outcome) -> Result<bool, Memory> {
     let (Some(first), Some(second)) = (entries_of(a), entries_of(b)) else {
-        return false;
+        return Ok(false);
     };
-    let mut events = first.as_slice().iter().zip(second.as_slice());
-    a.segment == b.segment
-        && a.closing.counts == b.closing.counts
-        && first.len() == second.len()
-        && events.all(|(a, b)| are_of_one(a, b))
+    if a.segment != b.segment || a.closing.counts != b.closing.counts {
+        return Ok(false);
+    }
+    have_same_entries(alloc, first, second)
 }
 
 // The bytes of the frames of what outcomes keep, one after another.
@@ -161,7 +190,8 @@ fn three_at<R: Abort + Threads + Wait + Sync>(
             "{workers} workers"
         );
         for (a, b) in alone.iter().zip(told.outcomes.iter()) {
-            assert!(rt; are_one(a, b), "{workers} workers");
+            let is_one = are_one(alloc, a, b)?;
+            assert!(rt; is_one, "{workers} workers");
         }
     }
     let bytes = frames(rt, alloc, &course, Keep::Frames)?;

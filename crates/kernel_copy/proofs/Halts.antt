@@ -1,5 +1,5 @@
 -- Runs that stop and go on, by event number or by time.
-use Rattle.std.proofs.Common.{◌≡◌, ℕ, ◌<◌, ◌≤◌, inl, inr, min, List, refl, sym, ap, ◌∙◌, arith, subst}
+use Rattle.std.proofs.Common.{◌≡◌, ℕ, ◌≤◌, inl, inr, min, List, refl, sym, ap, ◌∙◌, arith}
 use Rattle.std.proofs.lemmas.Bool.{cases_lt}
 use Rattle.branch_tree.specs.declared.stop.Stop.{Stop}
 use Rattle.branch_tree.specs.declared.stop.Stop.TheVariants.{At, When}
@@ -8,7 +8,7 @@ use Rattle.market_types.specs.Told.{EntryTold}
 use Rattle.market_floor.specs.declared.opening.Opening.{Opening}
 use Rattle.kernel_core.specs.Until.{Run, until, behind}
 use Rattle.kernel_core.proofs.Stops.{until-grows, until-within, until-past, until-again, until-until, until-behind}
-use Rattle.kernel_core.proofs.Times.{time-grows, time-within, time-again, time-time, time-on, time-short, time-over, time-behind, until-short}
+use Rattle.kernel_core.proofs.Times.{time-grows, time-within, time-again, time-time, time-on, time-behind}
 use Rattle.kernel_copy.specs.UntilStop.{until_stop, until_part}
 
 pub stop-grows : (o : Opening) (s : Stop) (r : Run) → r.state.events ≤ (until_stop o s r).state.events
@@ -61,19 +61,3 @@ part-behind o (When w) most xs r = time-behind o w most xs r
 pub part-on : (o : Opening) (s : Stop) (most more : ℕ) (r : Run) → most ≤ more → until_part o s more (until_part o s most r) ≡ until_part o s more r
 part-on o (At n) most more r h = until-until o (min n most) (min n more) r (omega arith)
 part-on o (When w) most more r h = time-on o w w most more r (omega arith) h
-
--- where it stops before so many events, it goes no further
-pub part-short : (o : Opening) (s : Stop) (most more : ℕ) (r : Run) → most ≤ more → (until_part o s most r).state.events < most → until_part o s more r ≡ until_part o s most r
-part-short o (At n) most more r h low = elim (cases_lt n most) [
-  | inl less ↦ let a : min n more ≡ n = omega arith in let b : min n most ≡ n = omega arith in ap (λ (m : ℕ). until o m r) (a ∙ sym b)
-  | inr past ↦
-      let b : min n most ≡ most = omega arith in
-      let below : (until o most r).state.events < most = subst (λ (m : ℕ). (until o m r).state.events < most) b low in
-      until-short o most (min n more) r (omega arith) below ∙ sym (ap (λ (m : ℕ). until o m r) b)
-]
-part-short o (When w) most more r h low = time-short o w most more r h low
-
--- where so many events stand already, it stays
-pub part-full : (o : Opening) (s : Stop) (most : ℕ) (r : Run) → most ≤ r.state.events → until_part o s most r ≡ r
-part-full o (At n) most r h = until-past o (min n most) r (omega arith)
-part-full o (When w) most r h = time-over o w most r (inl h)

@@ -1,34 +1,31 @@
--- Runs that go on piece by piece, and what is kept of them.
-use Rattle.std.proofs.Common.{◌≡◌, ℕ, ◌<◌, ◌≤◌, List, [], ◌∷◌, ◌++◌, All, map, refl, sym, ap, ◌∙◌, subst, append_assoc, append-nil, length-append, arith}
+-- Runs that go on, and what is kept of them.
+use Rattle.std.proofs.Common.{◌≡◌, ℕ, ◌-◌, zero, suc, List, [], ◌∷◌, ◌++◌, All, map, Option, Some, None, Result, Ok, Err, OnOk, min, refl, sym, ap, ◌∙◌, subst, append_assoc, append-nil, length-append, arith}
 use Rattle.std.specs.List.{flat_map}
 use Rattle.std.proofs.lemmas.Grind.{flat_map-append}
 use Rattle.std.proofs.lemmas.List.{get_or-map, get_or_append_left, length-map}
 use Rattle.std.proofs.lemmas.List.Folds.{flat_map-map}
 use Rattle.market_types.specs.declared.entry.Entry.{Entry}
-use Rattle.market_types.specs.Told.{EntryTold, entry_told}
+use Rattle.market_types.specs.Told.{EntryTold, EventTold, event, edit, entry_told}
 use Rattle.market_types.specs.Timely.{IsTimely}
 use Rattle.market_floor.specs.declared.opening.Opening.{Opening}
-use Rattle.bundle_frames.specs.Frames.{entry_frames}
+use Rattle.bundle_frames.specs.Frames.{entry_frames, event_frames}
 use Rattle.kernel_core.specs.State.{State}
-use Rattle.kernel_core.specs.Until.{Run, behind, until}
-use Rattle.kernel_core.proofs.Stops.{until-past, until-until, until-behind}
+use Rattle.kernel_core.specs.Step.{Happened, step_of}
+use Rattle.kernel_core.specs.Until.{Run, behind, with_event, advanced, advanced_by, until}
+use Rattle.kernel_core.specs.Due.{until_time}
+use Rattle.kernel_core.specs.Seen.{folded, listed}
+use Rattle.kernel_core.proofs.Fresh.{events-until, events-until_time, folded-listed}
+use Rattle.kernel_core.proofs.Stops.{until-behind}
+use Rattle.kernel_core.proofs.Times.{time-some}
 use Rattle.branch_tree.specs.declared.stop.Stop.{Stop}
+use Rattle.branch_tree.specs.declared.stop.Stop.TheVariants.{At, When}
 use Rattle.kernel_copy.specs.Segmentwise.{afresh}
 use Rattle.kernel_copy.specs.UntilStop.{until_stop, until_part}
-use Rattle.kernel_copy.proofs.Halts.{stop-behind, part-grows, part-behind, part-on, part-short}
+use Rattle.kernel_copy.proofs.Halts.{stop-behind, part-behind}
 use Rattle.kernel_copy.specs.declared.kept.Keep.{Keep}
 use Rattle.kernel_copy.specs.declared.kept.Keep.TheVariants as keep
-use Rattle.kernel_copy.specs.Kept.{KeptTold, entries, frames, kept_as, kept_with, frames_of, IsWritable}
+use Rattle.kernel_copy.specs.Kept.{KeptTold, frames, kept_as, kept_with, frames_of, with_event_frames, IsWritable}
 use Rattle.kernel_copy.specs.Ran.{RanTold, ran_as, ran_with}
-
-pub with_none : (t : KeptTold) → kept_with t [] ≡ t
-with_none (entries xs) = ap (λ (ys : List EntryTold). entries ys) (append-nil xs)
-with_none (frames bytes) = ap (λ (b : List ℕ). frames b) (append-nil bytes)
-
-pub with_more : (t : KeptTold) (xs ys : List EntryTold) → kept_with (kept_with t xs) ys ≡ kept_with t (xs ++ ys)
-with_more (entries zs) xs ys = ap (λ (l : List EntryTold). entries l) (append_assoc zs xs ys)
-with_more (frames bytes) xs ys =
-    ap (λ (b : List ℕ). frames b) (append_assoc bytes (flat_map entry_frames xs) (flat_map entry_frames ys) ∙ ap (λ (l : List ℕ). bytes ++ l) (sym (flat_map-append entry_frames xs ys)))
 
 pub as_with : (k : Keep) (xs ys : List EntryTold) → kept_with (kept_as k xs) ys ≡ kept_as k (xs ++ ys)
 as_with keep.Entries xs ys = refl
@@ -50,14 +47,6 @@ frames_told xs ys e = sym (flat_map-map entry_frames entry_told xs) ∙ ap (λ (
 -- what holds of each entry as it is told
 pub all_told : (P : EntryTold → Type 0) (xs : List Entry) → All P (map entry_told xs) → All (λ (x : Entry). P (entry_told x)) xs
 all_told P xs all = λ i d within. subst P (get_or-map entry_told xs i d (entry_told d) within) (all i (entry_told d) (omega (arith, length-map xs entry_told)))
-
-nothing_more : {X : Type 0} (xs ys : List X) → xs ++ ys ≡ xs → ys ≡ []
-nothing_more [] ys h = h
-nothing_more (x ∷ xs) ys h = nothing_more xs ys (cc)
-
-same_run : (r q : Run) → r.state ≡ q.state → r.entries ≡ q.entries → r ≡ q
-same_run r q s e =
-    ap (λ (x : State). let y : Run = record { state = x; entries = r.entries } in y) s ∙ ap (λ (xs : List EntryTold). let y : Run = record { state = q.state; entries = xs } in y) e
 
 -- a run as one that begins afresh, behind its entries
 pub fresh : (r : Run) → r ≡ behind r.entries (afresh r.state)
@@ -83,71 +72,6 @@ goes_on_kept k o s n r =
     ap (λ (t : KeptTold). let x : RanTold = record { state = more.state; kept = t } in x) (as_with k r.entries more.entries)
     ∙ ap (λ (q : Run). ran_as k q) (sym (part_fresh o s n r))
 
--- A piece of a run: what is left is behind it.
-pub piece_first : (o : Opening) (s : Stop) (n most : ℕ) (from to : State) (xs : List EntryTold) → n ≤ most → ◌≡◌ {A = Run} (record { state = to; entries = xs }) (until_part o s n (afresh from))
-    → until_part o s most (afresh from) ≡ behind xs (until_part o s most (afresh to))
-piece_first o s n most from to xs l is =
-    let piece : Run = record { state = to; entries = xs } in
-    sym (part-on o s n most (afresh from) l) ∙ ap (λ (q : Run). until_part o s most q) (sym is) ∙ part_fresh o s most piece
-
-pub behind_behind : (xs ys : List EntryTold) (r : Run) → behind xs (behind ys r) ≡ behind (xs ++ ys) r
-behind_behind xs ys r = ap (λ (es : List EntryTold). let q : Run = record { state = r.state; entries = es } in q) (sym (append_assoc xs ys r.entries))
-
--- where a piece wasn't filled there is no more
-pub ended_there : (o : Opening) (s : Stop) (n most : ℕ) (from to : State) (xs : List EntryTold) → n ≤ most → ◌≡◌ {A = Run} (record { state = to; entries = xs }) (until_part o s n (afresh from)) → to.events < n
-    → until_part o s most (afresh to) ≡ afresh to
-ended_there o s n most from to xs l is low =
-    let piece : Run = record { state = to; entries = xs } in
-    let few : (until_part o s n (afresh from)).state.events < n = subst (λ (q : Run). q.state.events < n) is low in
-    let stays : until_part o s most piece ≡ piece =
-    ap (λ (q : Run). until_part o s most q) is ∙ part-on o s n most (afresh from) l ∙ part-short o s n most (afresh from) l few ∙ sym is in
-    let state : (until_part o s most (afresh to)).state ≡ to = part_afresh o s most piece ∙ ap (λ (q : Run). q.state) stays in
-    let entries : xs ++ (until_part o s most (afresh to)).entries ≡ xs = sym (ap (λ (q : Run). q.entries) (part_fresh o s most piece)) ∙ ap (λ (q : Run). q.entries) stays in
-    same_run (until_part o s most (afresh to)) (afresh to) state (nothing_more xs (until_part o s most (afresh to)).entries entries)
-
--- What is kept once pieces came, and how the whole run stands to the rest.
-pub record IsOnItsWay (o : Opening) (s : Stop) (most : ℕ) (first now : State) (before kept : KeptTold) : Type 0 where
-  pub made : List EntryTold
-  pub whole : until_part o s most (afresh first) ≡ behind made (until_part o s most (afresh now))
-  pub holds : kept ≡ kept_with before made
-
-pub begins_kept : (o : Opening) (s : Stop) (most : ℕ) (x : State) (t : KeptTold) → IsOnItsWay o s most x x t t
-begins_kept o s most x t = record { made = []; whole = refl; holds = sym (with_none t) }
-
-pub goes_piece : (o : Opening) (s : Stop) (n most : ℕ) (first from to : State) (before kept after : KeptTold) (xs : List EntryTold) → n ≤ most
-    → ◌≡◌ {A = Run} (record { state = to; entries = xs }) (until_part o s n (afresh from)) → after ≡ kept_with kept xs
-    → IsOnItsWay o s most first from before kept → IsOnItsWay o s most first to before after
-goes_piece o s n most first from to before kept after xs l is more h = record {
-  made = h.made ++ xs;
-  whole = h.whole ∙ ap (λ (q : Run). behind h.made q) (piece_first o s n most from to xs l is) ∙ behind_behind h.made xs (until_part o s most (afresh to));
-  holds = more ∙ ap (λ (t : KeptTold). kept_with t xs) h.holds ∙ with_more before h.made xs;
-}
-
--- at the stop, or where the state ended, all of it is kept
-pub all_kept : (o : Opening) (s : Stop) (most : ℕ) (first now : State) (before kept : KeptTold) → until_part o s most (afresh now) ≡ afresh now → IsOnItsWay o s most first now before kept
-    → (now ≡ (until_part o s most (afresh first)).state) × (kept ≡ kept_with before (until_part o s most (afresh first)).entries)
-all_kept o s most first now before kept over h =
-    let whole : until_part o s most (afresh first) ≡ behind h.made (afresh now) = h.whole ∙ ap (λ (q : Run). behind h.made q) over in
-    let ends = whole ∙ sym (fresh (record { state = now; entries = h.made })) in
-    (sym (ap (λ (q : Run). q.state) ends), h.holds ∙ ap (λ (q : Run). kept_with before q.entries) (sym ends))
-
--- on its way it has no more events than the whole run
-pub few_on_way : (o : Opening) (s : Stop) (most : ℕ) (first now : State) (before kept : KeptTold) → IsOnItsWay o s most first now before kept → now.events ≤ (until_part o s most (afresh first)).state.events
-few_on_way o s most first now before kept h =
-    let whole = ap (λ (q : Run). q.state.events) h.whole in
-    let grows = part-grows o s most (afresh now) in omega arith
-
--- nor has a piece of it
-pub few_in_piece : (o : Opening) (s : Stop) (n most : ℕ) (first now : State) (before kept : KeptTold) (xs : List EntryTold) (m : ℕ) → n ≤ most
-    → m ≤ (let r : Run = record { state = now; entries = xs } in until_part o s n r).state.events → IsOnItsWay o s most first now before kept → m ≤ (until_part o s most (afresh first)).state.events
-few_in_piece o s n most first now before kept xs m l few h =
-    let r : Run = record { state = now; entries = xs } in
-    let part = until_part o s n (afresh now) in
-    let same = ap (λ (x : State). x.events) (part_afresh o s n r) in
-    let grows = part-grows o s most part in
-    let rest = ap (λ (q : Run). q.state.events) (part-on o s n most (afresh now) l) in
-    let whole = ap (λ (q : Run). q.state.events) h.whole in omega arith
-
 -- what holds of each entry of a run that went on to a stop holds of the entries of the run before
 pub all_first : (P : EntryTold → Type 0) (o : Opening) (s : Stop) (r : Run) → All P (until_stop o s r).entries → All P r.entries
 all_first P o s r all =
@@ -155,21 +79,56 @@ all_first P o s r all =
     let whole = subst (λ (q : Run). All P q.entries) (ap (λ (q : Run). until_stop o s q) (fresh r) ∙ stop-behind o s r.entries (afresh r.state)) all in
     λ i d within. subst P (get_or_append_left r.entries more d i within) (whole i d (omega (arith, length-append r.entries more)))
 
--- A state that so many events led to, and what goes on from it: all of it is from the first.
-pub made_on : (o : Opening) (first now next : State) → now ≡ (until o now.events (afresh first)).state → now.events ≤ next.events → next ≡ (until o next.events (afresh now)).state → next ≡ (until o next.events (afresh first)).state
-made_on o first now next is grows more =
-    let r = until o now.events (afresh first) in
-    more
-    ∙ ap (λ (s : State). (until o next.events (afresh s)).state) is
-    ∙ state_afresh o next.events r
-    ∙ ap (λ (q : Run). q.state) (until-until o now.events next.events (afresh first) grows)
+folded-more : (bytes : List ℕ) (es : List EntryTold) (e : EventTold) → folded with_event_frames bytes (es ++ event e ∷ []) ≡ with_event_frames (folded with_event_frames bytes es) e
+folded-more bytes [] e = refl
+folded-more bytes (event d ∷ es) e = folded-more (with_event_frames bytes d) es e
+folded-more bytes (edit m ∷ es) e = folded-more bytes es e
 
--- a run by events that are counted is one to a number of them
-pub made_as : (o : Opening) (from to : State) (xs ys : List EntryTold) → (let r : Run = record { state = to; entries = ys } in r) ≡ (let q : Run = record { state = from; entries = xs } in until o to.events q) → to ≡ (until o to.events (afresh from)).state
-made_as o from to xs ys is =
-    let q : Run = record { state = from; entries = xs } in
-    ap (λ (r : Run). r.state) is ∙ sym (state_afresh o to.events q)
+-- the frames of one event more
+one-more : (es : List EntryTold) (e : EventTold) → flat_map entry_frames (es ++ event e ∷ []) ≡ flat_map entry_frames es ++ event_frames e
+one-more es e = flat_map-append entry_frames es (event e ∷ []) ∙ ap (λ (l : List ℕ). flat_map entry_frames es ++ l) (append-nil (event_frames e))
 
--- a state that nothing has led on from is one that no event led to
-pub begins_made : (o : Opening) (s : State) → s ≡ (until o s.events (afresh s)).state
-begins_made o s = sym (ap (λ (q : Run). q.state) (until-past o s.events (afresh s) (omega arith)))
+-- Bytes to which the frames of the events among these entries were appended one after another have the frames of all of them.
+abbrev pub AreAppended : List ℕ → List EntryTold → Type 0
+AreAppended bytes es = folded with_event_frames bytes es ≡ bytes ++ flat_map entry_frames es
+
+-- that stays so in a run, in which each entry more is an event
+appended-event : (bytes : List ℕ) (r : Run) (h : Option Happened) → AreAppended bytes r.entries → AreAppended bytes (with_event r h).entries
+appended-event bytes r None is = is
+appended-event bytes r (Some h) is =
+    let e = h.entry in
+    folded-more bytes r.entries e ∙ ap (λ (l : List ℕ). l ++ event_frames e) is
+    ∙ append_assoc bytes (flat_map entry_frames r.entries) (event_frames e)
+    ∙ ap (λ (l : List ℕ). bytes ++ l) (sym (one-more r.entries e))
+
+appended-one : (bytes : List ℕ) (o : Opening) (r : Run) → AreAppended bytes r.entries → AreAppended bytes (advanced o r).entries
+unfolding advanced
+appended-one bytes o r is = appended-event bytes r (step_of o r.state) is
+
+appended-by : (bytes : List ℕ) (n : ℕ) (o : Opening) (r : Run) → AreAppended bytes r.entries → AreAppended bytes (advanced_by n o r).entries
+appended-by bytes zero o r is = is
+appended-by bytes (suc n) o r is = appended-by bytes n o (advanced o r) (appended-one bytes o r is)
+
+until-appends : (bytes : List ℕ) (o : Opening) (n : ℕ) (s : State) → AreAppended bytes (until o n (afresh s)).entries
+until-appends bytes o n s = appended-by bytes (n - s.events) o (afresh s) (sym (append-nil bytes))
+
+time-appends : (bytes : List ℕ) (o : Opening) (when most : ℕ) (s : State) → AreAppended bytes (until_time o when most (afresh s)).entries
+time-appends bytes o when most s =
+    let r : Run = afresh s in
+    let p = time-some (most - s.events) o when r in
+    subst (λ (q : Run). AreAppended bytes q.entries) (sym p.1) (appended-by bytes p.0 o r (sym (append-nil bytes)))
+
+-- the frames that a run to a stop appends
+pub part-appends : (bytes : List ℕ) (o : Opening) (t : Stop) (most : ℕ) (s : State) → AreAppended bytes (until_part o t most (afresh s)).entries
+part-appends bytes o (At n) most s = until-appends bytes o (min n most) s
+part-appends bytes o (When w) most s = time-appends bytes o w most s
+
+-- and the entries that it lists
+pub part-lists : (xs : List EntryTold) (o : Opening) (t : Stop) (most : ℕ) (s : State) → folded listed xs (until_part o t most (afresh s)).entries ≡ xs ++ (until_part o t most (afresh s)).entries
+part-lists xs o (At n) most s = folded-listed xs (until o (min n most) (afresh s)).entries (events-until o (min n most) s)
+part-lists xs o (When w) most s = folded-listed xs (until_time o w most (afresh s)).entries (events-until_time o w most s)
+
+-- a fact of an `Ok` leads to another
+pub then-ok : {X E A B : Type 0} (r : Result X E) → OnOk r A → (A → B) → OnOk r B
+then-ok (Ok x) a f = f a
+then-ok (Err e) a f = tt

@@ -1,9 +1,9 @@
 -- What is kept of the entries of a segment's run.
 use Rattle.std.specs.Prelude.{ℕ, List, ◌++◌, All}
 use Rattle.std.specs.List.{flat_map}
-use Rattle.market_types.specs.Told.{EntryTold}
+use Rattle.market_types.specs.Told.{EntryTold, EventTold}
 use Rattle.market_types.specs.Timely.{IsTimely}
-use Rattle.bundle_frames.specs.Frames.{entry_frames}
+use Rattle.bundle_frames.specs.Frames.{entry_frames, event_frames}
 use Rattle.kernel_copy.specs.declared.kept.Keep.{Keep}
 use Rattle.kernel_copy.specs.declared.kept.Keep.TheVariants as keep
 use Rattle.kernel_copy.specs.declared.kept.Kept.{Kept}
@@ -15,7 +15,7 @@ pub data KeptTold : Type 0 where
   frames : List ℕ → KeptTold
 
 abbrev pub kept_told : Kept → KeptTold
-kept_told (kept.Entries trace) = entries trace.list
+kept_told (kept.Entries packed) = entries packed.list
 kept_told (kept.Frames bytes) = frames bytes.items
 
 -- what is kept of these entries
@@ -27,6 +27,10 @@ kept_as keep.Frames xs = frames (flat_map entry_frames xs)
 abbrev pub kept_with : KeptTold → List EntryTold → KeptTold
 kept_with (entries xs) more = entries (xs ++ more)
 kept_with (frames bytes) more = frames (bytes ++ flat_map entry_frames more)
+
+-- the bytes of frames once those of one event more came
+abbrev pub with_event_frames : List ℕ → EventTold → List ℕ
+with_event_frames bytes e = bytes ++ event_frames e
 
 -- the bytes of the frames of what is kept
 abbrev pub frames_of : KeptTold → List ℕ

@@ -1,17 +1,20 @@
 //! What is kept of the entries of a segment's run.
 
 ghost use Rattle.std.specs.Prelude.{◌≡◌, ◌++◌, OnOk, IfOk, All};
+ghost use Rattle.std.specs.List.{flat_map};
+ghost use Rattle.bundle_frames.specs.Frames.{entry_frames};
 ghost use Rattle.market_types.specs.Timely.{IsTimely};
 ghost use Rattle.kernel_copy.specs.Kept.{IsWritable, frames_of, kept_told, kept_as};
 
-use bundle_frames::put_all;
-use market_types::{Memory, Trace};
+use bundle_frames::{Written, put_all};
+use market_types::{EditMark, Memory, Record, Trace};
+use packed_entries::{Packed, Step, Walk, blank_edit, blank_event};
 use std::alloc::Global;
 
 /// What is to be kept of a run's entries.
 #[derive(Clone, Copy, PartialEq, Eq, Debug)]
 pub enum Keep {
-    /// They themselves, about 250 bytes each.
+    /// They themselves, about 80 bytes each.
     Entries,
     /// The bytes of their frames as they stand in a bundle, about 90 an entry. The entries are dropped as the run goes on.
     Frames,
@@ -21,9 +24,67 @@ pub enum Keep {
 #[derive(Drop)]
 pub enum Kept {
     /// They themselves.
-    Entries(Trace),
+    Entries(Packed),
     /// The bytes of their frames, one after another.
     Frames(Vec<u8>),
+}
+
+// The entries of a trace, kept small.
+fn packed_of(alloc: Global, trace: &Trace) -> Result<Packed, Memory>
+    ensures { IfOk result (λ p. p.list ≡ trace.now.list) }
+{
+    let mut packed = Packed::new(alloc);
+    packed.push_all(trace.as_slice())?;
+    Ok(packed)
+}
+
+// What is to be kept of the entries of a trace.
+fn packed_or_framed(alloc: Global, keep: Keep, trace: &Trace) -> Result<Kept, Memory>
+    requires { All IsTimely trace.now.list }
+    ensures { IfOk result (λ x. kept_told x ≡ kept_as keep trace.now.list) }
+{
+    match keep {
+        Keep::Entries => {
+            let packed = packed_of(alloc, trace)?;
+            Ok(Kept::Entries(packed))
+        }
+        Keep::Frames => {
+            let mut bytes = Vec::new(alloc);
+            put_all(&mut bytes, trace.as_slice())?;
+            Ok(Kept::Frames(bytes))
+        }
+    }
+}
+
+// Appends the frames of the entries that are left to read.
+fn put_rest(
+    out: &mut Vec<u8>,
+    walk: &mut Walk<'_>,
+    event: &mut Record,
+    edit: &mut EditMark,
+) -> Result<(), Memory>
+    requires { All IsTimely walk.old }
+    ensures { OnOk result (out.new.items ≡ out.old.items ++ flat_map entry_frames walk.old) }
+{
+    'entries: loop {
+        match walk.next(event, edit)? {
+            Step::Event => event.put(out)?,
+            Step::Edit => edit.put(out)?,
+            Step::End => return Ok(()),
+        }
+    }
+}
+
+// Appends the frames of entries. One entry at a time is read.
+fn put_packed(out: &mut Vec<u8>, entries: &Packed) -> Result<(), Memory>
+    requires { All IsTimely entries.now.list }
+    ensures { OnOk result (out.new.items ≡ out.old.items ++ flat_map entry_frames entries.now.list) }
+{
+    let alloc = *out.allocator();
+    let mut event = blank_event(alloc);
+    let mut edit = blank_edit(alloc);
+    let mut walk = entries.walk();
+    put_rest(out, &mut walk, &mut event, &mut edit)
 }
 
 impl Kept {
@@ -35,14 +96,7 @@ impl Kept {
         requires { All IsTimely trace.list }
         ensures { IfOk result (λ x. kept_told x ≡ kept_as keep trace.list) }
     {
-        match keep {
-            Keep::Entries => Ok(Kept::Entries(trace)),
-            Keep::Frames => {
-                let mut bytes = Vec::new(alloc);
-                put_all(&mut bytes, trace.as_slice())?;
-                Ok(Kept::Frames(bytes))
-            }
-        }
+        packed_or_framed(alloc, keep, &trace)
     }
 
     /// Appends the bytes of the frames. What stands in `out` after want of memory is left open.
@@ -54,7 +108,7 @@ impl Kept {
         ensures { OnOk result (out.new.items ≡ out.old.items ++ frames_of (kept_told self.now)) }
     {
         match self {
-            Kept::Entries(trace) => put_all(out, trace.as_slice())?,
+            Kept::Entries(packed) => put_packed(out, packed)?,
             Kept::Frames(bytes) => out.extend_from_slice(bytes)?,
         }
         Ok(())

@@ -6,11 +6,12 @@ ghost use Rattle.branch_tree.specs.Segments.{segments_in, segment_at, last_of};
 ghost use Rattle.kernel_core.specs.Edited.{IsEditOf, edited_from};
 ghost use Rattle.kernel_core.specs.Open.{opened};
 ghost use Rattle.kernel_core.specs.Step.{Fits};
-ghost use Rattle.kernel_core.specs.Until.{advanced_by, until};
+ghost use Rattle.kernel_core.specs.Seen.{folded};
+ghost use Rattle.kernel_core.specs.Until.{until};
 ghost use Rattle.market_types.specs.Timely.{IsTimely};
 ghost use Rattle.kernel_copy.specs.Closing.{closing_at};
 ghost use Rattle.kernel_copy.specs.Courses.{kept_of, kept_before};
-ghost use Rattle.kernel_copy.specs.Kept.{frames, kept_told, kept_with};
+ghost use Rattle.kernel_copy.specs.Kept.{entries, frames, kept_told, kept_with};
 ghost use Rattle.kernel_copy.specs.Outcomes.{outcome_told, outcomes_before};
 ghost use Rattle.kernel_copy.specs.Ran.{ran_told, ran_as, ran_with};
 ghost use Rattle.kernel_copy.specs.Reached.{IsReached};
@@ -20,18 +21,22 @@ ghost use Rattle.kernel_copy.specs.Segmentwise.{afresh, segment_end, segment_run
 use crate::checkpoint::Checkpoint;
 use crate::closing_of;
 use crate::course::Course;
+use crate::frame_bytes::FrameBytes;
 use crate::kept::{Keep, Kept};
 use crate::keys::number_of_end;
 use crate::laws::courses_stay_in_range;
+use crate::packed_events::PackedEvents;
 use branch_tree::{BranchPlan, Stop};
-use bundle_frames::{Closing, put_all};
-use kernel_core::Kernel;
+use bundle_frames::Closing;
+use kernel_core::{Keeper, Kernel};
 use market_floor::Opening;
 use market_rules::Edit;
 use market_types::{Memory, Trace};
 use outside::{Ledger, Steps};
+use packed_entries::Packed;
 use shelf_core::Key;
 use std::alloc::Global;
+use std::mem::replace;
 use std::sync::Arc;
 
 /// What a segment's run gave.
@@ -56,45 +61,48 @@ pub struct Ran {
     pub kernel: Kernel,
 }
 
-// How many events make a piece of a run whose entries are dropped as it goes on. So few entries stay in a processor's nearest
-// memory until their frames are written.
-const PIECE: u32 = 32;
-
-// Lets a kernel go on to a stop, and to no more than so many events.
-fn run_part<L: Ledger>(
+// Lets a kernel go on to a stop, and to no more than so many events. A keeper takes each event as it is made.
+fn run_part<K: Keeper, L: Ledger>(
     alloc: Global,
     o: &Opening,
     stop: Stop,
     most: u32,
     kernel: &mut Kernel,
-    trace: &mut Trace,
+    keeper: &mut K,
     steps: &mut Steps<L>,
 ) -> Result<(), Memory>
     requires fits { Fits o.now kernel.old }
     requires count { steps.old + (most - kernel.old.events) < 2 ^ 64 }
-    ensures ran { OnOk result (record { state = kernel.new; entries = trace.new.list } ≡ until_part o.now stop most (record { state = kernel.old; entries = trace.old.list })) }
-    ensures made { record { state = kernel.new; entries = trace.new.list } ≡ advanced_by (kernel.new.events - kernel.old.events) o.now (record { state = kernel.old; entries = trace.old.list }) }
+    ensures state { OnOk result (kernel.new ≡ (until_part o.now stop most (afresh kernel.old)).state) }
+    ensures kept { OnOk result (K.told keeper.new ≡ folded K.with (K.told keeper.old) (until_part o.now stop most (afresh kernel.old)).entries) }
+    ensures made { kernel.new ≡ (until o.now kernel.new.events (afresh kernel.old)).state }
     ensures ticks { steps.new + kernel.old.events ≡ steps.old + kernel.new.events }
     ensures grows { kernel.old.events ≤ kernel.new.events }
-    ensures within { kernel.new.events ≤ (until_part o.now stop most (record { state = kernel.old; entries = trace.old.list })).state.events }
-    ensures timely { All IsTimely trace.old.list → All IsTimely trace.new.list }
+    ensures within { kernel.new.events ≤ (until_part o.now stop most (afresh kernel.old)).state.events }
     ensures fitting { Fits o.now kernel.new }
 {
     match stop {
         Stop::At(events) => {
-            kernel.run_until(alloc, o, events.min(most), trace, steps)?;
+            kernel.run_into(alloc, o, events.min(most), keeper, steps)?;
             Ok(())
         }
         Stop::When(time) => {
-            kernel.run_until_time(alloc, o, time, most, trace, steps)?;
+            kernel.run_into_time(alloc, o, time, most, keeper, steps)?;
             Ok(())
         }
     }
 }
 
-// Runs a kernel on to a stop, and to no more than so many events, piece by piece, and appends the frames of each piece. A piece
-// that isn't filled is the last.
-fn run_in_pieces<L: Ledger>(
+// The highest event number at which a run to a stop can end, under a limit of events.
+fn last_number(stop: Stop, limit: u32) -> u32 {
+    match stop {
+        Stop::At(events) => events.min(limit),
+        Stop::When(_) => limit,
+    }
+}
+
+// Runs a kernel on to a stop, and to no more than so many events, and appends the frames of each event to bytes.
+fn run_in_frames<L: Ledger>(
     alloc: Global,
     o: &Opening,
     stop: Stop,
@@ -113,18 +121,41 @@ fn run_in_pieces<L: Ledger>(
     ensures within { kernel.new.events ≤ (until_part o.now stop most (afresh kernel.old)).state.events }
     ensures fitting { Fits o.now kernel.new }
 {
-    'pieces: while kernel.events() < most {
-        let size = PIECE.min(most - kernel.events());
-        let next = kernel.events() + size;
-        let mut piece = Trace::new(alloc);
-        piece.reserve(size as usize)?;
-        run_part(alloc, o, stop, next, kernel, &mut piece, steps)?;
-        put_all(bytes, piece.as_slice())?;
-        if kernel.events() < next {
-            return Ok(());
-        }
-    }
-    Ok(())
+    let mut frames = FrameBytes {
+        bytes: replace(bytes, Vec::new(alloc)),
+    };
+    frames.expect(last_number(stop, o.limit).saturating_sub(kernel.events()));
+    let ran = run_part(alloc, o, stop, most, kernel, &mut frames, steps);
+    *bytes = frames.bytes;
+    ran
+}
+
+// Runs a kernel on to a stop, and to no more than so many events, and packs each event.
+fn run_packed<L: Ledger>(
+    alloc: Global,
+    o: &Opening,
+    stop: Stop,
+    most: u32,
+    kernel: &mut Kernel,
+    packed: &mut Packed,
+    steps: &mut Steps<L>,
+) -> Result<(), Memory>
+    requires fits { Fits o.now kernel.old }
+    requires count { steps.old + (most - kernel.old.events) < 2 ^ 64 }
+    ensures state { OnOk result (kernel.new ≡ (until_part o.now stop most (afresh kernel.old)).state) }
+    ensures kept { OnOk result (entries packed.new.list ≡ kept_with (entries packed.old.list) (until_part o.now stop most (afresh kernel.old)).entries) }
+    ensures made { kernel.new ≡ (until o.now kernel.new.events (afresh kernel.old)).state }
+    ensures ticks { steps.new + kernel.old.events ≡ steps.old + kernel.new.events }
+    ensures grows { kernel.old.events ≤ kernel.new.events }
+    ensures within { kernel.new.events ≤ (until_part o.now stop most (afresh kernel.old)).state.events }
+    ensures fitting { Fits o.now kernel.new }
+{
+    let mut events = PackedEvents {
+        packed: replace(packed, Packed::new(alloc)),
+    };
+    let ran = run_part(alloc, o, stop, most, kernel, &mut events, steps);
+    *packed = events.packed;
+    ran
 }
 
 impl Ran {
@@ -150,12 +181,12 @@ impl Ran {
         ensures fitting { Fits o.now self.new.kernel }
     {
         match &mut self.kept {
-            Kept::Entries(trace) => {
-                run_part(alloc, o, stop, most, &mut self.kernel, trace, steps)?;
+            Kept::Entries(packed) => {
+                run_packed(alloc, o, stop, most, &mut self.kernel, packed, steps)?;
                 Ok(())
             }
             Kept::Frames(bytes) => {
-                run_in_pieces(alloc, o, stop, most, &mut self.kernel, bytes, steps)?;
+                run_in_frames(alloc, o, stop, most, &mut self.kernel, bytes, steps)?;
                 Ok(())
             }
         }

@@ -17,6 +17,7 @@ use kernel_core::Kernel;
 use market_floor::Opening;
 use market_types::{Memory, Trace};
 use outside::{Ledger, Steps};
+use packed_entries::Packed;
 use std::alloc::Global;
 
 // Where a run to so many events of a segment's branch came.
@@ -82,7 +83,7 @@ fn run_to<L: Ledger>(
     ensures least { steps.old ≤ steps.new }
     ensures most { steps.new + kernel.events ≤ steps.old + event }
 {
-    let kept = Kept::Entries(Trace::new(alloc));
+    let kept = Kept::Entries(Packed::new(alloc));
     let mut ran = Ran { kept, kernel };
     ran.run_to(alloc, o, stop, event, steps)?;
     Ok(ran.kernel)

@@ -42,7 +42,9 @@ pub fn round_trip<W: Ran>(alloc: Global, course: &Course, ran: &W) -> Result<Bun
     requires spelled { AreMessagesSpelled course.now }
     ensures { Gives (bundle_back course.now) result }
 {
-    runs_fit(course, ran);
+    if runs_fit(alloc, course, ran).is_err() {
+        return Err(BundleError::Memory);
+    }
     listed_runs_are_runs();
     match written(alloc, course, ran) {
         Ok(bytes) => read_written(alloc, course, &bytes),

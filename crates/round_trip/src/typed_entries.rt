@@ -1,7 +1,7 @@
 //! What the fields of entries are by their types.
 
-ghost use Rattle.std.specs.Prelude.{◌≡◌, All, map, true};
-ghost use Rattle.market_types.specs.Told.{entry_told, event, event_told};
+ghost use Rattle.std.specs.Prelude.{◌≡◌, All, OnOk, true};
+ghost use Rattle.market_types.specs.Told.{event, event_told};
 ghost use Rattle.wire_fields.specs.declared.kind.Kind.TheVariants.{Number};
 ghost use Rattle.wire_fields.specs.Values.{FieldValue, is_in_range};
 ghost use Rattle.ouch_codec.specs.Inbound.{inbound_wire};
@@ -10,7 +10,9 @@ ghost use Rattle.itch_codec.specs.Messages.{what_wire};
 ghost use Rattle.round_trip.specs.Fields.{HasBodyNumbers, HasNumbers, IsFeedTyped, IsTyped};
 
 use crate::fields::{eight, four, one, signed, two};
-use market_types::{Body, Entry, Feed, Inbound, Record, Reply, What};
+use market_types::{Body, EditMark, Feed, Inbound, Memory, Record, Reply, What};
+use packed_entries::{Packed, Step, Walk, blank_edit, blank_event};
+use std::alloc::Global;
 
 // An order's numbers.
 fn order_numbers(order: &Inbound)
@@ -186,21 +188,25 @@ fn event_fits(e: &Record)
     feed_fits(e.after.as_slice());
 }
 
-// An entry.
-fn entry_fits(entry: &Entry)
-    ensures { IsTyped (entry_told entry.now) }
+// The entries that are left to read.
+fn rest_fits(walk: &mut Walk<'_>, event: &mut Record, edit: &mut EditMark) -> Result<(), Memory>
+    ensures { OnOk result (All IsTyped walk.old) }
 {
-    match entry {
-        Entry::Event(e) => event_fits(e),
-        Entry::Edit(_) => (),
+    'entries: loop {
+        match walk.next(event, edit)? {
+            Step::Event => event_fits(event),
+            Step::Edit => (),
+            Step::End => return Ok(()),
+        }
     }
 }
 
-// Entries.
-pub(crate) fn entries_fit(entries: &[Entry])
-    ensures { All IsTyped (map entry_told entries.now) }
+// Entries, which are read one at a time.
+pub(crate) fn entries_fit(alloc: Global, entries: &Packed) -> Result<(), Memory>
+    ensures { OnOk result (All IsTyped entries.now.list) }
 {
-    for i in 0..entries.len() {
-        entry_fits(&entries[i]);
-    }
+    let mut event = blank_event(alloc);
+    let mut edit = blank_edit(alloc);
+    let mut walk = entries.walk();
+    rest_fits(&mut walk, &mut event, &mut edit)
 }

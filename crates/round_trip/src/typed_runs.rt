@@ -1,6 +1,6 @@
 //! What the fields of a run are by their types.
 
-ghost use Rattle.std.specs.Prelude.{◌≡◌, ◌<◌, ◌≤◌, ℕ, All, Some, length};
+ghost use Rattle.std.specs.Prelude.{◌≡◌, ◌<◌, ◌≤◌, ℕ, All, OnOk, Some, length};
 ghost use Rattle.branch_tree.specs.Names.{IsNameLength};
 ghost use Rattle.branch_tree.specs.Segments.{segment_at, segments_in};
 ghost use Rattle.kernel_copy.specs.Closing.{closing_at};
@@ -19,19 +19,21 @@ use branch_tree::Branch;
 use kernel_copy::Course;
 use kernel_copy::closing_laws::agents_have_all_positions;
 use kernel_copy::laws::courses_stay_in_range;
+use market_types::Memory;
+use std::alloc::Global;
 use trace_bundle::laws::listed_runs_are_runs;
 use trace_bundle::{Ran, trace_of_segment};
 
 // The entries of the segments from the root's first to this one.
-fn segments_fit<W: Ran>(course: &Course, ran: &W, segment: u32)
+fn segments_fit<W: Ran>(alloc: Global, course: &Course, ran: &W, segment: u32) -> Result<(), Memory>
     requires segment { segment < length (segments_in course.now.plan) }
     requires ran { IsListedRunOf course.now (W.count ran.now) (W.kept_of ran.now) (W.closing_of ran.now) }
-    ensures { All IsTyped (segment_end course.now.opening course.now.plan (segment_at course.now.plan segment)).entries }
+    ensures { OnOk result (All IsTyped (segment_end course.now.opening course.now.plan (segment_at course.now.plan segment)).entries) }
 {
-    entries_fit(trace_of_segment(course, ran, segment).as_slice());
+    entries_fit(alloc, trace_of_segment(course, ran, segment))?;
     match course.segment(segment).parent {
-        None => (),
-        Some(parent) => segments_fit(course, ran, parent),
+        None => Ok(()),
+        Some(parent) => segments_fit(alloc, course, ran, parent),
     }
 }
 
@@ -48,28 +50,30 @@ fn ending_fits<W: Ran>(course: &Course, ran: &W, segment: u32)
 }
 
 // A branch's full run.
-fn branch_fits<W: Ran>(course: &Course, ran: &W, branch: u16)
+fn branch_fits<W: Ran>(alloc: Global, course: &Course, ran: &W, branch: u16) -> Result<(), Memory>
     requires branch { branch < length course.now.plan.branches }
     requires ran { IsListedRunOf course.now (W.count ran.now) (W.kept_of ran.now) (W.closing_of ran.now) }
-    ensures { IsTypedRun course.now branch }
+    ensures { OnOk result (IsTypedRun course.now branch) }
 {
     listed_runs_are_runs();
     let _ = course.opening();
     let last = course.last_segment(branch);
-    segments_fit(course, ran, last);
+    segments_fit(alloc, course, ran, last)?;
     ending_fits(course, ran, last);
+    Ok(())
 }
 
 // The full runs of all branches.
-fn branches_fit<W: Ran>(course: &Course, ran: &W)
+fn branches_fit<W: Ran>(alloc: Global, course: &Course, ran: &W) -> Result<(), Memory>
     requires { IsListedRunOf course.now (W.count ran.now) (W.kept_of ran.now) (W.closing_of ran.now) }
-    ensures { (b : ℕ) → b < length course.now.plan.branches → IsTypedRun course.now b }
+    ensures { OnOk result ((b : ℕ) → b < length course.now.plan.branches → IsTypedRun course.now b) }
 {
     let all = course.plan().branches();
     let count = all.len() as u16;
     for branch in 0..count {
-        branch_fits(course, ran, branch);
+        branch_fits(alloc, course, ran, branch)?;
     }
+    Ok(())
 }
 
 // The names of branches.
@@ -83,12 +87,12 @@ fn names_fit(branches: &[Branch])
 
 /// What a run holds has its fields in their ranges where the orders have that edits inject: numbers and names are so by their
 /// types, and all other texts are the market's.
-pub(crate) fn runs_fit<W: Ran>(course: &Course, ran: &W)
+pub(crate) fn runs_fit<W: Ran>(alloc: Global, course: &Course, ran: &W) -> Result<(), Memory>
     requires { IsListedRunOf course.now (W.count ran.now) (W.kept_of ran.now) (W.closing_of ran.now) }
-    ensures { AreMessagesSpelled course.now → IsInRange course.now }
+    ensures { OnOk result (AreMessagesSpelled course.now → IsInRange course.now) }
 {
     courses_stay_in_range();
     texts_stay_in_range();
     names_fit(course.plan().branches());
-    branches_fit(course, ran);
+    branches_fit(alloc, course, ran)
 }

@@ -7,3 +7,5 @@ pub mod Ending
 pub mod Watching
 pub mod Traces
 pub mod Rows
+pub mod Compared
+pub mod Led

@@ -4,3 +4,5 @@ pub mod Table
 pub mod Worked
 pub mod Tables
 pub mod BranchWorked
+pub mod Next
+pub mod PackedRuns

@@ -6,13 +6,14 @@ ghost use Rattle.kernel_core.specs.Step.{end_of};
 ghost use Rattle.trace_bundle.specs.Ran.{IsListedRunOf};
 ghost use Rattle.study_report.specs.Tables.{column, difference, ending_of, lettered, parent_name, row_of, run_of};
 
+use crate::TableRow;
 use crate::laws::runs_are_numbered;
+use crate::packed_difference::difference_of_packed;
 use crate::parts::parts_of;
-use crate::{TableRow, first_difference_of_parts};
 use branch_tree::Name;
 use kernel_copy::Course;
 use market_types::{End, Memory, Sequence};
-use probe_desk::{Probe, restart_all, values, watch};
+use probe_desk::{Probe, restart_all, values, watch_packed};
 use std::alloc::Global;
 use trace_bundle::laws::listed_runs_are_runs;
 use trace_bundle::{Ran, stop_written};
@@ -34,7 +35,7 @@ fn columns<W: Ran>(
     let parts = parts_of(alloc, course, ran, branch)?;
     restart_all(probes);
     for part in &parts {
-        watch(probes, part);
+        watch_packed(alloc, probes, part)?;
     }
     values(alloc, probes)
 }
@@ -77,7 +78,7 @@ fn first_difference<W: Ran>(
     runs_are_numbered();
     let own = parts_of(alloc, course, ran, branch)?;
     let others = parts_of(alloc, course, ran, parent_of(course, branch))?;
-    Ok(first_difference_of_parts(own.as_slice(), others.as_slice()))
+    difference_of_packed(alloc, own.as_slice(), others.as_slice())
 }
 
 // What a letter of a closing says ended its run.

@@ -6,6 +6,8 @@ pub mod branch_worked;
 mod difference;
 pub mod laws;
 mod lines;
+mod packed_difference;
+mod packed_run;
 mod parts;
 mod row;
 mod same;

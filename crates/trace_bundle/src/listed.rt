@@ -7,17 +7,17 @@ ghost use Rattle.trace_bundle.specs.Ran.{IsListedRunOf};
 
 use crate::ran::Ran;
 use kernel_copy::{Course, Kept};
-use market_types::Trace;
+use packed_entries::Packed;
 
 /// A segment's own entries, of a run that holds them themselves.
-pub fn trace_of_segment<'a, W: Ran>(course: &Course, ran: &'a W, segment: u32) -> &'a Trace
+pub fn trace_of_segment<'a, W: Ran>(course: &Course, ran: &'a W, segment: u32) -> &'a Packed
     requires segment { segment < length (segments_in course.now.plan) }
     requires ran { IsListedRunOf course.now (W.count ran.now) (W.kept_of ran.now) (W.closing_of ran.now) }
     ensures { result.now.list ≡ segment_entries course.now.opening course.now.plan (segment_at course.now.plan segment) }
 {
     let _ = course;
     match ran.kept(segment) {
-        Kept::Entries(trace) => trace,
+        Kept::Entries(packed) => packed,
         Kept::Frames(_) => unreachable!(),
     }
 }

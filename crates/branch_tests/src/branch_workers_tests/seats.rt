@@ -8,14 +8,14 @@ ghost use Rattle.shelf_core.specs.Views.{has_turn, times};
 ghost use Rattle.checkpoint_shelf.specs.Seats.{NewFrom};
 ghost use Rattle.branch_workers.specs.Runs.{IsShelfOf};
 
-use super::entries_of;
 use super::market::course;
+use super::{begins_with_an_edit, entries_of};
 use branch_tree::Stop;
 use branch_workers::{open_shelf, run_segment};
 use checkpoint_shelf::{Begun, Found, Key, PlaceWord, Shelf, ShelfSeat, Turn};
 use kernel_copy::laws::segments_have_few_events;
 use kernel_copy::{Checkpoint, Course, Keep, Outcome};
-use market_types::{Entry, Memory};
+use market_types::Memory;
 use outside::{Counted, OpenGate, Steps};
 use std::alloc::Global;
 use std::sync::{Arc, Wait};
@@ -117,7 +117,8 @@ fn a_child_by_a_seat_without_the_parents_state(rt: HostRuntime) -> Result<(), Fa
     };
     assert_eq!(rt; (first.events, told.first_ticks), (2, 2));
     assert_eq!(rt; (child.events, told.child_ticks, entries.len()), (6, 4, 5));
-    assert!(rt; matches!(entries.get(0), Some(Entry::Edit(_))));
+    let is_edited = begins_with_an_edit(rt.alloc(), entries)?;
+    assert!(rt; is_edited);
     Ok(())
 }
 
@@ -296,7 +297,8 @@ fn a_run_beside_anothers_turn(rt: HostRuntime) -> Result<(), Fail> {
         (outcome.segment, outcome.events, ticks, entries.len()),
         (2, 6, 4, 5)
     );
-    assert!(rt; matches!(entries.get(0), Some(Entry::Edit(_))));
+    let is_edited = begins_with_an_edit(rt.alloc(), entries)?;
+    assert!(rt; is_edited);
     assert_eq!(rt; after, Some(PlaceWord::Free));
     Ok(())
 }

@@ -22,6 +22,6 @@ returns g c =
     ap (λ (n : ℕ). segment_end k.opening k.plan (segment_at k.plan n)) c.last_segment-last.ensures.last
     ∙ sym (full-last k.opening k.plan b (course-tree k course) course.limit c.requires.branch) in
     record {
-      entries = subst (λ (r : Run). All IsTyped r.entries) whole c.segments_fit.ensures;
+      entries = subst (λ (r : Run). All IsTyped r.entries) whole c.in_ok-segments_fit.ensures;
       closing = subst (λ (r : Run). All (HasRanges (Some (length k.opening.stocks))) (closing_list (closing_at k.opening r.state))) whole c.ending_fits.ensures;
     }

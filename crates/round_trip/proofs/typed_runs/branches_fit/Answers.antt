@@ -11,7 +11,7 @@ loop-branch-init g c = λ b l. absurd (omega (arith, l))
 pub loop-branch-preserved : goal.loop-branch-preserved
 loop-branch-preserved g c = λ b l. elim (cases_lt b c.loop-branch.branch) [
   | inl less ↦ c.loop-branch.invariant b less
-  | inr more ↦ let same : c.loop-branch.branch ≡ b = omega arith in subst (λ (n : ℕ). IsTypedRun c.args.course.now n) same c.branch_fits.ensures
+  | inr more ↦ let same : c.loop-branch.branch ≡ b = omega arith in subst (λ (n : ℕ). IsTypedRun c.args.course.now n) same c.in_ok-branch_fits.ensures
 ]
 
 pub returns : goal.returns

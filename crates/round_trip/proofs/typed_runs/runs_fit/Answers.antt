@@ -4,6 +4,7 @@ use Rattle.branch_tree.specs.Names.{IsNameLength}
 use Rattle.branch_tree.specs.Plan.{Plan}
 use Rattle.kernel_copy.specs.Courses.{CourseTold}
 use Rattle.kernel_copy.specs.Full.{full_run}
+use Rattle.kernel_copy.proofs.Pieces.{then-ok}
 use Rattle.round_trip.proofs.Marks.{marked-full}
 use Rattle.round_trip.proofs.Typed.{events-in}
 use Rattle.round_trip.proofs.typed_runs.runs_fit.Goals as goal
@@ -12,7 +13,7 @@ abbrev IsNamed : Branch → Type 0
 IsNamed b = IsNameLength (length b.name)
 
 pub returns : goal.returns
-returns g c = λ spelled.
+returns g c = then-ok c.branches_fit.result c.branches_fit.ensures (λ fits spelled.
     let k : CourseTold = c.args.course.now in
     let o = k.opening in
     let is = c.plan.ensures.course in
@@ -20,11 +21,11 @@ returns g c = λ spelled.
       names = subst (λ (p : Plan). All IsNamed p.branches) c.plan.ensures.value
           (subst (λ (bs : List Branch). All IsNamed bs) c.branches.ensures.value c.names_fit.ensures);
       runs = λ b l.
-          let typed = c.branches_fit.ensures b l in
+          let typed = fits b l in
           let texts = c.texts_stay_in_range.ensures k b o.limit is spelled in
           record {
             events = events-in (Some (length o.stocks)) (full_run o k.plan b).entries
                 (c.courses_stay_in_range.ensures.entries k b o.limit is l) (marked-full k b o.limit is l) typed.entries texts;
             closing = typed.closing;
           };
-    }
+    })

@@ -10,13 +10,13 @@ use Rattle.study_report.proofs.branch_row.columns.Goals as goal
 pub loop-part-preserved : goal.loop-part-preserved
 loop-part-preserved g c =
     let (numbers, meanings, titles) = c.loop-part.invariant in
-    let w = c.watch.ensures in
+    let w = c.watch_packed.ensures in
     let parts = c.deref-part-items.result.now in
     let i = c.loop-part.part-index in
     let seen = flat_map (λ t. t.now.list) (take i parts) in
     let next = c.part-item.result.now.list in
     let more = parts-taken (λ t. t.now.list) parts i c.part-item.result c.loop-part-test.true c.part-item.is in
-    (w.numbers ∙ seen_on _ _ c.loop-part.probes c.args.probes.now seen next (flat_map (λ t. t.now.list) (take (i + 1) parts)) meanings numbers more, w.meanings ∙ meanings, w.titles ∙ titles)
+    (c.in_ok-watch_packed.ensures.numbers ∙ seen_on _ _ c.loop-part.probes c.args.probes.now seen next (flat_map (λ t. t.now.list) (take (i + 1) parts)) meanings numbers more, w.meanings ∙ meanings, w.titles ∙ titles)
 
 pub returns-clause-values : goal.returns-clause-values
 returns-clause-values g c =

@@ -6,14 +6,14 @@ use Rattle.market_types.specs.Timely.{IsTimely}
 use Rattle.kernel_copy.specs.declared.kept.Keep.{Keep}
 use Rattle.kernel_copy.specs.Kept.{frames, kept_as}
 use Rattle.kernel_copy.proofs.Pieces.{all_told, frames_told}
-use Rattle.kernel_copy.proofs.kept.Kept.of.Goals as goal
+use Rattle.kernel_copy.proofs.kept.packed_or_framed.Goals as goal
 
 pub put_all-requires : goal.put_all-requires
 put_all-requires c = all_told IsTimely c.as_slice.result.now (subst (λ (es : List EntryTold). All IsTimely es) (sym c.as_slice.ensures) c.requires)
 
 pub returns-in_ok-put_all-in-Frames : goal.returns-in_ok-put_all-in-Frames
 returns-in_ok-put_all-in-Frames c =
-    let told = c.args.trace.list in
+    let told = c.args.trace.now.list in
     ap (λ (b : List ℕ). frames b)
     (
     c.in_ok-put_all-in-Frames.ensures ∙ ap (λ (l : List ℕ). c.new-bytes.result.items ++ l) (frames_told c.as_slice.result.now told c.as_slice.ensures)

@@ -1,0 +1,42 @@
+//! Where two runs part whose entries are kept in parts.
+
+ghost use Rattle.std.specs.Prelude.{◌≡◌, IfOk};
+ghost use Rattle.std.specs.List.{flat_map};
+ghost use Rattle.study_report.specs.Difference.{IsNumbered, first_difference_of};
+
+use crate::packed_run::PackedRun;
+use crate::same::same_event;
+use market_types::Memory;
+use packed_entries::Packed;
+use std::alloc::Global;
+
+// The least event number whose records differ or stand in one run alone; 0 where there is none. Edits aren't compared. One
+// record of each run at a time is read.
+pub(crate) fn difference_of_packed(
+    alloc: Global,
+    a: &[&Packed],
+    b: &[&Packed],
+) -> Result<u32, Memory>
+    requires numbered { IsNumbered (flat_map (λ t. t.now.list) a.now) }
+    requires others { IsNumbered (flat_map (λ t. t.now.list) b.now) }
+    ensures { IfOk result (λ d. d ≡ first_difference_of (flat_map (λ t. t.now.list) a.now) (flat_map (λ t. t.now.list) b.now)) }
+{
+    let mut own = PackedRun::new(alloc, a);
+    let mut other = PackedRun::new(alloc, b);
+    'records: loop {
+        let more = own.next()?;
+        let others = other.next()?;
+        if !more && !others {
+            return Ok(0);
+        }
+        if !more {
+            return Ok(other.event.number);
+        }
+        if !others {
+            return Ok(own.event.number);
+        }
+        if !same_event(&own.event, &other.event) {
+            return Ok(own.event.number);
+        }
+    }
+}
