@@ -1,5 +1,5 @@
 -- The keys of the grid.
-use Rattle.std.proofs.Common.{◌≡◌, ◌≢◌, ℕ, nat_lt, ne_eqb, slice_get, zero, suc, ◌+◌, ◌-◌, ◌%◌, ◌<◌, ◌≤◌, ◌==◌, All, Bool, true, false, true≢false, List, [], ◌∷◌, ◌++◌, Option, Some, None, length, get_or, is_some, append_assoc, eq-eqb, ◌||◌, ◌&&◌, not, if◌then◌else◌, sym, refl, ap, ◌∙◌, subst, ⊎_elim, ◌⊎◌, arith}
+use Rattle.std.proofs.Common.{◌≡◌, ◌≢◌, ℕ, nat_lt, ne_eqb, slice_get, zero, suc, ◌+◌, ◌-◌, ◌%◌, ◌<◌, ◌≤◌, ◌==◌, All, Bool, true, false, true≢false, List, [], ◌∷◌, ◌++◌, Option, Some, None, length, get_or, is_some, ◌||◌, ◌&&◌, not, if◌then◌else◌, sym, refl, ap, ◌∙◌, subst, ⊎_elim, ◌⊎◌, arith}
 use Rattle.std.proofs.Math.Nat.{mod-eq_of_lt}
 use Rattle.std.proofs.lemmas.List.Elements.{All-cons, All-nil}
 use Rattle.std.proofs.lemmas.List.Folds.{list_any-append}
@@ -230,26 +230,6 @@ keys_distinct p stride few forks =
 pub grid_below : (p : Plan) (stride : ℕ) → ((s : ℕ) → s < length (segments_in p) → stop_number p.limit (segment_at p s).stop < 16777216) → All (KeyBelow (length (segments_in p))) (grid_keys p stride)
 grid_below p stride stops = All_of (KeyBelow (length (segments_in p))) (grid_keys p stride)
     (λ k e. let g = grid_key p stride k e in (g.segment, (let t = stops k.segment g.segment in let b = g.below in omega arith)))
-
--- One number more is looked at.
-pub next_multiple : (stride s e stop : ℕ) (keys new all : List Key) → e < stop → e % stride ≡ 0 → new ≡ keys ++ key_at s e ∷ [] → keys ++ multiples_from stride s e (stop - e) ≡ all
-    → new ++ multiples_from stride s (e + 1) (stop - (e + 1)) ≡ all
-next_multiple stride s e stop keys new all l d is h =
-    let n = stop - (e + 1) in
-    let more : stop - e ≡ suc n = omega arith in
-    ap (λ (ks : List Key). ks ++ multiples_from stride s (e + 1) n) is
-    ∙ append_assoc keys (key_at s e ∷ []) (multiples_from stride s (e + 1) n)
-    ∙ ap (λ (b : Bool). keys ++ with_key b (key_at s e) (multiples_from stride s (e + 1) n)) (sym (eq-eqb (e % stride) 0 d))
-    ∙ ap (λ (m : ℕ). keys ++ multiples_from stride s e m) (sym more) ∙ h
-
-pub no_multiple : (stride s e stop : ℕ) (keys new all : List Key) → e < stop → (e % stride ≡ 0 → ⊥) → new ≡ keys → keys ++ multiples_from stride s e (stop - e) ≡ all
-    → new ++ multiples_from stride s (e + 1) (stop - (e + 1)) ≡ all
-no_multiple stride s e stop keys new all l d is h =
-    let n = stop - (e + 1) in
-    let more : stop - e ≡ suc n = omega arith in
-    ap (λ (ks : List Key). ks ++ multiples_from stride s (e + 1) n) is
-    ∙ ap (λ (b : Bool). keys ++ with_key b (key_at s e) (multiples_from stride s (e + 1) n)) (sym (ne_eqb (e % stride) 0 d))
-    ∙ ap (λ (m : ℕ). keys ++ multiples_from stride s e m) (sym more) ∙ h
 
 -- A sole key has a place.
 pub sole_place : (plan : ShelfPlan) (key : Key) → is_sole plan key ≡ true → is_some (place_of plan key) ≡ true

@@ -1,6 +1,7 @@
 pub mod Sums
 pub mod Joined
 pub mod Forks
+pub mod Multiples
 pub mod Grids
 pub mod Parts
 pub mod Starts

@@ -1,7 +1,6 @@
 -- Runs of segments that stop on their way.
-use Rattle.std.proofs.Common.{◌≡◌, ◌≢◌, ℕ, ◌+◌, ◌%◌, ◌<◌, ◌≤◌, ◌⊎◌, true, List, inl, inr, length, sym, ap, ◌∙◌, subst, arith}
-use mathlib.Core.Logic.{dite}
-use native.Mathlib.Decide.{ℕ_discrete}
+use Rattle.std.proofs.Common.{◌≡◌, ℕ, ◌%◌, ◌<◌, ◌≤◌, ◌⊎◌, true, List, inl, inr, length, sym, ap, ◌∙◌, subst, arith}
+use Rattle.std.proofs.lemmas.Bool.{cases_lt, cases_order}
 use Rattle.branch_tree.specs.Segments.{segments_in, segment_at}
 use Rattle.branch_tree.specs.Stops.{IsWithin}
 use Rattle.kernel_core.specs.Step.{Fits}
@@ -162,18 +161,37 @@ abbrev pub KnowsBefore : CourseTold → ShelfPlan → ℕ → ℕ → SeatView �
 KnowsBefore c plan s n v = (e : ℕ) → is_in (key_at s e) plan.grid ≡ true → e < n → is_sole plan (key_at s e) ≡ true → IsPassed c s e → is_in (key_at s e) v.known ≡ true
 
 module _ (c : CourseTold) (plan : ShelfPlan) (stride s n : ℕ) (v : SeatView) (grid : plan.grid ≡ grid_keys c.plan stride) where
-  -- none is below the number above which the grid lies, nor below the events with which the run began
-  pub knows_none : (n ≤ start_number (segment_at c.plan s).start + 1) ⊎ (n ≤ from_count c.opening c.plan (segment_at c.plan s) + 1) → KnowsBefore c plan s n v
-  knows_none (inl l) e there below sole passed = let from = (grid_at c plan stride s e grid there).from in absurd (omega arith)
-  knows_none (inr l) e there below sole passed = let from = passed.begins in absurd (omega arith)
+  -- None is up to the number above which the grid lies, nor up to the events with which the run began: so none is before the
+  -- first multiple above both.
+  pub knows_none : (a : ℕ) → (a ≤ start_number (segment_at c.plan s).start) ⊎ (a ≤ from_count c.opening c.plan (segment_at c.plan s))
+      → ((e : ℕ) → a < e → e < n → e % stride ≡ 0 → ⊥) → KnowsBefore c plan s n v
+  knows_none a low none e there below sole passed = elim (cases_lt a e) [
+    | inl above ↦ absurd (none e above below (grid_at c plan stride s e grid there).divides)
+    | inr within ↦ by low within
+  ]
+    where
+      by : (a ≤ start_number (segment_at c.plan s).start) ⊎ (a ≤ from_count c.opening c.plan (segment_at c.plan s)) → e ≤ a → is_in (key_at s e) v.known ≡ true
+      by (inl l) within = let from = (grid_at c plan stride s e grid there).from in absurd (omega arith)
+      by (inr l) within = let from = passed.begins in absurd (omega arith)
 
-  pub knows_more : (w : SeatView) → KnowsBefore c plan s n v → ((key : Key) → is_in key v.known ≡ true → is_in key w.known ≡ true)
-      → (n % stride ≡ 0 → is_sole plan (key_at s n) ≡ true → IsPassed c s n → is_in (key_at s n) w.known ≡ true) → KnowsBefore c plan s (n + 1) w
-  knows_more w h keeps here e there below sole passed =
-      let at = grid_at c plan stride s e grid there in
-      dite (ℕ_discrete e n)
-      (λ (one : e ≡ n). subst (λ (m : ℕ). m % stride ≡ 0 → is_sole plan (key_at s m) ≡ true → IsPassed c s m → is_in (key_at s m) w.known ≡ true) (sym one) here at.divides sole passed)
-      (λ (ne : e ≢ n). keeps (key_at s e) (h e there (omega arith) sole passed))
+  -- once the number itself is passed none is left before the next multiple
+  pub knows_more : (b : ℕ) (w : SeatView) → ((e : ℕ) → n < e → e < b → e % stride ≡ 0 → ⊥) → KnowsBefore c plan s n v → ((key : Key) → is_in key v.known ≡ true → is_in key w.known ≡ true)
+      → (is_sole plan (key_at s n) ≡ true → IsPassed c s n → is_in (key_at s n) w.known ≡ true) → KnowsBefore c plan s b w
+  knows_more b w none h keeps here e there below sole passed = elim (cases_order e n) [
+    | inl one ↦ subst (λ (m : ℕ). is_sole plan (key_at s m) ≡ true → IsPassed c s m → is_in (key_at s m) w.known ≡ true) (sym one) here sole passed
+    | inr other ↦ elim other [
+      | inl less ↦ keeps (key_at s e) (h e there less sole passed)
+      | inr more ↦ absurd (none e more below (grid_at c plan stride s e grid there).divides)
+    ]
+  ]
+
+  -- none is left where the run ended before it
+  pub knows_ended : (w : SeatView) → from_count c.opening c.plan (segment_at c.plan s) < n → KnowsBefore c plan s n v → ((key : Key) → is_in key v.known ≡ true → is_in key w.known ≡ true)
+      → (IsPassed c s n → ⊥) → (e : ℕ) → is_in (key_at s e) plan.grid ≡ true → is_sole plan (key_at s e) ≡ true → IsPassed c s e → is_in (key_at s e) w.known ≡ true
+  knows_ended w above h keeps ended e there sole passed = elim (cases_lt e n) [
+    | inl less ↦ keeps (key_at s e) (h e there less sole passed)
+    | inr past ↦ absurd (ended (record { begins = above; reaches = (let reaches = passed.reaches in omega arith) }))
+  ]
 
   pub knows_all : stop_number c.plan.limit (segment_at c.plan s).stop ≤ n → KnowsBefore c plan s n v
       → (e : ℕ) → is_in (key_at s e) plan.grid ≡ true → is_sole plan (key_at s e) ≡ true → IsPassed c s e → is_in (key_at s e) v.known ≡ true

@@ -165,8 +165,8 @@ fn work_in<R: Threads + Wait + Sync, G: Gate + Sync, L: Ledger + Send, B: Room +
 /// other's: so it is of all where there are as many places as multiples.
 ///
 /// Each outcome has what is to be kept of its segment's entries: they themselves, or the bytes of their frames one after
-/// another. With `Keep::Frames` a worker turns entries into bytes piece by piece while the segment runs, and holds no more
-/// than a few hundred of them at a time; with `Keep::Entries` all are held until the outcomes are let go.
+/// another. With `Keep::Frames` a worker turns each event into bytes as it is made; with `Keep::Entries` it packs each into
+/// columns, which are held until the outcomes are let go.
 ///
 /// # Errors
 /// Want of memory alone. The counter then rose by no more.

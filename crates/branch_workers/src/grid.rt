@@ -1,9 +1,9 @@
 //! States at the numbers of a segment's grid.
 
-ghost use Rattle.std.specs.Prelude.{◌≡◌, ℕ, ◌+◌, ◌%◌, ◌∷◌, ◌<◌, ◌≤◌, ◌^◌, [], true, Some, OnOk, length};
+ghost use Rattle.std.specs.Prelude.{◌≡◌, ℕ, ◌+◌, ◌∷◌, ◌<◌, ◌≤◌, ◌^◌, [], true, false, Some, IfOk, OnOk, IsSome, length};
 ghost use Rattle.branch_tree.specs.Segments.{segments_in, segment_at};
 ghost use Rattle.shelf_core.specs.Made.{Stays};
-ghost use Rattle.shelf_core.specs.Plan.{is_in, is_sole};
+ghost use Rattle.shelf_core.specs.Plan.{place_of, is_in, is_sole};
 ghost use Rattle.shelf_core.specs.Views.{times};
 ghost use Rattle.kernel_copy.specs.Courses.{IsCourse, IsKeyOf, state_at};
 ghost use Rattle.kernel_copy.specs.Ran.{ran_told, ran_as};
@@ -54,7 +54,7 @@ fn fill(
     }
 }
 
-// Puts a copy of a kernel that stands at a number of the grid on the shelf, where it has a place that may be written.
+// Puts a copy of a kernel that stands at a number of the grid on the shelf, where its place may be written.
 fn put_copy(
     alloc: Global,
     course: &Arc<Course>,
@@ -67,6 +67,7 @@ fn put_copy(
     requires course { shelf.now.course ≡ course.now.value }
     requires claim { 0 < times key.segment seat.old.view.claims }
     requires turns { seat.old.view.turns ≡ [] }
+    requires place { IsSome (place_of shelf.now.plan key) }
     requires key { IsKeyOf course.now.value key }
     requires state { kernel.now ≡ state_at course.now.value key }
     requires events { kernel.now.events ≡ key.event }
@@ -75,9 +76,6 @@ fn put_copy(
     ensures turns { seat.new.view.turns ≡ [] }
     ensures known { OnOk result (is_sole shelf.now.plan key ≡ true → is_in key seat.new.view.known ≡ true) }
 {
-    if shelf.place_of(key).is_none() {
-        return Ok(());
-    }
     match shelf.begin(seat, key) {
         Begun::Taken(_) => Ok(()),
         Begun::Turn(turn) => fill(alloc, course, shelf, seat, turn, key, kernel),
@@ -111,22 +109,21 @@ pub(crate) fn run_to<L: Ledger>(
     Ok(())
 }
 
-// Lets a run of a segment that began with fewer events go on to an event number if it is a multiple of the stride, and puts
-// a copy of the state there on the shelf, unless the run reached its stop or the state ended before.
+// Lets a run of a segment that began with fewer events go on to an event number that has a place on the shelf, and puts a
+// copy of the state there, unless the run reached its stop or the state ended before: then the answer is false, and the run
+// passes no later number either. Where the number has no place the run stays where it is.
 fn pass<L: Ledger>(
     alloc: Global,
     course: &Arc<Course>,
     shelf: &Shelf<Checkpoint>,
     seat: &mut ShelfSeat<Checkpoint>,
-    stride: u32,
     keep: Keep,
     key: Key,
     ran: &mut Ran,
     steps: &mut Steps<L>,
-) -> Result<(), Memory>
+) -> Result<bool, Memory>
     requires seat { seat.old.shelf ≡ Some shelf.now }
     requires course { shelf.now.course ≡ course.now.value }
-    requires stride { 0 < stride }
     requires claim { 0 < times key.segment seat.old.view.claims }
     requires turns { seat.old.view.turns ≡ [] }
     requires segment { key.segment < length (segments_in course.now.value.plan) }
@@ -141,17 +138,18 @@ fn pass<L: Ledger>(
     ensures few { ran.new.kernel.events ≤ (segment_run course.now.value.opening course.now.value.plan (segment_at course.now.value.plan key.segment)).state.events }
     ensures ticks { steps.new + ran.old.kernel.events ≡ steps.old + ran.new.kernel.events }
     ensures grows { ran.old.kernel.events ≤ ran.new.kernel.events }
-    ensures known { OnOk result (key.event % stride ≡ 0 → is_sole shelf.now.plan key ≡ true → IsPassed course.now.value key.segment key.event → is_in key seat.new.view.known ≡ true) }
+    ensures known { OnOk result (is_sole shelf.now.plan key ≡ true → IsPassed course.now.value key.segment key.event → is_in key seat.new.view.known ≡ true) }
+    ensures ended { IfOk result (λ on. on ≡ false → IsPassed course.now.value key.segment key.event → ⊥) }
 {
-    if key.event % stride != 0 {
-        return Ok(());
+    if shelf.place_of(key).is_none() {
+        return Ok(true);
     }
     run_to(alloc, course, keep, key.segment, key.event, ran, steps)?;
     if ran.kernel.events() != key.event {
-        return Ok(());
+        return Ok(false);
     }
     put_copy(alloc, course, shelf, seat, key, &ran.kernel)?;
-    Ok(())
+    Ok(true)
 }
 
 // Lets a run of a segment that is at its beginning go on over the numbers of its grid that are above its events, and puts
@@ -189,11 +187,17 @@ pub(crate) fn pass_grid<L: Ledger>(
     let limit = course.opening().limit;
     let start = start_number(g.start);
     let from = ran.kernel.events();
-    let first = start.max(from);
+    let after = start.max(from);
+    let first = after / stride + 1;
     let stop = stop_number(limit, g.stop);
-    for event in first + 1..stop {
+    let past = stop.div_ceil(stride);
+    for factor in first..past {
+        let event = factor * stride;
         let key = Key { segment, event };
-        pass(alloc, course, shelf, seat, stride, keep, key, ran, steps)?;
+        let on = pass(alloc, course, shelf, seat, keep, key, ran, steps)?;
+        if !on {
+            return Ok(());
+        }
     }
     Ok(())
 }

@@ -52,7 +52,8 @@ pub(crate) fn stop_number(limit: u32, stop: Stop) -> u32
     }
 }
 
-// The keys of a segment's grid join others.
+// The keys of a segment's grid join others: the stride is taken so many times, from the first multiple above the start on, as
+// long as that is below the stop.
 fn add_grid(
     keys: &mut Sequence<Key>,
     limit: u32,
@@ -66,13 +67,14 @@ fn add_grid(
 {
     let start = start_number(segment.start);
     let stop = stop_number(limit, segment.stop);
-    for event in start + 1..stop {
-        if event % stride == 0 {
-            keys.push(Key {
-                segment: number,
-                event,
-            })?;
-        }
+    let first = start / stride + 1;
+    let past = stop.div_ceil(stride);
+    for factor in first..past {
+        let event = factor * stride;
+        keys.push(Key {
+            segment: number,
+            event,
+        })?;
     }
     Ok(())
 }

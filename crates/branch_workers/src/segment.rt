@@ -8,6 +8,7 @@ ghost use Rattle.shelf_core.specs.Made.{Stays};
 ghost use Rattle.shelf_core.specs.Plan.{place_of, is_in, is_sole};
 ghost use Rattle.shelf_core.specs.Views.{times};
 ghost use Rattle.kernel_copy.specs.Courses.{IsCourse};
+ghost use Rattle.kernel_copy.specs.Kept.{kept_told, kept_as};
 ghost use Rattle.kernel_copy.specs.Outcomes.{outcome_told, outcome_of};
 ghost use Rattle.kernel_copy.specs.Ran.{ran_told, ran_as};
 ghost use Rattle.kernel_copy.specs.Segmentwise.{segment_end, segment_run, started_at, own_count};
@@ -16,6 +17,7 @@ ghost use Rattle.branch_workers.specs.Runs.{IsPassed, IsShelfOf, HasForks, HasSt
 
 use crate::found::wait_for;
 use crate::grid::{pass_grid, run_to};
+use crate::layout::stop_number;
 use checkpoint_shelf::{Begun, Key, Shelf, ShelfSeat};
 use kernel_copy::{
     Checkpoint, Course, Keep, Kept, Outcome, Ran, go_on, kept_end, number_of_end, outcome_at,
@@ -88,6 +90,45 @@ fn begun<R: Wait>(
     }
 }
 
+// About how many bytes the frames of an event have.
+const EVENT_BYTES: usize = 100;
+
+// For how many events at most their bytes get room before they are made.
+const MOST_EVENTS: u32 = 65_536;
+
+// Makes room for the bytes of so many events, where frames are kept, so that they move less often as they come.
+fn make_room(kept: &mut Kept, events: u32) -> Result<(), Memory>
+    ensures { OnOk result (kept_told kept.new ≡ kept_told kept.old) }
+{
+    match kept {
+        Kept::Entries(_) => Ok(()),
+        Kept::Frames(bytes) => {
+            bytes.reserve(events.min(MOST_EVENTS) as usize * EVENT_BYTES)?;
+            Ok(())
+        }
+    }
+}
+
+// What is kept of a segment's run at its beginning, with room for the bytes of the events that it may have.
+fn kept_at_first(
+    alloc: Global,
+    course: &Arc<Course>,
+    keep: Keep,
+    segment: u32,
+    kernel: &Kernel,
+    entries: Trace,
+) -> Result<Kept, Memory>
+    requires segment { segment < length (segments_in course.now.value.plan) }
+    requires timely { All IsTimely entries.list }
+    ensures { IfOk result (λ x. kept_told x ≡ kept_as keep entries.list) }
+{
+    let mut kept = Kept::of(alloc, keep, entries)?;
+    let limit = course.opening().limit;
+    let stop = stop_number(limit, course.segment(segment).stop);
+    make_room(&mut kept, stop.saturating_sub(kernel.events()))?;
+    Ok(kept)
+}
+
 // Makes a segment's own events, of whose entries it keeps what is to be kept, and puts copies of the states at the numbers of
 // its grid on the shelf.
 fn advance<R: Wait, L: Ledger>(
@@ -123,7 +164,7 @@ fn advance<R: Wait, L: Ledger>(
     let most = course.opening().limit;
     let mut entries = Trace::new(alloc);
     let kernel = begun(rt, alloc, course, shelf, seat, segment, &mut entries)?;
-    let kept = Kept::of(alloc, keep, entries)?;
+    let kept = kept_at_first(alloc, course, keep, segment, &kernel, entries)?;
     let mut ran = Ran { kept, kernel };
     pass_grid(
         alloc, course, shelf, seat, stride, keep, segment, &mut ran, steps,

@@ -1,4 +1,4 @@
-use Rattle.std.proofs.Common.{ap, ◌∙◌}
+use Rattle.std.proofs.Common.{Result, Ok, Err, OnErr, ap, ◌∙◌}
 use Rattle.market_floor.specs.declared.opening.Opening.{Opening}
 use Rattle.kernel_copy.specs.Closing.{closing_at}
 use Rattle.kernel_copy.specs.Courses.{CourseTold}
@@ -19,3 +19,11 @@ returns-clause-outcome g c =
     let tells = c.in_ok-outcome.ensures in
     outcome-is k c.args.keep c.args.segment x _ _ _ _ c.advance-made.ensures.course c.requires.segment c.in_ok-ran.ensures.ran tells.segment tells.kept tells.events
     (tells.closing ∙ ap (λ (o : Opening). closing_at o c.in_ok-ran.ran.kernel) opening)
+
+-- what holds in any case holds of an `Err`
+any-err : {X E A : Type 0} (r : Result X E) → A → OnErr r A
+any-err (Ok x) a = tt
+any-err (Err e) a = a
+
+pub returns-in_err-put_end-clause-uncounted : goal.returns-in_err-put_end-clause-uncounted
+returns-in_err-put_end-clause-uncounted g c = any-err c.from_residual-in_err-put_end.result (c.put_end.ensures.stays.counts ∙ c.advance-made.ensures.stays.counts)
