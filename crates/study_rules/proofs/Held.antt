@@ -1,5 +1,5 @@
 -- Where no rule is broken, none of their parts is.
-use Rattle.std.proofs.Common.{◌≡◌, ◌≤◌, ℕ, ℤ, pos, negsuc, List, [], ◌∷◌, Option, None, Some, refl, ap, sym, ◌∙◌, arith, true, unsigned_abs, nat_le, is_none, codes}
+use Rattle.std.proofs.Common.{◌≡◌, ◌≤◌, ◌++◌, ℕ, ℤ, pos, negsuc, List, [], ◌∷◌, Option, None, Some, refl, ap, sym, ◌∙◌, arith, true, unsigned_abs, nat_le, is_none, codes}
 use Rattle.std.specs.Prelude.{Bool}
 use Rattle.std.specs.Option.{option_or}
 use Rattle.std.proofs.lemmas.Bool.{and_parts}
@@ -7,18 +7,12 @@ use Rattle.std.proofs.lemmas.Bool.Decides.{nat_tests}
 use Rattle.toml.specs.Data.{Members}
 use Rattle.study_file.specs.Values.{broken_unless, has_between, is_between, number_at, number_or}
 use Rattle.study_market.specs.declared.early_refusal.Refusal.{Refusal}
-use Rattle.study_market.specs.FirstBroken.{Rule, rule, market_rules, stock_rules, first_of_rules}
-use Rattle.study_market.specs.MarketRules.{top_keys_broken, version_broken, key_broken, day_broken, limits_broken, parts_broken, squares_broken, cells_broken, exchange_broken}
-use Rattle.study_market.specs.StockRules.{stock_count_broken, stock_keys_broken, symbol_broken, repeat_broken, bands_broken, fees_broken, prices_broken, pace_broken, series_broken}
-use Rattle.study_market.specs.AgentRules.{counts_broken, agent_keys_broken, timing_broken, agent_stock_broken, own_broken}
-use Rattle.study_market.specs.FirstOfMarket.{change_rules, agent_rules, series_refusal, early_refusal, last_refusal, first_broken}
-use Rattle.study_market.specs.Judged.{IsJudged}
-use Rattle.study_market.specs.declared.refusal.Judged.TheVariants.{Accepted}
-use Rattle.fundamental_series.specs.declared.rule.SeriesRow.{SeriesRow}
+use Rattle.study_market.specs.FirstBroken.{Rule, rule, first_of_rules}
+use Rattle.study_market.specs.MarketRules.{limits_broken}
 use Rattle.study_market.proofs.Squares.{none-unless}
 use Rattle.study_rules.specs.BranchRules.{branch_keys_broken, names_broken, parents_broken, stops_broken, edit_keys_broken, work_broken, events_of}
 use Rattle.study_rules.specs.EditRules.{edits_broken}
-use Rattle.study_rules.specs.FirstBroken.{branch_rules}
+use Rattle.study_rules.specs.FirstBroken.{branch_rules, shape_rules}
 
 rule-held : (o : Option ℕ) (n : ℕ) (others : Option Refusal)
     → ◌≡◌ {A = Option Refusal} (elim o [ None ↦ others | Some place ↦ Some (record { rule = n; place = place }) ]) None
@@ -50,6 +44,73 @@ are-held t h =
     let h7 = first-held (rule 36 work_broken) [] t h6.1 in
     record { keys = h1.0; names = h2.0; parents = h3.0; stops = h4.0; forms = h5.0; edits = h6.0; work = h7.0 }
 
+-- none of those before that of what the edits say is broken
+pub record AreShaped (t : Members) : Type 0 where
+  pub keys : branch_keys_broken t ≡ None
+  pub names : names_broken t ≡ None
+  pub stops : stops_broken t ≡ None
+  pub forms : edit_keys_broken t ≡ None
+
+pub are-shaped : (t : Members) → first_of_rules shape_rules t ≡ None → AreShaped t
+are-shaped t h =
+    let h1 = first-held (rule 30 branch_keys_broken) (rule 31 names_broken ∷ rule 32 parents_broken ∷ rule 33 stops_broken ∷ rule 34 edit_keys_broken ∷ []) t h in
+    let h2 = first-held (rule 31 names_broken) (rule 32 parents_broken ∷ rule 33 stops_broken ∷ rule 34 edit_keys_broken ∷ []) t h1.1 in
+    let h3 = first-held (rule 32 parents_broken) (rule 33 stops_broken ∷ rule 34 edit_keys_broken ∷ []) t h2.1 in
+    let h4 = first-held (rule 33 stops_broken) (rule 34 edit_keys_broken ∷ []) t h3.1 in
+    let h5 = first-held (rule 34 edit_keys_broken) [] t h4.1 in
+    record { keys = h1.0; names = h2.0; stops = h4.0; forms = h5.0 }
+
+-- rules before others
+more-if : (o : Option ℕ) (n : ℕ) (a b c : Option Refusal) → a ≡ option_or b c
+    → ◌≡◌ {A = Option Refusal} (elim o [ None ↦ a | Some place ↦ Some (record { rule = n; place = place }) ])
+    (option_or (elim o [ None ↦ b | Some place ↦ Some (record { rule = n; place = place }) ]) c)
+more-if None n a b c h = h
+more-if (Some place) n a b c h = refl
+
+more-rules : (rs more : List Rule) (t : Members) → first_of_rules (rs ++ more) t ≡ option_or (first_of_rules rs t) (first_of_rules more t)
+more-rules [] more t = refl
+more-rules (r ∷ rs) more t =
+    more-if (r.broken t) r.number (first_of_rules (rs ++ more) t) (first_of_rules rs t) (first_of_rules more t) (more-rules rs more t)
+
+abbrev later_rules : List Rule
+later_rules = rule 35 edits_broken ∷ rule 36 work_broken ∷ []
+
+pub shape-refused : (t : Members) (r : Refusal) → Some r ≡ first_of_rules shape_rules t → first_of_rules branch_rules t ≡ Some r
+shape-refused t r h = more-rules shape_rules later_rules t ∙ ap (λ (o : Option Refusal). option_or o (first_of_rules later_rules t)) (sym h)
+
+later : (t : Members) → first_of_rules shape_rules t ≡ None → first_of_rules branch_rules t ≡ first_of_rules later_rules t
+later t h = more-rules shape_rules later_rules t ∙ ap (λ (o : Option Refusal). option_or o (first_of_rules later_rules t)) h
+
+abbrev refusal_at : ℕ → ℕ → Refusal
+refusal_at n place = record { rule = n; place = place }
+
+rule-broken : (o : Option ℕ) (n place : ℕ) (others : Option Refusal) → o ≡ Some place
+    → ◌≡◌ {A = Option Refusal} (elim o [ None ↦ others | Some at ↦ Some (record { rule = n; place = at }) ]) (Some (record { rule = n; place = place }))
+rule-broken None n place others h = absurd (cc h)
+rule-broken (Some at) n place others h = let same : at ≡ place = cc h in ap (λ (k : ℕ). Some (refusal_at n k)) same
+
+rule-kept : (o : Option ℕ) (n : ℕ) (others : Option Refusal) → o ≡ None
+    → ◌≡◌ {A = Option Refusal} (elim o [ None ↦ others | Some at ↦ Some (record { rule = n; place = at }) ]) others
+rule-kept None n others h = refl
+rule-kept (Some at) n others h = absurd (cc h)
+
+pub edits-refused : (t : Members) (place : ℕ) → first_of_rules shape_rules t ≡ None → edits_broken t ≡ Some place
+    → first_of_rules branch_rules t ≡ Some (record { rule = 35; place = place })
+edits-refused t place h e = later t h ∙ rule-broken (edits_broken t) 35 place (first_of_rules (rule 36 work_broken ∷ []) t) e
+
+pub work-refused : (t : Members) (place : ℕ) → first_of_rules shape_rules t ≡ None → edits_broken t ≡ None → work_broken t ≡ Some place
+    → first_of_rules branch_rules t ≡ Some (record { rule = 36; place = place })
+work-refused t place h e f =
+    later t h
+    ∙ rule-kept (edits_broken t) 35 (first_of_rules (rule 36 work_broken ∷ []) t) e
+    ∙ rule-broken (work_broken t) 36 place None f
+
+pub all-kept : (t : Members) → first_of_rules shape_rules t ≡ None → edits_broken t ≡ None → work_broken t ≡ None → first_of_rules branch_rules t ≡ None
+all-kept t h e f =
+    later t h
+    ∙ rule-kept (edits_broken t) 35 (first_of_rules (rule 36 work_broken ∷ []) t) e
+    ∙ rule-kept (work_broken t) 36 None f
+
 pub held-unless : (b : Bool) (place : ℕ) → broken_unless b place ≡ None → b ≡ true
 held-unless b place h = sym (none-unless b place) ∙ ap is_none h
 
@@ -69,38 +130,3 @@ few-events t h =
     let first = both-none (broken_unless (has_between (pos 1) (pos 1000000) (codes "events") t) 0)
     (broken_unless (is_between (pos 100) (pos 1000000) (number_or (pos 10000) (codes "stride") t)) 1) h in
     small (number_at (codes "events") t) (held-unless (has_between (pos 1) (pos 1000000) (codes "events") t) 0 first.0)
-
--- the rules before those of branches that they stand on
-pub record AreBefore (t : Members) : Type 0 where
-  pub limits : limits_broken t ≡ None
-  pub squares : squares_broken t ≡ None
-  pub stocks : stock_count_broken t ≡ None
-  pub traders : counts_broken t ≡ None
-
-none-both : (o p : Option Refusal) → option_or o p ≡ None → (o ≡ None) × (p ≡ None)
-none-both None p h = (refl, h)
-none-both (Some r) p h = absurd (cc h)
-
--- where no rule as far as the agents is broken
-pub before-held : (t : Members) (series : Option (List ℕ)) → first_broken t series ≡ None → AreBefore t
-before-held t series h =
-    let outer = none-both (early_refusal t) (option_or (series_refusal t series) (last_refusal t)) h in
-    let early = none-both (first_of_rules market_rules t) (first_of_rules stock_rules t) outer.0 in
-    let last = none-both (series_refusal t series) (last_refusal t) outer.1 in
-    let agents = none-both (first_of_rules change_rules t) (first_of_rules agent_rules t) last.1 in
-    let m1 = first-held (rule 1 top_keys_broken) (rule 2 version_broken ∷ rule 3 key_broken ∷ rule 4 day_broken ∷ rule 5 limits_broken ∷ rule 6 parts_broken ∷ rule 7 squares_broken ∷ rule 8 cells_broken ∷ rule 9 exchange_broken ∷ []) t early.0 in
-    let m2 = first-held (rule 2 version_broken) (rule 3 key_broken ∷ rule 4 day_broken ∷ rule 5 limits_broken ∷ rule 6 parts_broken ∷ rule 7 squares_broken ∷ rule 8 cells_broken ∷ rule 9 exchange_broken ∷ []) t m1.1 in
-    let m3 = first-held (rule 3 key_broken) (rule 4 day_broken ∷ rule 5 limits_broken ∷ rule 6 parts_broken ∷ rule 7 squares_broken ∷ rule 8 cells_broken ∷ rule 9 exchange_broken ∷ []) t m2.1 in
-    let m4 = first-held (rule 4 day_broken) (rule 5 limits_broken ∷ rule 6 parts_broken ∷ rule 7 squares_broken ∷ rule 8 cells_broken ∷ rule 9 exchange_broken ∷ []) t m3.1 in
-    let m5 = first-held (rule 5 limits_broken) (rule 6 parts_broken ∷ rule 7 squares_broken ∷ rule 8 cells_broken ∷ rule 9 exchange_broken ∷ []) t m4.1 in
-    let m6 = first-held (rule 6 parts_broken) (rule 7 squares_broken ∷ rule 8 cells_broken ∷ rule 9 exchange_broken ∷ []) t m5.1 in
-    let m7 = first-held (rule 7 squares_broken) (rule 8 cells_broken ∷ rule 9 exchange_broken ∷ []) t m6.1 in
-    let s10 = first-held (rule 10 stock_count_broken)
-    (rule 11 stock_keys_broken ∷ rule 12 symbol_broken ∷ rule 13 repeat_broken ∷ rule 14 bands_broken ∷ rule 15 fees_broken ∷ rule 16 prices_broken ∷ rule 17 pace_broken ∷ rule 18 series_broken ∷ []) t early.1 in
-    let a25 = first-held (rule 25 counts_broken)
-    (rule 26 agent_keys_broken ∷ rule 27 timing_broken ∷ rule 28 agent_stock_broken ∷ rule 29 own_broken ∷ []) t agents.1 in
-    record { limits = m5.0; squares = m7.0; stocks = s10.0; traders = a25.0 }
-
--- the same of a study that is judged
-pub accepted-before : (t : Members) (series : Option (List ℕ)) (tables : List (List SeriesRow)) → IsJudged t series (Accepted tables) → AreBefore t
-accepted-before t series tables h = before-held t series h.0

@@ -13,6 +13,7 @@ pub mod Planned
 pub mod Orders
 pub mod Fits
 pub mod Making
+pub mod Reading
 pub mod Accepting
 pub mod Editing
 pub mod FirstVersion

@@ -1,11 +1,8 @@
 -- Where the rules of branches hold, each branch has at most 16 edits, which can all be made.
-use Rattle.std.proofs.Common.{◌≡◌, ◌≤◌, ◌<◌, ◌+◌, ◌++◌, ℕ, suc, List, [], ◌∷◌, map, take, get_or, length, Option, None, Some, refl, ap, sym, ◌∙◌, arith, subst}
+use Rattle.std.proofs.Common.{◌≡◌, ◌≤◌, ◌+◌, ℕ, suc, List, [], ◌∷◌, map, length, Option, None, Some, refl, arith, subst}
 use Rattle.std.specs.Prelude.{All}
 use Rattle.std.specs.List.{filter_map, cons_option}
-use Rattle.std.proofs.lemmas.List.{map-append, take_more}
-use Rattle.std.proofs.lemmas.List.Elements.{All-nil, All-cons, filter_map-append}
-use Rattle.toml.specs.View.{view}
-use Rattle.toml.specs.declared.value.Value.{Value}
+use Rattle.std.proofs.lemmas.List.Elements.{All-nil, All-cons}
 use Rattle.toml.specs.Data.{Data, Members}
 use Rattle.market_rules.specs.declared.edit.Edit.{Edit}
 use Rattle.branch_tree.specs.declared.branch.Branch.{Branch}
@@ -64,15 +61,3 @@ edits-fit t held kinds same =
     (map (branch_of (scope_of t) (branch_entries t)) (branch_entries t))
     (record { few = omega arith; fit = All-nil (λ (e : Edit). IsEditAmong (length (symbols t)) kinds (size_of t) e) })
     (each-branch (scope_of t) kinds same (branch_entries t) (branch_entries t) 0 held.forms))
-
--- one entry more of a branch's edits
-pub edits-more : (scope : Scope) (vs : List Value) (i : ℕ) (v : Value) (before after : List Edit) (o : Option Edit) → i < length vs
-    → get_or vs i v ≡ v → before ≡ filter_map (λ d. edit_in scope (entry_of d)) (map view (take i vs)) → o ≡ edit_in scope (entry_of (view v))
-    → after ≡ before ++ cons_option o [] → after ≡ filter_map (λ d. edit_in scope (entry_of d)) (map view (take (i + 1) vs))
-edits-more scope vs i v before after o within here so is is-after =
-    is-after
-    ∙ ap (λ es. es ++ cons_option o []) so
-    ∙ ap (λ (x : Option Edit). filter_map (λ d. edit_in scope (entry_of d)) (map view (take i vs)) ++ cons_option x []) (is ∙ ap (λ x. edit_in scope (entry_of (view x))) (sym here))
-    ∙ sym (filter_map-append (λ d. edit_in scope (entry_of d)) (map view (take i vs)) (view (get_or vs i v) ∷ []))
-    ∙ sym (ap (filter_map (λ d. edit_in scope (entry_of d))) (map-append view (take i vs) (get_or vs i v ∷ [])))
-    ∙ sym (ap (λ xs. filter_map (λ d. edit_in scope (entry_of d)) (map view xs)) (take_more vs i v within))

@@ -71,15 +71,6 @@ read-here read default [] i v z h is e = absurd (omega (arith, h))
 read-here read default (x ∷ xs) zero v z h is e = e ∙ ap (λ u. read (view u)) is
 read-here read default (x ∷ xs) (suc i) v z h is e = read-here read default xs i v z (omega (arith, h)) is e
 
-below-found : (scope : Scope) (es : List Data) (r : Option ℕ) → length es ≤ 16 → r ≡ first_failing (is_edit scope) es → IfSome r (λ at. at < 16)
-below-found scope es r few e =
-    below-few r (length es) 16 few (position-found (λ (d : Data). not (passes (is_edit scope) (as_table d))) es r e)
-
-pub all-below : {E : Type 0} (scope : Scope) (es : List Data) (r : Result (Option ℕ) E) → length es ≤ 16
-    → IfOk r (λ found. found ≡ first_failing (is_edit scope) es) → IfOk r (λ found. IfSome found (λ at. at < 16))
-all-below scope es (Ok found) few h = below-found scope es found few h
-all-below scope es (Err e) few h = tt
-
 pub edit-later-ok : {E : Type 0} (broken : List Data → Option ℕ) (place : ℕ) (branches : List Value) (v : Value) (rest : List Value) (es : List Data)
     (r : Result (Option ℕ) E) → branches ≡ v ∷ rest → es ≡ edits_in (view v) → None ≡ broken es
     → IfOk r (λ found. found ≡ first_edit broken (place + 16) (map view rest)) → IfOk r (λ found. found ≡ first_edit broken place (map view branches))

@@ -1,12 +1,13 @@
 -- The branches that a study's entries say.
-use Rattle.std.specs.Prelude.{ℕ, ◌+◌, ℤ, unsigned_abs, Bool, true, false, List, [], ◌∷◌, None, Some, map, codes}
+use Rattle.std.specs.Prelude.{◌≡◌, ℕ, ◌+◌, ℤ, pos, unsigned_abs, Bool, ◌||◌, true, false, List, [], ◌∷◌, None, Some, map, codes}
 use Rattle.std.specs.List.{filter_map}
 use Rattle.toml.specs.Data.{Data, Members}
 use Rattle.branch_tree.specs.declared.branch.Branch.{Branch}
 use Rattle.branch_tree.specs.declared.stop.Stop.{Stop}
 use Rattle.branch_tree.specs.declared.stop.Stop.TheVariants.{At, When}
 use Rattle.study_rules.specs.Entries.{entry_of, branch_entries, name_in, parent_in, is_timed, stop_in, edits_in}
-use Rattle.study_rules.specs.BranchRules.{place_named}
+use Rattle.study_file.specs.Values.{is_between}
+use Rattle.study_rules.specs.BranchRules.{place_named, is_name}
 use Rattle.study_rules.specs.Scope.{Scope, scope_of}
 use Rattle.study_rules.specs.EditRules.{edit_in}
 
@@ -38,3 +39,8 @@ branch_of scope ds d = record {
 -- the root first, and then each entry's branch in their order
 abbrev pub branches_of : Members → List Branch
 branches_of t = root_branch ∷ map (branch_of (scope_of t) (branch_entries t)) (branch_entries t)
+
+-- the name of a branch is one, and its stop is a time or an event number of at most 1,000,000
+pub record IsHeaded (d : Data) : Type 0 where
+  pub name : is_name (name_in d) ≡ true
+  pub stop : (is_timed d || is_between (pos 0) (pos 1000000) (stop_in d)) ≡ true

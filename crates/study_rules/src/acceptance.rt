@@ -1,17 +1,18 @@
 //! Accepting a study.
 
-ghost use Rattle.std.specs.Prelude.{◌≡◌, All, None, Some, Ok, Err, IfOk, IfErr, option_map};
+ghost use Rattle.std.specs.Prelude.{◌≡◌, None, Some, Ok, Err, IfOk, IfErr, option_map};
 ghost use Rattle.toml.specs.View.{table_view};
 ghost use Rattle.study_market.specs.declared.early_refusal.Refusal.{Refusal};
 ghost use Rattle.study_market.specs.FirstBroken.{first_of_rules};
 ghost use Rattle.study_rules.specs.FirstBroken.{branch_rules};
-ghost use Rattle.study_market.specs.Opening.{IsAccepted, limit_of, opening_of};
-ghost use Rattle.kernel_copy.specs.Courses.{AreEdits};
-ghost use Rattle.study_rules.specs.Accepted.{plan_of, course_of, told_of, study_of, study_told};
+ghost use Rattle.study_market.specs.Opening.{IsAccepted};
+ghost use Rattle.branch_tree.specs.Tree.{IsRooted, plan_refusal};
+ghost use Rattle.study_rules.specs.Branches.{branches_of};
+ghost use Rattle.study_rules.specs.Accepted.{course_of, told_of, study_of, study_told};
 
+use crate::branches;
 use crate::study::{AcceptError, Study};
-use crate::{branch_refusal, branches};
-use branch_tree::{BranchPlan, PlanError, plan};
+use branch_tree::{Branch, BranchPlan, PlanError, plan};
 use kernel_copy::Course;
 use market_types::Memory;
 use std::alloc::Global;
@@ -19,48 +20,49 @@ use std::sync::Arc;
 use study_file::{RawStudy, Table};
 use study_market::{Judged, Refusal, SeriesTables, group_number, judge, opening, stride};
 
-// The tree of the branches of a study that breaks no rule.
-fn branch_plan(
-    alloc: Global,
-    table: &Table,
-    rows: &SeriesTables,
-    limit: u32,
-) -> Result<BranchPlan, Memory>
-    requires accepted { IsAccepted (table_view table.now) rows.now }
-    requires branches { first_of_rules branch_rules (table_view table.now) ≡ None }
-    requires limit { limit ≡ limit_of (table_view table.now) }
-    ensures plan { IfOk result (λ p. p ≡ plan_of (table_view table.now)) }
-    ensures edits { IfOk result (λ p. All (λ b. AreEdits (opening_of (table_view table.now) rows.now) b.edits) p.branches) }
+// The tree of branches that make one.
+fn branch_plan(alloc: Global, branches: Vec<Branch>, limit: u32) -> Result<BranchPlan, Memory>
+    requires rooted { IsRooted branches.items }
+    requires planned { plan_refusal branches.items limit ≡ None }
+    ensures { IfOk result (λ p. p ≡ record { branches = branches.items; limit = limit }) }
 {
-    let _ = rows;
-    let branches = branches(alloc, table)?;
     match plan(alloc, branches, limit) {
         Ok(plan) => Ok(plan),
-        Err(e) => match e {
-            PlanError::Memory => Err(Memory),
-            _ => unreachable!(),
-        },
+        Err(PlanError::Memory) => Err(Memory),
+        Err(_) => unreachable!(),
     }
 }
 
 // What the branches of an accepted study share.
-fn accepted_course(alloc: Global, table: &Table, rows: &SeriesTables) -> Result<Course, Memory>
+fn accepted_course(
+    alloc: Global,
+    table: &Table,
+    rows: &SeriesTables,
+    branches: Vec<Branch>,
+) -> Result<Course, Memory>
     requires accepted { IsAccepted (table_view table.now) rows.now }
     requires branches { first_of_rules branch_rules (table_view table.now) ≡ None }
+    requires said { branches.items ≡ branches_of (table_view table.now) }
     ensures { IfOk result (λ c. c ≡ course_of (table_view table.now) rows.now) }
 {
     let opening = opening(alloc, table, rows)?;
-    let plan = branch_plan(alloc, table, rows, opening.limit)?;
+    let plan = branch_plan(alloc, branches, opening.limit)?;
     Ok(Course::new(opening, plan))
 }
 
 // What an accepted study says.
-fn accepted_study(alloc: Global, table: &Table, rows: &SeriesTables) -> Result<Study, Memory>
+fn accepted_study(
+    alloc: Global,
+    table: &Table,
+    rows: &SeriesTables,
+    branches: Vec<Branch>,
+) -> Result<Study, Memory>
     requires accepted { IsAccepted (table_view table.now) rows.now }
     requires branches { first_of_rules branch_rules (table_view table.now) ≡ None }
+    requires said { branches.items ≡ branches_of (table_view table.now) }
     ensures { IfOk result (λ s. study_told s ≡ told_of (table_view table.now) rows.now) }
 {
-    let course = accepted_course(alloc, table, rows)?;
+    let course = accepted_course(alloc, table, rows, branches)?;
     match Arc::new(alloc, course) {
         Ok(course) => Ok(Study {
             course,
@@ -77,12 +79,9 @@ fn accept_branches(alloc: Global, table: &Table, rows: &SeriesTables) -> Result<
     ensures accepted { IfOk result (λ s. (first_of_rules branch_rules (table_view table.now) ≡ None) × (study_told s ≡ told_of (table_view table.now) rows.now)) }
     ensures refused { IfErr result (λ e. (r : Refusal) → e ≡ AcceptError.Refused r → first_of_rules branch_rules (table_view table.now) ≡ Some r) }
 {
-    match branch_refusal(alloc, table) {
-        Ok(None) => match accepted_study(alloc, table, rows) {
-            Ok(study) => Ok(study),
-            Err(Memory) => Err(AcceptError::Memory),
-        },
-        Ok(Some(refusal)) => Err(AcceptError::Refused(refusal)),
+    let branches = branches(alloc, table)?;
+    match accepted_study(alloc, table, rows, branches) {
+        Ok(study) => Ok(study),
         Err(Memory) => Err(AcceptError::Memory),
     }
 }

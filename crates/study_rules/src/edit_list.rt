@@ -6,7 +6,6 @@ ghost use Rattle.kernel_copy.specs.Courses.{AreEdits};
 ghost use Rattle.study_rules.specs.EditRules.{edit_list_in};
 ghost use Rattle.study_rules.specs.Scope.{scope_of_opening};
 
-use crate::edit_rules::{IsEdit, edit_broken};
 use crate::keys::forms_broken;
 use crate::made::read_edits;
 use crate::scope::opening_scope;
@@ -30,12 +29,8 @@ pub fn read_edit_list(
     if forms_broken(entries).is_some() {
         return Ok(None);
     }
-    let rule = IsEdit {
-        scope: opening_scope(study),
-    };
-    if edit_broken(alloc, &rule, entries)?.is_some() {
-        return Ok(None);
+    match read_edits(alloc, &opening_scope(study), entries)? {
+        Ok(edits) => Ok(Some(edits)),
+        Err(_) => Ok(None),
     }
-    let edits = read_edits(alloc, &rule.scope, entries)?;
-    Ok(Some(edits))
 }

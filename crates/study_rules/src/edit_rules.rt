@@ -1,28 +1,23 @@
 //! Edits as a study's entries say them, and the rule that each is one.
 
-ghost use Rattle.std.specs.Prelude.{◌≡◌, ◌≤◌, ◌<◌, ◌+◌, ◌*◌, true, map, option_map, length, pos, None, IfOk, IfSome};
+ghost use Rattle.std.specs.Prelude.{◌≡◌, ◌≤◌, true, map, option_map, pos, IfOk, IfSome};
 ghost use Rattle.std.specs.List.{list_any};
 ghost use Rattle.std.specs.Str.{bytes_eq};
 ghost use Rattle.toml.specs.View.{table_view, view};
 ghost use Rattle.study_file.specs.Tables.{is_named};
-ghost use Rattle.study_file.specs.Values.{number_at as number_of, is_between as between, first_failing as first_failing_of};
-ghost use Rattle.study_market.specs.MarketRules.{squares_broken as rule_7};
-ghost use Rattle.study_market.specs.StockRules.{band_in, are_bands, is_fee, stock_count_broken as rule_10};
-ghost use Rattle.study_market.specs.AgentRules.{counts_broken as rule_25};
+ghost use Rattle.study_file.specs.Values.{number_at as number_of, is_between as between};
+ghost use Rattle.study_market.specs.StockRules.{band_in, are_bands, is_fee};
 ghost use Rattle.study_market.specs.ChangeRules.{is_kind as kind_of};
-ghost use Rattle.study_rules.specs.BranchRules.{forms_broken as forms_of, first_edit, branch_keys_broken as rule_30, edit_keys_broken as rule_34};
-ghost use Rattle.study_rules.specs.EditRules.{natural_in as natural_of, stock_in as stock_of, trader_in as trader_of, group_in as group_of, tick_in as tick_of, fee_in as fee_of, latency_in as latency_of, common_param as common_of, order_param as ordering_of, maker_param as making_of, param_named as param_of, has_param as param_belongs, is_param_value as param_value, agent_in as agent_of, silence_in as silence_of, order_in as order_of, message_in as message_of, inject_in as inject_of, series_in as series_of, edit_in as edit_of, is_edit as edit_among, edits_broken as rule_35};
+ghost use Rattle.study_rules.specs.EditRules.{natural_in as natural_of, stock_in as stock_of, trader_in as trader_of, group_in as group_of, tick_in as tick_of, fee_in as fee_of, latency_in as latency_of, common_param as common_of, order_param as ordering_of, maker_param as making_of, param_named as param_of, has_param as param_belongs, is_param_value as param_value, agent_in as agent_of, silence_in as silence_of, order_in as order_of, message_in as message_of, inject_in as inject_of, series_in as series_of, edit_in as edit_of};
 
-use crate::entries::branch_edits;
-use crate::keys::few_branches;
-use crate::scope::{Scope, study_scope};
+use crate::scope::Scope;
 use hex::FromHexError;
 use market_rules::{Edit, FeeTable, Param, RuleError, TickTable};
 use market_types::{AgentNo, Inbound, Memory, StockNo};
 use ouch_codec::decode_in;
 use std::alloc::Global;
 use study_file::{Table, Value, has_between, is_at_most, list_at, number_at, string_at};
-use study_market::{EntryTrial, first_failed, has_bands, has_fees, read_bands};
+use study_market::{has_bands, has_fees, read_bands};
 
 // Whether a number is from the low to the high one.
 fn is_within(low: u64, high: u64, number: i64) -> bool
@@ -367,64 +362,4 @@ pub fn edit_in(alloc: Global, scope: &Scope<'_>, edit: &Table) -> Result<Option<
     } else {
         Ok(None)
     }
-}
-
-// An entry says an edit.
-#[derive(Drop)]
-pub struct IsEdit<'a> {
-    pub scope: Scope<'a>,
-}
-
-impl<'a> EntryTrial for IsEdit<'a> {
-    ghost use Rattle.study_rules.specs.EditRules.{is_edit};
-
-    ghost kept_by = { λ rule. is_edit rule.scope };
-
-    fn is_kept(&self, alloc: Global, edit: &Table) -> Result<bool, Memory> {
-        Ok(edit_in(alloc, &self.scope, edit)?.is_some())
-    }
-}
-
-// The first of a branch's edits that is none.
-pub fn edit_broken(alloc: Global, rule: &IsEdit<'_>, edits: &[Value]) -> Result<Option<u32>, Memory>
-    requires { length edits.now ≤ 16 }
-    ensures place { IfOk result (λ found. found ≡ first_failing_of (edit_among rule.now.scope) (map view edits.now)) }
-    ensures low { IfOk result (λ found. IfSome found (λ at. at < 16)) }
-{
-    first_failed(alloc, rule, edits)
-}
-
-// The same over branches, the edits of the first of which stand from a place on.
-fn first_edit_broken(
-    alloc: Global,
-    rule: &IsEdit<'_>,
-    place: u32,
-    branches: &[Value],
-) -> Result<Option<u32>, Memory>
-    requires room { place + 16 * length branches.now ≤ 4096 }
-    requires forms { first_edit forms_of place (map view branches.now) ≡ None }
-    ensures { IfOk result (λ found. found ≡ first_edit (first_failing_of (edit_among rule.now.scope)) place (map view branches.now)) }
-{
-    match branches.split_first() {
-        Some((branch, rest)) => match edit_broken(alloc, rule, branch_edits(branch))? {
-            Some(at) => Ok(Some(place + at)),
-            None => first_edit_broken(alloc, rule, place + 16, rest),
-        },
-        None => Ok(None),
-    }
-}
-
-/// The first edit that is none.
-pub fn edits_broken(alloc: Global, table: &Table) -> Result<Option<u32>, Memory>
-    requires square { rule_7 (table_view table.now) ≡ None }
-    requires stocks { rule_10 (table_view table.now) ≡ None }
-    requires traders { rule_25 (table_view table.now) ≡ None }
-    requires few { rule_30 (table_view table.now) ≡ None }
-    requires forms { rule_34 (table_view table.now) ≡ None }
-    ensures { IfOk result (λ found. found ≡ rule_35 (table_view table.now)) }
-{
-    let rule = IsEdit {
-        scope: study_scope(table),
-    };
-    first_edit_broken(alloc, &rule, 0, few_branches(table))
 }

@@ -19,6 +19,5 @@ pub use acceptance::accept;
 pub use edit_list::read_edit_list;
 pub use made::branches;
 pub use names::is_name;
-pub use refusal::branch_refusal;
 pub use study::{AcceptError, Study};
 pub use study_market::Refusal;

@@ -1,17 +1,40 @@
-use Rattle.std.proofs.Common.{◌∙◌, All, ap, sym, subst}
+use Rattle.std.proofs.Common.{◌≡◌, ◌∙◌, List, None, All, map, ap, sym, subst}
+use Rattle.toml.specs.View.{table_view}
 use Rattle.branch_tree.specs.declared.branch.Branch.{Branch}
 use Rattle.branch_tree.specs.Plan.{Plan}
+use Rattle.branch_tree.specs.Tree.{IsRooted, plan_refusal}
+use Rattle.agent_shell.specs.declared.setting.TraderSetting.{TraderSetting}
 use Rattle.market_floor.specs.declared.opening.Opening.{Opening}
 use Rattle.market_floor.specs.Opening.{IsOpening}
 use Rattle.kernel_copy.specs.Courses.{AreEdits}
+use Rattle.study_market.specs.Opening.{opening_of, limit_of}
+use Rattle.study_market.specs.Traders.{traders_of}
+use Rattle.study_rules.specs.Branches.{branches_of}
+use Rattle.study_rules.proofs.Held.{are-held}
+use Rattle.study_rules.proofs.Planned.{planned, rooted}
+use Rattle.study_rules.proofs.Making.{edits-fit as edits-among}
+use Rattle.study_rules.proofs.Editing.{kinds-said, edits-fit}
 use Rattle.study_rules.proofs.acceptance.accepted_course.Goals as goal
 
-pub branch_plan-requires-clause-limit : goal.branch_plan-requires-clause-limit
-branch_plan-requires-clause-limit c = ap (λ (o : Opening). o.limit) c.in_ok-opening.ensures.opening
+pub branch_plan-requires-clause-rooted : goal.branch_plan-requires-clause-rooted
+branch_plan-requires-clause-rooted c = subst IsRooted (sym c.requires.said) (rooted (table_view c.args.table.now))
+
+pub branch_plan-requires-clause-planned : goal.branch_plan-requires-clause-planned
+branch_plan-requires-clause-planned c =
+    let t = table_view c.args.table.now in
+    ap (λ (bs : List Branch). plan_refusal bs c.in_ok-opening.opening.limit) c.requires.said
+    ∙ ap (λ (o : Opening). plan_refusal (branches_of t) o.limit) c.in_ok-opening.ensures.opening
+    ∙ planned t (are-held t c.requires.branches)
 
 pub new-requires : goal.new-requires
-new-requires c = record {
-  opening = subst IsOpening (sym c.in_ok-opening.ensures.opening) c.in_ok-opening.ensures.fits;
-  limit = ap (λ (p : Plan). p.limit) c.in_ok-plan.ensures.plan ∙ sym (ap (λ (o : Opening). o.limit) c.in_ok-opening.ensures.opening);
-  edits = subst (λ (o : Opening). All (λ (b : Branch). AreEdits o b.edits) c.in_ok-plan.plan.branches) (sym c.in_ok-opening.ensures.opening) c.in_ok-plan.ensures.edits;
-}
+new-requires c =
+    let t = table_view c.args.table.now in
+    let rows = c.args.rows.now in
+    let among = edits-among t (are-held t c.requires.branches) (map (λ (s : TraderSetting). s.kind) (traders_of t)) (kinds-said t rows c.requires.accepted) in
+    let fit : All (λ (b : Branch). AreEdits (opening_of t rows) b.edits) (branches_of t) = edits-fit t rows (branches_of t) among in
+    record {
+      opening = subst IsOpening (sym c.in_ok-opening.ensures.opening) c.in_ok-opening.ensures.fits;
+      limit = ap (λ (p : Plan). p.limit) c.in_ok-plan.ensures;
+      edits = subst (λ (o : Opening). All (λ (b : Branch). AreEdits o b.edits) c.in_ok-plan.plan.branches) (sym c.in_ok-opening.ensures.opening)
+          (subst (λ (bs : List Branch). All (λ (b : Branch). AreEdits (opening_of t rows) b.edits) bs) (sym (ap (λ (p : Plan). p.branches) c.in_ok-plan.ensures ∙ c.requires.said)) fit);
+    }

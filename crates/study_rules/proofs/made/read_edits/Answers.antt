@@ -1,9 +1,10 @@
-use Rattle.std.proofs.Common.{◌≡◌, get_or, rules}
-use Rattle.study_rules.proofs.Making.{edits-more}
+use Rattle.std.proofs.Common.{◌∙◌, sym, map}
+use Rattle.toml.specs.View.{view}
+use Rattle.study_rules.proofs.Reading.{from_start}
 use Rattle.study_rules.proofs.made.read_edits.Goals as goal
 
-pub loop-entry-preserved : goal.loop-entry-preserved
-loop-entry-preserved c =
-    let here : get_or c.args.entries.now c.loop-entry.entry-index c.entry-item.result ≡ c.entry-item.result = search rules in
-    edits-more c.args.scope.now c.args.entries.now c.loop-entry.entry-index c.entry-item.result c.loop-entry.edits.items c.add.new.edits.items
-    c.in_ok-read_edit.field-0 c.loop-entry-test.true here c.loop-entry.invariant c.in_ok-read_edit.ensures c.in_ok-add.ensures
+pub returns-in-Some-clause-broken : goal.returns-in-Some-clause-broken
+returns-in-Some-clause-broken c = from_start c.args.scope.now (map view c.args.entries.now) ∙ sym c.in_ok-at.ensures.place ∙ c.in-Some.is
+
+pub returns-in-None-clause-kept : goal.returns-in-None-clause-kept
+returns-in-None-clause-kept c = from_start c.args.scope.now (map view c.args.entries.now) ∙ sym c.in_ok-at.ensures.place ∙ c.in-None.is
