@@ -4,7 +4,7 @@ use Rattle.toml.specs.Data.{Members}
 use Rattle.outside.specs.Files.{Content, absent, too_long, whole, held, content}
 use Rattle.study_file.specs.Tables.{table_of}
 use Rattle.study_market.specs.declared.early_refusal.Refusal.{Refusal}
-use Rattle.study_rules.specs.Accepted.{StudyTold, study_of}
+use Rattle.study_rules.specs.Accepted.{StudyTold, study_of, study_told}
 use Rattle.study_rules.specs.declared.study.Study.{Study}
 use Rattle.command_words.specs.declared.mark.Mark.{Mark}
 use Rattle.rewind_desk.specs.declared.aimed.Aimed.{Aimed}
@@ -27,21 +27,22 @@ use Rattle.session_answers.specs.Refused.{act_refused}
 use Rattle.session_answers.specs.Past.{past_act}
 use Rattle.abides_run.specs.declared.ending.Ending.{Ending}
 use Rattle.abides_run.specs.declared.found.Found.{Found}
-use Rattle.abides_run.specs.declared.request.Request.{Request}
-use Rattle.abides_run.specs.declared.request.Request.TheVariants.{File, Large, Bundle}
-use Rattle.abides_run.specs.declared.request.Task.{Task}
-use Rattle.abides_run.specs.declared.request.Task.TheVariants.{Run, Check, Table, Lines, Rewind, Cross, Session}
-use Rattle.abides_run.specs.Words.{asked_of, further_of, IsLarge}
-use Rattle.abides_run.specs.Verdict.{Verdict, Files, no_file, file_too_long, verdict_on_past, verdict_on_aimed, verdict_on_late, verdict_on_orders, verdict_on_stock, verdict_on_branch, verdict_on_past_act, verdict_on_acts, verdict_on_script, verdict_on_found, verdict_on_file, verdict_on_further, most_bytes, series_of, judged, verdict_on_series, verdict_on_table, verdict_on_bytes, verdict_on_study, verdict_on_text, verdict_on_large, verdict_on_failing, verdict_on_read, verdict_on_bundle, verdict_for, verdict, IsAsked, large_limit, most_bundle_bytes}
+use Rattle.command_words.specs.declared.asked.Request.{Request}
+use Rattle.command_words.specs.declared.asked.Request.TheVariants.{Large}
+use Rattle.command_words.specs.declared.asked.Task.{Task}
+use Rattle.command_words.specs.declared.asked.Task.TheVariants.{Run, Check, Table, Rewind, Cross, Session}
+use Rattle.abides_run.specs.Words.{asked_of, further_of}
+use Rattle.abides_run.specs.Verdict.{Verdict, Files, no_file, file_too_long, verdict_on_past, verdict_on_aimed, verdict_on_late, verdict_on_orders, verdict_on_stock, verdict_on_branch, verdict_on_past_act, verdict_on_acts, verdict_on_script, verdict_on_found, verdict_on_file, verdict_on_further, most_bytes, series_of, judged, verdict_on_series, verdict_on_table, verdict_on_bytes, verdict_on_study, verdict_on_text, verdict_on_large, judged_large, accepted, verdict_on_failing, verdict_on_read, verdict_on_bundle, verdict_for, verdict, IsAsked, large_limit, most_bundle_bytes}
 use Rattle.bundle_reader.specs.Told.{BundleTold}
 use Rattle.bundle_reading.specs.Reading.{Read, read, cut, bad_frame, bad_order, reading_of}
 use Rattle.audit_desk.specs.declared.failing.Failing.{Failing}
 use Rattle.audit_desk.specs.Audited.{audit_of}
-use Rattle.abides_run.specs.AllFound.{IsWorkedBy, arguments_on, verdict_on_all}
+use Rattle.abides_run.specs.AllFound.{IsWorkedBy, verdict_on_all}
 use Rattle.abides_run.specs.Rewinds.{lasts_of}
-use Rattle.abides_run.specs.Fetched.{IsAmong, arguments_in, arguments_of, named, series_after, behind_rules, behind_series, behind_table, behind_bytes, behind_study, fetched_for, fetched}
+use Rattle.abides_run.specs.Fetched.{IsAmong, named, series_after, behind_rules, behind_series, behind_table, behind_bytes, behind_study, fetched_for, fetched}
 use Rattle.abides_run.specs.Statuses.{status_of, Names}
-use Rattle.abides_run.specs.Ends.{Ends, Fetches, IsSought}
+use Rattle.abides_run.specs.Ends.{Ends, Fetches, IsRefusedWith, IsSought}
+use Rattle.abides_run.specs.Output.{described}
 use Rattle.abides_run.specs.declared.status.Status.{Status}
 use Rattle.abides_run.specs.declared.status.Status.TheVariants as status
 use Rattle.abides_run.proofs.Among.{among_behind}
@@ -86,7 +87,6 @@ found_asked : (task : Task) (further : Option (List ℕ)) (s : StudyTold) → Is
 found_asked Run further s = tt
 found_asked Check further s = tt
 found_asked Table further s = tt
-found_asked (Lines bytes) further s = tt
 found_asked (Rewind marks places) further s = aimed_asked marks places s (aimed_at s.course.plan.branches marks)
 found_asked (Cross crossing places) further s = branch_asked crossing places (unwrap_or further []) s (target_of s.course.plan.branches crossing.mark)
 found_asked (Session script places) further s = script_asked places s (script_of s.course (unwrap_or further []))
@@ -241,6 +241,34 @@ rules_held library task r s is = ap (λ (x : Result StudyTold Refusal). judged l
 pub rules_before : (task : Task) (r : Result StudyTold Refusal) (s : StudyTold) → r ≡ Ok s → behind_rules task r ≡ named (further_of task)
 rules_before task r s is = ap (λ (x : Result StudyTold Refusal). behind_rules task x) is
 
+-- memory was wanting, or the rules refuse a study
+abbrev pub RulesRefuse : Result StudyTold Refusal → Status → Type 0
+RulesRefuse r st = (st ≡ status.Memory) ⊎ IsRefusedWith r st
+
+-- want of memory may always come
+pub wanting_ends : (come : Verdict) (st : Status) → st ≡ status.Memory → (names : List (List ℕ)) (name : List ℕ) → Ends come names st name
+wanting_ends come st is names name = subst (λ (x : Status). Ends come names x name) (sym is) (record { cause = tt; named = tt })
+
+judged_ends : (library : Files) (task : Task) (r : Result StudyTold Refusal) (st : Status) → RulesRefuse r st → (names : List (List ℕ)) (name : List ℕ) → Ends (judged library task r) names st name
+judged_ends library task r st (inl wanting) names name = wanting_ends (judged library task r) st wanting names name
+judged_ends library task r st (inr why) names name =
+    subst (λ (x : Status). Ends (judged library task r) names x name) (sym why.told)
+    (record { cause = ap (λ (x : Result StudyTold Refusal). status_of (judged library task x)) why.broken; named = tt })
+
+pub refused_ends : (r : Result Study Ending) (x : Result StudyTold Refusal) → IfErr r (λ e. RulesRefuse x e.status)
+    → IfErr r (λ e. (library : Files) (task : Task) (names : List (List ℕ)) (name : List ℕ) → Ends (judged library task x) names e.status name)
+refused_ends (Ok s) x why = tt
+refused_ends (Err e) x why = λ library task names name. judged_ends library task x e.status why names name
+
+-- what rules refuse is told of no file, and is no fault
+pub refused_sought : (x : Result StudyTold Refusal) (st : Status) → RulesRefuse x st → IsSought st
+refused_sought x st (inl wanting) = subst IsSought (sym wanting) tt
+refused_sought x st (inr why) = subst IsSought (sym why.told) tt
+
+pub refused_silent : (x : Result StudyTold Refusal) (st : Status) → RulesRefuse x st → ¬ (st ≡ status.ReadFault)
+refused_silent x st (inl wanting) is = let bad : status.Memory ≡ status.ReadFault = sym wanting ∙ is in cc
+refused_silent x st (inr why) is = let bad : status.Refused why.refusal.rule why.refusal.place ≡ status.ReadFault = sym why.told ∙ is in cc
+
 -- the study that the tables say, with the bytes of its series file
 pub study_read : (files : Option Files) (bytes : List ℕ) (table : Members) (series shown : Option (List ℕ)) (s : StudyTold) → table_of bytes ≡ Some table
     → IfSome files (λ library. (task : Task) → verdict_on_table library task table (series_of table) ≡ judged library task (study_of table series))
@@ -274,7 +302,23 @@ study_refused (Some library) bytes table series st name has with_series ends =
     (sym (ap (λ (t : Option Members). verdict_on_bytes library task t) has ∙ with_series task))
     (ends library task (behind_bytes library task (table_of bytes)) name)
 
--- what the rules refuse, over the same bytes of a series file
+-- the same of what the rules accept or refuse over the same bytes of a series file
+pub study_reads : (r : Result Study Ending) (files : Option Files) (bytes : List ℕ) (table : Members) (series shown : Option (List ℕ)) → table_of bytes ≡ Some table
+    → IfSome files (λ library. (task : Task) → verdict_on_table library task table (series_of table) ≡ judged library task (study_of table series))
+    → shown ≡ series → IfOk r (λ s. study_of table shown ≡ Ok (study_told s))
+    → IfOk r (λ s. IfSome files (λ library. (task : Task) → verdict_on_bytes library task (table_of bytes) ≡ verdict_on_further library task (study_told s) (further_of task)))
+study_reads (Ok s) files bytes table series shown has with_series same is =
+    study_read files bytes table series shown (study_told s) has with_series same (λ library task. rules_held library task (study_of table shown) (study_told s) is)
+study_reads (Err e) files bytes table series shown has with_series same is = tt
+
+pub study_behind : (r : Result Study Ending) (files : Option Files) (bytes : List ℕ) (table : Members) (series shown : Option (List ℕ)) → table_of bytes ≡ Some table
+    → IfSome files (λ library. (task : Task) → behind_table library task table (series_of table) ≡ named (series_of table) ++ behind_rules task (study_of table series))
+    → shown ≡ series → IfOk r (λ s. study_of table shown ≡ Ok (study_told s))
+    → OnOk r (IfSome files (λ library. (task : Task) → behind_bytes library task (table_of bytes) ≡ series_after (table_of bytes) ++ named (further_of task)))
+study_behind (Ok s) files bytes table series shown has with_series same is =
+    bytes_before files bytes table series shown has with_series same (λ task. rules_before task (study_of table shown) (study_told s) is)
+study_behind (Err e) files bytes table series shown has with_series same is = tt
+
 pub rules_refused : (r : Result Study Ending) (files : Option Files) (bytes : List ℕ) (table : Members) (series shown : Option (List ℕ)) → table_of bytes ≡ Some table
     → IfSome files (λ library. (task : Task) → verdict_on_table library task table (series_of table) ≡ judged library task (study_of table series))
     → shown ≡ series
@@ -414,76 +458,52 @@ further_missed (Some library) task study bytes s st name has says before ends =
     subst (λ (a : Content). Ends (verdict_on_study library task study a) (study ∷ behind_study library task a) st name) (sym has)
     (bytes_end library task study bytes st name (further_end library task bytes s st name (says task) (before task) (ends s)))
 
--- the words asked for the study of a file
-pub file_found : (files : Option Files) (words : List (List ℕ)) (task : Task) (study : List ℕ) (come : Verdict) → Some (File task study) ≡ asked_of words
-    → IfSome files (λ library. verdict_on_study library task study (content (held library study) most_bytes) ≡ come)
-    → IfSome files (λ library. verdict library words ≡ come)
-file_found None words task study come asks says = tt
-file_found (Some library) words task study come asks says = ap (λ (o : Option Request). verdict_for library o) (sym asks) ∙ says
-
-pub file_unfound : (files : Option Files) (words : List (List ℕ)) (task : Task) (study : List ℕ) (st : Status) (name : List ℕ) → Some (File task study) ≡ asked_of words
-    → IfSome files (λ library. Ends (verdict_on_study library task study (content (held library study) most_bytes)) (study ∷ behind_study library task (content (held library study) most_bytes)) st name)
-    → IfSome files (λ library. Ends (verdict library words) (fetched library words) st name)
-file_unfound None words task study st name asks ends = tt
-file_unfound (Some library) words task study st name asks ends =
-    subst (λ (o : Option Request). Ends (verdict_for library o) (fetched_for library o) st name) asks ends
-
--- the words asked for the large study of a number
-pub large_found : (files : Option Files) (words : List (List ℕ)) (number : ℕ) (come : Verdict) → Some (Large number) ≡ asked_of words
-    → verdict_on_large (large_study number large_limit) ≡ come
-    → IfSome files (λ library. verdict library words ≡ come)
-large_found None words number come asks says = tt
-large_found (Some library) words number come asks says = ap (λ (o : Option Request). verdict_for library o) (sym asks) ∙ says
-
-pub large_unfound : (files : Option Files) (words : List (List ℕ)) (number : ℕ) (st : Status) (name : List ℕ) → Some (Large number) ≡ asked_of words
-    → Ends (verdict_on_large (large_study number large_limit)) [] st name
-    → IfSome files (λ library. Ends (verdict library words) (fetched library words) st name)
-large_unfound None words number st name asks ends = tt
-large_unfound (Some library) words number st name asks ends =
-    subst (λ (o : Option Request). Ends (verdict_for library o) (fetched_for library o) st name) asks ends
-
--- a file that is asked for is no large study
-pub file_is_not_large : (words : List (List ℕ)) (task : Task) (study : List ℕ) → Some (File task study) ≡ asked_of words → ¬ IsLarge (asked_of words)
-file_is_not_large words task study asks large = subst IsLarge (sym asks) large
-
--- the text is that of no table, or memory was wanting to read it
-pub text_missed : (text : List ℕ) (st : Status) → (st ≡ status.Memory) ⊎ ((st ≡ status.Refused 0 0) × (table_of text ≡ None))
-    → (names : List (List ℕ)) (name : List ℕ) → Ends (verdict_on_large text) names st name
-text_missed text st (inl wanting) names name =
-    subst (λ (x : Status). Ends (verdict_on_large text) names x name) (sym wanting) (record { cause = tt; named = tt })
-text_missed text st (inr why) names name =
-    subst (λ (x : Status). Ends (verdict_on_large text) names x name) (sym why.0)
-    (record { cause = ap (λ (t : Option Members). status_of (verdict_on_text (Lines (length text)) t)) why.1; named = tt })
-
 -- the table of a text was read
-pub text_read : (text : List ℕ) (table : Members) → table_of text ≡ Some table
-    → verdict_on_large text ≡ judged [] (Lines (length text)) (study_of table None)
-text_read text table has = ap (λ (t : Option Members). verdict_on_text (Lines (length text)) t) has
+text_read : (text : List ℕ) (table : Members) → table_of text ≡ Some table → verdict_on_large text ≡ judged_large (length text) (study_of table None)
+text_read text table has = ap (λ (t : Option Members). verdict_on_text (length text) t) has
 
--- the search for a file's study, or for a large study, is the search for what the words ask for
-pub file_finds : (r : Result Found Ending) (files : Option Files) (words : List (List ℕ)) (task : Task) (study : List ℕ) → Some (File task study) ≡ asked_of words
-    → IfOk r (λ f. IfSome files (λ library. verdict_on_study library task study (content (held library study) most_bytes) ≡ verdict_on_all f))
-    → IfOk r (λ f. IfSome files (λ library. verdict library words ≡ verdict_on_all f))
-file_finds (Ok f) files words task study asks says = file_found files words task study (verdict_on_all f) asks says
-file_finds (Err e) files words task study asks says = tt
+-- the large study of a text was accepted
+pub text_found : (text shown : List ℕ) (table : Members) (bytes : ℕ) (s : StudyTold) → shown ≡ text → table_of shown ≡ Some table → study_of table None ≡ Ok s → bytes ≡ length shown
+    → verdict_on_large text ≡ accepted (described bytes s)
+text_found text shown table bytes s same has is count =
+    ap verdict_on_large (sym same) ∙ text_read shown table has ∙ ap (λ (x : Result StudyTold Refusal). judged_large (length shown) x) is
+    ∙ ap (λ (n : ℕ). accepted (described n s)) (sym count)
 
-pub file_misses : (r : Result Found Ending) (files : Option Files) (words : List (List ℕ)) (task : Task) (study : List ℕ) → Some (File task study) ≡ asked_of words
-    → IfErr r (λ e. IfSome files (λ library. Ends (verdict_on_study library task study (content (held library study) most_bytes)) (study ∷ behind_study library task (content (held library study) most_bytes)) e.status (string_bytes e.name)))
-    → IfErr r (λ e. IfSome files (λ library. Ends (verdict library words) (fetched library words) e.status (string_bytes e.name)))
-file_misses (Ok f) files words task study asks ends = tt
-file_misses (Err e) files words task study asks ends = file_unfound files words task study e.status (string_bytes e.name) asks ends
+-- it is that of no table, or memory was wanting to read it
+pub text_missed : (text shown : List ℕ) (st : Status) → shown ≡ text → (st ≡ status.Memory) ⊎ ((st ≡ status.Refused 0 0) × (table_of shown ≡ None))
+    → (names : List (List ℕ)) (name : List ℕ) → Ends (verdict_on_large text) names st name
+text_missed text shown st same (inl wanting) names name = wanting_ends (verdict_on_large text) st wanting names name
+text_missed text shown st same (inr why) names name =
+    subst (λ (x : Status). Ends (verdict_on_large text) names x name) (sym why.0) (record {
+      cause = ap (λ (t : List ℕ). status_of (verdict_on_large t)) (sym same) ∙ ap (λ (t : Option Members). status_of (verdict_on_text (length shown) t)) why.1;
+      named = tt;
+    })
 
-pub large_finds : (r : Result Found Ending) (files : Option Files) (words : List (List ℕ)) (number : ℕ) → Some (Large number) ≡ asked_of words
+-- the rules refuse it
+pub text_refused : (text shown : List ℕ) (table : Members) (st : Status) → shown ≡ text → table_of shown ≡ Some table → RulesRefuse (study_of table None) st
+    → (names : List (List ℕ)) (name : List ℕ) → Ends (verdict_on_large text) names st name
+text_refused text shown table st same has (inl wanting) names name = wanting_ends (verdict_on_large text) st wanting names name
+text_refused text shown table st same has (inr why) names name =
+    subst (λ (x : Status). Ends (verdict_on_large text) names x name) (sym why.told) (record {
+      cause = ap (λ (t : List ℕ). status_of (verdict_on_large t)) (sym same) ∙ ap status_of (text_read shown table has)
+          ∙ ap (λ (x : Result StudyTold Refusal). status_of (judged_large (length shown) x)) why.broken;
+      named = tt;
+    })
+
+-- no file is looked at for a large study
+pub large_finds : (r : Result Found Ending) (files : Option Files) (number : ℕ)
     → IfOk r (λ f. verdict_on_large (large_study number large_limit) ≡ verdict_on_all f)
-    → IfOk r (λ f. IfSome files (λ library. verdict library words ≡ verdict_on_all f))
-large_finds (Ok f) files words number asks says = large_found files words number (verdict_on_all f) asks says
-large_finds (Err e) files words number asks says = tt
+    → IfOk r (λ f. IfSome files (λ library. verdict_for library (Some (Large number)) ≡ verdict_on_all f))
+large_finds (Ok f) None number says = tt
+large_finds (Ok f) (Some library) number says = says
+large_finds (Err e) files number says = tt
 
-pub large_misses : (r : Result Found Ending) (files : Option Files) (words : List (List ℕ)) (number : ℕ) → Some (Large number) ≡ asked_of words
+pub large_misses : (r : Result Found Ending) (files : Option Files) (number : ℕ)
     → IfErr r (λ e. (names : List (List ℕ)) (name : List ℕ) → Ends (verdict_on_large (large_study number large_limit)) names e.status name)
-    → IfErr r (λ e. IfSome files (λ library. Ends (verdict library words) (fetched library words) e.status (string_bytes e.name)))
-large_misses (Ok f) files words number asks ends = tt
-large_misses (Err e) files words number asks ends = large_unfound files words number e.status (string_bytes e.name) asks (ends [] (string_bytes e.name))
+    → IfErr r (λ e. IfSome files (λ library. Ends (verdict_for library (Some (Large number))) (fetched_for library (Some (Large number))) e.status (string_bytes e.name)))
+large_misses (Ok f) files number ends = tt
+large_misses (Err e) None number ends = tt
+large_misses (Err e) (Some library) number ends = ends [] (string_bytes e.name)
 
 -- whatever the bytes of a bundle are, the words asked for it
 failing_asked : (b : BundleTold) (failing : Option Failing) → IsAsked (verdict_on_failing b failing)
@@ -537,52 +557,6 @@ pub bundle_fetched : (files : Option Files) (name bytes : List ℕ)
     → IfSome files (λ library. verdict_on_bundle name (content (held library name) most_bundle_bytes) ≡ verdict_on_read (reading_of bytes))
 bundle_fetched None name bytes has = tt
 bundle_fetched (Some library) name bytes has = ap (λ (a : Content). verdict_on_bundle name a) has
-
--- the words asked for a bundle
-pub bundle_found : (files : Option Files) (words : List (List ℕ)) (name : List ℕ) (come : Verdict) → Some (Bundle name) ≡ asked_of words
-    → IfSome files (λ library. verdict_on_bundle name (content (held library name) most_bundle_bytes) ≡ come)
-    → IfSome files (λ library. verdict library words ≡ come)
-bundle_found None words name come asks says = tt
-bundle_found (Some library) words name come asks says = ap (λ (o : Option Request). verdict_for library o) (sym asks) ∙ says
-
-pub bundle_unfound : (files : Option Files) (words : List (List ℕ)) (name : List ℕ) (st : Status) (told : List ℕ) → Some (Bundle name) ≡ asked_of words
-    → IfSome files (λ library. Ends (verdict_on_bundle name (content (held library name) most_bundle_bytes)) (name ∷ []) st told)
-    → IfSome files (λ library. Ends (verdict library words) (fetched library words) st told)
-bundle_unfound None words name st told asks ends = tt
-bundle_unfound (Some library) words name st told asks ends =
-    subst (λ (o : Option Request). Ends (verdict_for library o) (fetched_for library o) st told) asks ends
-
--- a bundle that is asked for is no large study
-pub bundle_is_not_large : (words : List (List ℕ)) (name : List ℕ) → Some (Bundle name) ≡ asked_of words → ¬ IsLarge (asked_of words)
-bundle_is_not_large words name asks large = subst IsLarge (sym asks) large
-
-pub bundle_finds : (r : Result Found Ending) (files : Option Files) (words : List (List ℕ)) (name : List ℕ) → Some (Bundle name) ≡ asked_of words
-    → IfOk r (λ f. IfSome files (λ library. verdict_on_bundle name (content (held library name) most_bundle_bytes) ≡ verdict_on_all f))
-    → IfOk r (λ f. IfSome files (λ library. verdict library words ≡ verdict_on_all f))
-bundle_finds (Ok f) files words name asks says = bundle_found files words name (verdict_on_all f) asks says
-bundle_finds (Err e) files words name asks says = tt
-
-pub bundle_misses : (r : Result Found Ending) (files : Option Files) (words : List (List ℕ)) (name : List ℕ) → Some (Bundle name) ≡ asked_of words
-    → IfErr r (λ e. IfSome files (λ library. Ends (verdict_on_bundle name (content (held library name) most_bundle_bytes)) (name ∷ []) e.status (string_bytes e.name)))
-    → IfErr r (λ e. IfSome files (λ library. Ends (verdict library words) (fetched library words) e.status (string_bytes e.name)))
-bundle_misses (Ok f) files words name asks ends = tt
-bundle_misses (Err e) files words name asks ends = bundle_unfound files words name e.status (string_bytes e.name) asks ends
-
--- the arguments of what was found are those of the words
-pub file_argues : (r : Result Found Ending) (words : List (List ℕ)) (task : Task) (study : List ℕ) → Some (File task study) ≡ asked_of words
-    → IfOk r (λ f. arguments_on f ≡ arguments_of task) → IfOk r (λ f. arguments_on f ≡ arguments_in (asked_of words))
-file_argues (Ok f) words task study asks is = is ∙ ap (λ (o : Option Request). arguments_in o) asks
-file_argues (Err e) words task study asks is = tt
-
-pub large_argues : (r : Result Found Ending) (words : List (List ℕ)) (number : ℕ) → Some (Large number) ≡ asked_of words
-    → IfOk r (λ f. arguments_on f ≡ []) → IfOk r (λ f. arguments_on f ≡ arguments_in (asked_of words))
-large_argues (Ok f) words number asks is = is ∙ ap (λ (o : Option Request). arguments_in o) asks
-large_argues (Err e) words number asks is = tt
-
-pub bundle_argues : (r : Result Found Ending) (words : List (List ℕ)) (name : List ℕ) → Some (Bundle name) ≡ asked_of words
-    → IfOk r (λ f. arguments_on f ≡ []) → IfOk r (λ f. arguments_on f ≡ arguments_in (asked_of words))
-bundle_argues (Ok f) words name asks is = is ∙ ap (λ (o : Option Request). arguments_in o) asks
-bundle_argues (Err e) words name asks is = tt
 
 -- so many workers were asked for
 pub worked_by : (r : Result Found Ending) (asked : Option ℕ) (workers : ℕ) → asked ≡ Some workers → IfOk r (IsWorkedBy (Some workers)) → IfOk r (IsWorkedBy asked)

@@ -6,7 +6,7 @@ use Rattle.rewind_desk.specs.declared.aimed.Aimed.{Aimed}
 use Rattle.rewind_desk.specs.declared.aimed.Aimed.TheVariants.{At}
 use Rattle.rewind_desk.specs.declared.target.Target.{Target}
 use Rattle.rewind_desk.specs.Targets.{aimed_at, past_of}
-use Rattle.abides_run.specs.declared.request.Task.TheVariants.{Rewind}
+use Rattle.command_words.specs.declared.asked.Task.TheVariants.{Rewind}
 use Rattle.abides_run.specs.Rewinds.{lasts_of, rewinds_of, steps_to_all, argument_at}
 use Rattle.study_rules.specs.Accepted.{StudyTold}
 use Rattle.abides_run.specs.Fetched.{IsAmong}

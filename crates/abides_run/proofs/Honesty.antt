@@ -8,8 +8,8 @@ use Rattle.bundle_reading.specs.Reading.{read, reading_of}
 use Rattle.trace_bundle.specs.Bundle.{bundle_of}
 use Rattle.audit_desk.specs.declared.failing.Failing.{Failing}
 use Rattle.audit_desk.specs.Audited.{audit_of}
-use Rattle.abides_run.specs.declared.request.Request.{Request}
-use Rattle.abides_run.specs.declared.request.Request.TheVariants.{Bundle}
+use Rattle.command_words.specs.declared.asked.Request.{Request}
+use Rattle.command_words.specs.declared.asked.Request.TheVariants.{Bundle}
 use Rattle.abides_run.specs.Words.{asked_of}
 use Rattle.abides_run.specs.Output.{Probes, audited, study_bundle}
 use Rattle.abides_run.specs.Verdict.{Files, Verdict, accepted, most_bundle_bytes, verdict, verdict_for, verdict_on_bundle, verdict_on_failing, verdict_on_read}

@@ -1,12 +1,12 @@
 -- What is done with a study ends as its parts end.
-use Rattle.std.proofs.Common.{◌≡◌, ◌⊎◌, ◌≤◌, ◌+◌, ℕ, List, Option, None, unwrap_or, Ok, Err, [], append-nil, refl, sym, ap, ◌∙◌, subst, inl, inr, arith}
+use Rattle.std.proofs.Common.{◌≡◌, ◌⊎◌, ◌≤◌, ◌+◌, ℕ, List, Option, None, Result, unwrap_or, Ok, Err, IfErr, OnOk, [], append-nil, refl, sym, ap, ◌∙◌, subst, inl, inr, arith}
 use Rattle.command_words.specs.declared.mark.Mark.{Mark}
 use Rattle.outside.specs.Rose.{Rose}
 use Rattle.outside.specs.Taken.{appended, TookPrefix}
 use Rattle.study_rules.specs.Accepted.{StudyTold}
-use Rattle.abides_run.specs.declared.request.Task.{Task}
+use Rattle.command_words.specs.declared.asked.Task.{Task}
 use Rattle.command_words.specs.declared.asked.Crossing.{Crossing}
-use Rattle.abides_run.specs.declared.request.Task.TheVariants.{Rewind, Cross, Session}
+use Rattle.command_words.specs.declared.asked.Task.TheVariants.{Rewind, Cross, Session}
 use Rattle.abides_run.specs.Fetched.{arguments_of}
 use Rattle.abides_run.specs.Output.{Probes, Due, written, simulated, allowed, most_for}
 use Rattle.abides_run.specs.Verdict.{Verdict, accepted, verdict_on_crossing, verdict_on_session, verdict_on_found, IsDue}
@@ -71,6 +71,17 @@ sent_some bytes events more most reads writes now old new before after st least 
   steady = λ e. absurd (unsent_other st s.unsent e);
   never_falls = s.never_falls;
 }
+
+-- they were or they were not, as the status says
+pub sent_ends : (bytes : List ℕ) (events reads writes now old new : ℕ) (before after : Option (List ℕ)) (r : Result (Unit {0}) Status) (st : Status) → OnOk r (st ≡ status.Ok) → IfErr r (λ x. st ≡ x)
+    → new ≡ old + events → Sent bytes writes now before after r
+    → Performed bytes events 0 events (record { reads = reads; writes = writes; taken = before; steps = old }) (record { reads = reads; writes = now; taken = after; steps = new }) st
+sent_ends bytes events reads writes now old new before after (Ok u) st is told rose s =
+    subst (λ (x : Status). Performed bytes events 0 events (record { reads = reads; writes = writes; taken = before; steps = old }) (record { reads = reads; writes = now; taken = after; steps = new }) x) (sym is)
+    (sent_all bytes events 0 events reads writes now old new before after (omega arith) (omega arith) s)
+sent_ends bytes events reads writes now old new before after (Err x) st is told rose s =
+    subst (λ (y : Status). Performed bytes events 0 events (record { reads = reads; writes = writes; taken = before; steps = old }) (record { reads = reads; writes = now; taken = after; steps = new }) y) (sym told)
+    (sent_some bytes events 0 events reads writes now old new before after x (omega arith) (omega arith) s)
 
 -- memory was wanting before anything was sent
 pub wanting : (bytes : List ℕ) (events more most reads writes old new : ℕ) (taken : Option (List ℕ)) → old ≤ new → new ≤ old + most
@@ -192,7 +203,15 @@ performed_finishes probes due arguments before after st name p =
       never_falls = p.never_falls;
     }
 
--- A task of which this is due was performed, and its status told with a name.
+-- the same, and its status was told with a name
+pub due_finishes : (probes : Probes) (due : Due) (arguments : List (List ℕ)) (before after : Seen) (st told : Status) (name : List ℕ) → told ≡ st
+    → Performed (written probes due) (simulated due) (allowed due) (most_for due) before after st
+    → Finished (accepted due) probes arguments before after told name
+due_finishes probes due arguments before after st told name same p =
+    subst (λ (x : Status). Finished (accepted due) probes arguments before after x name) (sym same)
+    (performed_finishes probes due arguments before after st name p)
+
+-- a task of which this is due was performed
 pub task_finishes : (probes : Probes) (t u : Task) (further : Option (List ℕ)) (due : Due) (s : StudyTold) (writes now old new : ℕ) (before after : Option (List ℕ)) (st told : Status) (name : List ℕ)
     → t ≡ u → told ≡ st → verdict_on_found u further s ≡ accepted due
     → ((reads : ℕ) → Performed (written probes due) (simulated due) (allowed due) (most_for due) (record { reads = reads; writes = writes; taken = before; steps = old }) (record { reads = reads; writes = now; taken = after; steps = new }) st)
@@ -202,8 +221,7 @@ task_finishes probes t u further due s writes now old new before after st told n
     let seen : Seen = record { reads = reads; writes = now; taken = after; steps = new } in
     subst (λ (x : Task). Finished (verdict_on_found x further s) probes (arguments_of x) was seen told name) (sym is)
     (subst (λ (v : Verdict). Finished v probes (arguments_of u) was seen told name) (sym come)
-    (subst (λ (x : Status). Finished (accepted due) probes (arguments_of u) was seen x name) (sym same)
-    (performed_finishes probes due (arguments_of u) was seen st name (p reads))))
+    (due_finishes probes due (arguments_of u) was seen st told name same (p reads)))
 
 -- the same of a rewind, which ends as its parts say
 pub rewind_finishes : (probes : Probes) (t : Task) (further : Option (List ℕ)) (marks shown : List Mark) (places : ℕ) (s : StudyTold) (writes now old new : ℕ) (before after : Option (List ℕ)) (st : Status) (name : List ℕ)

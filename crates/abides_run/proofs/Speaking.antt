@@ -4,9 +4,10 @@ use Rattle.toml.specs.Data.{Members}
 use Rattle.study_file.specs.Tables.{table_of}
 use Rattle.abides_run.specs.declared.ending.Ending.{Ending}
 use Rattle.abides_run.specs.declared.found.Found.{Found}
-use Rattle.abides_run.specs.declared.request.Request.{Request}
-use Rattle.abides_run.specs.declared.request.Request.TheVariants.{File, Large, Bundle}
-use Rattle.abides_run.specs.declared.request.Task.{Task}
+use Rattle.study_market.specs.declared.early_refusal.Refusal.{Refusal}
+use Rattle.study_rules.specs.Accepted.{StudyTold}
+use Rattle.command_words.specs.declared.asked.Request.TheVariants.{Large, Bundle}
+use Rattle.command_words.specs.declared.asked.Task.{Task}
 use Rattle.abides_run.specs.Words.{asked_of, further_of}
 use Rattle.abides_run.specs.Verdict.{Verdict, Files, series_of, verdict}
 use Rattle.abides_run.specs.Output.{Probes}
@@ -18,6 +19,7 @@ use Rattle.abides_run.specs.Performed.{Finished, IsFinal}
 use Rattle.abides_run.specs.declared.status.Status.{Status}
 use Rattle.abides_run.specs.declared.status.Status.TheVariants as status
 use Rattle.abides_run.proofs.Among.{among_before, among_behind, among_first}
+use Rattle.abides_run.proofs.Come.{RulesRefuse}
 use Rattle.abides_run.proofs.Fetching.{IsNamedEnd}
 use Rattle.abides_run.proofs.Answered.{ended_named, finished_named, noted_named}
 
@@ -113,26 +115,21 @@ task_speaks study task bytes st name s =
     let series = series_after (table_of bytes) in
     (bytes, speaks_more file (study ∷ (series ++ file)) st name (λ among. inr (among_behind name series file among)) s)
 
--- the words asked for the study of a file
-pub file_speaks : (r : Result Found Ending) (words : List (List ℕ)) (task : Task) (study : List ℕ) → Some (File task study) ≡ asked_of words
-    → IfErr r (λ e. SpeaksOf study task e.status (string_bytes e.name)) → IfErr r (λ e. SpeaksFor words e.status (string_bytes e.name))
-file_speaks (Ok f) words task study asks s = tt
-file_speaks (Err e) words task study asks s =
-    (s.0, subst (λ (o : Option Request). Speaks (files_of o s.0) e.status (string_bytes e.name)) asks s.1)
+-- a large study is in no file
+pub large_speaks : (r : Result Found Ending) (number : ℕ) → IfErr r (λ e. (files : List (List ℕ)) (name : List ℕ) → Speaks files e.status name)
+    → IfErr r (λ e. (bytes : List ℕ) × Speaks (files_of (Some (Large number)) bytes) e.status (string_bytes e.name))
+large_speaks (Ok f) number s = tt
+large_speaks (Err e) number s = ([], s [] (string_bytes e.name))
 
--- they asked for the large study of a number, which is in no file
-pub large_speaks : (r : Result Found Ending) (words : List (List ℕ)) (number : ℕ) → Some (Large number) ≡ asked_of words
-    → IfErr r (λ e. (files : List (List ℕ)) (name : List ℕ) → Speaks files e.status name) → IfErr r (λ e. SpeaksFor words e.status (string_bytes e.name))
-large_speaks (Ok f) words number asks s = tt
-large_speaks (Err e) words number asks s =
-    ([], subst (λ (o : Option Request). Speaks (files_of o []) e.status (string_bytes e.name)) asks (s [] (string_bytes e.name)))
+pub bundle_speaks : (r : Result Found Ending) (bundle : List ℕ) → IfErr r (λ e. Speaks (bundle ∷ []) e.status (string_bytes e.name))
+    → IfErr r (λ e. (bytes : List ℕ) × Speaks (files_of (Some (Bundle bundle)) bytes) e.status (string_bytes e.name))
+bundle_speaks (Ok f) bundle s = tt
+bundle_speaks (Err e) bundle s = ([], s)
 
--- they asked for a bundle
-pub bundle_speaks : (r : Result Found Ending) (words : List (List ℕ)) (bundle : List ℕ) → Some (Bundle bundle) ≡ asked_of words
-    → IfErr r (λ e. Speaks (bundle ∷ []) e.status (string_bytes e.name)) → IfErr r (λ e. SpeaksFor words e.status (string_bytes e.name))
-bundle_speaks (Ok f) words bundle asks s = tt
-bundle_speaks (Err e) words bundle asks s =
-    ([], subst (λ (o : Option Request). Speaks (files_of o []) e.status (string_bytes e.name)) asks s)
+-- what rules refuse is told of no file
+pub rules_speak : (x : Result StudyTold Refusal) (st : Status) → RulesRefuse x st → (files : List (List ℕ)) (name : List ℕ) → Speaks files st name
+rules_speak x st (inl wanting) files name = wanting_speaks files st name wanting
+rules_speak x st (inr why) files name = refused_speaks why.refusal.rule why.refusal.place st why.told files name
 
 pub words_speak : (words : List (List ℕ)) (st : Status) (name : List ℕ) → (st ≡ status.Memory) ⊎ ((st ≡ status.Usage) × (None ≡ asked_of words)) → SpeaksFor words st name
 words_speak words st name (inl wanting) = ([], wanting_speaks (files_of (asked_of words) []) st name wanting)

@@ -1,6 +1,8 @@
 -- How the search for a study ends without one: what the functions of the search promise each other.
-use Rattle.std.specs.Prelude.{◌≡◌, ℕ, List}
+use Rattle.std.specs.Prelude.{◌≡◌, ℕ, List, Result, Err}
 use Rattle.outside.specs.Files.{Content, absent, too_long}
+use Rattle.study_market.specs.declared.early_refusal.Refusal.{Refusal}
+use Rattle.study_rules.specs.Accepted.{StudyTold}
 use Rattle.abides_run.specs.Verdict.{Verdict}
 use Rattle.abides_run.specs.Statuses.{Cause, Names}
 use Rattle.abides_run.specs.declared.status.Status.{Status}
@@ -29,6 +31,12 @@ Fetches held wanted (BadScript act) name = ⊥
 Fetches held wanted (ActRefused act) name = ⊥
 Fetches held wanted NoEvent name = ⊥
 Fetches held wanted Memory name = Unit {0}
+
+-- The status tells which rule a study breaks first, and where.
+pub record IsRefusedWith (study : Result StudyTold Refusal) (status : Status) : Type 0 where
+  pub refusal : Refusal
+  pub broken : study ≡ Err refusal
+  pub told : status ≡ Refused refusal.rule refusal.place
 
 -- a status that a search ends with once the words are read
 abbrev pub IsSought : Status → Type 0

@@ -6,10 +6,10 @@ use Rattle.outside.specs.Files.{Content, absent, too_long, whole, held, content}
 use Rattle.study_file.specs.Tables.{table_of}
 use Rattle.study_market.specs.declared.early_refusal.Refusal.{Refusal}
 use Rattle.study_rules.specs.Accepted.{StudyTold, study_of}
-use Rattle.abides_run.specs.declared.request.Request.{Request}
-use Rattle.abides_run.specs.declared.request.Request.TheVariants.{File, Large, Bundle}
-use Rattle.abides_run.specs.declared.request.Task.{Task}
-use Rattle.abides_run.specs.declared.request.Task.TheVariants.{Run, Check, Table, Lines, Rewind, Cross, Session}
+use Rattle.command_words.specs.declared.asked.Request.{Request}
+use Rattle.command_words.specs.declared.asked.Request.TheVariants.{File, Large, Bundle}
+use Rattle.command_words.specs.declared.asked.Task.{Task}
+use Rattle.command_words.specs.declared.asked.Task.TheVariants.{Run, Check, Table, Rewind, Cross, Session}
 use Rattle.abides_run.specs.Sessions.{act_words}
 use Rattle.abides_run.specs.Words.{asked_of, further_of}
 use Rattle.abides_run.specs.Verdict.{Files, most_bytes, series_of}
@@ -74,7 +74,6 @@ abbrev pub arguments_of : Task → List (List ℕ)
 arguments_of Run = []
 arguments_of Check = []
 arguments_of Table = []
-arguments_of (Lines bytes) = []
 arguments_of (Rewind marks places) = map (λ (m : Mark). m.word) marks
 arguments_of (Cross crossing places) = crossing.mark.word ∷ crossing.symbol ∷ []
 arguments_of (Session script places) = act_words

@@ -6,7 +6,7 @@ use Rattle.outside.specs.Files.{whole, held, content}
 use Rattle.outside.specs.Rose.{Rose}
 use Rattle.outside.specs.Taken.{appended, TookPrefix}
 use Rattle.study_rules.specs.Accepted.{StudyTold, study_of}
-use Rattle.abides_run.specs.declared.request.Request.TheVariants.{Bundle}
+use Rattle.command_words.specs.declared.asked.Request.TheVariants.{Bundle}
 use Rattle.abides_run.specs.Words.{asked_of, IsLarge}
 use Rattle.abides_run.specs.Verdict.{Verdict, Files, most_bundle_bytes, verdict, IsDue, output, distinct, allowance, ceiling}
 use Rattle.abides_run.specs.Output.{Probes, study_bundle}

@@ -8,6 +8,8 @@ pub mod Ends
 pub mod Notes
 pub mod Headline
 pub mod Performed
+pub mod Simulated
+pub mod Sending
 pub mod AllFound
 pub mod Audits
 pub mod Sessions

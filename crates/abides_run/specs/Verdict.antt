@@ -28,10 +28,10 @@ use Rattle.session_desk.specs.Session.{first_session}
 use Rattle.session_answers.specs.declared.end.PastAct.{PastAct}
 use Rattle.session_answers.specs.Refused.{act_refused}
 use Rattle.session_answers.specs.Past.{past_act}
-use Rattle.abides_run.specs.declared.request.Request.{Request}
-use Rattle.abides_run.specs.declared.request.Request.TheVariants.{File, Large, Bundle}
-use Rattle.abides_run.specs.declared.request.Task.{Task}
-use Rattle.abides_run.specs.declared.request.Task.TheVariants.{Run, Check, Table, Lines, Rewind, Cross, Session}
+use Rattle.command_words.specs.declared.asked.Request.{Request}
+use Rattle.command_words.specs.declared.asked.Request.TheVariants.{File, Large, Bundle}
+use Rattle.command_words.specs.declared.asked.Task.{Task}
+use Rattle.command_words.specs.declared.asked.Task.TheVariants.{Run, Check, Table, Rewind, Cross, Session}
 use Rattle.abides_run.specs.Words.{asked_of, further_of}
 use Rattle.abides_run.specs.Rewinds.{lasts_of, argument_at}
 use Rattle.abides_run.specs.Sessions.{act_word, bad_act}
@@ -133,7 +133,6 @@ abbrev pub verdict_on_found : Task → Option (List ℕ) → StudyTold → Verdi
 verdict_on_found Run further study = accepted (bundled study)
 verdict_on_found Check further study = accepted (counted study)
 verdict_on_found Table further study = accepted (compared study)
-verdict_on_found (Lines bytes) further study = accepted (described bytes study)
 verdict_on_found (Rewind marks places) further study = verdict_on_aimed marks places study (aimed_at study.course.plan.branches marks)
 verdict_on_found (Cross crossing places) further study = verdict_on_crossing crossing places (unwrap_or further []) study
 verdict_on_found (Session script places) further study = verdict_on_session places (unwrap_or further []) study
@@ -176,10 +175,15 @@ verdict_on_study files task study absent = no_file study
 verdict_on_study files task study too_long = file_too_long study
 verdict_on_study files task study (whole bytes) = verdict_on_bytes files task (table_of bytes)
 
--- a text that is in no file and has no series file is judged by the same rules
-abbrev pub verdict_on_text : Task → Option Members → Verdict
-verdict_on_text task None = refused 0 0
-verdict_on_text task (Some table) = judged [] task (study_of table None)
+-- the first broken rule of a large study's text, or the lines that tell of its run
+abbrev pub judged_large : ℕ → Result StudyTold Refusal → Verdict
+judged_large bytes (Err refusal) = refused refusal.rule refusal.place
+judged_large bytes (Ok study) = accepted (described bytes study)
+
+-- a text that is in no file, has so many bytes and has no series file is judged by the same rules
+abbrev pub verdict_on_text : ℕ → Option Members → Verdict
+verdict_on_text bytes None = refused 0 0
+verdict_on_text bytes (Some table) = judged_large bytes (study_of table None)
 
 -- each branch of the large study has at most so many events
 abbrev pub large_limit : ℕ
@@ -187,7 +191,7 @@ large_limit = 20000
 
 -- the text of the large study of a number is judged, and nothing is fetched
 abbrev pub verdict_on_large : List ℕ → Verdict
-verdict_on_large text = verdict_on_text (Lines (length text)) (table_of text)
+verdict_on_large text = verdict_on_text (length text) (table_of text)
 
 -- a branch of a bundle may be the first whose closing isn't what its feed tells
 abbrev pub verdict_on_failing : BundleTold → Option Failing → Verdict

@@ -12,7 +12,7 @@ ghost use Rattle.abides_run.specs.Output.{Probes};
 ghost use Rattle.abides_run.specs.Performed.{Finished, IsStride, Sent};
 ghost use Rattle.abides_run.specs.Rewinds.{IsThere, lasts_of, steps_from, target_state};
 ghost use Rattle.abides_run.specs.Verdict.{verdict_on_crossing, verdict_on_late};
-ghost use Rattle.abides_run.specs.declared.request.Task.TheVariants as task;
+ghost use Rattle.command_words.specs.declared.asked.Task.TheVariants as task;
 
 use crate::ending::{Ending, named, nameless};
 use crate::rewinds::{no_event, simulate_kept};

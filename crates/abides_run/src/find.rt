@@ -1,26 +1,26 @@
 //! From words and a library to a study or a bundle.
 
-ghost use Rattle.std.specs.Prelude.{◌≡◌, ◌⊎◌, ◌<◌, ◌≤◌, ◌∷◌, ◌++◌, [], ℕ, List, Option, None, Some, IfOk, IfErr, IfSome, OnOk, option_map, string_bytes};
+ghost use Rattle.std.specs.Prelude.{◌≡◌, ◌⊎◌, ◌<◌, ◌≤◌, ◌∷◌, ◌++◌, [], ℕ, List, Option, None, Some, Ok, IfOk, IfErr, IfSome, OnOk, option_map, string_bytes};
 ghost use Rattle.toml.specs.View.{table_view};
 ghost use Rattle.outside.specs.Rose.{Rose};
 ghost use Rattle.outside.specs.Files.{whole, held, content};
 ghost use Rattle.study_file.specs.Tables.{table_of};
 ghost use Rattle.study_rules.specs.Accepted.{StudyTold, study_told, study_of};
-ghost use Rattle.abides_run.specs.declared.request.Task.{Task as TaskTold};
+ghost use Rattle.command_words.specs.declared.asked.Task.{Task as TaskTold};
+ghost use Rattle.command_words.specs.Ranges.{IsRequest, IsTask};
 ghost use Rattle.study_file.specs.LargeStudy.{large_study};
-ghost use Rattle.abides_run.specs.Words.{texts, asked_of, workers_of, further_of, IsLarge, IsTask};
-ghost use Rattle.abides_run.specs.Verdict.{verdict, verdict_on_study, verdict_on_bytes, verdict_on_table, verdict_on_large, verdict_on_bundle, verdict_on_further, verdict_on_found, judged, Files, large_limit, most_bytes, most_bundle_bytes, series_of};
-ghost use Rattle.abides_run.specs.Fetched.{arguments_in, arguments_of, behind_bytes, behind_rules, behind_study, behind_table, fetched as fetched_names, series_after, named as named_file};
+ghost use Rattle.abides_run.specs.Words.{texts, asked_of, workers_of, further_of, IsLarge};
+ghost use Rattle.abides_run.specs.Verdict.{verdict, verdict_for, verdict_on_study, verdict_on_bytes, verdict_on_table, verdict_on_large, verdict_on_bundle, verdict_on_further, verdict_on_found, judged, large_limit, most_bytes, most_bundle_bytes, series_of};
+ghost use Rattle.abides_run.specs.Fetched.{arguments_in, arguments_of, behind_bytes, behind_rules, behind_study, behind_table, fetched as fetched_names, fetched_for, files_of, series_after, named as named_file};
 ghost use Rattle.abides_run.specs.Statuses.{Speaks, SpeaksFor};
-ghost use Rattle.abides_run.specs.Ends.{Ends, Fetches, IsSought};
+ghost use Rattle.abides_run.specs.Ends.{Ends, Fetches, IsRefusedWith, IsSought};
 ghost use Rattle.abides_run.specs.AllFound.{IsPaced, IsStaffed, IsTasked, IsWorkedBy, arguments_on, verdict_on_all};
 ghost use Rattle.abides_run.specs.Performed.{IsStride};
 
 use crate::ending::{Ending, named, nameless};
 use crate::found::{Found, FoundStudy};
-use crate::request::{Job, Request, Task};
 use crate::status::Status;
-use crate::words::asked;
+use command_words::{Request, Task, ask};
 use outside::{FetchError, Fetched, Library};
 use plain_lists::Memory;
 use std::alloc::Global;
@@ -95,16 +95,9 @@ fn fetch_series<L: Library>(
 
 // The study that a table says, with the bytes of its series file where it names one.
 fn accept_study(alloc: Global, raw: &RawStudy, series: Option<&[u8]>) -> Result<Study, Ending>
-    ensures study { IfOk result (λ s. (files : Files) (task : TaskTold) →
-        judged files task (study_of (table_view raw.now.table) (option_map (λ text. text.now) series.entry)) ≡ verdict_on_further files task (study_told s) (further_of task)) }
-    ensures behind { OnOk result ((task : TaskTold) →
-        behind_rules task (study_of (table_view raw.now.table) (option_map (λ text. text.now) series.entry)) ≡ named_file (further_of task)) }
+    ensures study { IfOk result (λ s. study_of (table_view raw.now.table) (option_map (λ text. text.now) series.entry) ≡ Ok (study_told s)) }
     ensures stride { IfOk result (λ s. IsStride s.stride) }
-    ensures ended { IfErr result (λ e. (files : Files) (task : TaskTold) (fetched : List (List ℕ)) (name : List ℕ) →
-        Ends (judged files task (study_of (table_view raw.now.table) (option_map (λ text. text.now) series.entry))) fetched e.status name) }
-    ensures speaks { IfErr result (λ e. (files : List (List ℕ)) (name : List ℕ) → Speaks files e.status name) }
-    ensures sought { IfErr result (λ e. IsSought e.status) }
-    ensures silent { IfErr result (λ e. ¬ (e.status ≡ Status.ReadFault)) }
+    ensures refused { IfErr result (λ e. (e.status ≡ Status.Memory) ⊎ IsRefusedWith (study_of (table_view raw.now.table) (option_map (λ text. text.now) series.entry)) e.status) }
 {
     match accept(alloc, raw, series) {
         Ok(study) => Ok(study),
@@ -157,7 +150,7 @@ fn further_name<'b>(task: &'b Task<'_>) -> Option<&'b str>
     ensures { option_map (λ name. name.now) result ≡ further_of task.now }
 {
     match task {
-        Task::Run | Task::Check | Task::Table | Task::Lines(_) | Task::Rewind(..) => None,
+        Task::Run | Task::Check | Task::Table | Task::Rewind(..) => None,
         Task::Cross(crossing, _) => Some(crossing.file.as_str()),
         Task::Session(script, _) => Some(script.as_str()),
     }
@@ -226,42 +219,8 @@ fn find_file<'a, L: Library>(
     }))
 }
 
-// The text of the large study of a number, or how the search ends without it.
-fn large_text(alloc: Global, number: u32) -> Result<String, Ending>
-    ensures text { IfOk result (λ text. string_bytes text ≡ large_study number large_limit) }
-    ensures wanting { IfErr result (λ e. e.status ≡ Status.Memory) }
-{
-    match study_text(alloc, number, LARGE_LIMIT) {
-        Ok(text) => Ok(text),
-        Err(Memory) => Err(nameless(alloc, Status::Memory)),
-    }
-}
-
-// The study of a text that is in no file, and that its lines are to be told; or how the search ends without one.
-fn read_text<'a>(alloc: Global, workers: u32, text: &str) -> Result<Found<'a>, Ending>
-    ensures study { IfOk result (λ f. verdict_on_large text.now ≡ verdict_on_all f) }
-    ensures arguments { IfOk result (λ f. arguments_on f ≡ []) }
-    ensures ranges { IfOk result IsTasked }
-    ensures stride { IfOk result IsPaced }
-    ensures range { (0 < workers) × (workers ≤ 64) → IfOk result IsStaffed }
-    ensures workers { IfOk result (IsWorkedBy (Some workers)) }
-    ensures ended { IfErr result (λ e. (fetched : List (List ℕ)) (name : List ℕ) → Ends (verdict_on_large text.now) fetched e.status name) }
-    ensures speaks { IfErr result (λ e. (files : List (List ℕ)) (name : List ℕ) → Speaks files e.status name) }
-    ensures sought { IfErr result (λ e. IsSought e.status) }
-    ensures silent { IfErr result (λ e. ¬ (e.status ≡ Status.ReadFault)) }
-{
-    let raw = tables(alloc, text.as_bytes())?;
-    let study = accept_study(alloc, &raw, None)?;
-    Ok(Found::Study(FoundStudy {
-        task: Task::Lines(text.len()),
-        study,
-        further: None,
-        workers,
-    }))
-}
-
 // The large study of a number, or how the search ends without one. No file is fetched.
-fn find_large<'a>(alloc: Global, workers: u32, number: u32) -> Result<Found<'a>, Ending>
+fn find_large<'a>(alloc: Global, number: u32, workers: u32) -> Result<Found<'a>, Ending>
     ensures study { IfOk result (λ f. verdict_on_large (large_study number large_limit) ≡ verdict_on_all f) }
     ensures arguments { IfOk result (λ f. arguments_on f ≡ []) }
     ensures ranges { IfOk result IsTasked }
@@ -273,8 +232,18 @@ fn find_large<'a>(alloc: Global, workers: u32, number: u32) -> Result<Found<'a>,
     ensures sought { IfErr result (λ e. IsSought e.status) }
     ensures silent { IfErr result (λ e. ¬ (e.status ≡ Status.ReadFault)) }
 {
-    let text = large_text(alloc, number)?;
-    read_text(alloc, workers, text.as_str())
+    let text = match study_text(alloc, number, LARGE_LIMIT) {
+        Ok(text) => text,
+        Err(Memory) => return Err(nameless(alloc, Status::Memory)),
+    };
+    let bytes = text.as_bytes();
+    let raw = tables(alloc, bytes)?;
+    let study = accept_study(alloc, &raw, None)?;
+    Ok(Found::Large {
+        study,
+        bytes: bytes.len(),
+        workers,
+    })
 }
 
 // The bytes of a bundle's file, or how the search ends without them.
@@ -305,6 +274,37 @@ fn find_bundle<'a, L: Library>(
     }
 }
 
+// The study that is asked for, what is to be done with it and by how many workers, or the bytes of the bundle; or how the search
+// ends without them.
+fn find_request<'a, L: Library>(
+    alloc: Global,
+    request: Request<'a>,
+    workers: u32,
+    library: &mut L,
+) -> Result<Found<'a>, Ending>
+    ensures study { IfOk result (λ f. IfSome (L.files library.old) (λ files. verdict_for files (Some request.entry) ≡ verdict_on_all f)) }
+    ensures arguments { IfOk result (λ f. arguments_on f ≡ arguments_in (Some request.entry)) }
+    ensures ranges { IsRequest request.entry → IfOk result IsTasked }
+    ensures stride { IfOk result IsPaced }
+    ensures range { (0 < workers) × (workers ≤ 64) → IfOk result IsStaffed }
+    ensures workers { IfOk result (IsWorkedBy (Some workers)) }
+    ensures ended { IfErr result (λ e. IfSome (L.files library.old) (λ files.
+        Ends (verdict_for files (Some request.entry)) (fetched_for files (Some request.entry)) e.status (string_bytes e.name))) }
+    ensures speaks { IfErr result (λ e. (bytes : List ℕ) × Speaks (files_of (Some request.entry) bytes) e.status (string_bytes e.name)) }
+    ensures unread { IsLarge (Some request.entry) → L.faults library.new ≡ L.faults library.old }
+    ensures sought { IfErr result (λ e. IsSought e.status) }
+    ensures fault { IfErr result (λ e. e.status ≡ Status.ReadFault → Rose (L.faults library.old) (L.faults library.new)) }
+    ensures steady { OnOk result (L.faults library.new ≡ L.faults library.old) }
+    ensures rises { L.faults library.old ≤ L.faults library.new }
+    ensures files { L.files library.new ≡ L.files library.old }
+{
+    match request {
+        Request::File(task, study) => find_file(alloc, task, workers, study.as_str(), library),
+        Request::Large(number) => find_large(alloc, number, workers),
+        Request::Bundle(name) => find_bundle(alloc, name.as_str(), library),
+    }
+}
+
 /// The study that the words ask for, what is to be done with it and by how many workers, or the bytes of the bundle; or how the
 /// search ends without them.
 pub fn find_asked<'a, L: Library>(
@@ -332,17 +332,8 @@ pub fn find_asked<'a, L: Library>(
     ensures rises { L.faults library.old ≤ L.faults library.new }
     ensures files { L.files library.new ≡ L.files library.old }
 {
-    match asked(alloc, words) {
-        Ok(Some(job)) => {
-            let Job { request, workers } = job;
-            match request {
-                Request::File(task, study) => {
-                    find_file(alloc, task, workers, study.as_str(), library)
-                }
-                Request::Large(number) => find_large(alloc, workers, number),
-                Request::Bundle(name) => find_bundle(alloc, name.as_str(), library),
-            }
-        }
+    match ask(alloc, words) {
+        Ok(Some(asked)) => find_request(alloc, asked.request, asked.workers, library),
         Ok(None) => Err(nameless(alloc, Status::Usage)),
         Err(Memory) => Err(nameless(alloc, Status::Memory)),
     }

@@ -1,9 +1,9 @@
 //! What was found for the words.
 
-use crate::request::Task;
+use command_words::Task;
 use study_rules::Study;
 
-/// An accepted study, what is to be done with it, the file that this needs, and by how many workers.
+/// What was asked for of a study, with the study that the rules accept and the file that its task needs.
 #[derive(Drop)]
 pub struct FoundStudy<'a> {
     /// What is to be done.
@@ -21,6 +21,15 @@ pub struct FoundStudy<'a> {
 pub enum Found<'a> {
     /// What a study's task needs.
     Study(FoundStudy<'a>),
+    /// A large study, of whose run six lines are to tell. Its text has so many bytes, and 1 to 64 workers simulate it.
+    Large {
+        /// The study.
+        study: Study,
+        /// How many bytes its text has.
+        bytes: usize,
+        /// How many workers.
+        workers: u32,
+    },
     /// The bytes of the bundle's file.
     Bundle(Vec<u8>),
 }

@@ -8,13 +8,12 @@ mod find;
 mod found;
 mod notes;
 mod perform;
-mod request;
 mod rewinds;
 mod send;
 mod sessions;
+mod simulate;
 mod status;
 mod top;
-mod words;
 pub mod worked;
 
 pub use notes::write_note;

@@ -1,27 +1,27 @@
 //! What is done with a study or a bundle.
 
-ghost use Rattle.std.specs.Prelude.{◌≡◌, ◌+◌, ◌++◌, ◌∷◌, ◌<◌, ◌≤◌, ◌^◌, [], ℕ, IfOk, codes, map, option_map, string_bytes};
+ghost use Rattle.std.specs.Prelude.{◌≡◌, ◌+◌, ◌++◌, ◌∷◌, ◌<◌, ◌≤◌, ◌^◌, [], ℕ, IfErr, IfOk, OnOk, codes, map, option_map, string_bytes};
 ghost use Rattle.std.specs.Fmt.{decimal};
 ghost use Rattle.abides_run.specs.Fetched.{arguments_of};
 ghost use Rattle.abides_run.specs.Output.{counts_line, study_bundle, study_events, study_lines, study_table};
 ghost use Rattle.abides_run.specs.Performed.{Finished, IsStride, Performed};
 ghost use Rattle.abides_run.specs.AllFound.{IsPaced, IsStaffed, IsTasked, arguments_on, verdict_on_all};
 ghost use Rattle.abides_run.specs.Verdict.{verdict_on_found};
-ghost use Rattle.abides_run.specs.Words.{IsTask};
+ghost use Rattle.command_words.specs.Ranges.{IsTask};
 ghost use Rattle.study_rules.specs.Accepted.{study_told};
 
 use crate::audits::audit_bundle;
 use crate::crosses::{cross_study, further_text};
 use crate::ending::{Ending, nameless};
 use crate::found::{Found, FoundStudy};
-use crate::request::Task;
 use crate::rewinds::rewind_study;
 use crate::send::{send, send_bundle};
 use crate::sessions::session_study;
+use crate::simulate::simulate;
 use crate::status::Status;
-use branch_workers::work;
-use kernel_copy::laws::segments_have_few_events;
-use kernel_copy::{Course, Keep};
+use branch_workers::{Keep, Setup};
+use command_words::Task;
+use kernel_copy::Course;
 use outside::{Gate, Ledger, Sink, Steps};
 use plain_lists::Memory;
 use probe_desk::Probe;
@@ -31,10 +31,20 @@ use std::thread::Threads;
 use study_report::study_table;
 use study_rules::Study;
 use trace_bundle::big_lines;
-use trace_bundle::laws::outcomes_are_a_run;
 
 // Nothing that is asked for here but a rewind, a cross and a session goes on from a state on the way.
 const NO_PLACES: u32 = 0;
+
+// The status with which bytes were sent.
+fn sent_status(sent: Result<(), Status>) -> Status
+    ensures ok { OnOk sent (result ≡ Status.Ok) }
+    ensures refused { IfErr sent (λ status. result ≡ status) }
+{
+    match sent {
+        Ok(()) => Status::Ok,
+        Err(status) => status,
+    }
+}
 
 // Has workers simulate each segment of a study once, and then writes the bundle.
 fn run_study<R: Threads + Wait + Sync, O: Sink, G: Gate + Sync, D: Ledger + Send>(
@@ -54,26 +64,16 @@ fn run_study<R: Threads + Wait + Sync, O: Sink, G: Gate + Sync, D: Ledger + Send
         (record { reads = reads; writes = O.faults out.new; taken = O.taken out.new; steps = steps.new })
         result }
 {
-    outcomes_are_a_run();
     let course = &study.course;
-    segments_have_few_events(course);
-    let worked = match work(
-        rt,
-        alloc,
-        course,
-        study.stride,
-        NO_PLACES,
-        Keep::Frames,
+    let setup = Setup {
+        stride: study.stride,
+        places: NO_PLACES,
+        keep: Keep::Frames,
         workers,
-        gate,
-        steps,
-    ) {
-        Ok(worked) => worked,
-        Err(Memory) => return Status::Memory,
     };
-    match send_bundle(alloc, course, &worked.outcomes, out) {
-        Ok(()) => Status::Ok,
-        Err(status) => status,
+    match simulate(rt, alloc, course, setup, gate, steps) {
+        Ok(worked) => sent_status(send_bundle(alloc, course, &worked.outcomes, out)),
+        Err(Memory) => Status::Memory,
     }
 }
 
@@ -97,20 +97,14 @@ fn table_study<R: Threads + Wait + Sync, O: Sink, G: Gate + Sync, D: Ledger + Se
         (record { reads = reads; writes = O.faults out.new; taken = O.taken out.new; steps = steps.new })
         result }
 {
-    outcomes_are_a_run();
     let course = &study.course;
-    segments_have_few_events(course);
-    let worked = match work(
-        rt,
-        alloc,
-        course,
-        study.stride,
-        NO_PLACES,
-        Keep::Entries,
+    let setup = Setup {
+        stride: study.stride,
+        places: NO_PLACES,
+        keep: Keep::Entries,
         workers,
-        gate,
-        steps,
-    ) {
+    };
+    let worked = match simulate(rt, alloc, course, setup, gate, steps) {
         Ok(worked) => worked,
         Err(Memory) => return Status::Memory,
     };
@@ -118,10 +112,7 @@ fn table_study<R: Threads + Wait + Sync, O: Sink, G: Gate + Sync, D: Ledger + Se
         Ok(text) => text,
         Err(_) => return Status::Memory,
     };
-    match send(out, &text) {
-        Ok(()) => Status::Ok,
-        Err(status) => status,
-    }
+    sent_status(send(out, &text))
 }
 
 // Has workers simulate each segment of a study once, and then writes the lines that tell of the run. The study's text has
@@ -144,21 +135,15 @@ fn tell_study<R: Threads + Wait + Sync, O: Sink, G: Gate + Sync, D: Ledger + Sen
         (record { reads = reads; writes = O.faults out.new; taken = O.taken out.new; steps = steps.new })
         result }
 {
-    outcomes_are_a_run();
     let course = &study.course;
-    segments_have_few_events(course);
-    let before = steps.count();
-    let worked = match work(
-        rt,
-        alloc,
-        course,
-        study.stride,
-        NO_PLACES,
-        Keep::Frames,
+    let setup = Setup {
+        stride: study.stride,
+        places: NO_PLACES,
+        keep: Keep::Frames,
         workers,
-        gate,
-        steps,
-    ) {
+    };
+    let before = steps.count();
+    let worked = match simulate(rt, alloc, course, setup, gate, steps) {
         Ok(worked) => worked,
         Err(Memory) => return Status::Memory,
     };
@@ -167,10 +152,7 @@ fn tell_study<R: Threads + Wait + Sync, O: Sink, G: Gate + Sync, D: Ledger + Sen
         Ok(text) => text,
         Err(Memory) => return Status::Memory,
     };
-    match send(out, text.as_bytes()) {
-        Ok(()) => Status::Ok,
-        Err(status) => status,
-    }
+    sent_status(send(out, text.as_bytes()))
 }
 
 // The line with these counts.
@@ -255,10 +237,6 @@ fn perform_task<R: Threads + Wait + Sync, O: Sink, G: Gate + Sync, D: Ledger + S
             let status = table_study(rt, alloc, study, workers, probes, out, gate, steps);
             nameless(alloc, status)
         }
-        Task::Lines(bytes) => {
-            let status = tell_study(rt, alloc, *bytes, study, workers, out, gate, steps);
-            nameless(alloc, status)
-        }
         Task::Rewind(marks, places) => {
             let marks = marks.as_slice();
             rewind_study(rt, alloc, study, marks, *places, workers, out, gate, steps)
@@ -301,6 +279,14 @@ pub fn perform<R: Threads + Wait + Sync, O: Sink, G: Gate + Sync, D: Ledger + Se
 {
     match found {
         Found::Study(study) => perform_task(rt, alloc, &study, probes, out, gate, steps),
+        Found::Large {
+            study,
+            bytes,
+            workers,
+        } => {
+            let status = tell_study(rt, alloc, bytes, &study, workers, out, gate, steps);
+            nameless(alloc, status)
+        }
         Found::Bundle(bytes) => audit_bundle(alloc, bytes, out),
     }
 }

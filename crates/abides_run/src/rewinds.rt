@@ -7,7 +7,6 @@ ghost use Rattle.trace_bundle.specs.Ran.{IsRunOf};
 ghost use Rattle.command_words.specs.Ranges.{AreMarks};
 ghost use Rattle.kernel_copy.specs.Courses.{IsCourse};
 ghost use Rattle.rewind_desk.specs.Best.{best};
-ghost use Rattle.rewind_desk.specs.Rewinds.{last_event};
 ghost use Rattle.rewind_desk.specs.Targets.{aimed_at};
 ghost use Rattle.rewind_desk.specs.declared.target.Target.{Target as TargetTold};
 ghost use Rattle.session_answers.specs.Counted.{surely_kept};
@@ -18,48 +17,38 @@ ghost use Rattle.abides_run.specs.Output.{Probes, study_events};
 ghost use Rattle.abides_run.specs.Performed.{Finished, IsStride, Sent};
 ghost use Rattle.abides_run.specs.Rewinds.{IsThere, lasts_of, rewinds_of, steps_from, steps_to, target_frames, target_state, argument_at};
 ghost use Rattle.abides_run.specs.Verdict.{verdict_on_found};
-ghost use Rattle.abides_run.specs.declared.request.Task.TheVariants as task;
+ghost use Rattle.command_words.specs.declared.asked.Task.TheVariants as task;
 
 use crate::ending::{Ending, named, nameless};
-use crate::send::{send, send_end};
+use crate::send::{ToSink, send};
+use crate::simulate::simulate;
 use crate::status::Status;
-use branch_workers::work;
+use branch_workers::{Keep, Setup};
 use checkpoint_shelf::ClosedShelf;
 use command_words::Mark;
-use kernel_copy::laws::{courses_stay_in_range, segments_have_few_events};
-use kernel_copy::{Checkpoint, Course, Keep, state_frames};
+use kernel_copy::laws::courses_stay_in_range;
+use kernel_copy::{Checkpoint, Course, state_frames};
 use kernel_core::Kernel;
 use outside::{Gate, Ledger, Sink, Steps};
 use plain_lists::Memory;
 use rewind_desk::after_work::rewinds_after_work;
 use rewind_desk::laws::sure_states_are_held;
-use rewind_desk::{Aimed, Past, RewindError, Target, aim, first_past, rewind};
+use rewind_desk::{Aimed, RewindError, Target, aim, first_past, rewind};
 use std::alloc::{AllocError, Global};
 use std::sync::{Arc, Wait};
 use std::thread::Threads;
 use study_rules::Study;
-use trace_bundle::laws::outcomes_are_a_run;
-use trace_bundle::{Ran, put_branch_head};
+use trace_bundle::{RunOutcomes, events_of_branch, put_branch_head, send_end};
 
-// The number of the last event of a branch's full run.
-fn last_of_branch<W: Ran>(course: &Course, ran: &W, branch: u16) -> u32
-    requires branch { branch < length course.now.plan.branches }
-    requires ran { IsRunOf course.now (W.count ran.now) (W.kept_of ran.now) (W.closing_of ran.now) }
-    ensures { result ≡ last_event course.now branch }
-{
-    let _ = course.opening();
-    ran.closing(course.last_segment(branch)).counts.events
-}
-
-// The same of each branch.
-fn last_events<W: Ran>(alloc: Global, course: &Course, ran: &W) -> Result<Vec<u32>, Memory>
+// The number of the last event of each branch's full run.
+fn last_events<W: RunOutcomes>(alloc: Global, course: &Course, ran: &W) -> Result<Vec<u32>, Memory>
     requires { IsRunOf course.now (W.count ran.now) (W.kept_of ran.now) (W.closing_of ran.now) }
     ensures { IfOk result (λ v. v.items ≡ lasts_of course.now) }
 {
     let mut lasts = Vec::new(alloc);
     let count = course.plan().branches().len() as u16;
     for branch in 0..count {
-        lasts.push(last_of_branch(course, ran, branch))?;
+        lasts.push(events_of_branch(course, ran, branch))?;
     }
     Ok(lasts)
 }
@@ -168,7 +157,7 @@ fn send_rewinds<O: Sink, L: Ledger>(
     ensures most { steps.new ≤ steps.old + sum_by (steps_from shelf.now) targets.now }
 {
     send_targets(alloc, course, shelf, targets, out, steps)?;
-    send_end(alloc, targets.len() as u16, out)
+    send_end(alloc, targets.len() as u16, &ToSink { alloc }, out)
 }
 
 // The word of a mark, behind which its branch's last event stands.
@@ -232,22 +221,16 @@ pub fn simulate_kept<R: Threads + Wait + Sync, G: Gate + Sync, D: Ledger + Send>
     ensures least { steps.old ≤ steps.new }
     ensures most { steps.new ≤ steps.old + study_events study.now.course.value }
 {
-    outcomes_are_a_run();
     sure_states_are_held();
     rewinds_after_work();
     let course = &study.course;
-    segments_have_few_events(course);
-    let worked = work(
-        rt,
-        alloc,
-        course,
-        study.stride,
+    let setup = Setup {
+        stride: study.stride,
         places,
-        Keep::Frames,
+        keep: Keep::Frames,
         workers,
-        gate,
-        steps,
-    )?;
+    };
+    let worked = simulate(rt, alloc, course, setup, gate, steps)?;
     let lasts = last_events(alloc, course, &worked.outcomes)?;
     Ok(Simulated {
         shelf: worked.shelf,

@@ -12,8 +12,8 @@ ghost use Rattle.abides_run.specs.Words.{asked_of};
 ghost use Rattle.abides_run.specs.Verdict.{verdict, usage, no_file, file_too_long, refused, no_branch, no_stock, bad_orders, bad_bundle, bad_script, refused_act, no_event, accepted, verdict_on_study, verdict_on_found, verdict_on_bundle, verdict_on_script};
 ghost use Rattle.abides_run.specs.Fetched.{fetched};
 ghost use Rattle.abides_run.specs.Notes.{note, past_event};
-ghost use Rattle.abides_run.specs.declared.request.Request.TheVariants.{File, Large, Bundle};
-ghost use Rattle.abides_run.specs.declared.request.Task.TheVariants as task;
+ghost use Rattle.command_words.specs.declared.asked.Request.TheVariants.{File, Large, Bundle};
+ghost use Rattle.command_words.specs.declared.asked.Task.TheVariants as task;
 
 use crate::status::Status;
 

@@ -71,114 +71,24 @@ pub struct TraderSetting {
 
 impl Kind {
     // The kind with one of its parameters replaced.
-    fn with(self, name: Param, value: u64) -> Kind
+    fn with(mut self, name: Param, value: u64) -> Kind
         requires { IsOwnParam self name value }
         ensures { result ≡ kind_with self name value }
     {
-        match (self, name) {
-            (Kind::Noise { .. }, Param::Size) => Kind::Noise { size: value as u32 },
-            (Kind::Value { noise, margin, .. }, Param::Size) => Kind::Value {
-                size: value as u32,
-                noise,
-                margin,
-            },
-            (Kind::Value { size, margin, .. }, Param::Noise) => Kind::Value {
-                size,
-                noise: value as u32,
-                margin,
-            },
-            (Kind::Value { size, noise, .. }, Param::Margin) => Kind::Value {
-                size,
-                noise,
-                margin: value as u32,
-            },
-            (Kind::Momentum { short, long, .. }, Param::Size) => Kind::Momentum {
-                size: value as u32,
-                short,
-                long,
-            },
-            (
-                Kind::Maker {
-                    half,
-                    step,
-                    levels,
-                    pause,
-                    ..
-                },
-                Param::Size,
-            ) => Kind::Maker {
-                size: value as u32,
-                half,
-                step,
-                levels,
-                pause,
-            },
-            (
-                Kind::Maker {
-                    size,
-                    step,
-                    levels,
-                    pause,
-                    ..
-                },
-                Param::Half,
-            ) => Kind::Maker {
-                size,
-                half: value as u32,
-                step,
-                levels,
-                pause,
-            },
-            (
-                Kind::Maker {
-                    size,
-                    half,
-                    levels,
-                    pause,
-                    ..
-                },
-                Param::Step,
-            ) => Kind::Maker {
-                size,
-                half,
-                step: value as u32,
-                levels,
-                pause,
-            },
-            (
-                Kind::Maker {
-                    size,
-                    half,
-                    step,
-                    pause,
-                    ..
-                },
-                Param::Levels,
-            ) => Kind::Maker {
-                size,
-                half,
-                step,
-                levels: value as u32,
-                pause,
-            },
-            (
-                Kind::Maker {
-                    size,
-                    half,
-                    step,
-                    levels,
-                    ..
-                },
-                Param::Pause,
-            ) => Kind::Maker {
-                size,
-                half,
-                step,
-                levels,
-                pause: value,
-            },
-            _ => self,
+        match (&mut self, name) {
+            (Kind::Noise { size }, Param::Size) => *size = value as u32,
+            (Kind::Value { size, .. }, Param::Size) => *size = value as u32,
+            (Kind::Momentum { size, .. }, Param::Size) => *size = value as u32,
+            (Kind::Maker { size, .. }, Param::Size) => *size = value as u32,
+            (Kind::Value { noise, .. }, Param::Noise) => *noise = value as u32,
+            (Kind::Value { margin, .. }, Param::Margin) => *margin = value as u32,
+            (Kind::Maker { half, .. }, Param::Half) => *half = value as u32,
+            (Kind::Maker { step, .. }, Param::Step) => *step = value as u32,
+            (Kind::Maker { levels, .. }, Param::Levels) => *levels = value as u32,
+            (Kind::Maker { pause, .. }, Param::Pause) => *pause = value,
+            _ => {}
         }
+        self
     }
 }
 

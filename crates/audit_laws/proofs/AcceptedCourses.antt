@@ -11,7 +11,7 @@ use Rattle.std.proofs.lemmas.List.Elements.{All-cons, All-nil}
 use Rattle.toml.specs.Data.{Data, Members}
 use Rattle.agent_shell.specs.declared.setting.TraderSetting.{TraderSetting}
 use Rattle.branch_tree.specs.declared.branch.Branch.{Branch}
-use Rattle.branch_tree.specs.Names.{IsNameLength}
+use Rattle.branch_tree.specs.Names.{IsNameLength, is_name, is_name_byte}
 use Rattle.fundamental_series.specs.declared.rule.SeriesRow.{SeriesRow}
 use Rattle.kernel_copy.specs.Courses.{IsCourse}
 use Rattle.study_file.specs.Tables.{is_named}
@@ -24,7 +24,7 @@ use Rattle.study_market.proofs.Held.{both-none}
 use Rattle.study_market.proofs.Openings.{is-opening}
 use Rattle.study_rules.specs.Accepted.{StudyTold, course_of, first_refusal, rows_in, study_of, told_of}
 use Rattle.study_rules.specs.Branches.{branch_of, branches_of, root_branch}
-use Rattle.study_rules.specs.BranchRules.{has_new_name, is_name, is_name_byte, names_of}
+use Rattle.study_rules.specs.BranchRules.{has_new_name, names_of}
 use Rattle.study_rules.specs.Entries.{branch_entries, name_in}
 use Rattle.study_rules.specs.FirstBroken.{branch_rules}
 use Rattle.study_rules.specs.Scope.{Scope, scope_of}

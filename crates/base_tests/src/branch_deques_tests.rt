@@ -4,6 +4,7 @@ mod thief;
 
 ghost use Rattle.std.specs.Prelude.{◌≡◌, []};
 
+use crate::facts::holds;
 use branch_deques::{Lane, Memory, Room, open_lanes};
 use std::alloc::Global;
 use std::marker::Brand;
@@ -127,21 +128,21 @@ fn lanes_cross<B: Room + Send>(lane: &Lane<B>) {
 #[test]
 fn a_thief_takes_each_once(rt: HostRuntime) -> Result<(), Fail> {
     let (got, all_stolen) = share_picked(&rt, rt.alloc())?;
-    assert_eq!(rt; got.as_slice(), [0, 1, 2].as_slice());
-    assert!(rt; all_stolen);
+    holds(&rt, got.as_slice() == [0, 1, 2].as_slice());
+    holds(&rt, all_stolen);
     Ok(())
 }
 
 #[test]
 fn an_owner_pops_each_in_order(rt: HostRuntime) -> Result<(), Fail> {
     let got = pop_picked(rt.alloc())?;
-    assert_eq!(rt; got.as_slice(), [0, 1, 2].as_slice());
+    holds(&rt, got.as_slice() == [0, 1, 2].as_slice());
     Ok(())
 }
 
 #[test]
 fn the_next_higher_lane_is_first(rt: HostRuntime) -> Result<(), Fail> {
     let got = take_picked(&rt, rt.alloc())?;
-    assert_eq!(rt; got.as_slice(), [2, 0].as_slice());
+    holds(&rt, got.as_slice() == [2, 0].as_slice());
     Ok(())
 }

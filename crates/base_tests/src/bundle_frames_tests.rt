@@ -1,12 +1,14 @@
 ghost use Rattle.std.specs.Prelude.{◌≡◌, [], IfOk, length};
 
+use crate::facts::holds;
 use bundle_frames::{
     ClosingAgent, ClosingCounts, ClosingOrder, ClosingStock, EventHead, Written, put_all,
     put_branch, put_end, put_header, put_parts, put_parts_with_feed,
 };
-use market_types::{Body, EditMark, Entry, Feed, FeedList, Record, Sequence, Side, Token, What};
+use market_types::{
+    Body, EditMark, Entry, Feed, FeedList, Memory, Record, Sequence, Side, Token, What,
+};
 use std::alloc::Global;
-use std::test::*;
 
 const COUNTS: ClosingCounts = ClosingCounts {
     end: b'-',
@@ -87,7 +89,7 @@ fn edit(alloc: Global) -> EditMark
     }
 }
 
-fn agent(alloc: Global) -> Result<ClosingAgent, Fail>
+fn agent(alloc: Global) -> Result<ClosingAgent, Memory>
     ensures { IfOk result (λ a. length a.positions ≡ 1) }
 {
     let mut positions = Vec::new(alloc);
@@ -107,28 +109,36 @@ fn agent(alloc: Global) -> Result<ClosingAgent, Fail>
     })
 }
 
+const ENDED: Feed = Feed {
+    locate: 0,
+    tracking: 0,
+    time: 1000,
+    what: What::System { code: b'C' },
+};
+
+const ALL: usize = 11 + 16 + 14 + 45 + 20 + 47 + 45 + 68 + 46 + 46 + 46 + 80 + 5;
+
 #[test]
-fn each_frame_has_its_length(rt: HostRuntime) -> Result<(), Fail> {
+fn each_frame_has_its_length(rt: HostRuntime) {
     let alloc = rt.alloc();
-    let mut out = Vec::new(alloc);
-    assert!(rt; put_header(&mut out, 2, 1, 1).is_ok());
-    assert!(rt; put_branch(&mut out, 0, 65_535, 0, b"root").is_ok());
-    let ended = Feed {
-        locate: 0,
-        tracking: 0,
-        time: 1000,
-        what: What::System { code: b'C' },
+    let Ok(agent) = agent(alloc) else {
+        panic!(rt; "out of memory");
     };
-    assert!(rt; ended.put(&mut out).is_ok());
-    assert!(rt; Entry::Event(wakeup(alloc)).put(&mut out).is_ok());
-    assert!(rt; Entry::Edit(edit(alloc)).put(&mut out).is_ok());
-    assert!(rt; put_parts(&mut out, &HEAD, &Body::Ask(0)).is_ok());
-    assert!(rt; put_parts_with_feed(&mut out, &HEAD, &Body::Wake, &[], &[]).is_ok());
-    assert!(rt; COUNTS.put(&mut out).is_ok());
-    assert!(rt; put_all(&mut out, &[STOCK, STOCK]).is_ok());
-    assert!(rt; put_all(&mut out, &[ORDER]).is_ok());
-    assert!(rt; agent(alloc)?.put(&mut out).is_ok());
-    assert!(rt; put_end(&mut out, 1).is_ok());
-    assert!(rt; out.len() == 11 + 16 + 14 + 45 + 20 + 47 + 45 + 68 + 46 + 46 + 46 + 80 + 5);
-    Ok(())
+    let mut out = Vec::new(alloc);
+    holds(&rt, put_header(&mut out, 2, 1, 1).is_ok());
+    holds(&rt, put_branch(&mut out, 0, 65_535, 0, b"root").is_ok());
+    holds(&rt, ENDED.put(&mut out).is_ok());
+    holds(&rt, Entry::Event(wakeup(alloc)).put(&mut out).is_ok());
+    holds(&rt, Entry::Edit(edit(alloc)).put(&mut out).is_ok());
+    holds(&rt, put_parts(&mut out, &HEAD, &Body::Ask(0)).is_ok());
+    holds(
+        &rt,
+        put_parts_with_feed(&mut out, &HEAD, &Body::Wake, &[], &[]).is_ok(),
+    );
+    holds(&rt, COUNTS.put(&mut out).is_ok());
+    holds(&rt, put_all(&mut out, &[STOCK, STOCK]).is_ok());
+    holds(&rt, put_all(&mut out, &[ORDER]).is_ok());
+    holds(&rt, agent.put(&mut out).is_ok());
+    holds(&rt, put_end(&mut out, 1).is_ok());
+    holds(&rt, out.len() == ALL);
 }

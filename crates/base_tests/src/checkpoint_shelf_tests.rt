@@ -9,7 +9,8 @@ ghost use Rattle.std.specs.Prelude.{◌≡◌, ◌<◌, IsSome, Some};
 ghost use Rattle.shelf_core.specs.Plan.{place_of};
 
 use self::seats::refusal;
-use checkpoint_shelf::{Begun, Found, Kept, Key, PlaceWord, Shelf, ShelfPlan, ShelfSeat};
+use crate::facts::holds;
+use checkpoint_shelf::{Begun, Found, Key, PlaceWord, Shelf, ShelfPlan, ShelfSeat, Shelved};
 use plain_lists::{Memory, Sequence};
 use std::alloc::Global;
 use std::sync::Arc;
@@ -22,7 +23,7 @@ struct Item {
     course: u32,
 }
 
-impl Kept for Item {
+impl Shelved for Item {
     type Course = u32;
 
     ghost key_of = { λ i. i.key };
@@ -119,6 +120,6 @@ fn two_seats_at_one_fork(rt: HostRuntime) -> Result<(), Fail> {
         return Err(Fail::from("no seats, or no place"));
     }
     let seen = two_seats(rt.alloc(), &shelf, &mut zero, &mut one, k, other)?;
-    assert_eq!(rt; seen.as_slice(), [true; 8].as_slice());
+    holds(&rt, seen.as_slice() == [true; 8].as_slice());
     Ok(())
 }

@@ -1,5 +1,6 @@
 ghost use Rattle.std.specs.Prelude.{◌≡◌, ◌<◌, ◌≤◌, ◌+◌, ◌-◌, All};
 
+use crate::facts::{equal, holds};
 use event_queue::Queue;
 use market_types::{Body, Message};
 use std::process::Abort;
@@ -93,7 +94,7 @@ fn is_before(a: &Message, b: &Message) -> bool {
 
 impl PlainQueue {
     fn push(&mut self, rt: &impl Abort, m: Message) {
-        assert!(rt; self.messages.push(m).is_ok());
+        holds(rt, self.messages.push(m).is_ok());
     }
 
     fn least(&self) -> Option<Message> {
@@ -116,16 +117,16 @@ impl PlainQueue {
 
 // Compares a list of messages, and all that leaves a queue, with what leaves the plain queue.
 fn assert_same(rt: &impl Abort, listed: &[Message], queue: &mut Queue, plain: &mut PlainQueue) {
-    assert_eq!(rt; listed.len(), plain.messages.len());
+    equal(rt, listed.len(), plain.messages.len());
     for message in listed {
         let least = plain.pop_least();
-        assert_eq!(rt; Some(*message), least);
-        assert_eq!(rt; queue.peek_least().copied(), least);
-        assert_eq!(rt; queue.pop_least(), least);
+        holds(rt, Some(*message) == least);
+        equal(rt, queue.peek_least().copied(), least);
+        equal(rt, queue.pop_least(), least);
     }
-    assert_eq!(rt; queue.len(), 0);
-    assert_eq!(rt; queue.peek_least().copied(), None);
-    assert_eq!(rt; queue.pop_least(), None);
+    equal(rt, queue.len(), 0);
+    equal(rt, queue.peek_least().copied(), None);
+    equal(rt, queue.pop_least(), None);
 }
 
 #[test]
@@ -142,7 +143,7 @@ fn agrees_with_a_plain_list(rt: HostRuntime) {
         if next % 5 == 3 {
             let moved = put_back(&mut queue, time + 50, next + 1);
             let least = plain.pop_least();
-            assert_eq!(rt; moved, least);
+            equal(&rt, moved, least);
             if let Some(m) = least {
                 plain.push(
                     &rt,
@@ -154,15 +155,15 @@ fn agrees_with_a_plain_list(rt: HostRuntime) {
             }
         } else if next % 5 < 3 {
             let left = leave(&mut queue, next + 1);
-            assert_eq!(rt; left, plain.pop_least());
+            equal(&rt, left, plain.pop_least());
         }
-        assert_eq!(rt; queue.len(), plain.messages.len());
+        equal(&rt, queue.len(), plain.messages.len());
     }
     let (Ok(listed), Ok(mut copy)) = (queue.messages(rt.alloc()), queue.copy(rt.alloc())) else {
         panic!(rt; "out of memory");
     };
     assert_same(&rt, listed.as_slice(), &mut copy, &mut plain);
-    assert_eq!(rt; queue.len(), listed.len());
+    equal(&rt, queue.len(), listed.len());
 }
 
 #[test]
@@ -173,14 +174,14 @@ fn replaces_the_least_among_several(rt: HostRuntime) {
     join(&mut queue, 1003, 1);
     join(&mut queue, 1004, 2);
     join(&mut queue, 1009, 3);
-    assert_eq!(rt; replace(&mut queue, 1006, 4), Some(wakeup(1003, 1)));
-    assert_eq!(rt; replace(&mut queue, 1006, 5), Some(wakeup(1004, 2)));
-    assert_eq!(rt; queue.len(), 4);
-    assert_eq!(rt; leave(&mut queue, 6), Some(wakeup(1005, 0)));
-    assert_eq!(rt; leave(&mut queue, 6), Some(wakeup(1006, 4)));
-    assert_eq!(rt; leave(&mut queue, 6), Some(wakeup(1006, 5)));
-    assert_eq!(rt; leave(&mut queue, 6), Some(wakeup(1009, 3)));
-    assert_eq!(rt; replace(&mut queue, 1010, 6), None);
+    equal(&rt, replace(&mut queue, 1006, 4), Some(wakeup(1003, 1)));
+    equal(&rt, replace(&mut queue, 1006, 5), Some(wakeup(1004, 2)));
+    equal(&rt, queue.len(), 4);
+    equal(&rt, leave(&mut queue, 6), Some(wakeup(1005, 0)));
+    equal(&rt, leave(&mut queue, 6), Some(wakeup(1006, 4)));
+    equal(&rt, leave(&mut queue, 6), Some(wakeup(1006, 5)));
+    equal(&rt, leave(&mut queue, 6), Some(wakeup(1009, 3)));
+    equal(&rt, replace(&mut queue, 1010, 6), None);
 }
 
 #[test]
@@ -192,14 +193,14 @@ fn delivers_wakeups_and_questions_in_one_order(rt: HostRuntime) {
     ask(&mut queue, 1003, 2);
     join(&mut queue, 1003, 3);
     ask(&mut queue, 1001, 4);
-    assert_eq!(rt; put_back(&mut queue, 1002, 5), Some(question(1001, 4)));
-    assert_eq!(rt; leave(&mut queue, 5), Some(question(1002, 4)));
-    assert_eq!(rt; put_back(&mut queue, 1006, 5), Some(question(1003, 2)));
-    assert_eq!(rt; replace(&mut queue, 1004, 5), Some(wakeup(1003, 3)));
-    assert_eq!(rt; queue.len(), 4);
-    assert_eq!(rt; leave(&mut queue, 6), Some(wakeup(1004, 0)));
-    assert_eq!(rt; leave(&mut queue, 6), Some(question(1004, 1)));
-    assert_eq!(rt; leave(&mut queue, 6), Some(wakeup(1004, 5)));
-    assert_eq!(rt; leave(&mut queue, 6), Some(question(1006, 2)));
-    assert_eq!(rt; leave(&mut queue, 6), None);
+    equal(&rt, put_back(&mut queue, 1002, 5), Some(question(1001, 4)));
+    equal(&rt, leave(&mut queue, 5), Some(question(1002, 4)));
+    equal(&rt, put_back(&mut queue, 1006, 5), Some(question(1003, 2)));
+    equal(&rt, replace(&mut queue, 1004, 5), Some(wakeup(1003, 3)));
+    equal(&rt, queue.len(), 4);
+    equal(&rt, leave(&mut queue, 6), Some(wakeup(1004, 0)));
+    equal(&rt, leave(&mut queue, 6), Some(question(1004, 1)));
+    equal(&rt, leave(&mut queue, 6), Some(wakeup(1004, 5)));
+    equal(&rt, leave(&mut queue, 6), Some(question(1006, 2)));
+    equal(&rt, leave(&mut queue, 6), None);
 }

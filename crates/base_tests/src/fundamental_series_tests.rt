@@ -2,6 +2,7 @@ ghost use Rattle.std.specs.Prelude.{◌≡◌, ◌<◌, ◌≤◌, ◌-◌, ◌/
 ghost use Rattle.fundamental_series.specs.Made.{by_rows, first_time_of};
 ghost use Rattle.fundamental_series.specs.Worked.{two_rows};
 
+use crate::facts::{equal, holds};
 use draw_streams::worked::{COUNTING_KEY, ZERO_KEY};
 use fundamental_series::{
     Series, SeriesRow, SeriesRule, series_by_rule, series_from_rows, with_offset,
@@ -51,12 +52,12 @@ fn goes_by_its_rule(rt: HostRuntime) {
     ) else {
         panic!(rt; "out of memory");
     };
-    assert_eq!(rt; calm.value_at(1000), 100_000);
-    assert_eq!(rt; calm.value_at(1099), 100_000);
-    assert_eq!(rt; calm.value_at(1100), 101_000);
-    assert_eq!(rt; calm.value_at(1200), 101_900);
-    assert_eq!(rt; calm.value_at(5000), 101_900);
-    assert_eq!(rt; half.value_at(1100), 100_000);
+    equal(&rt, calm.value_at(1000), 100_000);
+    equal(&rt, calm.value_at(1099), 100_000);
+    equal(&rt, calm.value_at(1100), 101_000);
+    equal(&rt, calm.value_at(1200), 101_900);
+    equal(&rt, calm.value_at(5000), 101_900);
+    equal(&rt, half.value_at(1100), 100_000);
 }
 
 // The value so many nanoseconds after the opening.
@@ -91,25 +92,26 @@ fn takes_its_shocks_from_its_own_stream(rt: HostRuntime) {
     ) else {
         panic!(rt; "out of memory");
     };
-    assert_eq!(rt;
-        shown(&first),
-        [100_000, 99_697, 100_183, 99_982, 99_838, 100_008, 100_008]
+    holds(
+        &rt,
+        shown(&first) == [100_000, 99_697, 100_183, 99_982, 99_838, 100_008, 100_008],
     );
-    assert_eq!(rt;
-        shown(&second),
-        [100_000, 100_215, 100_380, 100_157, 100_302, 99_943, 99_943]
+    holds(
+        &rt,
+        shown(&second) == [100_000, 100_215, 100_380, 100_157, 100_302, 99_943, 99_943],
     );
-    assert_eq!(rt;
-        shown(&wild),
-        [
-            100,
-            1,
-            941_479_420,
-            558_917_008,
-            271_500_302,
-            594_216_091,
-            594_216_091
-        ]
+    holds(
+        &rt,
+        shown(&wild)
+            == [
+                100,
+                1,
+                941_479_420,
+                558_917_008,
+                271_500_302,
+                594_216_091,
+                594_216_091,
+            ],
     );
 }
 
@@ -133,17 +135,17 @@ fn goes_by_its_rows(rt: HostRuntime) {
     let Ok(series) = file_series(rt.alloc()) else {
         panic!(rt; "out of memory");
     };
-    assert_eq!(rt; series.value_at(900), 99_000);
-    assert_eq!(rt; series.value_at(1499), 99_000);
-    assert_eq!(rt; series.value_at(1500), 98_000);
-    assert_eq!(rt; series.value_at(9999), 98_000);
+    equal(&rt, series.value_at(900), 99_000);
+    equal(&rt, series.value_at(1499), 99_000);
+    equal(&rt, series.value_at(1500), 98_000);
+    equal(&rt, series.value_at(9999), 98_000);
 }
 
 #[test]
 fn offsets_stay_prices(rt: HostRuntime) {
-    assert_eq!(rt; with_offset(99_000, -500), 98_500);
-    assert_eq!(rt; with_offset(99_000, -99_000), 1);
-    assert_eq!(rt; with_offset(99_000, 2_000_000_000), 1_999_999_900);
-    assert_eq!(rt; with_offset(99_000, i64::MIN), 1);
-    assert_eq!(rt; with_offset(99_000, i64::MAX), 1_999_999_900);
+    equal(&rt, with_offset(99_000, -500), 98_500);
+    equal(&rt, with_offset(99_000, -99_000), 1);
+    equal(&rt, with_offset(99_000, 2_000_000_000), 1_999_999_900);
+    equal(&rt, with_offset(99_000, i64::MIN), 1);
+    equal(&rt, with_offset(99_000, i64::MAX), 1_999_999_900);
 }

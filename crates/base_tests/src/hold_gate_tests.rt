@@ -1,3 +1,4 @@
+use crate::facts::equal;
 use outside::{Gate, HoldGate};
 use std::test::Fail;
 
@@ -8,11 +9,7 @@ fn holds_one_until_another(rt: HostRuntime) -> Result<(), Fail> {
         let gate = HoldGate::new(2, 3, 10);
         gate.pass(0, first);
         gate.pass(1, second);
-        assert_eq!(rt;
-            (gate.exceeded(), gate.passes()),
-            (exceeded, 2),
-            "{first} first"
-        );
+        equal(&rt, (gate.exceeded(), gate.passes()), (exceeded, 2));
     }
     Ok(())
 }

@@ -1,5 +1,6 @@
 ghost use Rattle.std.specs.Prelude.{◌≡◌, ◌<◌, ◌^◌};
 
+use crate::facts::holds;
 use itch_codec::{decode_feed, encode_feed, frame, frame_of_two, unframe};
 use market_types::{CodecError, Feed, Side, Symbol, What};
 use std::test::*;
@@ -51,7 +52,7 @@ fn feed(locate: u16, time: u64, what: What) -> Feed
 #[test]
 fn states_both_ways(rt: HostRuntime) {
     let system = feed(0, 1000, What::System { code: b'O' });
-    assert!(rt; goes_both_ways(&system, &SYSTEM_BYTES));
+    holds(&rt, goes_both_ways(&system, &SYSTEM_BYTES));
     let directory = What::Directory {
         stock: STOCK,
         category: b'Q',
@@ -68,14 +69,17 @@ fn states_both_ways(rt: HostRuntime) {
         leverage: 0,
         inverse: b'N',
     };
-    assert!(rt; goes_both_ways(&feed(1, 1000, directory), &DIRECTORY_BYTES));
+    holds(
+        &rt,
+        goes_both_ways(&feed(1, 1000, directory), &DIRECTORY_BYTES),
+    );
     let trading = What::Trading {
         stock: STOCK,
         state: b'T',
         reserved: b' ',
         reason: *b"    ",
     };
-    assert!(rt; goes_both_ways(&feed(1, 1000, trading), &TRADING_BYTES));
+    holds(&rt, goes_both_ways(&feed(1, 1000, trading), &TRADING_BYTES));
 }
 
 #[test]
@@ -87,19 +91,25 @@ fn orders_both_ways(rt: HostRuntime) {
         stock: STOCK,
         price: 100_000,
     };
-    assert!(rt; goes_both_ways(&feed(1, 2000, add), &ADD_BYTES));
+    holds(&rt, goes_both_ways(&feed(1, 2000, add), &ADD_BYTES));
     let executed = What::Executed {
         reference: 2,
         shares: 200,
         number: 1,
     };
-    assert!(rt; goes_both_ways(&feed(1, 3000, executed), &EXECUTED_BYTES));
+    holds(
+        &rt,
+        goes_both_ways(&feed(1, 3000, executed), &EXECUTED_BYTES),
+    );
     let cancel = What::Cancel {
         reference: 2,
         shares: 150,
     };
-    assert!(rt; goes_both_ways(&feed(1, 3000, cancel), &CANCEL_BYTES));
-    assert!(rt; goes_both_ways(&feed(0, 0, What::Delete { reference: 0 }), &DELETE_BYTES));
+    holds(&rt, goes_both_ways(&feed(1, 3000, cancel), &CANCEL_BYTES));
+    holds(
+        &rt,
+        goes_both_ways(&feed(0, 0, What::Delete { reference: 0 }), &DELETE_BYTES),
+    );
 }
 
 #[test]
@@ -117,7 +127,7 @@ fn trades_both_ways(rt: HostRuntime) {
             number: 7,
         },
     };
-    assert!(rt; goes_both_ways(&trade, &TRADE_BYTES));
+    holds(&rt, goes_both_ways(&trade, &TRADE_BYTES));
     let cross = What::Cross {
         shares: 0x0001_0000_01f4,
         stock: STOCK,
@@ -125,39 +135,53 @@ fn trades_both_ways(rt: HostRuntime) {
         number: 8,
         kind: b'H',
     };
-    assert!(rt; goes_both_ways(&feed(1, 3000, cross), &CROSS_BYTES));
+    holds(&rt, goes_both_ways(&feed(1, 3000, cross), &CROSS_BYTES));
 }
 
 #[test]
 fn refused_codes(rt: HostRuntime) {
-    assert!(rt; decode_feed(&[]) == Err(CodecError::WrongLength(0, 1)));
-    assert!(rt; decode_feed(b"Z") == Err(CodecError::UnknownType(0x5a)));
-    assert!(rt; decode_feed(b"D") == Err(CodecError::WrongLength(1, 19)));
+    holds(&rt, decode_feed(&[]) == Err(CodecError::WrongLength(0, 1)));
+    holds(&rt, decode_feed(b"Z") == Err(CodecError::UnknownType(0x5a)));
+    holds(
+        &rt,
+        decode_feed(b"D") == Err(CodecError::WrongLength(1, 19)),
+    );
     let mut other_state = TRADING_BYTES;
     other_state[19] = b'X';
-    assert!(rt; decode_feed(&other_state) == Err(CodecError::BadField(19)));
+    holds(
+        &rt,
+        decode_feed(&other_state) == Err(CodecError::BadField(19)),
+    );
     other_state[11] = b' ';
-    assert!(rt; decode_feed(&other_state) == Err(CodecError::BadField(11)));
+    holds(
+        &rt,
+        decode_feed(&other_state) == Err(CodecError::BadField(11)),
+    );
 }
 
 #[test]
 fn frames(rt: HostRuntime) {
     let mut out = Vec::new(rt.alloc());
-    assert!(rt; frame(b"abc", &mut out).is_ok());
-    assert!(rt; frame(&[], &mut out).is_ok());
-    assert!(rt; out.as_slice() == b"\x00\x03abc\x00\x00".as_slice());
+    holds(&rt, frame(b"abc", &mut out).is_ok());
+    holds(&rt, frame(&[], &mut out).is_ok());
+    holds(&rt, out.as_slice() == b"\x00\x03abc\x00\x00".as_slice());
     let mut parts = Vec::new(rt.alloc());
-    assert!(rt; frame_of_two(b"ab", b"c", &mut parts).is_ok());
-    assert!(rt; parts.as_slice() == b"\x00\x03abc".as_slice());
-    assert!(rt;
+    holds(&rt, frame_of_two(b"ab", b"c", &mut parts).is_ok());
+    holds(&rt, parts.as_slice() == b"\x00\x03abc".as_slice());
+    holds(
+        &rt,
         matches!(
             unframe(&out),
             Ok((payload, rest)) if payload == b"abc".as_slice() && rest == b"\x00\x00".as_slice()
-        )
+        ),
     );
-    assert!(rt;
-        matches!(unframe(&[0, 0]), Ok((payload, rest)) if payload.is_empty() && rest.is_empty())
+    holds(
+        &rt,
+        matches!(unframe(&[0, 0]), Ok((payload, rest)) if payload.is_empty() && rest.is_empty()),
     );
-    assert!(rt; matches!(unframe(b"\x00\x03\x57"), Err(CodecError::Cut(3))));
-    assert!(rt; matches!(unframe(b"\x00"), Err(CodecError::Cut(1))));
+    holds(
+        &rt,
+        matches!(unframe(b"\x00\x03\x57"), Err(CodecError::Cut(3))),
+    );
+    holds(&rt, matches!(unframe(b"\x00"), Err(CodecError::Cut(1))));
 }

@@ -1,6 +1,7 @@
 ghost use Rattle.std.specs.Prelude.{◌≡◌, ◌∷◌, [], ◌≤◌, IfOk, map};
 ghost use Rattle.market_types.specs.Limits.{longest_delay};
 
+use crate::facts::equal;
 use draw_streams::draw;
 use draw_streams::worked::ZERO_KEY;
 use latency_model::{Groups, JITTER_STREAM};
@@ -36,7 +37,7 @@ fn delays_by_the_draw_of_the_message(rt: HostRuntime) {
         let Ok(groups) = one_group(rt.alloc(), 0, jitter) else {
             panic!(rt; "out of memory");
         };
-        assert_eq!(rt; groups.delay(0, 0, word), want, "at jitter {jitter}");
+        equal(&rt, groups.delay(0, 0, word), want);
     }
 }
 
@@ -49,6 +50,6 @@ fn an_edit_changes_its_tables_alone(rt: HostRuntime) {
         panic!(rt; "out of memory");
     };
     groups.set(0, 0, 50, 9);
-    assert_eq!(rt; groups.delay(0, 0, 0x903df1a0), 55);
-    assert_eq!(rt; copy.delay(0, 0, 0x903df1a0), 5);
+    equal(&rt, groups.delay(0, 0, 0x903df1a0), 55);
+    equal(&rt, copy.delay(0, 0, 0x903df1a0), 5);
 }

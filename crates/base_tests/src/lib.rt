@@ -16,6 +16,8 @@ mod draw_streams_tests;
 #[cfg(test)]
 mod event_queue_tests;
 #[cfg(test)]
+mod facts;
+#[cfg(test)]
 mod fundamental_series_tests;
 #[cfg(test)]
 mod hold_gate_tests;

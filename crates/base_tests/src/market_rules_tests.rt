@@ -1,3 +1,4 @@
+use crate::facts::{equal, holds};
 use market_rules::{
     Band, Change, Dated, DatedList, Edit, FeeTable, Param, RuleError, TickTable, View,
 };
@@ -45,7 +46,7 @@ fn prices_move_to_their_ticks(rt: HostRuntime) {
         (1_000_001, 1_000_000, 1_000_500),
         (1_000_499, 1_000_000, 1_000_500),
     ] {
-        assert_eq!(rt; nearest(view.ticks, price), (down, up), "at {price}");
+        equal(&rt, nearest(view.ticks, price), (down, up));
     }
     for (price, tick, allowed) in [
         (0, 100, true),
@@ -55,8 +56,8 @@ fn prices_move_to_their_ticks(rt: HostRuntime) {
         (1_000_100, 500, false),
         (4_294_967_000, 500, true),
     ] {
-        assert_eq!(rt; table.tick_at(price), tick, "at {price}");
-        assert_eq!(rt; table.allowed(price), allowed, "at {price}");
+        equal(&rt, table.tick_at(price), tick);
+        equal(&rt, table.allowed(price), allowed);
     }
 }
 
@@ -73,22 +74,33 @@ fn bad_bands_are_refused(rt: HostRuntime) {
         from: 150,
         tick: 100,
     };
-    assert_eq!(rt; refusal(alloc, &[]), Some(RuleError::BandsNotRising(0)));
-    assert_eq!(rt;
+    equal(&rt, refusal(alloc, &[]), Some(RuleError::BandsNotRising(0)));
+    equal(
+        &rt,
         refusal(alloc, &[cent, cent]),
-        Some(RuleError::BandsNotRising(1))
+        Some(RuleError::BandsNotRising(1)),
     );
-    assert_eq!(rt;
+    equal(
+        &rt,
         refusal(alloc, &[off, none, cent]),
-        Some(RuleError::BandsNotRising(1))
+        Some(RuleError::BandsNotRising(1)),
     );
-    assert_eq!(rt; refusal(alloc, &[none, off]), Some(RuleError::ZeroTick(0)));
-    assert_eq!(rt;
+    equal(
+        &rt,
+        refusal(alloc, &[none, off]),
+        Some(RuleError::ZeroTick(0)),
+    );
+    equal(
+        &rt,
         refusal(alloc, &[cent, off]),
-        Some(RuleError::BandOffTick(1))
+        Some(RuleError::BandOffTick(1)),
     );
-    assert_eq!(rt; refusal(alloc, &[nickel]), Some(RuleError::BandOffTick(0)));
-    assert_eq!(rt; refusal(alloc, &[cent, nickel]), None);
+    equal(
+        &rt,
+        refusal(alloc, &[nickel]),
+        Some(RuleError::BandOffTick(0)),
+    );
+    equal(&rt, refusal(alloc, &[cent, nickel]), None);
 }
 
 fn halt(time: u64) -> Dated {
@@ -103,7 +115,7 @@ fn halt(time: u64) -> Dated {
 fn dated(rt: &impl Abort, alloc: Global, times: &[u64]) -> Result<DatedList, RuleError> {
     let mut list = Vec::new(alloc);
     for time in times {
-        assert!(rt; list.push(halt(*time)).is_ok());
+        holds(rt, list.push(halt(*time)).is_ok());
     }
     DatedList::new(list)
 }
@@ -114,12 +126,12 @@ fn changes_keep_their_order(rt: HostRuntime) {
         panic!(rt; "no list");
     };
     for (time, count) in [(4, 0), (5, 2), (6, 2), (7, 3), (u64::MAX, 3)] {
-        assert_eq!(rt; list.rules_at(time), count, "at {time}");
+        equal(&rt, list.rules_at(time), count);
     }
-    assert_eq!(rt; list.as_slice().len(), 3);
-    assert!(rt; dated(&rt, rt.alloc(), &[]).is_ok());
+    holds(&rt, list.as_slice().len() == 3);
+    holds(&rt, dated(&rt, rt.alloc(), &[]).is_ok());
     let refused = dated(&rt, rt.alloc(), &[5, 6, 4, 3]).err();
-    assert_eq!(rt; refused, Some(RuleError::DatesNotRising(2)));
+    equal(&rt, refused, Some(RuleError::DatesNotRising(2)));
 }
 
 // One edit of each kind but the one of a message, with its letter.
@@ -155,21 +167,21 @@ fn copies_are_equal(rt: HostRuntime) {
         let Ok(copy) = edit.copy(alloc) else {
             panic!(rt; "out of memory");
         };
-        assert_eq!(rt; copy, edit);
-        assert_eq!(rt; copy.letter(), letter);
+        holds(&rt, copy == edit);
+        equal(&rt, copy.letter(), letter);
     }
     let change = Change::Tick(two_bands(&rt, alloc));
     let Ok(copy) = change.copy(alloc) else {
         panic!(rt; "out of memory");
     };
-    assert_eq!(rt; copy, change);
-    assert!(rt; copy != Change::Halt);
+    holds(&rt, copy == change);
+    holds(&rt, copy != Change::Halt);
 }
 
 #[test]
 fn fees_go_by_the_flag(rt: HostRuntime) {
     let fees = FeeTable { add: -20, take: 30 };
-    assert_eq!(rt; fees.fee(b'A', 100), -2_000);
-    assert_eq!(rt; fees.fee(b'R', 100), 3_000);
-    assert_eq!(rt; fees.fee(b'A', 999_999), -19_999_980);
+    equal(&rt, fees.fee(b'A', 100), -2_000);
+    equal(&rt, fees.fee(b'R', 100), 3_000);
+    equal(&rt, fees.fee(b'A', 999_999), -19_999_980);
 }

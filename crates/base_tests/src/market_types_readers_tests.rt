@@ -1,3 +1,4 @@
+use crate::facts::holds;
 use market_types::{Symbol, Token, TypeError, read_price, read_shares, read_symbol, read_token};
 use std::test::*;
 
@@ -10,26 +11,32 @@ fn numbers(rt: HostRuntime) {
         (1_999_999_901, Err(TypeError::BadPrice)),
         (1 << 32 | 1, Err(TypeError::BadPrice)),
     ] {
-        assert!(rt; read_price(n) == want, "price {n}");
+        holds(&rt, read_price(n) == want);
     }
     for (n, want) in [
         (0, Err(TypeError::BadShares)),
         (999_999, Ok(999_999)),
         (1_000_000, Err(TypeError::BadShares)),
     ] {
-        assert!(rt; read_shares(n) == want, "shares {n}");
+        holds(&rt, read_shares(n) == want);
     }
 }
 
 #[test]
 fn names(rt: HostRuntime) {
-    assert!(rt; read_symbol(b"") == Err(TypeError::BadSymbol));
-    assert!(rt; read_symbol(b"ABM") == Ok(Symbol(*b"ABM     ")));
-    assert!(rt; read_symbol(b"ABCDEFGH") == Ok(Symbol(*b"ABCDEFGH")));
-    assert!(rt; read_symbol(b"A M") == Err(TypeError::BadSymbol));
-    assert!(rt; read_symbol(b"ABCDEFGHI") == Err(TypeError::BadSymbol));
-    assert!(rt; read_token(b"T0001000000001") == Ok(Token(*b"T0001000000001")));
-    assert!(rt; read_token(b"T00010000000011") == Err(TypeError::BadToken));
-    assert!(rt; read_token(b"t1") == Ok(Token(*b"t1            ")));
-    assert!(rt; read_token(b"T-1") == Err(TypeError::BadToken));
+    holds(&rt, read_symbol(b"") == Err(TypeError::BadSymbol));
+    holds(&rt, read_symbol(b"ABM") == Ok(Symbol(*b"ABM     ")));
+    holds(&rt, read_symbol(b"ABCDEFGH") == Ok(Symbol(*b"ABCDEFGH")));
+    holds(&rt, read_symbol(b"A M") == Err(TypeError::BadSymbol));
+    holds(&rt, read_symbol(b"ABCDEFGHI") == Err(TypeError::BadSymbol));
+    holds(
+        &rt,
+        read_token(b"T0001000000001") == Ok(Token(*b"T0001000000001")),
+    );
+    holds(
+        &rt,
+        read_token(b"T00010000000011") == Err(TypeError::BadToken),
+    );
+    holds(&rt, read_token(b"t1") == Ok(Token(*b"t1            ")));
+    holds(&rt, read_token(b"T-1") == Err(TypeError::BadToken));
 }

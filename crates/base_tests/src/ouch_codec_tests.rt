@@ -1,3 +1,4 @@
+use crate::facts::holds;
 use market_types::{Cancel, CodecError, Enter, Inbound, Reply, Side, Symbol, Token};
 use ouch_codec::{decode_in, decode_out, encode_cancel, encode_enter, encode_reply};
 use std::test::*;
@@ -66,10 +67,10 @@ const ACCEPTED: Reply = Reply::Accepted {
 
 #[test]
 fn orders_both_ways(rt: HostRuntime) {
-    assert!(rt; encode_enter(&ENTER) == ENTER_BYTES);
-    assert!(rt; decode_in(&ENTER_BYTES) == Ok(Inbound::Enter(ENTER)));
-    assert!(rt; encode_cancel(&CANCEL) == CANCEL_BYTES);
-    assert!(rt; decode_in(&CANCEL_BYTES) == Ok(Inbound::Cancel(CANCEL)));
+    holds(&rt, encode_enter(&ENTER) == ENTER_BYTES);
+    holds(&rt, decode_in(&ENTER_BYTES) == Ok(Inbound::Enter(ENTER)));
+    holds(&rt, encode_cancel(&CANCEL) == CANCEL_BYTES);
+    holds(&rt, decode_in(&CANCEL_BYTES) == Ok(Inbound::Cancel(CANCEL)));
 }
 
 fn goes_both_ways(reply: Reply, bytes: &[u8]) -> bool {
@@ -81,15 +82,15 @@ fn replies_both_ways(rt: HostRuntime) {
     let time = 2000;
     let token = TOKEN;
     let system = Reply::System { time, code: b'C' };
-    assert!(rt; goes_both_ways(system, &SYSTEM_BYTES));
-    assert!(rt; goes_both_ways(ACCEPTED, &ACCEPTED_BYTES));
+    holds(&rt, goes_both_ways(system, &SYSTEM_BYTES));
+    holds(&rt, goes_both_ways(ACCEPTED, &ACCEPTED_BYTES));
     let canceled = Reply::Canceled {
         time,
         token,
         decrement: 100,
         reason: b'I',
     };
-    assert!(rt; goes_both_ways(canceled, &CANCELED_BYTES));
+    holds(&rt, goes_both_ways(canceled, &CANCELED_BYTES));
     let executed = Reply::Executed {
         time: 3000,
         token,
@@ -98,35 +99,47 @@ fn replies_both_ways(rt: HostRuntime) {
         flag: b'A',
         number: 1,
     };
-    assert!(rt; goes_both_ways(executed, &EXECUTED_BYTES));
+    holds(&rt, goes_both_ways(executed, &EXECUTED_BYTES));
     let rejected = Reply::Rejected {
         time,
         token,
         reason: b'O',
     };
-    assert!(rt; goes_both_ways(rejected, &REJECTED_BYTES));
-    assert!(rt; encode_reply(&rejected).len() == 24);
-    assert!(rt; !encode_reply(&rejected).is_empty());
+    holds(&rt, goes_both_ways(rejected, &REJECTED_BYTES));
+    holds(&rt, encode_reply(&rejected).len() == 24);
+    holds(&rt, !encode_reply(&rejected).is_empty());
 }
 
 #[test]
 fn refused_codes(rt: HostRuntime) {
     let mut longer = [0; 50];
     longer[..49].copy_from_slice(&ENTER_BYTES);
-    assert!(rt; decode_in(&longer) == Err(CodecError::WrongLength(50, 49)));
+    holds(
+        &rt,
+        decode_in(&longer) == Err(CodecError::WrongLength(50, 49)),
+    );
     let mut other_side = ENTER_BYTES;
     other_side[15] = b'T';
-    assert!(rt; decode_in(&other_side) == Err(CodecError::BadField(15)));
+    holds(&rt, decode_in(&other_side) == Err(CodecError::BadField(15)));
     other_side[41] = 0;
-    assert!(rt; decode_in(&other_side) == Err(CodecError::BadField(15)));
-    assert!(rt; decode_in(&[]) == Err(CodecError::WrongLength(0, 1)));
-    assert!(rt; decode_out(&[]) == Err(CodecError::WrongLength(0, 1)));
-    assert!(rt; decode_in(&ACCEPTED_BYTES) == Err(CodecError::UnknownType(b'A')));
-    assert!(rt; decode_out(&ENTER_BYTES) == Err(CodecError::UnknownType(b'O')));
+    holds(&rt, decode_in(&other_side) == Err(CodecError::BadField(15)));
+    holds(&rt, decode_in(&[]) == Err(CodecError::WrongLength(0, 1)));
+    holds(&rt, decode_out(&[]) == Err(CodecError::WrongLength(0, 1)));
+    holds(
+        &rt,
+        decode_in(&ACCEPTED_BYTES) == Err(CodecError::UnknownType(b'A')),
+    );
+    holds(
+        &rt,
+        decode_out(&ENTER_BYTES) == Err(CodecError::UnknownType(b'O')),
+    );
     let mut inner_blank = ENTER_BYTES;
     inner_blank[21] = b' ';
-    assert!(rt; decode_in(&inner_blank) == Err(CodecError::BadField(20)));
+    holds(
+        &rt,
+        decode_in(&inner_blank) == Err(CodecError::BadField(20)),
+    );
     let mut blank_first = ENTER_BYTES;
     blank_first[1] = b' ';
-    assert!(rt; decode_in(&blank_first) == Err(CodecError::BadField(1)));
+    holds(&rt, decode_in(&blank_first) == Err(CodecError::BadField(1)));
 }

@@ -1,3 +1,4 @@
+use crate::facts::{equal, holds};
 use outside::{
     Counted, ErrSink, Failed, FetchError, Fetched, FileLibrary, Library, MemoryLibrary, MemorySink,
     OutSink, Sink, Steps, StreamSink, write_all,
@@ -22,7 +23,7 @@ fn files_of_the_system(rt: HostRuntime) -> Result<(), Fail> {
     fs::write(&rt, "fetched.txt", &[7u8; 5000])?;
     let mut library = FileLibrary::new(&rt);
     match library.fetch(rt.alloc(), "fetched.txt", 5000) {
-        Ok(Fetched::Whole(bytes)) => assert_eq!(rt; bytes.as_slice(), [7u8; 5000].as_slice()),
+        Ok(Fetched::Whole(bytes)) => holds(&rt, bytes.as_slice() == [7u8; 5000].as_slice()),
         other => panic!(rt; "a held file is {}", shown(&other)),
     }
     for (name, most, want) in [
@@ -34,7 +35,7 @@ fn files_of_the_system(rt: HostRuntime) -> Result<(), Fail> {
         ("fetched.txt/x", 9, "failed"),
     ] {
         let answer = library.fetch(rt.alloc(), name, most);
-        assert_eq!(rt; shown(&answer), want, "{name}");
+        holds(&rt, shown(&answer) == want);
     }
     fs::remove_file(&rt, "fetched.txt")?;
     Ok(())
@@ -43,14 +44,14 @@ fn files_of_the_system(rt: HostRuntime) -> Result<(), Fail> {
 #[test]
 fn output_of_the_system(rt: HostRuntime) {
     let mut out = OutSink::new(rt.stdout());
-    assert_eq!(rt; out.write(b""), Ok(0));
-    assert_eq!(rt; out.write(b"out\n"), Ok(4));
+    equal(&rt, out.write(b""), Ok(0));
+    equal(&rt, out.write(b"out\n"), Ok(4));
 }
 
 #[test]
 fn errors_of_the_system(rt: HostRuntime) {
     let mut errors = ErrSink::new(rt.stderr());
-    assert_eq!(rt; errors.write(b"err\n"), Ok(4));
+    equal(&rt, errors.write(b"err\n"), Ok(4));
 }
 
 // A stream that takes at most two bytes a call, and none of a piece that begins with `0`. It refuses a flush
@@ -89,7 +90,7 @@ fn faults_of_a_stream(rt: HostRuntime) {
         ("write", Err(Failed)),
         ("d", Ok(1)),
     ] {
-        assert_eq!(rt; sink.write(piece.as_bytes()), want, "{piece}");
+        holds(&rt, sink.write(piece.as_bytes()) == want);
     }
 }
 
@@ -108,10 +109,10 @@ fn files_in_memory(rt: HostRuntime) -> Result<(), Fail> {
         ("stud", 4, "absent"),
     ] {
         let answer = library.fetch(rt.alloc(), name, most);
-        assert_eq!(rt; shown(&answer), want, "{name}, most {most}");
+        holds(&rt, shown(&answer) == want);
     }
     match library.fetch(rt.alloc(), "study", 9) {
-        Ok(Fetched::Whole(bytes)) => assert_eq!(rt; bytes.as_slice(), b"four".as_slice()),
+        Ok(Fetched::Whole(bytes)) => holds(&rt, bytes.as_slice() == b"four".as_slice()),
         other => panic!(rt; "a held file is {}", shown(&other)),
     }
     Ok(())
@@ -134,12 +135,8 @@ fn bytes_in_memory(rt: HostRuntime) -> Result<(), Fail> {
             panic!(rt; "no memory for {room} bytes");
         };
         let answer = write_all(&mut sink, b"0123456789");
-        assert_eq!(rt;
-            answer.is_ok(),
-            want.len() == 10,
-            "room {room}, most {most}"
-        );
-        assert_eq!(rt; sink.taken(), want.as_bytes(), "room {room}, most {most}");
+        equal(&rt, answer.is_ok(), want.len() == 10);
+        holds(&rt, sink.taken() == want.as_bytes());
     }
     Ok(())
 }
@@ -154,5 +151,5 @@ fn steps_are_counted(rt: HostRuntime) {
     let before = steps.count();
     steps.join(part);
     let after = steps.close();
-    assert_eq!(rt; (before, after), (1, 3));
+    equal(&rt, (before, after), (1, 3));
 }

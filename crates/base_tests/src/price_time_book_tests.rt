@@ -1,5 +1,6 @@
 ghost use Rattle.std.specs.Prelude.{◌≡◌, ◌<◌, ◌≤◌, ◌+◌, ◌^◌, All, length};
 
+use crate::facts::{equal, holds};
 use market_types::{AgentNo, Side, Token};
 use price_time_book::keeping::changes_keep;
 use price_time_book::{Best, Book, Fill, Resting};
@@ -84,32 +85,36 @@ fn said(fill: Option<Fill>) -> Option<(u64, u32, u32)> {
 fn sweeps_three_sells(rt: HostRuntime) {
     let mut book = Book::new(rt.alloc());
     assert!(rt; book.reserve(3).is_ok());
-    assert!(rt; add(&mut book, sell(1, 2, FIRST, 100_100, 100), 1));
-    assert!(rt; add(&mut book, sell(2, 2, SECOND, 100_000, 200), 2));
-    assert!(rt; add(&mut book, sell(3, 3, FIRST, 100_000, 300), 3));
-    assert_eq!(rt;
+    holds(&rt, add(&mut book, sell(1, 2, FIRST, 100_100, 100), 1));
+    holds(&rt, add(&mut book, sell(2, 2, SECOND, 100_000, 200), 2));
+    holds(&rt, add(&mut book, sell(3, 3, FIRST, 100_000, 300), 3));
+    equal(
+        &rt,
         book.best(Side::Sell),
         Some(Best {
             price: 100_000,
-            shares: 500
-        })
+            shares: 500,
+        }),
     );
-    assert_eq!(rt; book.best(Side::Buy), None);
-    assert_eq!(rt; said(take(&mut book, Side::Buy, 99_999, 700, 4)), None);
-    assert_eq!(rt;
+    equal(&rt, book.best(Side::Buy), None);
+    equal(&rt, said(take(&mut book, Side::Buy, 99_999, 700, 4)), None);
+    equal(
+        &rt,
         said(take(&mut book, Side::Buy, 100_100, 700, 4)),
-        Some((2, 100_000, 200))
+        Some((2, 100_000, 200)),
     );
-    assert_eq!(rt;
+    equal(
+        &rt,
         said(take(&mut book, Side::Buy, 100_100, 500, 4)),
-        Some((3, 100_000, 300))
+        Some((3, 100_000, 300)),
     );
-    assert_eq!(rt;
+    equal(
+        &rt,
         said(take(&mut book, Side::Buy, 100_100, 200, 4)),
-        Some((1, 100_100, 100))
+        Some((1, 100_100, 100)),
     );
-    assert_eq!(rt; said(take(&mut book, Side::Buy, 100_100, 100, 4)), None);
-    assert_eq!(rt; book.depth(Side::Sell), 0);
+    equal(&rt, said(take(&mut book, Side::Buy, 100_100, 100, 4)), None);
+    equal(&rt, book.depth(Side::Sell), 0);
 }
 
 #[test]
@@ -120,27 +125,30 @@ fn meets_shown_orders_first(rt: HostRuntime) {
         shown: false,
         ..sell(1, 2, FIRST, 100_000, 100)
     };
-    assert!(rt; add(&mut book, veiled, 1));
-    assert!(rt; book.best(Side::Sell).is_none());
-    assert!(rt; add(&mut book, sell(2, 3, FIRST, 100_000, 100), 2));
-    assert_eq!(rt;
+    holds(&rt, add(&mut book, veiled, 1));
+    holds(&rt, book.best(Side::Sell).is_none());
+    holds(&rt, add(&mut book, sell(2, 3, FIRST, 100_000, 100), 2));
+    equal(
+        &rt,
         book.best(Side::Sell),
         Some(Best {
             price: 100_000,
-            shares: 100
-        })
+            shares: 100,
+        }),
     );
-    assert_eq!(rt;
+    equal(
+        &rt,
         said(take(&mut book, Side::Buy, 100_000, 150, 3)),
-        Some((2, 100_000, 100))
+        Some((2, 100_000, 100)),
     );
-    assert_eq!(rt; book.crossing(Side::Buy, 100_000), 1);
-    assert_eq!(rt;
+    equal(&rt, book.crossing(Side::Buy, 100_000), 1);
+    equal(
+        &rt,
         said(take(&mut book, Side::Buy, 100_000, 50, 3)),
-        Some((1, 100_000, 50))
+        Some((1, 100_000, 50)),
     );
-    assert_eq!(rt; book.best(Side::Sell), None);
-    assert_eq!(rt; book.depth(Side::Sell), 1);
+    equal(&rt, book.best(Side::Sell), None);
+    equal(&rt, book.depth(Side::Sell), 1);
 }
 
 // The next state of a small generator (a linear congruence over 64 bits).
@@ -284,14 +292,16 @@ fn give(plain: &mut Vec<Resting>, side: Side, limit: u32, wanted: u32) -> Option
 // Compares what a side tells.
 fn assert_same_side(rt: &impl Abort, book: &Book, plain: &[Resting], side: Side) {
     let shares = best_rank(plain, side).map(|rank| sum(plain, side, rank));
-    assert_eq!(rt; book.best(side).map(|b| b.shares), shares);
-    assert_eq!(rt;
+    equal(rt, book.best(side).map(|b| b.shares), shares);
+    equal(
+        rt,
         book.depth(side),
-        plain.iter().filter(|o| o.side == side).count()
+        plain.iter().filter(|o| o.side == side).count(),
     );
-    assert_eq!(rt;
+    equal(
+        rt,
         book.crossing(side, 100_300),
-        plain.iter().filter(|o| crosses(o, side, 100_300)).count()
+        plain.iter().filter(|o| crosses(o, side, 100_300)).count(),
     );
 }
 
@@ -299,8 +309,8 @@ fn assert_same_side(rt: &impl Abort, book: &Book, plain: &[Resting], side: Side)
 fn assert_same(rt: &impl Abort, book: &Book, plain: &[Resting]) {
     assert_same_side(rt, book, plain, Side::Buy);
     assert_same_side(rt, book, plain, Side::Sell);
-    assert_eq!(rt; book.len(), plain.len());
-    assert_eq!(rt; book.is_empty(), plain.is_empty());
+    equal(rt, book.len(), plain.len());
+    equal(rt, book.is_empty(), plain.is_empty());
 }
 
 // An incoming order meets the first order of the other side.
@@ -313,8 +323,8 @@ fn match_some(rt: &impl Abort, book: &mut Book, plain: &mut Vec<Resting>, roll: 
     let (side, limit, wanted) = (side_of(roll), price_of(roll), shares_of(roll));
     let fill = take(book, side, limit, wanted, next);
     let want = give(plain, side, limit, wanted);
-    assert_eq!(rt; fill.map(|f| f.resting), want);
-    assert_eq!(rt; fill.map(|f| f.shares), want.map(|o| o.left.min(wanted)));
+    equal(rt, fill.map(|f| f.resting), want);
+    equal(rt, fill.map(|f| f.shares), want.map(|o| o.left.min(wanted)));
 }
 
 // Half of an agent's order leaves, if it has one under the token.
@@ -327,7 +337,7 @@ fn lower_some(rt: &impl Abort, book: &mut Book, plain: &mut Vec<Resting>, roll: 
     let (agent, token) = (agent_of(roll), token_of(roll));
     let was = halve(book, agent, &token, next);
     let want = sent(plain.as_slice(), agent, &token);
-    assert_eq!(rt; was, want);
+    equal(rt, was, want);
     if let Some(order) = want {
         let open = order.left - order.left / 2;
         let _ = lower(plain, order.reference, open, open);
@@ -345,9 +355,9 @@ fn rest_some(rt: &impl Abort, book: &mut Book, plain: &mut Vec<Resting>, roll: u
     assert!(rt; book.reserve(1).is_ok());
     let order = made(next, roll);
     let known = sent(plain.as_slice(), order.agent, &order.token).is_some();
-    assert_eq!(rt; add(book, order, next), !known);
+    equal(rt, add(book, order, next), !known);
     if !known {
-        assert!(rt; plain.push(order).is_ok());
+        holds(rt, plain.push(order).is_ok());
     }
 }
 
@@ -370,6 +380,6 @@ fn agrees_with_a_plain_list(rt: HostRuntime) {
     let (Ok(listed), Ok(copy)) = (book.orders(rt.alloc()), book.copy(rt.alloc())) else {
         panic!(rt; "out of memory");
     };
-    assert_eq!(rt; listed.as_slice(), plain.as_slice());
+    holds(&rt, listed.as_slice() == plain.as_slice());
     assert_same(&rt, &copy, plain.as_slice());
 }

@@ -1,7 +1,7 @@
+use crate::facts::holds;
 use market_types::{Body, EditMark, Entry, FeedList, Memory, Quote, Record, Reply, Token, Trace};
 use probe_desk::{Fees, Probe, Range, SpreadSum, Volume, restart_all, values, watch};
 use std::alloc::Global;
-use std::test::Fail;
 
 // A record of these parts.
 fn record(alloc: Global, put_back: bool, fee: i64, body: Body) -> Entry {
@@ -45,43 +45,67 @@ fn quoted(bid: u32, ask: u32) -> Body {
     })
 }
 
-// The trace of the worked example.
-fn small_trace(alloc: Global) -> Result<Trace, Memory> {
-    let mut trace = Trace::new(alloc);
-    trace.push(record(alloc, false, 30, executed(50, 100_300, b'R')))?;
-    trace.push(record(alloc, false, -5, executed(50, 99_000, b'A')))?;
-    trace.push(record(alloc, false, 0, quoted(99_900, 100_100)))?;
-    trace.push(Entry::Edit(EditMark {
+// The mark of an edit after three events.
+fn edited(alloc: Global) -> Entry {
+    Entry::Edit(EditMark {
         events: 3,
         time: 1000,
         branch: 1,
         index: 0,
         letter: b'h',
         feed: FeedList::new(alloc),
-    }))?;
-    trace.push(record(alloc, false, 0, quoted(0, 100_100)))?;
-    trace.push(record(alloc, true, 0, executed(7, 1, b'R')))?;
-    trace.push(record(alloc, false, 0, executed(10, 100_000, b'R')))?;
+    })
+}
+
+// The trace of the worked example.
+fn small_trace(alloc: Global) -> Result<Trace, Memory> {
+    let mut trace = Trace::new(alloc);
+    for (put_back, fee, body) in [
+        (false, 30, executed(50, 100_300, b'R')),
+        (false, -5, executed(50, 99_000, b'A')),
+        (false, 0, quoted(99_900, 100_100)),
+    ] {
+        trace.push(record(alloc, put_back, fee, body))?;
+    }
+    trace.push(edited(alloc))?;
+    for (put_back, fee, body) in [
+        (false, 0, quoted(0, 100_100)),
+        (true, 0, executed(7, 1, b'R')),
+        (false, 0, executed(10, 100_000, b'R')),
+    ] {
+        trace.push(record(alloc, put_back, fee, body))?;
+    }
     Ok(trace)
 }
 
-#[test]
-fn four_probes_watch_a_small_trace(rt: HostRuntime) -> Result<(), Fail> {
-    let alloc = rt.alloc();
+// A probe of each kind.
+fn four_probes(alloc: Global) -> Result<Vec<Box<dyn Probe>>, Memory> {
     let mut probes: Vec<Box<dyn Probe>> = Vec::new(alloc);
     probes.push(Box::new(alloc, Volume::new())?)?;
     probes.push(Box::new(alloc, SpreadSum::new())?)?;
     probes.push(Box::new(alloc, Range::new())?)?;
     probes.push(Box::new(alloc, Fees::new())?)?;
-    let trace = small_trace(alloc)?;
+    Ok(probes)
+}
+
+// Whether the probes have these values.
+fn have(alloc: Global, probes: &[Box<dyn Probe>], hoped: &[i128]) -> bool {
+    match values(alloc, probes) {
+        Ok(told) => told.as_slice() == hoped,
+        Err(_) => false,
+    }
+}
+
+#[test]
+fn four_probes_watch_a_small_trace(rt: HostRuntime) {
+    let alloc = rt.alloc();
+    let (Ok(mut probes), Ok(trace)) = (four_probes(alloc), small_trace(alloc)) else {
+        panic!(rt; "out of memory");
+    };
     watch(probes.as_mut_slice(), &trace);
-    let once = values(alloc, probes.as_slice())?;
-    assert_eq!(rt; once.as_slice(), [60, 200, 300, 25].as_slice());
+    holds(&rt, have(alloc, probes.as_slice(), &[60, 200, 300, 25]));
     watch(probes.as_mut_slice(), &trace);
-    let twice = values(alloc, probes.as_slice())?;
-    assert_eq!(rt; twice.as_slice(), [120, 400, 300, 50].as_slice());
+    holds(&rt, have(alloc, probes.as_slice(), &[120, 400, 300, 50]));
     restart_all(probes.as_mut_slice());
-    let opened = values(alloc, probes.as_slice())?;
-    assert_eq!(rt; opened.as_slice(), [0, 0, 0, 0].as_slice());
-    Ok(())
+    holds(&rt, have(alloc, probes.as_slice(), &[0, 0, 0, 0]));
 }

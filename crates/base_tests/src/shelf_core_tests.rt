@@ -6,6 +6,7 @@ ghost use Rattle.shelf_core.specs.Orderly.{Orderly, IsSmall, IsSmallEvent};
 
 mod plain;
 
+use crate::facts::{equal, holds};
 use plain::Plain;
 use plain_lists::{Memory, Sequence};
 use shelf_core::{Event, Key, ShelfPlan, System, Word, law, step};
@@ -116,13 +117,13 @@ fn two_seats_at_one_fork(rt: HostRuntime) -> Result<(), Fail> {
     let events = two_seats(rt.alloc())?;
     for (i, (event, answer)) in events.as_slice().iter().enumerate() {
         let made = make(&rt, rt.alloc(), &mut s, event)?;
-        assert_eq!(rt; made, *answer, "event {i}");
+        holds(&rt, made == *answer);
     }
     match s.views.get(0) {
         None => panic!(rt; "no seat"),
         Some(view) => {
-            assert_eq!(rt; view.numbers.as_slice(), [0, 1].as_slice());
-            assert!(rt; view.stopped);
+            holds(&rt, view.numbers.as_slice() == [0, 1].as_slice());
+            holds(&rt, view.stopped);
         }
     }
     Ok(())
@@ -131,8 +132,8 @@ fn two_seats_at_one_fork(rt: HostRuntime) -> Result<(), Fail> {
 #[test]
 fn law_of_no_events(rt: HostRuntime) -> Result<(), Fail> {
     let s = law(rt.alloc(), &[])?;
-    assert!(rt; s.plan.is_none());
-    assert_eq!(rt; s.views.len(), 1);
+    holds(&rt, s.plan.is_none());
+    equal(&rt, s.views.len(), 1);
     Ok(())
 }
 
@@ -182,10 +183,10 @@ fn many_events_as_the_table_says(rt: HostRuntime) -> Result<(), Fail> {
         let event = event_of(number / 65_536);
         let made = make(&rt, rt.alloc(), &mut s, &event)?;
         let expected = plain.make(&event)?;
-        assert_eq!(rt; made, expected, "event {i}");
-        assert!(rt; plain.is_like(&s), "after event {i}");
+        equal(&rt, made, expected);
+        holds(&rt, plain.is_like(&s));
         possible = u32::saturating_add(possible, u32::from(made));
     }
-    assert!(rt; possible > 100, "{possible} events were possible");
+    holds(&rt, possible > 100);
     Ok(())
 }

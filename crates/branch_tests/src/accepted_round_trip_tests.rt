@@ -1,10 +1,14 @@
 //! A study whose branch injects an order, read back.
 
+use crate::facts::{equal, holds};
+use bundle_reader::Bundle;
+use market_types::Memory;
 use outside::{Counted, Steps};
 use round_trip::run_and_read;
 use std::alloc::Global;
-use std::test::Fail;
-use study_file::read_tables;
+use std::sync::Wait;
+use std::thread::Threads;
+use study_file::{RawStudy, read_tables};
 use study_rules::AcceptError;
 
 const STUDY: &str = "version = 1
@@ -19,49 +23,79 @@ agent = [{ kind = \"watcher\", group = 0, stock = \"ABM\", first = 1000, every =
 branch = [{ name = \"i\", parent = \"root\", at = 0, edit = [{ kind = \"inject\", agent = 1, after = 100, message = \"4f5430303031303030303030303031530000006441424d2020202020000186a00001869f4142494459504e000000004e4e\" }] }]
 ";
 
-// How many agents, stocks and branches are read of the study with texts in place of others, how many entries of each of the
-// two branches, and the rule that refuses it, 0 where it is accepted.
-fn read_of(alloc: Global, changes: &[(&str, &str)]) -> Result<([usize; 5], u32), Fail> {
+// The study with texts in place of others.
+fn changed(alloc: Global, changes: &[(&str, &str)]) -> Result<RawStudy, Memory> {
     let mut text = String::from_str(alloc, STUDY)?;
     for (old, new) in changes.iter() {
         text = text.replacen(alloc, *old, new, 1)?;
     }
-    let raw = read_tables(alloc, text.as_bytes())?;
-    let mut steps: Steps<Counted> = Steps::new();
-    let read = run_and_read(alloc, &raw, None, &mut steps);
-    let _ = steps.close();
-    match read {
-        Ok(bundle) => {
-            let branches = bundle.branches.as_slice();
-            let [root, fork] = branches else {
-                return Ok(([0; 5], 0));
-            };
-            let sizes = [
-                bundle.agents as usize,
-                bundle.stocks as usize,
-                branches.len(),
-                root.entries.len(),
-                fork.entries.len(),
-            ];
-            Ok((sizes, 0))
-        }
-        Err(AcceptError::Refused(refusal)) => Ok(([0; 5], refusal.rule)),
-        Err(AcceptError::Memory) => Ok(([0; 5], 99)),
+    match read_tables(alloc, text.as_bytes()) {
+        Ok(raw) => Ok(raw),
+        Err(_) => Err(Memory),
     }
 }
 
-#[test]
-fn studies_are_read_back(rt: HostRuntime) -> Result<(), Fail> {
-    let second = ("version = 1", "version = 2");
-    let opening = ("at = 0", "when = 1000");
-    let close = ("at = 0", "when = 2000");
-    let rows: [&[(&str, &str)]; 3] = [&[], &[second, opening], &[second, close]];
-    for changes in rows {
-        let (sizes, rule) = read_of(rt.alloc(), changes)?;
-        assert!(rt; rule == 0);
-        assert!(rt; sizes == [2, 1, 2, 3, 6]);
+// How many agents, stocks and branches a bundle has, and how many entries each of its two branches.
+fn sizes_of(bundle: &Bundle) -> [usize; 5] {
+    match bundle.branches.as_slice() {
+        [root, fork] => [
+            bundle.agents as usize,
+            bundle.stocks as usize,
+            2,
+            root.entries.len(),
+            fork.entries.len(),
+        ],
+        _ => [0; 5],
     }
-    let (_, rule) = read_of(rt.alloc(), &[("4f54", "4f20")])?;
-    assert!(rt; rule == 35);
-    Ok(())
+}
+
+// What is read of a study, or the rule that refuses it; 99 where there is no memory.
+fn read_of<R: Threads + Wait + Sync>(
+    rt: &R,
+    alloc: Global,
+    raw: &RawStudy,
+) -> Result<[usize; 5], u32> {
+    let mut steps: Steps<Counted> = Steps::new();
+    let read = run_and_read(rt, alloc, raw, None, &mut steps);
+    let _ = steps.close();
+    match read {
+        Ok(bundle) => Ok(sizes_of(&bundle)),
+        Err(AcceptError::Refused(refusal)) => Err(refusal.rule),
+        Err(AcceptError::Memory) => Err(99),
+    }
+}
+
+// What is read of the study with texts in place of others.
+fn read_with<R: Threads + Wait + Sync>(
+    rt: &R,
+    alloc: Global,
+    changes: &[(&str, &str)],
+) -> Result<[usize; 5], u32> {
+    match changed(alloc, changes) {
+        Ok(raw) => read_of(rt, alloc, &raw),
+        Err(_) => Err(99),
+    }
+}
+
+const SECOND: (&str, &str) = ("version = 1", "version = 2");
+
+const CHANGES: [&[(&str, &str)]; 3] = [
+    &[],
+    &[SECOND, ("at = 0", "when = 1000")],
+    &[SECOND, ("at = 0", "when = 2000")],
+];
+
+#[test]
+fn studies_are_read_back(rt: HostRuntime) {
+    for changes in CHANGES.iter() {
+        holds(
+            &rt,
+            read_with(&rt, rt.alloc(), changes) == Ok([2, 1, 2, 3, 6]),
+        );
+    }
+    equal(
+        &rt,
+        read_with(&rt, rt.alloc(), &[("4f54", "4f20")]).err(),
+        Some(35),
+    );
 }

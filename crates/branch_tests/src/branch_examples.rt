@@ -1,89 +1,26 @@
 //! Worked branches over the code.
 
-ghost use Rattle.std.specs.Prelude.{◌≡◌, ◌≤◌, IfOk, OnOk, length, map};
-ghost use Rattle.branch_tree.specs.declared.branch.Branch.{Branch};
+ghost use Rattle.std.specs.Prelude.{◌≡◌, ◌≤◌, IfOk, length, map};
 ghost use Rattle.branch_tree.specs.Segments.{segments_in};
-ghost use Rattle.market_floor.specs.Opening.{IsOpening};
-ghost use Rattle.market_floor.specs.OpeningWorked.{watcher};
 ghost use Rattle.kernel_copy.specs.Courses.{AreEdits};
 ghost use Rattle.kernel_copy.specs.Outcomes.{outcome_told, outcomes_before};
-ghost use Rattle.branch_tests.specs.Worked.{AreBranches, small, two_watchers};
+ghost use Rattle.branch_workers.specs.Example.{AreBranches, small};
 
-use agent_shell::{Kind, TraderSetting};
-use branch_tree::{Branch, Name, Stop, plan};
-use bundle_frames::put_end;
-use kernel_copy::laws::segments_have_few_events;
-use kernel_copy::{Course, Keep, Kept, Outcome, closing_of, run_segments};
+use crate::facts::{equal, holds};
+use crate::one_worker::simulate;
+use crate::small_course::{course_of, fork, latency, market, nothing, root, three_at};
+use branch_tree::{Branch, Stop};
+use bundle_frames::{Closing, put_end};
+use kernel_copy::{Course, Keep, Kept, Outcome, closing_of};
 use kernel_core::Kernel;
-use market_floor::Opening;
-use market_floor::opening_worked::{markets_are_openings, opening};
 use market_rules::Edit;
-use market_types::{Enter, Inbound, Memory, Sequence, Side, Symbol, Time, Token};
-use outside::{Counted, Steps};
+use market_types::{Enter, Inbound, Memory, Side, Symbol, Time, Token};
 use std::alloc::Global;
-use std::sync::Arc;
-use std::test::Fail;
+use std::process::Abort;
+use std::sync::Wait;
+use std::thread::Threads;
 use trace_bundle::laws::outcomes_are_a_run;
 use trace_bundle::{write_branch, write_header};
-
-// A watcher that first wakes at 1000.
-fn watching() -> TraderSetting
-    ensures { result ≡ watcher 1000 }
-{
-    TraderSetting {
-        kind: Kind::Watcher,
-        group: 0,
-        stock: 0,
-        first: 1000,
-        every: 1_000_000,
-        wobble: 0,
-        delay: 0,
-        cash: 0,
-    }
-}
-
-// Two watchers.
-fn traders(alloc: Global) -> Result<Vec<TraderSetting>, Memory>
-    ensures { IfOk result (λ v. v.items ≡ two_watchers) }
-{
-    let mut traders = Vec::new(alloc);
-    traders.push(watching())?;
-    traders.push(watching())?;
-    Ok(traders)
-}
-
-// A market of two watchers.
-fn market(alloc: Global) -> Result<Opening, Memory>
-    ensures opening { IfOk result IsOpening }
-    ensures made { IfOk result (λ o. o ≡ small) }
-{
-    markets_are_openings();
-    let traders = traders(alloc)?;
-    let o = opening(alloc, 2000, 100, 0, traders)?;
-    Ok(o)
-}
-
-// No edit.
-fn nothing(alloc: Global) -> Vec<Edit>
-    ensures { AreEdits small result.items }
-{
-    Vec::new(alloc)
-}
-
-// Another latency between all agents, in nanoseconds.
-fn latency(alloc: Global, base: Time) -> Result<Vec<Edit>, Memory>
-    requires { base ≤ 1000 }
-    ensures { IfOk result (λ v. AreEdits small v.items) }
-{
-    let mut edits = Vec::new(alloc);
-    edits.push(Edit::Latency {
-        from: 0,
-        to: 0,
-        base,
-        jitter: 0,
-    })?;
-    Ok(edits)
-}
 
 // The first watcher is silenced.
 fn silence(alloc: Global) -> Result<Vec<Edit>, Memory>
@@ -147,58 +84,6 @@ fn order_and_halt(alloc: Global, halt_first: bool) -> Result<Vec<Edit>, Memory>
     Ok(edits)
 }
 
-// The root alone.
-fn root(alloc: Global) -> Result<Vec<Branch>, Memory>
-    ensures { IfOk result (λ v. AreBranches v.items) }
-{
-    let Some(name) = Name::new(b"root") else {
-        return Err(Memory);
-    };
-    let mut branches = Vec::new(alloc);
-    branches.push(Branch {
-        name,
-        parent: 0,
-        stop: Stop::At(0),
-        edits: Sequence::new(Vec::new(alloc)),
-    })?;
-    Ok(branches)
-}
-
-// One branch more.
-fn fork(
-    branches: &mut Vec<Branch>,
-    name: &[u8],
-    parent: u16,
-    stop: Stop,
-    edits: Vec<Edit>,
-) -> Result<(), Memory>
-    requires before { AreBranches branches.old.items }
-    requires edits { AreEdits small edits.items }
-    ensures { OnOk result (AreBranches branches.new.items) }
-{
-    let Some(name) = Name::new(name) else {
-        return Err(Memory);
-    };
-    branches.push(Branch {
-        name,
-        parent,
-        stop,
-        edits: Sequence::new(edits),
-    })?;
-    Ok(())
-}
-
-// The course of these branches.
-fn course(alloc: Global, branches: Vec<Branch>) -> Result<Arc<Course>, Fail>
-    requires { AreBranches branches.items }
-{
-    let opening = market(alloc)?;
-    let Ok(plan) = plan(alloc, branches, 100) else {
-        return Err(Fail::from("no plan"));
-    };
-    Ok(Arc::new(alloc, Course::new(opening, plan))?)
-}
-
 // The bundle of a course, from what was kept.
 fn bundle(alloc: Global, course: &Course, keep: Keep, ran: &Vec<Outcome>) -> Result<Vec<u8>, Memory>
     requires { map outcome_told ran.now.items ≡ outcomes_before course.now keep (length (segments_in course.now.plan)) }
@@ -229,7 +114,7 @@ fn last(alloc: Global, course: &Course, keep: Keep, ran: &Vec<Outcome>) -> Resul
 
 // What a course gave: how many events were counted, the outcomes of its segments, its bundle, and its last branch's trace.
 #[derive(Drop)]
-struct Simulated {
+struct Written {
     ticks: u64,
     outcomes: Vec<Outcome>,
     bundle: Vec<u8>,
@@ -237,30 +122,42 @@ struct Simulated {
 }
 
 // Runs the course of these branches, with this kept of the entries.
-fn run_keeping(alloc: Global, keep: Keep, branches: Vec<Branch>) -> Result<Simulated, Fail>
+fn run<R: Threads + Wait + Sync>(
+    rt: &R,
+    alloc: Global,
+    keep: Keep,
+    branches: Vec<Branch>,
+) -> Result<Written, Memory>
     requires { AreBranches branches.items }
 {
-    let course = course(alloc, branches)?;
-    segments_have_few_events(&course);
-    let mut steps: Steps<Counted> = Steps::new();
-    let ran = run_segments(alloc, &course, keep, &mut steps);
-    let ticks = steps.close();
-    let outcomes = ran?;
-    let bundle = bundle(alloc, &course, keep, &outcomes)?;
-    let last = last(alloc, &course, keep, &outcomes)?;
-    Ok(Simulated {
-        ticks,
-        outcomes,
+    let course = course_of(alloc, branches)?;
+    let simulated = simulate(rt, alloc, &course, keep)?;
+    let bundle = bundle(alloc, &course, keep, &simulated.outcomes)?;
+    let last = last(alloc, &course, keep, &simulated.outcomes)?;
+    Ok(Written {
+        ticks: simulated.ticks,
+        outcomes: simulated.outcomes,
         bundle,
         last,
     })
 }
 
-// Runs the course of these branches, with the entries kept.
-fn run(alloc: Global, branches: Vec<Branch>) -> Result<Simulated, Fail>
-    requires { AreBranches branches.items }
+// What it gives, if there was memory for the branches and for the run.
+fn given<R: Abort + Threads + Wait + Sync>(
+    rt: &R,
+    alloc: Global,
+    keep: Keep,
+    branches: Result<Vec<Branch>, Memory>,
+) -> Written
+    requires { IfOk branches (λ v. AreBranches v.items) }
 {
-    run_keeping(alloc, Keep::Entries, branches)
+    let Ok(branches) = branches else {
+        panic!(rt; "out of memory");
+    };
+    let Ok(written) = run(rt, alloc, keep, branches) else {
+        panic!(rt; "out of memory");
+    };
+    written
 }
 
 // The length of some bytes, and a number that a change of any one of them changes.
@@ -280,14 +177,18 @@ fn held(outcome: &Outcome) -> usize {
     }
 }
 
-// Of each outcome how many entries it has, and the count of events and the time of its end.
-fn ends(alloc: Global, outcomes: &[Outcome]) -> Result<Vec<(usize, u32, Time)>, Memory> {
-    let mut ends = Vec::new(alloc);
-    for outcome in outcomes {
-        let time = outcome.closing.counts.time;
-        ends.push((held(outcome), outcome.events, time))?;
-    }
-    Ok(ends)
+// How many entries an outcome has, and the count of events and the time of its end.
+type Finish = (usize, u32, Time);
+
+fn finish(outcome: &Outcome) -> Finish {
+    (held(outcome), outcome.events, outcome.closing.counts.time)
+}
+
+// What a run gave: how many events were counted, how its segments end, and its bundle's digest.
+fn is_told(rt: &impl Abort, run: &Written, ticks: u64, ends: &[Finish], bundle: (usize, u64)) {
+    equal(rt, run.ticks, ticks);
+    holds(rt, run.outcomes.iter().map(finish).eq(ends.iter().copied()));
+    equal(rt, digest(run.bundle.as_slice()), bundle);
 }
 
 // Whether an agent is silenced at the end of a segment, its own time, and how many quotes it heard.
@@ -301,132 +202,118 @@ fn heard(outcomes: &[Outcome], segment: usize, agent: usize) -> Option<(bool, Ti
     Some((a.silenced, a.time, a.quotes))
 }
 
-// A branch that makes the latency 50, one that makes it 7, and one that changes nothing, all at one stop.
-fn three_at(alloc: Global, stop: Stop) -> Result<Vec<Branch>, Memory>
-    ensures { IfOk result (λ v. AreBranches v.items) }
-{
-    let mut branches = root(alloc)?;
-    fork(&mut branches, b"x", 0, stop, latency(alloc, 50)?)?;
-    fork(&mut branches, b"y", 0, stop, latency(alloc, 7)?)?;
-    fork(&mut branches, b"z", 0, stop, nothing(alloc))?;
-    Ok(branches)
-}
+const OF_THREE: [Finish; 5] = [
+    (2, 2, 1000),
+    (4, 6, 1010),
+    (5, 6, 1055),
+    (5, 6, 1012),
+    (4, 6, 1010),
+];
 
 // They leave the root at event 2, at the time of that event, or right before the time of the next.
 #[test]
-fn three_branches(rt: HostRuntime) -> Result<(), Fail> {
+fn three_branches(rt: HostRuntime) {
     let alloc = rt.alloc();
     for stop in [Stop::At(2), Stop::When(1000), Stop::When(1004)] {
-        let run = run(alloc, three_at(alloc, stop)?)?;
-        assert_eq!(rt; run.ticks, 18);
-        let ends = ends(alloc, run.outcomes.as_slice())?;
-        let wanted = [
-            (2, 2, 1000),
-            (4, 6, 1010),
-            (5, 6, 1055),
-            (5, 6, 1012),
-            (4, 6, 1010),
-        ];
-        assert_eq!(rt; ends.as_slice(), wanted.as_slice());
-        assert_eq!(rt; digest(run.bundle.as_slice()), (3255, 550_129_052_676));
-        assert_eq!(rt; digest(run.last.as_slice()), (799, 1_096_420_110_848));
+        let run = given(&rt, alloc, Keep::Entries, three_at(alloc, stop));
+        is_told(&rt, &run, 18, &OF_THREE, (3255, 550_129_052_676));
+        equal(&rt, digest(run.last.as_slice()), (799, 1_096_420_110_848));
     }
-    Ok(())
 }
+
+// A branch at the time of two messages.
+fn slow_by_time(alloc: Global) -> Result<Vec<Branch>, Memory>
+    ensures { IfOk result (λ v. AreBranches v.items) }
+{
+    let mut branches = root(alloc)?;
+    fork(&mut branches, b"x", 0, Stop::When(1005), latency(alloc, 50))?;
+    Ok(branches)
+}
+
+// A branch of a branch at a time.
+fn low_by_time(alloc: Global) -> Result<Vec<Branch>, Memory>
+    ensures { IfOk result (λ v. AreBranches v.items) }
+{
+    let mut branches = root(alloc)?;
+    fork(&mut branches, b"x", 0, Stop::When(1004), nothing(alloc))?;
+    fork(&mut branches, b"w", 1, Stop::At(1), nothing(alloc))?;
+    Ok(branches)
+}
+
+const OF_SLOW: [Finish; 3] = [(4, 4, 1005), (2, 6, 1010), (3, 6, 1010)];
+
+const OF_LOW: [Finish; 5] = [
+    (2, 2, 1000),
+    (4, 6, 1010),
+    (0, 2, 1000),
+    (4, 6, 1010),
+    (4, 6, 1010),
+];
 
 // A branch at the time of two messages, which both come before its edit; and one of a branch at a time that leaves at an
 // event number below its parent's, so that its parent's first segment has no event.
 #[test]
-fn branches_by_time(rt: HostRuntime) -> Result<(), Fail> {
+fn branches_by_time(rt: HostRuntime) {
     let alloc = rt.alloc();
-    let mut branches = root(alloc)?;
-    fork(
-        &mut branches,
-        b"x",
-        0,
-        Stop::When(1005),
-        latency(alloc, 50)?,
-    )?;
-    let one = run(alloc, branches)?;
-    assert_eq!(rt; one.ticks, 8);
-    let told = ends(alloc, one.outcomes.as_slice())?;
-    let wanted = [(4, 4, 1005), (2, 6, 1010), (3, 6, 1010)];
-    assert_eq!(rt; told.as_slice(), wanted.as_slice());
-    assert_eq!(rt; digest(one.bundle.as_slice()), (1637, 356_322_517_250));
-    let mut branches = root(alloc)?;
-    fork(&mut branches, b"x", 0, Stop::When(1004), nothing(alloc))?;
-    fork(&mut branches, b"w", 1, Stop::At(1), nothing(alloc))?;
-    let low = run(alloc, branches)?;
-    assert_eq!(rt; low.ticks, 14);
-    let told = ends(alloc, low.outcomes.as_slice())?;
-    let wanted = [
-        (2, 2, 1000),
-        (4, 6, 1010),
-        (0, 2, 1000),
-        (4, 6, 1010),
-        (4, 6, 1010),
-    ];
-    assert_eq!(rt; told.as_slice(), wanted.as_slice());
-    assert_eq!(rt; digest(low.bundle.as_slice()), (2416, 315_712_857_091));
-    Ok(())
+    let slow = given(&rt, alloc, Keep::Entries, slow_by_time(alloc));
+    is_told(&rt, &slow, 8, &OF_SLOW, (1637, 356_322_517_250));
+    let low = given(&rt, alloc, Keep::Entries, low_by_time(alloc));
+    is_told(&rt, &low, 14, &OF_LOW, (2416, 315_712_857_091));
 }
 
-// A branch of a branch where both fork at the last event: three of five segments have no event.
-#[test]
-fn empty_segments(rt: HostRuntime) -> Result<(), Fail> {
-    let alloc = rt.alloc();
+// A branch of a branch where both fork at the last event.
+fn at_the_last(alloc: Global) -> Result<Vec<Branch>, Memory>
+    ensures { IfOk result (λ v. AreBranches v.items) }
+{
     let mut branches = root(alloc)?;
     fork(&mut branches, b"x", 0, Stop::At(6), nothing(alloc))?;
     fork(&mut branches, b"y", 1, Stop::At(6), nothing(alloc))?;
-    let run = run(alloc, branches)?;
-    assert_eq!(rt; run.ticks, 6);
-    let ends = ends(alloc, run.outcomes.as_slice())?;
-    let wanted = [
-        (6, 6, 1010),
-        (0, 6, 1010),
-        (0, 6, 1010),
-        (0, 6, 1010),
-        (0, 6, 1010),
-    ];
-    assert_eq!(rt; ends.as_slice(), wanted.as_slice());
-    assert_eq!(rt; digest(run.bundle.as_slice()), (2416, 405_230_435_075));
-    Ok(())
+    Ok(branches)
 }
+
+const OF_EMPTY: [Finish; 5] = [
+    (6, 6, 1010),
+    (0, 6, 1010),
+    (0, 6, 1010),
+    (0, 6, 1010),
+    (0, 6, 1010),
+];
+
+// Three of five segments have no event.
+#[test]
+fn empty_segments(rt: HostRuntime) {
+    let alloc = rt.alloc();
+    let run = given(&rt, alloc, Keep::Entries, at_the_last(alloc));
+    is_told(&rt, &run, 6, &OF_EMPTY, (2416, 405_230_435_075));
+}
+
+// Branches that leave when the root has closed: with the bid, and with a halt behind it and before it.
+fn revived(alloc: Global) -> Result<Vec<Branch>, Memory>
+    ensures { IfOk result (λ v. AreBranches v.items) }
+{
+    let mut branches = root(alloc)?;
+    let late = Stop::At(50);
+    fork(&mut branches, b"x", 0, late, order(alloc))?;
+    fork(&mut branches, b"y", 0, late, order_and_halt(alloc, false))?;
+    fork(&mut branches, b"z", 0, late, order_and_halt(alloc, true))?;
+    Ok(branches)
+}
+
+const OF_REVIVED: [Finish; 5] = [
+    (6, 6, 1010),
+    (0, 6, 1010),
+    (3, 8, 1115),
+    (4, 8, 1115),
+    (4, 8, 1115),
+];
 
 // A bid revives the closed run: it is event 7 at 1110 and accepted at 1115; with a halt, before it or behind it, it is
 // rejected there.
 #[test]
-fn edits_in_both_orders(rt: HostRuntime) -> Result<(), Fail> {
+fn edits_in_both_orders(rt: HostRuntime) {
     let alloc = rt.alloc();
-    let mut branches = root(alloc)?;
-    fork(&mut branches, b"x", 0, Stop::At(50), order(alloc)?)?;
-    fork(
-        &mut branches,
-        b"y",
-        0,
-        Stop::At(50),
-        order_and_halt(alloc, false)?,
-    )?;
-    fork(
-        &mut branches,
-        b"z",
-        0,
-        Stop::At(50),
-        order_and_halt(alloc, true)?,
-    )?;
-    let run = run(alloc, branches)?;
-    assert_eq!(rt; run.ticks, 12);
-    let ends = ends(alloc, run.outcomes.as_slice())?;
-    let wanted = [
-        (6, 6, 1010),
-        (0, 6, 1010),
-        (3, 8, 1115),
-        (4, 8, 1115),
-        (4, 8, 1115),
-    ];
-    assert_eq!(rt; ends.as_slice(), wanted.as_slice());
-    assert_eq!(rt; digest(run.bundle.as_slice()), (3984, 841_970_850_564));
-    Ok(())
+    let run = given(&rt, alloc, Keep::Entries, revived(alloc));
+    is_told(&rt, &run, 12, &OF_REVIVED, (3984, 841_970_850_564));
 }
 
 // A branch in which the first watcher is silenced at event 2.
@@ -434,28 +321,24 @@ fn silenced(alloc: Global) -> Result<Vec<Branch>, Memory>
     ensures { IfOk result (λ v. AreBranches v.items) }
 {
     let mut branches = root(alloc)?;
-    fork(&mut branches, b"x", 0, Stop::At(2), silence(alloc)?)?;
+    fork(&mut branches, b"x", 0, Stop::At(2), silence(alloc))?;
     Ok(branches)
 }
 
 // A watcher that is silenced at event 2 hears its quote at 1010 and doesn't count it. Where the frames of the entries are kept
 // and not they themselves, the bundle is the same.
 #[test]
-fn a_silenced_watcher(rt: HostRuntime) -> Result<(), Fail> {
+fn a_silenced_watcher(rt: HostRuntime) {
     let alloc = rt.alloc();
-    let run = run(alloc, silenced(alloc)?)?;
-    assert_eq!(rt; (run.ticks, run.outcomes.len()), (10, 3));
-    let first = heard(run.outcomes.as_slice(), 2, 1);
-    let second = heard(run.outcomes.as_slice(), 2, 2);
-    assert_eq!(rt;
-        (first, second),
-        (Some((true, 1010, 0)), Some((false, 1010, 1)))
-    );
-    assert_eq!(rt; digest(run.bundle.as_slice()), (1637, 407_337_604_610));
-    let frames = run_keeping(alloc, Keep::Frames, silenced(alloc)?)?;
-    assert_eq!(rt; frames.ticks, run.ticks);
-    assert!(rt; frames.bundle.as_slice() == run.bundle.as_slice());
-    Ok(())
+    let run = given(&rt, alloc, Keep::Entries, silenced(alloc));
+    equal(&rt, (run.ticks, run.outcomes.len()), (10, 3));
+    let outcomes = run.outcomes.as_slice();
+    equal(&rt, heard(outcomes, 2, 1), Some((true, 1010, 0)));
+    equal(&rt, heard(outcomes, 2, 2), Some((false, 1010, 1)));
+    equal(&rt, digest(run.bundle.as_slice()), (1637, 407_337_604_610));
+    let frames = given(&rt, alloc, Keep::Frames, silenced(alloc));
+    equal(&rt, frames.ticks, run.ticks);
+    holds(&rt, frames.bundle.as_slice() == run.bundle.as_slice());
 }
 
 // The name of a branch of a number below 256: two letters.
@@ -483,7 +366,7 @@ fn deep(alloc: Global) -> Result<Vec<Branch>, Memory>
 {
     let mut branches = root(alloc)?;
     for k in 1..61u16 {
-        let edits = latency(alloc, u64::from(k))?;
+        let edits = latency(alloc, u64::from(k));
         let stop = Stop::At(u32::from(k / 10));
         fork(&mut branches, &name(k), k - 1, stop, edits)?;
     }
@@ -492,38 +375,55 @@ fn deep(alloc: Global) -> Result<Vec<Branch>, Memory>
 
 // As many branches of one parent as there may be, and a chain whose branches have the edits of all before them.
 #[test]
-fn wide_and_deep_trees(rt: HostRuntime) -> Result<(), Fail> {
+fn wide_and_deep_trees(rt: HostRuntime) {
     let alloc = rt.alloc();
-    let wide = run(alloc, wide(alloc)?)?;
-    assert_eq!(rt; (wide.ticks, wide.outcomes.len()), (1152, 260));
-    assert_eq!(rt; digest(wide.bundle.as_slice()), (204_818, 276_323_116_800));
-    let deep = run(alloc, deep(alloc)?)?;
-    assert_eq!(rt; (deep.ticks, deep.outcomes.len()), (210, 121));
-    assert_eq!(rt; digest(deep.bundle.as_slice()), (85_418, 1_091_373_565_245));
-    Ok(())
+    let wide = given(&rt, alloc, Keep::Entries, wide(alloc));
+    equal(&rt, (wide.ticks, wide.outcomes.len()), (1152, 260));
+    equal(
+        &rt,
+        digest(wide.bundle.as_slice()),
+        (204_818, 276_323_116_800),
+    );
+    let deep = given(&rt, alloc, Keep::Entries, deep(alloc));
+    equal(&rt, (deep.ticks, deep.outcomes.len()), (210, 121));
+    equal(
+        &rt,
+        digest(deep.bundle.as_slice()),
+        (85_418, 1_091_373_565_245),
+    );
 }
 
 // The closing of the opening's state.
-#[test]
-fn the_closing_of_the_opening(rt: HostRuntime) -> Result<(), Fail> {
-    let alloc = rt.alloc();
+fn first_closing(alloc: Global) -> Result<Closing, Memory> {
     let o = market(alloc)?;
     let kernel = Kernel::open(alloc, &o)?;
-    let closing = closing_of(alloc, &o, &kernel)?;
+    closing_of(alloc, &o, &kernel)
+}
+
+#[test]
+fn the_closing_of_the_opening(rt: HostRuntime) {
+    let Ok(closing) = first_closing(rt.alloc()) else {
+        panic!(rt; "out of memory");
+    };
     let counts = closing.counts;
-    assert_eq!(rt; (counts.end, counts.events, counts.time), (b'-', 0, 1000));
-    assert_eq!(rt; (counts.next_seq, counts.waiting, counts.orders), (2, 2, 0));
-    let sizes = (
-        closing.stocks.len(),
-        closing.orders.len(),
-        closing.agents.len(),
+    equal(
+        &rt,
+        (counts.end, counts.events, counts.time),
+        (b'-', 0, 1000),
     );
-    assert_eq!(rt; sizes, (1, 0, 3));
+    equal(
+        &rt,
+        (counts.next_seq, counts.waiting, counts.orders),
+        (2, 2, 0),
+    );
+    equal(&rt, closing.stocks.len(), 1);
+    equal(&rt, closing.orders.len(), 0);
+    equal(&rt, closing.agents.len(), 3);
     for agent in closing.agents.as_slice() {
-        assert_eq!(rt;
+        equal(
+            &rt,
             (agent.silenced, agent.time, agent.positions.len()),
-            (false, 1000, 1)
+            (false, 1000, 1),
         );
     }
-    Ok(())
 }

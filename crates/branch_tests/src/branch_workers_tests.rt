@@ -1,24 +1,24 @@
 //! A small course by one worker and by many.
 
-mod market;
 mod seats;
 
 ghost use Rattle.std.specs.Prelude.{All};
 ghost use Rattle.kernel_copy.specs.Kept.{IsWritable, kept_told};
 
-use self::market::course;
+use crate::facts::{equal, holds};
+use crate::one_worker::simulate;
+use crate::small_course::three_branches as course;
 use branch_tree::Stop;
-use branch_workers::work;
+use branch_workers::{Setup, work};
 use checkpoint_shelf::{ClosedShelf, Key};
 use kernel_copy::laws::{courses_stay_in_range, segments_have_few_events};
-use kernel_copy::{Checkpoint, Course, Keep, Kept, Outcome, run_segments};
+use kernel_copy::{Checkpoint, Course, Keep, Kept, Outcome};
 use market_types::{EditMark, Memory, Record};
 use outside::{Counted, Gate, HoldGate, OpenGate, Steps};
 use packed_entries::{Packed, Step, blank_edit, blank_event};
 use std::alloc::Global;
 use std::process::Abort;
 use std::sync::{Arc, Wait};
-use std::test::Fail;
 use std::thread::Threads;
 
 // What workers made of a course.
@@ -57,17 +57,13 @@ fn worked<R: Threads + Wait + Sync, G: Gate + Sync>(
     }
     segments_have_few_events(course);
     let mut steps: Steps<Counted> = Steps::new();
-    let told = match work(
-        rt,
-        alloc,
-        course,
-        5,
+    let setup = Setup {
+        stride: 5,
         places,
-        Keep::Entries,
+        keep: Keep::Entries,
         workers,
-        gate,
-        &mut steps,
-    ) {
+    };
+    let told = match work(rt, alloc, course, setup, gate, &mut steps) {
         Ok(worked) => Ok(Told {
             held: held(&worked.shelf),
             outcomes: worked.outcomes,
@@ -158,66 +154,103 @@ fn frames<R: Threads + Wait + Sync>(
 ) -> Result<Vec<u8>, Memory> {
     courses_stay_in_range();
     segments_have_few_events(course);
-    let _ = course.plan();
+    course.is_course();
     let mut steps: Steps<Counted> = Steps::new();
-    let worked = work(rt, alloc, course, 5, 1, keep, 3, &OpenGate, &mut steps);
+    let setup = Setup {
+        stride: 5,
+        places: 1,
+        keep,
+        workers: 3,
+    };
+    let worked = work(rt, alloc, course, setup, &OpenGate, &mut steps);
     let _ = steps.close();
     let worked = worked?;
     frames_of(alloc, worked.outcomes.as_slice())
 }
 
-// Three branches, x, y and z, by one worker and by many: as one after another. Four of the five segments pass event 5, and
-// of the states there no place, one place and enough places hold none, one and all. The frames that workers keep are those of
-// the entries.
-fn three_at<R: Abort + Threads + Wait + Sync>(
+// So many workers with so many places: they count as many steps as one worker does, so many states stand on the shelf, and each
+// outcome is one worker's.
+fn many_at<R: Abort + Threads + Wait + Sync>(
     rt: &R,
     alloc: Global,
-    stop: Stop,
-) -> Result<(), Fail> {
-    let course = course(alloc, stop)?;
-    segments_have_few_events(&course);
-    let mut steps: Steps<Counted> = Steps::new();
-    let alone = run_segments(alloc, &course, Keep::Entries, &mut steps);
-    let ticks = steps.close();
-    let alone = alone?;
-    assert_eq!(rt; (ticks, alone.len()), (18, 5));
-    for (workers, places, held) in [(1, 0, 0), (3, 1, 1), (64, 128, 4)] {
-        let (told, ticks) = worked(rt, alloc, &course, places, workers, &OpenGate);
-        let told = told?;
-        assert_eq!(rt;
-            (ticks, told.outcomes.len(), told.held),
-            (18, 5, held),
-            "{workers} workers"
-        );
-        for (a, b) in alone.iter().zip(told.outcomes.iter()) {
-            let is_one = are_one(alloc, a, b)?;
-            assert!(rt; is_one, "{workers} workers");
-        }
+    course: &Arc<Course>,
+    alone: &[Outcome],
+    workers: u32,
+    places: u32,
+    held: u32,
+) {
+    let (told, ticks) = worked(rt, alloc, course, places, workers, &OpenGate);
+    let Ok(told) = told else {
+        panic!(rt; "out of memory");
+    };
+    equal(rt, (ticks, told.outcomes.len(), told.held), (18, 5, held));
+    for (a, b) in alone.iter().zip(told.outcomes.iter()) {
+        holds(rt, matches!(are_one(alloc, a, b), Ok(true)));
     }
-    let bytes = frames(rt, alloc, &course, Keep::Frames)?;
-    assert!(rt; !bytes.is_empty());
-    assert!(rt; bytes == frames(rt, alloc, &course, Keep::Entries)?);
-    Ok(())
+}
+
+// The frames that workers keep are those of the entries.
+fn frames_are_those_of_entries<R: Abort + Threads + Wait + Sync>(
+    rt: &R,
+    alloc: Global,
+    course: &Arc<Course>,
+) {
+    let (Ok(bytes), Ok(entries)) = (
+        frames(rt, alloc, course, Keep::Frames),
+        frames(rt, alloc, course, Keep::Entries),
+    ) else {
+        panic!(rt; "out of memory");
+    };
+    holds(rt, !bytes.is_empty());
+    holds(rt, bytes.as_slice() == entries.as_slice());
+}
+
+// Three branches, x, y and z, by one worker and by many: the outcomes are the same. Four of the five segments pass event 5, and
+// of the states there no place, one place and enough places hold none, one and all.
+fn three_at<R: Abort + Threads + Wait + Sync>(rt: &R, alloc: Global, stop: Stop) {
+    let Ok(course) = course(alloc, stop) else {
+        panic!(rt; "out of memory");
+    };
+    let Ok(alone) = simulate(rt, alloc, &course, Keep::Entries) else {
+        panic!(rt; "out of memory");
+    };
+    equal(rt, (alone.ticks, alone.outcomes.len()), (18, 5));
+    for (workers, places, held) in [(1, 0, 0), (3, 1, 1), (64, 128, 4)] {
+        many_at(
+            rt,
+            alloc,
+            &course,
+            alone.outcomes.as_slice(),
+            workers,
+            places,
+            held,
+        );
+    }
+    frames_are_those_of_entries(rt, alloc, &course);
 }
 
 // They leave the root at event 2, or right before the time of the next.
 #[test]
-fn three_branches(rt: HostRuntime) -> Result<(), Fail> {
+fn three_branches(rt: HostRuntime) {
     let alloc = rt.alloc();
-    three_at(&rt, alloc, Stop::At(2))?;
-    three_at(&rt, alloc, Stop::When(1004))
+    three_at(&rt, alloc, Stop::At(2));
+    three_at(&rt, alloc, Stop::When(1004));
 }
 
 // Two segments are under way at once: each of two branches waits for the other to begin.
 #[test]
-fn two_segments_at_once(rt: HostRuntime) -> Result<(), Fail> {
+fn two_segments_at_once(rt: HostRuntime) {
     let alloc = rt.alloc();
-    let course = course(alloc, Stop::At(2))?;
+    let Ok(course) = course(alloc, Stop::At(2)) else {
+        panic!(rt; "out of memory");
+    };
     for (held, until) in [(2, 3), (3, 2)] {
         let gate = HoldGate::new(held, until, 100_000_000);
         let (told, ticks) = worked(&rt, alloc, &course, 1, 2, &gate);
-        assert_eq!(rt; (told?.outcomes.len(), ticks), (5, 18));
-        assert_eq!(rt; (gate.exceeded(), gate.passes()), (false, 5));
+        let Ok(told) = told else {
+            panic!(rt; "out of memory");
+        };
+        equal(&rt, (told.outcomes.len(), ticks), (5, 18));
+        equal(&rt, (gate.exceeded(), gate.passes()), (false, 5));
     }
-    Ok(())
 }

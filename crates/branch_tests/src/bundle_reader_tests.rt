@@ -1,7 +1,7 @@
+use crate::facts::{equal, holds};
 use bundle_reader::{Bundle, BundleError, read_bundle};
-use market_types::{Entry, Trace};
+use market_types::{Entry, Memory, Trace};
 use std::alloc::Global;
-use std::test::*;
 
 // The bundle of a run without events: two agents with the exchange, one stock, one branch.
 const EMPTY_RUN: [u8; 402] = [
@@ -193,22 +193,30 @@ fn is_answer(read: &Result<Bundle, BundleError>, answer: Result<&[u8], usize>) -
 
 #[test]
 fn the_empty_run(rt: HostRuntime) {
-    let read = read_bundle(rt.alloc(), &EMPTY_RUN);
-    let Ok(bundle) = read else {
-        assert!(rt; false);
-        return;
+    let Ok(bundle) = read_bundle(rt.alloc(), &EMPTY_RUN) else {
+        panic!(rt; "no bundle");
     };
-    assert!(rt; bundle.agents == 2 && bundle.stocks == 1 && bundle.branches.len() == 1);
+    equal(
+        &rt,
+        (bundle.agents, bundle.stocks, bundle.branches.len()),
+        (2, 1, 1),
+    );
     let Some(root) = bundle.branches.get(0) else {
-        assert!(rt; false);
-        return;
+        panic!(rt; "no branch");
     };
-    assert!(rt; root.name.as_slice() == b"root".as_slice());
-    assert!(rt; root.parent == 65_535 && root.stop == 0);
-    assert!(rt; root.opening.len() == 3 && root.entries.is_empty() && root.ended.time == 1000);
-    assert!(rt; root.closing.counts.end == b'C' && root.closing.counts.waiting == 1);
-    assert!(rt; root.closing.stocks.len() == 1 && root.closing.orders.len() == 0);
-    assert!(rt; root.closing.agents.len() == 2);
+    holds(&rt, root.name.as_slice() == b"root".as_slice());
+    equal(&rt, (root.parent, root.stop), (65_535, 0));
+    holds(
+        &rt,
+        root.opening.len() == 3 && root.entries.is_empty() && root.ended.time == 1000,
+    );
+    let counts = root.closing.counts;
+    holds(&rt, counts.end == b'C' && counts.waiting == 1);
+    holds(
+        &rt,
+        root.closing.stocks.len() == 1 && root.closing.orders.len() == 0,
+    );
+    equal(&rt, root.closing.agents.len(), 2);
 }
 
 #[test]
@@ -219,37 +227,51 @@ fn each_cut(rt: HostRuntime) {
             start = n;
         }
         let read = read_bundle(rt.alloc(), &EMPTY_RUN[..n]);
-        assert!(rt; matches!(read, Err(BundleError::Cut(left)) if left == n.wrapping_sub(start)));
+        holds(
+            &rt,
+            matches!(read, Err(BundleError::Cut(left)) if left == n.wrapping_sub(start)),
+        );
     }
+}
+
+// Whether the bundle with all bits of one byte changed is answered so.
+fn is_told(alloc: Global, at: usize, answer: Option<BundleError>) -> bool {
+    let mut bytes = EMPTY_RUN;
+    if let Some(byte) = bytes.get_mut(at) {
+        *byte ^= 0xff;
+    }
+    read_bundle(alloc, &bytes).err() == answer
 }
 
 #[test]
 fn each_byte_changed(rt: HostRuntime) {
     let mut start = 0;
-    for (end, answer) in CHANGED {
-        for at in start..end {
-            let mut bytes = EMPTY_RUN;
-            if let Some(byte) = bytes.get_mut(at) {
-                *byte ^= 0xff;
-            }
-            assert!(rt; read_bundle(rt.alloc(), &bytes).err() == answer);
+    for (end, answer) in CHANGED.iter() {
+        for at in start..*end {
+            holds(&rt, is_told(rt.alloc(), at, *answer));
         }
-        start = end;
+        start = *end;
     }
-    assert!(rt; start == EMPTY_RUN.len());
+    equal(&rt, start, EMPTY_RUN.len());
+}
+
+// A bundle in which the frames of these letters stand among the entries.
+fn bundle_of(alloc: Global, letters: &[u8]) -> Result<Vec<u8>, Memory> {
+    let mut bytes = Vec::new(alloc);
+    bytes.extend_from_slice(BEFORE)?;
+    for letter in letters {
+        bytes.extend_from_slice(frame(*letter))?;
+    }
+    bytes.extend_from_slice(BEHIND)?;
+    Ok(bytes)
 }
 
 #[test]
-fn the_split_of_the_feed(rt: HostRuntime) -> Result<(), Fail> {
-    for (letters, answer) in SPLITS {
-        let mut bytes = Vec::new(rt.alloc());
-        bytes.extend_from_slice(BEFORE)?;
-        for letter in letters {
-            bytes.extend_from_slice(frame(*letter))?;
-        }
-        bytes.extend_from_slice(BEHIND)?;
-        let read = read_bundle(rt.alloc(), &bytes);
-        assert!(rt; is_answer(&read, answer));
+fn the_split_of_the_feed(rt: HostRuntime) {
+    for (letters, answer) in SPLITS.iter() {
+        let Ok(bytes) = bundle_of(rt.alloc(), letters) else {
+            panic!(rt; "out of memory");
+        };
+        holds(&rt, is_answer(&read_bundle(rt.alloc(), &bytes), *answer));
     }
-    Ok(())
 }

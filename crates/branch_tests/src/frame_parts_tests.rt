@@ -1,41 +1,45 @@
+use crate::facts::holds;
 use bundle_reader::{Head, HeaderHead, read_body, read_head};
 use market_types::Body;
-use std::test::*;
 
 #[test]
 fn a_header_and_an_end(rt: HostRuntime) {
-    assert!(rt;
+    holds(
+        &rt,
         matches!(
             read_head(b"h\x00\x01\x00\x02\x00\x01\x00\x03"),
             Some((Head::Header(HeaderHead { version: 1, agents: 2, stocks: 1, branches: 3 }), rest)) if rest.is_empty()
-        )
+        ),
     );
-    assert!(rt;
-        matches!(read_head(b"z\x00\x01?"), Some((Head::End(1), rest)) if rest == b"?".as_slice())
+    holds(
+        &rt,
+        matches!(read_head(b"z\x00\x01?"), Some((Head::End(1), rest)) if rest == b"?".as_slice()),
     );
-    assert!(rt; read_head(b"z\x00").is_none());
-    assert!(rt; read_head(b"f\x00\x01").is_none());
-    assert!(rt; read_head(&[]).is_none());
+    holds(&rt, read_head(b"z\x00").is_none());
+    holds(&rt, read_head(b"f\x00\x01").is_none());
+    holds(&rt, read_head(&[]).is_none());
 }
 
 #[test]
 fn bodies(rt: HostRuntime) {
-    assert!(rt; matches!(read_body(b"w"), Some(Body::Wake)));
-    assert!(rt; read_body(b"ww").is_none());
-    assert!(rt; matches!(read_body(b"a\x00\x07"), Some(Body::Ask(7))));
-    assert!(rt;
+    holds(&rt, matches!(read_body(b"w"), Some(Body::Wake)));
+    holds(&rt, read_body(b"ww").is_none());
+    holds(&rt, matches!(read_body(b"a\x00\x07"), Some(Body::Ask(7))));
+    holds(
+        &rt,
         matches!(
             read_body(b"iXT0001000000001\x00\x00\x00\x09"),
             Some(Body::Order(_))
-        )
+        ),
     );
-    assert!(rt; read_body(b"iXT0001000000001\x00\x00\x00").is_none());
-    assert!(rt;
+    holds(&rt, read_body(b"iXT0001000000001\x00\x00\x00").is_none());
+    holds(
+        &rt,
         matches!(
             read_body(b"oJ\x00\x00\x00\x00\x00\x00\x00\x09T0001000000001H"),
             Some(Body::Answer(_))
-        )
+        ),
     );
-    assert!(rt; read_body(b"x").is_none());
-    assert!(rt; read_body(&[]).is_none());
+    holds(&rt, read_body(b"x").is_none());
+    holds(&rt, read_body(&[]).is_none());
 }

@@ -1,8 +1,9 @@
+use crate::facts::{equal, holds};
 use branch_tree::Name;
 use bundle_frames::{Written, put_branch, put_header};
 use bundle_reader::{Frame, FrameError, next_frame, read_payload};
 use market_types::{Body, Feed, Memory, What};
-use std::test::*;
+use std::alloc::Global;
 
 // What stands from a byte on.
 fn from(bytes: &[u8], at: usize) -> &[u8] {
@@ -68,43 +69,62 @@ fn is_event(read: &Result<Option<Frame>, Memory>) -> bool {
     }
 }
 
-#[test]
-fn heads_are_read_back(rt: HostRuntime) -> Result<(), Fail> {
-    let alloc = rt.alloc();
+// A header's frame and a root's.
+fn heads(alloc: Global) -> Result<Vec<u8>, Memory> {
     let mut bytes = Vec::new(alloc);
     put_header(&mut bytes, 3, 1, 2)?;
     put_branch(&mut bytes, 0, 65_535, 100, b"root")?;
-    assert!(rt; is_header(&next_frame(alloc, None, &bytes)));
-    assert!(rt; is_root(&next_frame(alloc, None, from(&bytes, 11))));
-    assert!(rt; next_frame(alloc, None, b"\x00\x01?").err() == Some(FrameError::Bad));
-    assert!(rt; next_frame(alloc, None, from(&bytes, 26)).err() == Some(FrameError::Cut));
-    Ok(())
+    Ok(bytes)
+}
+
+#[test]
+fn heads_are_read_back(rt: HostRuntime) {
+    let alloc = rt.alloc();
+    let Ok(bytes) = heads(alloc) else {
+        panic!(rt; "out of memory");
+    };
+    holds(&rt, is_header(&next_frame(alloc, None, &bytes)));
+    holds(&rt, is_root(&next_frame(alloc, None, from(&bytes, 11))));
+    let short = next_frame(alloc, None, b"\x00\x01?").err();
+    equal(&rt, short, Some(FrameError::Bad));
+    let cut = next_frame(alloc, None, from(&bytes, 26)).err();
+    equal(&rt, cut, Some(FrameError::Cut));
 }
 
 #[test]
 fn an_agent_is_read_back(rt: HostRuntime) {
     let alloc = rt.alloc();
-    assert!(rt; is_agent(&next_frame(alloc, Some(2), AGENT)));
-    assert!(rt; is_agent(&next_frame(alloc, None, AGENT)));
-    assert!(rt; next_frame(alloc, Some(1), AGENT).err() == Some(FrameError::Bad));
+    holds(&rt, is_agent(&next_frame(alloc, Some(2), AGENT)));
+    holds(&rt, is_agent(&next_frame(alloc, None, AGENT)));
+    let other = next_frame(alloc, Some(1), AGENT).err();
+    equal(&rt, other, Some(FrameError::Bad));
+}
+
+const EVENT: &[u8] =
+    b"e\x00\x00\x00\x01\x00\x00\x00\x00\x00\x00\x03\xe8\x00\x00\x00\x00\x00\x00\x00\x07\x00\x01\x00\x00P\x00\x00\x00\x00\x00\x00\x03\xe9\xff\xff\xff\xff\xff\xff\xff\xfea\x00\x02";
+
+const START: Feed = Feed {
+    locate: 0,
+    tracking: 0,
+    time: 1000,
+    what: What::System { code: b'O' },
+};
+
+// The frame of a message.
+fn message(alloc: Global, feed: &Feed) -> Result<Vec<u8>, Memory> {
+    let mut bytes = Vec::new(alloc);
+    feed.put(&mut bytes)?;
+    Ok(bytes)
 }
 
 #[test]
-fn bodies_and_messages(rt: HostRuntime) -> Result<(), Fail> {
+fn bodies_and_messages(rt: HostRuntime) {
     let alloc = rt.alloc();
-    let event =
-        b"e\x00\x00\x00\x01\x00\x00\x00\x00\x00\x00\x03\xe8\x00\x00\x00\x00\x00\x00\x00\x07\x00\x01\x00\x00P\x00\x00\x00\x00\x00\x00\x03\xe9\xff\xff\xff\xff\xff\xff\xff\xfea\x00\x02";
-    assert!(rt; is_event(&read_payload(alloc, None, event)));
-    let start = Feed {
-        locate: 0,
-        tracking: 0,
-        time: 1000,
-        what: What::System { code: b'O' },
+    holds(&rt, is_event(&read_payload(alloc, None, EVENT)));
+    let Ok(bytes) = message(alloc, &START) else {
+        panic!(rt; "out of memory");
     };
-    let mut bytes = Vec::new(alloc);
-    start.put(&mut bytes)?;
-    assert!(rt; is_message(&next_frame(alloc, Some(1), &bytes), start));
-    assert!(rt; !is_event(&read_payload(alloc, None, b"q")));
-    assert!(rt; Name::new(b"").is_none());
-    Ok(())
+    holds(&rt, is_message(&next_frame(alloc, Some(1), &bytes), START));
+    holds(&rt, !is_event(&read_payload(alloc, None, b"q")));
+    holds(&rt, Name::new(b"").is_none());
 }

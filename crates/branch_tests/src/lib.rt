@@ -12,14 +12,20 @@ mod branch_workers_tests;
 #[cfg(test)]
 mod bundle_reader_tests;
 #[cfg(test)]
+mod facts;
+#[cfg(test)]
 mod frame_parts_tests;
 #[cfg(test)]
 mod frame_reader_tests;
+#[cfg(test)]
+mod one_worker;
 #[cfg(test)]
 mod rewind_examples;
 #[cfg(test)]
 mod rewind_targets_tests;
 #[cfg(test)]
 mod session_examples;
+#[cfg(test)]
+mod small_course;
 #[cfg(test)]
 mod study_report_tests;

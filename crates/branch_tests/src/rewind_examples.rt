@@ -1,13 +1,12 @@
 //! Rewinds over the shelf that workers of a small course give back.
 
-pub(crate) mod market;
-
 ghost use Rattle.std.specs.Prelude.{◌≡◌, ◌≤◌, IfOk};
 ghost use Rattle.rewind_desk.specs.AfterWork.{IsAfterWork};
 
-use self::market::course;
+use crate::facts::equal;
+use crate::small_course::two_branches as course;
 use branch_tree::Stop;
-use branch_workers::work;
+use branch_workers::{Setup, work};
 use checkpoint_shelf::ClosedShelf;
 use kernel_copy::Keep;
 use kernel_copy::laws::segments_have_few_events;
@@ -17,7 +16,6 @@ use rewind_desk::{Checkpoint, Course, Key, RewindError, nearest, rewind};
 use std::alloc::Global;
 use std::process::Abort;
 use std::sync::{Arc, Wait};
-use std::test::Fail;
 use std::thread::Threads;
 
 // The shelf that three workers of a course give back, with so many places for the grid of stride 5.
@@ -32,17 +30,13 @@ pub(crate) fn left<R: Threads + Wait + Sync>(
 {
     segments_have_few_events(course);
     let mut steps: Steps<Counted> = Steps::new();
-    let worked = work(
-        rt,
-        alloc,
-        course,
-        5,
+    let setup = Setup {
+        stride: 5,
         places,
-        Keep::Frames,
-        3,
-        &OpenGate,
-        &mut steps,
-    );
+        keep: Keep::Frames,
+        workers: 3,
+    };
+    let worked = work(rt, alloc, course, setup, &OpenGate, &mut steps);
     let _ = steps.close();
     let worked = worked?;
     Ok(worked.shelf)
@@ -86,60 +80,58 @@ fn key(segment: u32, event: u32) -> Option<Key> {
 type Row = (u16, u32, Result<(u32, u32), RewindError>, u64);
 
 // Asks for each row's rewind of a course whose branches leave at this stop, with a place for each state of the grid.
-fn rewound<R: Abort + Threads + Wait + Sync>(
-    rt: &R,
-    alloc: Global,
-    stop: Stop,
-    rows: &[Row],
-) -> Result<(), Fail> {
-    let course = course(alloc, stop)?;
-    let shelf = left(rt, alloc, &course, 128)?;
+fn rewound<R: Abort + Threads + Wait + Sync>(rt: &R, alloc: Global, stop: Stop, rows: &[Row]) {
+    let Ok(course) = course(alloc, stop) else {
+        panic!(rt; "out of memory");
+    };
+    let Ok(shelf) = left(rt, alloc, &course, 128) else {
+        panic!(rt; "out of memory");
+    };
     for (branch, event, told, ticks) in rows.iter() {
-        assert_eq!(rt;
+        equal(
+            rt,
             came(alloc, &course, &shelf, *branch, *event),
             (*told, *ticks),
-            "event {event} of branch {branch}"
         );
     }
-    Ok(())
 }
+
+const EARLY: [Row; 6] = [
+    (0, 1, Ok((1, 0)), 1),
+    (0, 6, Ok((6, 5)), 1),
+    (1, 4, Ok((4, 2)), 2),
+    (2, 5, Ok((5, 5)), 0),
+    (99, 0, Err(RewindError::NoBranch), 0),
+    (2, 7, Err(RewindError::NoEvent(6)), 1),
+];
+
+const LATE: [Row; 5] = [
+    (1, 3, Ok((3, 0)), 3),
+    (1, 4, Ok((4, 4)), 0),
+    (1, 5, Ok((5, 5)), 0),
+    (2, 6, Ok((6, 5)), 1),
+    (2, 7, Err(RewindError::NoEvent(6)), 1),
+];
 
 // A rewind goes on from the state of the grid at event 5, or from the fork's before that, which has two events, or four where
 // the branches leave at 1005. A branch that isn't there counts no event, and an event past the last counts those to the last.
 #[test]
-fn rewinds_of_a_small_course(rt: HostRuntime) -> Result<(), Fail> {
+fn rewinds_of_a_small_course(rt: HostRuntime) {
     let alloc = rt.alloc();
-    let early: [Row; 6] = [
-        (0, 1, Ok((1, 0)), 1),
-        (0, 6, Ok((6, 5)), 1),
-        (1, 4, Ok((4, 2)), 2),
-        (2, 5, Ok((5, 5)), 0),
-        (99, 0, Err(RewindError::NoBranch), 0),
-        (2, 7, Err(RewindError::NoEvent(6)), 1),
-    ];
-    let late: [Row; 5] = [
-        (1, 3, Ok((3, 0)), 3),
-        (1, 4, Ok((4, 4)), 0),
-        (1, 5, Ok((5, 5)), 0),
-        (2, 6, Ok((6, 5)), 1),
-        (2, 7, Err(RewindError::NoEvent(6)), 1),
-    ];
-    rewound(&rt, alloc, Stop::At(2), &early)?;
-    rewound(&rt, alloc, Stop::When(1004), &early)?;
-    rewound(&rt, alloc, Stop::When(1005), &late)
+    rewound(&rt, alloc, Stop::At(2), &EARLY);
+    rewound(&rt, alloc, Stop::When(1004), &EARLY);
+    rewound(&rt, alloc, Stop::When(1005), &LATE);
 }
 
 // The fork's state has two events, and this number in its key. Without places for the grid it is the nearest from its event on,
 // and with them the one at the greatest multiple of the stride.
-fn nearest_at<R: Abort + Threads + Wait + Sync>(
-    rt: &R,
-    alloc: Global,
-    stop: Stop,
-    number: u32,
-) -> Result<(), Fail> {
-    let course = course(alloc, stop)?;
-    let forks = left(rt, alloc, &course, 0)?;
-    let all = left(rt, alloc, &course, 128)?;
+fn nearest_at<R: Abort + Threads + Wait + Sync>(rt: &R, alloc: Global, stop: Stop, number: u32) {
+    let Ok(course) = course(alloc, stop) else {
+        panic!(rt; "out of memory");
+    };
+    let (Ok(forks), Ok(all)) = (left(rt, alloc, &course, 0), left(rt, alloc, &course, 128)) else {
+        panic!(rt; "out of memory");
+    };
     let fork = key(0, number);
     for (event, without, with) in [
         (1, None, None),
@@ -148,15 +140,14 @@ fn nearest_at<R: Abort + Threads + Wait + Sync>(
         (5, fork, key(3, 5)),
         (6, fork, key(3, 5)),
     ] {
-        assert_eq!(rt; near(&course, &forks, event), without, "up to {event}");
-        assert_eq!(rt; near(&course, &all, event), with, "up to {event}");
+        equal(rt, near(&course, &forks, event), without);
+        equal(rt, near(&course, &all, event), with);
     }
-    Ok(())
 }
 
 #[test]
-fn nearest_states_of_a_branch(rt: HostRuntime) -> Result<(), Fail> {
+fn nearest_states_of_a_branch(rt: HostRuntime) {
     let alloc = rt.alloc();
-    nearest_at(&rt, alloc, Stop::At(2), 2)?;
-    nearest_at(&rt, alloc, Stop::When(1004), 16_777_215)
+    nearest_at(&rt, alloc, Stop::At(2), 2);
+    nearest_at(&rt, alloc, Stop::When(1004), 16_777_215);
 }

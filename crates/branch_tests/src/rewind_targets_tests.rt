@@ -1,21 +1,21 @@
 ghost use Rattle.std.specs.Prelude.{◌≡◌, [], IfOk};
 
+use crate::facts::{equal, holds};
 use branch_tree::{Branch, BranchPlan, Name, Stop, plan};
-use command_words::{Command, ask};
+use command_words::{Request, Task, ask};
 use market_rules::Edit;
-use market_types::Sequence;
+use market_types::{Memory, Sequence};
 use rewind_desk::{Aimed, Past, Target, aim, first_past};
 use std::alloc::Global;
-use std::test::Fail;
 
 // A branch with no edits.
-fn branch(alloc: Global, name: &str, parent: u16, stop: Stop) -> Result<Branch, Fail>
+fn branch(alloc: Global, name: &str, parent: u16, stop: Stop) -> Result<Branch, Memory>
     ensures parent { IfOk result (λ b. b.parent ≡ parent) }
     ensures stop { IfOk result (λ b. b.stop ≡ stop) }
     ensures edits { IfOk result (λ b. b.edits ≡ []) }
 {
     let Some(name) = Name::new(name.as_bytes()) else {
-        return Err(Fail::from("no name"));
+        return Err(Memory);
     };
     let edits: Vec<Edit> = Vec::new(alloc);
     Ok(Branch {
@@ -27,52 +27,75 @@ fn branch(alloc: Global, name: &str, parent: u16, stop: Stop) -> Result<Branch, 
 }
 
 // The plan of `root`, `x` from it at 2 and `x-1` from `x` at 4.
-fn tree(alloc: Global) -> Result<BranchPlan, Fail> {
+fn tree(alloc: Global) -> Result<BranchPlan, Memory> {
     let mut branches = Vec::new(alloc);
     branches.push(branch(alloc, "root", 0, Stop::At(0))?)?;
     branches.push(branch(alloc, "x", 0, Stop::At(2))?)?;
     branches.push(branch(alloc, "x-1", 1, Stop::At(4))?)?;
     match plan(alloc, branches, 100) {
         Ok(plan) => Ok(plan),
-        Err(_) => Err(Fail::from("refused")),
+        Err(_) => Err(Memory),
     }
 }
 
-// What the marks between a line's spaces come to in that tree.
-fn aimed(alloc: Global, line: &str) -> Result<Aimed, Fail> {
+// What stands between a line's spaces.
+fn words_of(alloc: Global, line: &str) -> Result<Vec<String>, Memory> {
     let mut words = Vec::new(alloc);
     for word in line.split(' ') {
         words.push(String::from_str(alloc, word)?)?;
     }
-    let plan = tree(alloc)?;
-    match ask(alloc, words.as_slice()) {
-        Ok(Some(asked)) => match &asked.command {
-            Command::Rewind(_, marks) => Ok(aim(alloc, &plan, marks.as_slice())?),
-            _ => Err(Fail::from("another command")),
+    Ok(words)
+}
+
+// What the marks of words come to in a tree, where they ask for a rewind.
+fn aimed_in(alloc: Global, plan: &BranchPlan, words: &[String]) -> Option<Aimed> {
+    match ask(alloc, words) {
+        Ok(Some(asked)) => match &asked.request {
+            Request::File(Task::Rewind(marks, _), _) => aim(alloc, plan, marks.as_slice()).ok(),
+            _ => None,
         },
-        _ => Err(Fail::from("not asked")),
+        _ => None,
     }
 }
 
-#[test]
-fn marks_name_whole_branches(rt: HostRuntime) -> Result<(), Fail> {
-    let alloc = rt.alloc();
-    let rows = [
-        ("rewind s root:0 x-1:0007 x:2", None),
-        ("rewind s root:1 w:1 v:1", Some(1)),
-        ("rewind s roo:1", Some(0)),
-        ("rewind s x:1 x:1 x-:1", Some(2)),
-    ];
-    for (line, wanted) in rows.iter() {
-        let index = match aimed(alloc, line)? {
-            Aimed::At(_) => None,
-            Aimed::NoBranch(index) => Some(index),
-        };
-        assert_eq!(rt; index, *wanted);
-    }
-    let Aimed::At(targets) = aimed(alloc, "rewind s root:0 x-1:0007 x:2")? else {
-        return Err(Fail::from("no branch"));
+// What the marks of a line come to in that tree.
+fn aimed(alloc: Global, line: &str) -> Option<Aimed> {
+    let (Ok(words), Ok(plan)) = (words_of(alloc, line), tree(alloc)) else {
+        return None;
     };
+    aimed_in(alloc, &plan, words.as_slice())
+}
+
+// Whether all marks of a line name branches, or the mark of this index is the first that doesn't.
+fn misses(alloc: Global, line: &str, wanted: Option<usize>) -> bool {
+    match aimed(alloc, line) {
+        Some(Aimed::At(_)) => wanted.is_none(),
+        Some(Aimed::NoBranch(index)) => wanted == Some(index),
+        None => false,
+    }
+}
+
+// Whether a line's marks name these targets.
+fn aims_at(alloc: Global, line: &str, wanted: &[Target]) -> bool {
+    match aimed(alloc, line) {
+        Some(Aimed::At(targets)) => targets.as_slice() == wanted,
+        _ => false,
+    }
+}
+
+const LINES: [(&str, Option<usize>); 4] = [
+    ("rewind s root:0 x-1:0007 x:2", None),
+    ("rewind s root:1 w:1 v:1", Some(1)),
+    ("rewind s roo:1", Some(0)),
+    ("rewind s x:1 x:1 x-:1", Some(2)),
+];
+
+#[test]
+fn marks_name_whole_branches(rt: HostRuntime) {
+    let alloc = rt.alloc();
+    for (line, wanted) in LINES.iter() {
+        holds(&rt, misses(alloc, line, *wanted));
+    }
     let wanted = [
         Target {
             branch: 0,
@@ -87,9 +110,8 @@ fn marks_name_whole_branches(rt: HostRuntime) -> Result<(), Fail> {
             event: 2,
         },
     ];
-    assert_eq!(rt; targets.as_slice(), wanted.as_slice());
-    assert_eq!(rt; first_past(&[6, 2, 7], &wanted), None);
+    holds(&rt, aims_at(alloc, "rewind s root:0 x-1:0007 x:2", &wanted));
+    equal(&rt, first_past(&[6, 2, 7], &wanted), None);
     let past = Some(Past { index: 1, last: 6 });
-    assert_eq!(rt; first_past(&[6, 1, 6], &wanted), past);
-    Ok(())
+    equal(&rt, first_past(&[6, 1, 6], &wanted), past);
 }

@@ -3,37 +3,38 @@
 ghost use Rattle.std.specs.Prelude.{◌≡◌, IfOk, IfErr, OnOk, length};
 ghost use Rattle.branch_workers.specs.Example.{small};
 
+use crate::facts::{equal, holds};
 use crate::rewind_examples::left;
-use crate::rewind_examples::market::{course, latency};
+use crate::small_course::{latency, two_branches};
 use branch_tree::{Branch, Name, Stop};
 use checkpoint_shelf::ClosedShelf;
 use kernel_copy::{Checkpoint, Course};
-use market_types::{Sequence, Time, Trace};
+use market_types::{Memory, Sequence, Time, Trace};
 use outside::{Counted, Steps};
 use session_desk::{Session, SessionError, forks_by_number};
 use std::alloc::Global;
 use std::sync::Arc;
-use std::test::Fail;
 
 // A session over a course, whose branches leave at event numbers.
-fn begun(alloc: Global, course: &Arc<Course>) -> Result<Session, Fail>
+fn begun(alloc: Global, course: &Arc<Course>) -> Result<Session, Memory>
     ensures { IfOk result (λ s. s.course ≡ course.now.value) }
 {
     if !forks_by_number(course.plan()) {
-        return Err(Fail::from("a branch leaves at a time"));
+        return Err(Memory);
     }
-    let session = Session::open(alloc, course)?;
-    Ok(session)
+    Session::open(alloc, course)
 }
 
-// A branch of this name leaves the root at event 2 and makes the latency 50.
-fn fork(alloc: Global, session: &mut Session, name: u8) -> Result<(), Fail>
+// Whether a branch of this name leaves the root at event 2 and makes the latency 50.
+fn fork(alloc: Global, session: &mut Session, name: u8) -> bool
     requires { session.old.course.opening ≡ small }
     ensures { session.new.course ≡ session.old.course }
 {
-    let edits = latency(alloc, 50)?;
+    let Ok(edits) = latency(alloc, 50) else {
+        return false;
+    };
     let Some(name) = Name::new(&[name]) else {
-        return Err(Fail::from("no name"));
+        return false;
     };
     let branch = Branch {
         name,
@@ -42,20 +43,22 @@ fn fork(alloc: Global, session: &mut Session, name: u8) -> Result<(), Fail>
         edits: Sequence::new(edits),
     };
     match session.fork(branch) {
-        Ok(()) => Ok(()),
-        Err(_) => Err(Fail::from("no fork")),
+        Ok(()) => true,
+        Err(_) => false,
     }
 }
 
-// A branch makes the latency 7.
-fn edit(alloc: Global, session: &mut Session, branch: u16) -> Result<(), Fail>
+// Whether a branch makes the latency 7.
+fn edit(alloc: Global, session: &mut Session, branch: u16) -> bool
     requires { session.old.course.opening ≡ small }
     ensures { session.new.course ≡ session.old.course }
 {
-    let edits = latency(alloc, 7)?;
+    let Ok(edits) = latency(alloc, 7) else {
+        return false;
+    };
     match session.edit(branch, edits) {
-        Ok(()) => Ok(()),
-        Err(_) => Err(Fail::from("no edit")),
+        Ok(()) => true,
+        Err(_) => false,
     }
 }
 
@@ -109,26 +112,33 @@ fn last(
 // A fork at event 2 with the first branch's latency stands at event 5 when that branch did. The first branch with the second's
 // latency stands there when the second does. Both go on from the root's state at the fork, and the second from its own.
 #[test]
-fn a_session_over_a_small_course(rt: HostRuntime) -> Result<(), Fail> {
+fn a_session_over_a_small_course(rt: HostRuntime) {
     let alloc = rt.alloc();
-    let course = course(alloc, Stop::At(2))?;
-    let shelf = left(&rt, alloc, &course, 128)?;
-    let mut session = begun(alloc, &course)?;
-    fork(alloc, &mut session, b'v')?;
-    assert_eq!(rt; came(&session, &shelf, 3, 5), (Ok(1055), 3));
-    edit(alloc, &mut session, 1)?;
-    assert_eq!(rt; came(&session, &shelf, 1, 5), (Ok(1012), 3));
-    assert_eq!(rt; session.undo().is_ok(), true);
-    assert_eq!(rt; came(&session, &shelf, 2, 4), (Ok(1005), 2));
-    assert_eq!(rt;
+    let Ok(course) = two_branches(alloc, Stop::At(2)) else {
+        panic!(rt; "out of memory");
+    };
+    let Ok(shelf) = left(&rt, alloc, &course, 128) else {
+        panic!(rt; "out of memory");
+    };
+    let Ok(mut session) = begun(alloc, &course) else {
+        panic!(rt; "a branch leaves at a time");
+    };
+    holds(&rt, fork(alloc, &mut session, b'v'));
+    equal(&rt, came(&session, &shelf, 3, 5), (Ok(1055), 3));
+    holds(&rt, edit(alloc, &mut session, 1));
+    equal(&rt, came(&session, &shelf, 1, 5), (Ok(1012), 3));
+    assert!(rt; session.undo().is_ok());
+    equal(&rt, came(&session, &shelf, 2, 4), (Ok(1005), 2));
+    equal(
+        &rt,
         came(&session, &shelf, 3, 4),
-        (Err(SessionError::NoBranch), 0)
+        (Err(SessionError::NoBranch), 0),
     );
-    assert_eq!(rt;
+    equal(
+        &rt,
         came(&session, &shelf, 1, 7),
-        (Err(SessionError::NoEvent(6)), 4)
+        (Err(SessionError::NoEvent(6)), 4),
     );
-    assert_eq!(rt; last(&session, &shelf, 1), (Ok(6), 4));
-    assert_eq!(rt; recorded(alloc, &session, 1), (Ok(7), 6));
-    Ok(())
+    equal(&rt, last(&session, &shelf, 1), (Ok(6), 4));
+    equal(&rt, recorded(alloc, &session, 1), (Ok(7), 6));
 }

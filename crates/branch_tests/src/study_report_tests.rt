@@ -2,11 +2,11 @@ ghost use Rattle.std.specs.Prelude.{◌≡◌, All, IfOk, OnOk, length};
 ghost use Rattle.study_report.specs.Difference.{IsNumbered};
 ghost use Rattle.study_report.specs.declared.row.TableRow.{TableRow};
 
+use crate::facts::{equal, holds};
 use branch_tree::Name;
 use market_types::{Body, EditMark, End, Entry, FeedList, Memory, Record, Sequence, Trace};
 use probe_desk::{Fees, Probe, Range, SpreadSum, Volume};
 use std::alloc::Global;
-use std::test::Fail;
 use study_report::{TableRow, first_difference, first_difference_of_parts, table};
 
 // A row of so many zeros; without a parent for the root.
@@ -17,11 +17,11 @@ fn row(
     stop: u32,
     difference: u32,
     values: usize,
-) -> Result<TableRow, Fail>
+) -> Result<TableRow, Memory>
     ensures { IfOk result (λ r. length r.values ≡ values) }
 {
     let Some(name) = Name::new(name) else {
-        return Err(Fail::from("no name"));
+        return Err(Memory);
     };
     let zeros: Vec<i128> = vec![in alloc; 0; values]?;
     Ok(TableRow {
@@ -35,55 +35,101 @@ fn row(
     })
 }
 
-// Appends a row of so many values.
-fn add(rows: &mut Vec<TableRow>, values: usize, row: TableRow) -> Result<(), Memory>
+// Appends a row of so many values, if there was memory for it.
+fn add(rows: &mut Vec<TableRow>, values: usize, row: Result<TableRow, Memory>) -> Result<(), Memory>
     requires rows { All (λ (r : TableRow). length r.values ≡ values) rows.old.items }
-    requires row { length row.values ≡ values }
+    requires row { IfOk row (λ r. length r.values ≡ values) }
     ensures { OnOk result (All (λ (r : TableRow). length r.values ≡ values) rows.new.items) }
 {
+    let row = row?;
     rows.push(row)?;
     Ok(())
 }
 
-#[test]
-fn a_table_of_three_branches(rt: HostRuntime) -> Result<(), Fail> {
-    let alloc = rt.alloc();
-    let probes: [Box<dyn Probe>; 4] = [
+// The rows of the root and of three branches.
+fn four_rows(alloc: Global) -> Result<Vec<TableRow>, Memory>
+    ensures { IfOk result (λ v. All (λ (r : TableRow). length r.values ≡ 4) v.items) }
+{
+    let mut rows = Vec::new(alloc);
+    add(&mut rows, 4, row(alloc, b"root", None, 0, 0, 4))?;
+    add(&mut rows, 4, row(alloc, b"x", Name::new(b"root"), 2, 5, 4))?;
+    add(&mut rows, 4, row(alloc, b"y", Name::new(b"root"), 2, 5, 4))?;
+    add(&mut rows, 4, row(alloc, b"z", Name::new(b"root"), 2, 0, 4))?;
+    Ok(rows)
+}
+
+// The root's row alone, with so many values.
+fn root_row(alloc: Global, values: usize) -> Result<Vec<TableRow>, Memory>
+    ensures { IfOk result (λ v. All (λ (r : TableRow). length r.values ≡ values) v.items) }
+{
+    let mut rows = Vec::new(alloc);
+    add(&mut rows, values, row(alloc, b"root", None, 0, 0, values))?;
+    Ok(rows)
+}
+
+// A probe of each kind.
+fn four_probes(alloc: Global) -> Result<[Box<dyn Probe>; 4], Memory> {
+    Ok([
         Box::new(alloc, Volume::new())?,
         Box::new(alloc, SpreadSum::new())?,
         Box::new(alloc, Range::new())?,
         Box::new(alloc, Fees::new())?,
-    ];
-    let mut rows = Vec::new(alloc);
-    add(&mut rows, 4, row(alloc, b"root", None, 0, 0, 4)?)?;
-    add(&mut rows, 4, row(alloc, b"x", Name::new(b"root"), 2, 5, 4)?)?;
-    add(&mut rows, 4, row(alloc, b"y", Name::new(b"root"), 2, 5, 4)?)?;
-    add(&mut rows, 4, row(alloc, b"z", Name::new(b"root"), 2, 0, 4)?)?;
-    let text = table(alloc, rows.as_slice(), &probes)?;
-    let wanted =
-        b"branch,parent,stop,events,end,first_difference,volume,spread_sum,range,fees\nroot,,0,6,Closed,0,0,0,0,0\nx,root,2,6,Closed,5,0,0,0,0\ny,root,2,6,Closed,5,0,0,0,0\nz,root,2,6,Closed,0,0,0,0,0\n";
-    assert!(rt; text.as_slice() == wanted.as_slice());
-    Ok(())
+    ])
+}
+
+// Whether this is the table of rows.
+fn is_table(alloc: Global, rows: &[TableRow], probes: &[Box<dyn Probe>], wanted: &[u8]) -> bool
+    requires { All (λ (r : TableRow). length r.values ≡ length probes.now) rows.now }
+{
+    match table(alloc, rows, probes) {
+        Ok(text) => text.as_slice() == wanted,
+        Err(_) => false,
+    }
+}
+
+const OF_THREE: &[u8] =
+    b"branch,parent,stop,events,end,first_difference,volume,spread_sum,range,fees\nroot,,0,6,Closed,0,0,0,0,0\nx,root,2,6,Closed,5,0,0,0,0\ny,root,2,6,Closed,5,0,0,0,0\nz,root,2,6,Closed,0,0,0,0,0\n";
+
+#[test]
+fn a_table_of_three_branches(rt: HostRuntime) {
+    let alloc = rt.alloc();
+    let (Ok(probes), Ok(rows)) = (four_probes(alloc), four_rows(alloc)) else {
+        panic!(rt; "out of memory");
+    };
+    holds(&rt, is_table(alloc, rows.as_slice(), &probes, OF_THREE));
+}
+
+const OF_NO_PROBE: &[u8] = b"branch,parent,stop,events,end,first_difference\nroot,,0,6,Closed,0\n";
+
+// So many probes of fees.
+fn fees(alloc: Global, count: u32) -> Result<Vec<Box<dyn Probe>>, Memory> {
+    let mut probes: Vec<Box<dyn Probe>> = Vec::new(alloc);
+    for _ in 0..count {
+        probes.push(Box::new(alloc, Fees::new())?)?;
+    }
+    Ok(probes)
+}
+
+// How long the table of the root is with so many probes of fees.
+fn length_of_table(alloc: Global, count: u32) -> Result<usize, Memory> {
+    let probes = fees(alloc, count)?;
+    let rows = root_row(alloc, probes.len())?;
+    let text = table(alloc, rows.as_slice(), probes.as_slice())?;
+    Ok(text.len())
 }
 
 #[test]
-fn no_probe_and_a_thousand(rt: HostRuntime) -> Result<(), Fail> {
+fn no_probe_and_a_thousand(rt: HostRuntime) {
     let alloc = rt.alloc();
-    let mut probes: Vec<Box<dyn Probe>> = Vec::new(alloc);
-    let mut rows = Vec::new(alloc);
-    add(&mut rows, 0, row(alloc, b"root", None, 0, 0, 0)?)?;
-    let bare = table(alloc, rows.as_slice(), &[])?;
-    let wanted = b"branch,parent,stop,events,end,first_difference\nroot,,0,6,Closed,0\n";
-    assert!(rt; bare.as_slice() == wanted.as_slice());
-    for _ in 0..1000 {
-        probes.push(Box::new(alloc, Fees::new())?)?;
-    }
-    let mut wide = Vec::new(alloc);
-    let count = probes.len();
-    add(&mut wide, count, row(alloc, b"root", None, 0, 0, count)?)?;
-    let text = table(alloc, wide.as_slice(), probes.as_slice())?;
-    assert_eq!(rt; text.len(), wanted.len() + 1000 * 5 + 1000 * 2);
-    Ok(())
+    let Ok(rows) = root_row(alloc, 0) else {
+        panic!(rt; "out of memory");
+    };
+    holds(&rt, is_table(alloc, rows.as_slice(), &[], OF_NO_PROBE));
+    let wanted = OF_NO_PROBE.len() + 1000 * 5 + 1000 * 2;
+    holds(
+        &rt,
+        matches!(length_of_table(alloc, 1000), Ok(size) if size == wanted),
+    );
 }
 
 // A wakeup of this number and this time.
@@ -127,29 +173,27 @@ fn run(alloc: Global, count: u32, later: u64) -> Result<Trace, Memory>
 }
 
 #[test]
-fn runs_part_at_their_first_difference(rt: HostRuntime) -> Result<(), Fail> {
+fn runs_part_at_their_first_difference(rt: HostRuntime) {
     let alloc = rt.alloc();
-    let base = run(alloc, 3, 1010)?;
-    let same = run(alloc, 3, 1010)?;
-    let other = run(alloc, 3, 1055)?;
-    let short = run(alloc, 2, 1010)?;
-    let found = [
-        first_difference(&base, &same),
-        first_difference(&base, &other),
-        first_difference(&base, &short),
-        first_difference(&short, &base),
-    ];
-    assert_eq!(rt; found.as_slice(), [0, 3, 3, 3].as_slice());
-    Ok(())
+    let (Ok(base), Ok(same)) = (run(alloc, 3, 1010), run(alloc, 3, 1010)) else {
+        panic!(rt; "out of memory");
+    };
+    let (Ok(other), Ok(short)) = (run(alloc, 3, 1055), run(alloc, 2, 1010)) else {
+        panic!(rt; "out of memory");
+    };
+    equal(&rt, first_difference(&base, &same), 0);
+    equal(&rt, first_difference(&base, &other), 3);
+    equal(&rt, first_difference(&base, &short), 3);
+    equal(&rt, first_difference(&short, &base), 3);
 }
 
 #[test]
-fn runs_part_in_parts_too(rt: HostRuntime) -> Result<(), Fail> {
+fn runs_part_in_parts_too(rt: HostRuntime) {
     let alloc = rt.alloc();
     let nothing = Trace::new(alloc);
-    let base = run(alloc, 3, 1010)?;
-    let other = run(alloc, 3, 1055)?;
+    let (Ok(base), Ok(other)) = (run(alloc, 3, 1010), run(alloc, 3, 1055)) else {
+        panic!(rt; "out of memory");
+    };
     let found = first_difference_of_parts(&[&nothing, &other], &[&base, &nothing]);
-    assert_eq!(rt; found, 3);
-    Ok(())
+    equal(&rt, found, 3);
 }

@@ -19,10 +19,6 @@ path-enough (suc n) (suc m) bs limit b t l h k = elim (cases_eq b 0) [
       rw (ne_eqb b 0 other) (ap (λ (xs : List ℕ). xs ++ b ∷ []) (path-enough n m bs limit (parent_at bs b) t (omega arith) (omega arith) (omega arith)))
 ]
 
--- the root's path is itself
-pub path-root : (bs : List Branch) → path_of bs 0 ≡ 0 ∷ []
-path-root bs = refl
-
 -- any other's is its parent's and itself
 pub path-more : (bs : List Branch) (limit b : ℕ) → IsTree bs limit → 0 < b → b < length bs → path_of bs b ≡ path_of bs (parent_at bs b) ++ b ∷ []
 path-more bs limit zero t p l = absurd (omega arith)

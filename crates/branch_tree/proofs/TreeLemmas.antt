@@ -15,15 +15,15 @@ use Rattle.branch_tree.specs.Tree.{IsRooted, late_from, late_parent, is_in_range
 use Rattle.branch_tree.specs.Planned.{IsTree}
 
 -- there is no refusal where neither is one
-none_first : (x y : Option PlanError) → first_of x y ≡ None → (x ≡ None) × (y ≡ None)
+pub none_first : (x y : Option PlanError) → first_of x y ≡ None → (x ≡ None) × (y ≡ None)
 none_first None y h = (refl, h)
 none_first (Some e) y h = cc
 
-none_mapped : (f : ℕ → PlanError) (x : Option ℕ) → option_map f x ≡ None → x ≡ None
+pub none_mapped : (f : ℕ → PlanError) (x : Option ℕ) → option_map f x ≡ None → x ≡ None
 none_mapped f None h = refl
 none_mapped f (Some e) h = cc
 
-late_passed : (t : Bool) (x : Option ℕ) (k : ℕ) → cond t x (Some k) ≡ None → (t ≡ true) × (x ≡ None)
+pub late_passed : (t : Bool) (x : Option ℕ) (k : ℕ) → cond t x (Some k) ≡ None → (t ≡ true) × (x ≡ None)
 late_passed true x k h = (refl, h)
 late_passed false x k h = cc
 
@@ -36,7 +36,7 @@ parents-before k (b ∷ bs) (suc i) h l =
     omega (arith, parents-before (k + 1) bs i p.1 (omega arith))
 
 -- each stop is in its range
-stops-in-range : (limit : ℕ) (all : List Branch) (k : ℕ) (bs : List Branch) (i : ℕ) → out_from limit all k bs ≡ None → i < length bs → is_in_range limit all (get_or bs i no_branch) ≡ true
+pub stops-in-range : (limit : ℕ) (all : List Branch) (k : ℕ) (bs : List Branch) (i : ℕ) → out_from limit all k bs ≡ None → i < length bs → is_in_range limit all (get_or bs i no_branch) ≡ true
 stops-in-range limit all k [] i h l = absurd (omega arith)
 stops-in-range limit all k (b ∷ bs) zero h l = (late_passed (is_in_range limit all b) (out_from limit all (k + 1) bs) k h).0
 stops-in-range limit all k (b ∷ bs) (suc i) h l =
@@ -74,7 +74,7 @@ unmixed_by false k h p = cc
 unmixed : (a b : Branch) → mixes a b ≡ false → a.parent ≡ b.parent → is_time a.stop ≡ is_time b.stop
 unmixed a b h e = like-kinds a.stop b.stop (unmixed_by (eqb a.parent b.parent) (same_kind a.stop b.stop) h (eq-eqb a.parent b.parent e))
 
-neither : (a b : Bool) → (a || b) ≡ false → (a ≡ false) × (b ≡ false)
+pub neither : (a b : Bool) → (a || b) ≡ false → (a ≡ false) × (b ≡ false)
 neither true b h = cc
 neither false b h = (refl, h)
 
@@ -84,7 +84,7 @@ none_passes test [] i h l = absurd (omega arith)
 none_passes test (x ∷ xs) zero h l = (neither (test x) (list_any test xs) h).0
 none_passes test (x ∷ xs) (suc i) h l = none_passes test xs i (neither (test x) (list_any test xs) h).1 (omega arith)
 
-mixed_passed : (t : Bool) (x : Option ℕ) (k : ℕ) → cond t (Some k) x ≡ None → (t ≡ false) × (x ≡ None)
+pub mixed_passed : (t : Bool) (x : Option ℕ) (k : ℕ) → cond t (Some k) x ≡ None → (t ≡ false) × (x ≡ None)
 mixed_passed true x k h = cc
 mixed_passed false x k h = (refl, h)
 
@@ -118,7 +118,7 @@ kinds-of (root ∷ bs) zero c h p l q m e = absurd (omega arith)
 kinds-of (root ∷ bs) (suc b) zero h p l q m e = absurd (omega arith)
 kinds-of (root ∷ bs) (suc b) (suc c) h p l q m e = one_kind bs b c h (omega arith) (omega arith) e
 
-few_passed : (t : Bool) (e : PlanError) → cond t None (Some e) ≡ None → t ≡ true
+pub few_passed : (t : Bool) (e : PlanError) → cond t None (Some e) ≡ None → t ≡ true
 few_passed true e h = refl
 few_passed false e h = cc
 

@@ -26,7 +26,7 @@ impl Branch {
     pub fn copy(&self, alloc: Global) -> Result<Branch, Memory>
         ensures { IfOk result (λ b. b ≡ self.now) }
     {
-        let edits = copied(alloc, self.edits.as_slice())?;
+        let edits = copy_edits(alloc, self.edits.as_slice())?;
         Ok(Branch {
             name: self.name.copy(),
             parent: self.parent,
@@ -36,8 +36,8 @@ impl Branch {
     }
 }
 
-// Equal edits.
-fn copied(alloc: Global, edits: &[Edit]) -> Result<Vec<Edit>, Memory>
+/// Equal edits in the same order.
+pub fn copy_edits(alloc: Global, edits: &[Edit]) -> Result<Vec<Edit>, Memory>
     ensures { IfOk result (λ v. v.items ≡ edits.now) }
 {
     let mut copies = Vec::new(alloc);

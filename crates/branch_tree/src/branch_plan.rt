@@ -2,14 +2,12 @@
 
 ghost use Rattle.std.specs.Prelude.{◌≡◌, ◌<◌, ◌^◌, None, Err, IfSome, IfNone, IfOk, IfErr, length};
 ghost use Rattle.branch_tree.specs.Tree.{IsRooted, plan_refusal};
-ghost use Rattle.branch_tree.specs.Paths.{path_of};
 ghost use Rattle.branch_tree.specs.Segments.{segments_in, segment_at, numbers_of, children_of};
 
 use crate::branch::Branch;
 use crate::children::all_children;
 use crate::error::PlanError;
 use crate::lay::{Laid, all_segments};
-use crate::paths::all_paths;
 use crate::refusals::refusal_of;
 use crate::segment::Segment;
 use market_types::{Memory, Sequence};
@@ -22,7 +20,6 @@ pub struct BranchPlan {
     branches: Sequence<Branch>,
     limit: u32,
     segments: Vec<Segment>,
-    paths: Vec<Sequence<u16>>,
     numbers: Vec<Sequence<u32>>,
     children: Vec<Sequence<u32>>,
 }
@@ -36,7 +33,7 @@ impl Model for BranchPlan {
 
     ghost view = { λ a. record { branches = a.branches; limit = a.limit } };
 
-    ghost invariant = { λ a. IsLaid (record { branches = a.branches; limit = a.limit }) a.segments.items a.paths.items a.numbers.items a.children.items };
+    ghost invariant = { λ a. IsLaid (record { branches = a.branches; limit = a.limit }) a.segments.items a.numbers.items a.children.items };
 }
 
 impl BranchPlan {
@@ -87,14 +84,6 @@ impl BranchPlan {
     {
         self.children[segment as usize].as_slice()
     }
-
-    /// A branch's ancestors and itself, from the root.
-    pub fn path_of(&self, branch: u16) -> &[u16]
-        requires { branch < length self.now.branches }
-        ensures { result.now ≡ path_of self.now.branches branch }
-    {
-        self.paths[usize::from(branch)].as_slice()
-    }
 }
 
 /// The plan of a study's branches, of which the first is the root, for runs of at most so many events; or why they are
@@ -121,14 +110,12 @@ fn laid(alloc: Global, branches: Vec<Branch>, limit: u32) -> Result<BranchPlan, 
     ensures { IfOk result (λ p. p ≡ record { branches = branches.items; limit = limit }) }
 {
     let laid = all_segments(alloc, branches.as_slice(), limit)?;
-    let paths = all_paths(alloc, branches.as_slice(), limit)?;
     let children = all_children(alloc, laid.segments.as_slice())?;
     let Laid { segments, numbers } = laid;
     Ok(BranchPlan {
         branches: Sequence::new(branches),
         limit,
         segments,
-        paths,
         numbers,
         children,
     })

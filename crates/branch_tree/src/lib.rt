@@ -9,15 +9,14 @@ mod error;
 mod lay;
 mod lists;
 mod name;
-mod paths;
 mod refusals;
 mod segment;
 mod stop;
 pub mod worked;
 
-pub use branch::Branch;
+pub use branch::{Branch, copy_edits};
 pub use branch_plan::{BranchPlan, plan};
 pub use error::PlanError;
-pub use name::Name;
+pub use name::{Name, is_name};
 pub use segment::Segment;
 pub use stop::Stop;

@@ -1,7 +1,8 @@
 //! Names of branches.
 
 ghost use Rattle.std.specs.Prelude.{◌≡◌, ◌≤◌, length, IfSome, IfNone, Some, None};
-ghost use Rattle.branch_tree.specs.Names.{name_of};
+ghost use Rattle.std.specs.List.{list_all};
+ghost use Rattle.branch_tree.specs.Names.{name_of, is_name_byte, is_name};
 
 use std::marker::Model;
 
@@ -58,6 +59,14 @@ impl Name {
         self.len
     }
 
+    /// What holds of each name: it has 1 to 32 bytes. A proof has these facts behind a call.
+    pub fn is_short(&self)
+        ensures some { 1 ≤ length self.now }
+        ensures few { length self.now ≤ 32 }
+    {
+        let _len = self.len();
+    }
+
     /// An equal name.
     pub fn copy(&self) -> Name
         ensures { result ≡ self.now }
@@ -67,4 +76,23 @@ impl Name {
             len: self.len,
         }
     }
+}
+
+fn is_name_byte(byte: u8) -> bool
+    ensures { result ≡ is_name_byte byte }
+{
+    matches!(byte, b'a'..=b'z' | b'0'..=b'9' | b'_' | b'-')
+}
+
+fn are_name_bytes(text: &str) -> bool
+    ensures { result ≡ list_all is_name_byte text.now }
+{
+    text.as_bytes().iter().all(|byte| is_name_byte(*byte))
+}
+
+/// Whether a text may name a study's branch: 1 to 32 bytes of `a` to `z`, `0` to `9`, `_` and `-`.
+pub fn is_name(text: &str) -> bool
+    ensures { result ≡ is_name text.now }
+{
+    matches!(text.len(), 1..=32) && are_name_bytes(text)
 }

@@ -53,23 +53,13 @@ fn place_out_of_range(branches: &[Branch], limit: u32) -> Option<usize>
     None
 }
 
-// Whether two branches have one name.
-fn names_match(a: &Branch, b: &Branch) -> bool
-    ensures { result ≡ same_name a.now b.now }
-{
-    a.name.as_slice() == b.name.as_slice()
-}
-
 // Whether one of these branches has the name of a branch.
 fn is_named(before: &[Branch], b: &Branch) -> bool
     ensures { result ≡ list_any (λ (a : Branch). same_name a b.now) before.now }
 {
-    for a in before {
-        if names_match(a, b) {
-            return true;
-        }
-    }
-    false
+    before
+        .iter()
+        .any(|a| a.name.as_slice() == b.name.as_slice())
 }
 
 // The first branch that has the name of an earlier one.
@@ -84,23 +74,13 @@ fn place_of_repeated(branches: &[Branch]) -> Option<usize>
     None
 }
 
-// Whether two branches leave one parent at stops of two kinds.
-fn differ(a: &Branch, b: &Branch) -> bool
-    ensures { result ≡ mixes a.now b.now }
-{
-    a.parent == b.parent && !a.stop.is_like(b.stop)
-}
-
 // Whether one of these branches leaves the parent of a branch at a stop of another kind.
 fn is_mixed(before: &[Branch], b: &Branch) -> bool
     ensures { result ≡ list_any (λ (a : Branch). mixes a b.now) before.now }
 {
-    for a in before {
-        if differ(a, b) {
-            return true;
-        }
-    }
-    false
+    before
+        .iter()
+        .any(|a| a.parent == b.parent && !a.stop.is_like(b.stop))
 }
 
 // The first branch of these, the first of which is branch 1, whose kind of stop isn't that of one before it with the same

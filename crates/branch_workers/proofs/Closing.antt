@@ -24,7 +24,7 @@ use Rattle.shelf_core.specs.declared.words.PlaceWord.TheVariants.{Free, Writing,
 use Rattle.shelf_core.proofs.Plans.{key_is, or_either}
 use Rattle.shelf_core.proofs.Lists.{there, not_some, some_same, set_here, set_else, times_here, times_else, times_append}
 use Rattle.checkpoint_shelf.specs.Plans.{PlanFits, KeyBelow}
-use Rattle.checkpoint_shelf.specs.Told.{SeatTold}
+use Rattle.checkpoint_shelf.specs.Told.{ShelfTold, SeatTold}
 use Rattle.checkpoint_shelf.specs.Seats.{all_in}
 use Rattle.kernel_copy.specs.declared.kept.Keep.{Keep}
 use Rattle.kernel_copy.specs.declared.run.Outcome.{Outcome}
@@ -32,7 +32,7 @@ use Rattle.kernel_copy.specs.Segmentwise.{distinct}
 use Rattle.kernel_copy.specs.Courses.{CourseTold}
 use Rattle.kernel_copy.specs.Outcomes.{OutcomeTold, outcome_told, outcome_of, outcomes_before}
 use Rattle.branch_workers.specs.Layout.{end_key, key_at}
-use Rattle.branch_workers.specs.Runs.{HasAllStates}
+use Rattle.branch_workers.specs.Runs.{IsShelfOf, HasAllStates}
 use Rattle.branch_workers.specs.Workers.{own_of, HasFinished, HaveFinished, RanOnce}
 use Rattle.branch_workers.specs.Order.{placed, placed_all}
 use Rattle.branch_workers.proofs.Sums.{weighs_most, weighs_all, each_once}
@@ -363,6 +363,17 @@ pub record AreJoined (c : CourseTold) (plan : ShelfPlan) (s : System) (seats : L
   pub settled : IsSettled s (all_in (views_of seats))
   pub at : slice_get s.views 0 ≡ Some (all_in (views_of seats))
   pub laid : IsLaidFor c plan s
+
+-- So it is of seats that a shelf took back and closed.
+pub are_joined : (c : CourseTold) (stride : ℕ) (shelf : ShelfTold CourseTold) (s : System) (seats : List (SeatTold CourseTold)) (spent : List SeatView) → IsShelfOf c stride shelf → PlanFits shelf.plan → 0 < length seats
+    → s.plan ≡ Some shelf.plan → Orderly s → IsSettled s (all_in (views_of seats)) → s.views ≡ all_in (views_of seats) ∷ spent → AreJoined c shelf.plan s seats
+are_joined c stride shelf s seats spent is fits some plan orderly settled views = record {
+  some = some;
+  orderly = orderly;
+  settled = settled;
+  at = ap (λ (vs : List SeatView). slice_get vs 0) views;
+  laid = record { laid = plan; segments = is.segments; fits = fits };
+}
 
 module _ (c : CourseTold) (plan : ShelfPlan) (s : System) where
   pub most_of : (seats : List (SeatTold CourseTold)) → AreJoined c plan s seats → sum_by (λ (x : SeatTold CourseTold). sum_by (own_of c) x.view.claims) seats ≤ distinct c.opening c.plan

@@ -9,7 +9,7 @@ use Rattle.kernel_copy.specs.Segmentwise.{segment_end, fork_number}
 use Rattle.kernel_copy.specs.Courses.{CourseTold, CheckpointTold, state_at, end_of_segment, kept_of}
 use Rattle.kernel_copy.proofs.Keeping.{end-state}
 use Rattle.branch_workers.specs.Layout.{end_key, key_at}
-use Rattle.branch_workers.specs.Runs.{HasForks}
+use Rattle.branch_workers.specs.Runs.{IsShelfOf}
 use Rattle.branch_workers.proofs.Forks.{end_place}
 
 -- a key with the number of a segment's end is that of the end
@@ -17,10 +17,10 @@ pub key_is : (c : CourseTold) (s e : ℕ) (g : Segment) → g ≡ segment_at c.p
 key_is c s e g is number = ap (λ (n : ℕ). key_at s n) (number ∙ ap (λ (x : Segment). fork_number x.stop) is)
 
 -- an end from which others go on has a place of its own
-pub has_place : (c : CourseTold) (shelf : ShelfTold CourseTold) (s : ℕ) (key : Key) → HasForks c shelf → s < length (segments_in c.plan) → s < last_of c.plan.branches (segment_at c.plan s).branch → key ≡ end_key c.plan s
+pub has_place : (c : CourseTold) (stride : ℕ) (shelf : ShelfTold CourseTold) (s : ℕ) (key : Key) → IsShelfOf c stride shelf → s < length (segments_in c.plan) → s < last_of c.plan.branches (segment_at c.plan s).branch → key ≡ end_key c.plan s
     → IsSome (place_of shelf.plan key) × (is_sole shelf.plan key ≡ true)
-has_place c shelf s key is l u e =
-    let p = end_place c.plan shelf.plan s is.1 l u in
+has_place c stride shelf s key is l u e =
+    let p = end_place c.plan shelf.plan s is.forks l u in
     subst (λ (k : Key). IsSome (place_of shelf.plan k) × (is_sole shelf.plan k ≡ true)) (sym e) (ap (λ (o : Option ℕ). is_some o) p.0.1, p.1)
 
 -- what a value of its key has is the segment's end

@@ -1,12 +1,11 @@
 -- Workers as they are made and as they end.
-use Rattle.std.proofs.Common.{◌≡◌, ℕ, zero, suc, ◌+◌, ◌^◌, ◌<◌, ◌≤◌, All, Bool, true, false, List, [], ◌∷◌, ◌++◌, Some, Result, Ok, Err, OnOk, Vec, Global, length, map, take, sum_by, slice_get, get_or, sym, refl, ap, ◌∙◌, subst, arith}
+use Rattle.std.proofs.Common.{◌≡◌, ℕ, zero, suc, ◌+◌, ◌^◌, ◌<◌, ◌≤◌, All, Bool, true, false, List, [], ◌∷◌, ◌++◌, Some, Vec, Global, length, map, take, sum_by, slice_get, get_or, sym, refl, ap, ◌∙◌, subst, arith}
 use Rattle.std.proofs.lemmas.List.{length-map}
 use Rattle.std.proofs.Math.Seq.{take-append_seam}
 use Rattle.std.proofs.lemmas.List.Elements.{All-nil, All-cons, All-head, All-tail, All-weaker}
 use Rattle.std.proofs.lemmas.List.Sums.{sum_by-cons}
 use Rattle.branch_tree.specs.Segments.{segments_in}
 use Rattle.shelf_core.specs.Views.{times, new_view}
-use Rattle.shelf_core.specs.declared.plan.ShelfPlan.{ShelfPlan}
 use Rattle.shelf_core.specs.declared.seat.SeatView.{SeatView}
 use Rattle.shelf_core.proofs.Lists.{not_some, some_same}
 use Rattle.branch_deques.specs.Told.{LaneTold}
@@ -17,7 +16,7 @@ use Rattle.kernel_copy.specs.declared.run.Outcome.{Outcome}
 use Rattle.kernel_copy.specs.Courses.{CourseTold, IsCourse}
 use Rattle.kernel_copy.specs.Outcomes.{outcome_told, outcome_of}
 use Rattle.branch_workers.specs.Claims.{HasPushed}
-use Rattle.branch_workers.specs.Workers.{own_of, AreNumbered, IsAtWork, HasEnded, HasFinished, HaveFinished}
+use Rattle.branch_workers.specs.Workers.{own_of, AreNumbered, IsAtWork, HasEnded, HasFinished, HaveFinished, IsHandedBack}
 
 -- A worker that is made: its seat is new, and it has done nothing.
 pub made_ready : (c : CourseTold) (keep : Keep) (shelf : ShelfTold CourseTold) (number : ℕ) (seat : SeatTold CourseTold) (pushed : List ℕ) → IsCourse c → seat.shelf ≡ Some shelf → seat.view ≡ new_view number → HasPushed c.plan [] pushed
@@ -41,9 +40,10 @@ made_ready c keep shelf number seat pushed k at new h =
     none : (s : ℕ) → 0 < times s [] → ⊥
     none s pos = absurd (omega arith)
 
-module _ {X : Type 0} (c : CourseTold) (keep : Keep) (shelf : ShelfTold CourseTold) (seat : X → SeatTold CourseTold) (steps : X → ℕ) (number : X → ℕ) (outcomes : X → Vec Outcome Global) (lane : X → LaneTold) (finished : X → Bool) where
+-- Workers of some type, of which a list is named first.
+module _ {X : Type 0} (like : List X) (c : CourseTold) (keep : Keep) (shelf : ShelfTold CourseTold) (seat : X → SeatTold CourseTold) (steps : X → ℕ) (number : X → ℕ) (outcomes : X → Vec Outcome Global) (lane : X → LaneTold) (finished : X → Bool) where
   -- All workers that are made are ready.
-  pub all_ready : IsCourse c → (n : ℕ) (ws : List X) → ((i : ℕ) (s : SeatTold CourseTold) → slice_get (map seat ws) i ≡ Some s → (s.shelf ≡ Some shelf) × (s.view ≡ new_view (n + i)))
+  all_ready : IsCourse c → (n : ℕ) (ws : List X) → ((i : ℕ) (s : SeatTold CourseTold) → slice_get (map seat ws) i ≡ Some s → (s.shelf ≡ Some shelf) × (s.view ≡ new_view (n + i)))
       → ((i m : ℕ) → slice_get (map number ws) i ≡ Some m → m ≡ n + i) → All (λ (l : LaneTold). HasPushed c.plan [] l.own.view.pushed) (map lane ws)
       → All (λ w. (steps w ≡ 0) × ((outcomes w).items ≡ []) × (finished w ≡ false)) ws
       → All (λ w. IsAtWork c keep shelf (number w) (seat w) (steps w) (outcomes w).items (lane w).own.view.pushed) ws
@@ -62,7 +62,7 @@ module _ {X : Type 0} (c : CourseTold) (keep : Keep) (shelf : ShelfTold CourseTo
       (All-tail (λ (l : LaneTold). HasPushed c.plan [] l.own.view.pushed) (lane w) (map lane ws) lanes) (All-tail (λ (w : X). (steps w ≡ 0) × ((outcomes w).items ≡ []) × (finished w ≡ false)) w ws idle))
 
   -- All that ended handed their seats back.
-  pub all_handed : (ws : List X) → length ws ≡ shelf.seats → AreNumbered (map number ws) → All (λ w. HasEnded c shelf (number w) (seat w) (steps w)) ws → AllBack shelf (map seat ws)
+  all_handed : (ws : List X) → length ws ≡ shelf.seats → AreNumbered (map number ws) → All (λ w. HasEnded c shelf (number w) (seat w) (steps w)) ws → AllBack shelf (map seat ws)
   all_handed ws count numbers ended = record {
     all = length-map ws seat ∙ count;
     each = λ i s e. each ws numbers ended i s e;
@@ -86,17 +86,17 @@ module _ {X : Type 0} (c : CourseTold) (keep : Keep) (shelf : ShelfTold CourseTo
           let r = at_number xs 0 (λ j n q. let a = nums j n q in omega arith) ends i s e in let m : 0 + i ≡ i = omega arith in
           (r.0, (r.1.0, r.1.1 ∙ ap (λ (y : ℕ). y ∷ r.1.0) m), r.2)
 
-  pub all_finished : (ws : List X) → All (λ w. finished w ≡ true) ws → All (λ w. finished w ≡ true → HasFinished c keep shelf.plan (seat w).view (outcomes w).items) ws
+  all_finished : (ws : List X) → All (λ w. finished w ≡ true) ws → All (λ w. finished w ≡ true → HasFinished c keep shelf.plan (seat w).view (outcomes w).items) ws
       → HaveFinished c keep shelf.plan (map seat ws) (map (λ (v : Vec Outcome Global). v.items) (map outcomes ws))
   all_finished [] all each = tt
   all_finished (w ∷ ws) all each = (All-head (λ (w : X). finished w ≡ true → HasFinished c keep shelf.plan (seat w).view (outcomes w).items) w ws each (All-head (λ (w : X). finished w ≡ true) w ws all), all_finished ws (All-tail (λ (w : X). finished w ≡ true) w ws all) (All-tail (λ (w : X). finished w ≡ true → HasFinished c keep shelf.plan (seat w).view (outcomes w).items) w ws each))
 
-  pub steps_most : (ws : List X) → All (λ w. HasEnded c shelf (number w) (seat w) (steps w)) ws
+  steps_most : (ws : List X) → All (λ w. HasEnded c shelf (number w) (seat w) (steps w)) ws
       → sum_by steps ws ≤ sum_by (λ (s : SeatTold CourseTold). sum_by (own_of c) s.view.claims) (map seat ws)
   steps_most [] ended = omega arith
   steps_most (w ∷ ws) ended = let h = All-head (λ (w : X). HasEnded c shelf (number w) (seat w) (steps w)) w ws ended in let m = h.counted in let r = steps_most ws (All-tail (λ (w : X). HasEnded c shelf (number w) (seat w) (steps w)) w ws ended) in let a = sum_by-cons steps w ws in let b = sum_by-cons (λ (s : SeatTold CourseTold). sum_by (own_of c) s.view.claims) (seat w) (map seat ws) in omega arith
 
-  pub steps_all : (ws : List X) → All (λ w. finished w ≡ true) ws → All (λ w. finished w ≡ true → steps w ≡ sum_by (own_of c) (seat w).view.claims) ws
+  steps_all : (ws : List X) → All (λ w. finished w ≡ true) ws → All (λ w. finished w ≡ true → steps w ≡ sum_by (own_of c) (seat w).view.claims) ws
       → sum_by steps ws ≡ sum_by (λ (s : SeatTold CourseTold). sum_by (own_of c) s.view.claims) (map seat ws)
   steps_all [] all each = refl
   steps_all (w ∷ ws) all each = let e = All-head (λ (w : X). finished w ≡ true → steps w ≡ sum_by (own_of c) (seat w).view.claims) w ws each (All-head (λ (w : X). finished w ≡ true) w ws all) in let r = steps_all ws (All-tail (λ (w : X). finished w ≡ true) w ws all) (All-tail (λ (w : X). finished w ≡ true → steps w ≡ sum_by (own_of c) (seat w).view.claims) w ws each) in let a = sum_by-cons steps w ws in let b = sum_by-cons (λ (s : SeatTold CourseTold). sum_by (own_of c) s.view.claims) (seat w) (map seat ws) in omega arith
@@ -128,47 +128,37 @@ module _ {X : Type 0} (c : CourseTold) (keep : Keep) (shelf : ShelfTold CourseTo
       let l : i < length vs = (let y = x.1 in omega arith) in
       sym a.2 ∙ ap number (sym x.0) ∙ same i a.0 l ∙ h i (number (get_or vs i a.0)) (get_index vs i a.0 l)
 
--- The same of workers that are named first.
-module _ {X : Type 0} (ws : List X) (c : CourseTold) (keep : Keep) (shelf : ShelfTold CourseTold) (seat : X → SeatTold CourseTold) (steps : X → ℕ) (number : X → ℕ) (outcomes : X → Vec Outcome Global) (lane : X → LaneTold) (finished : X → Bool) where
-  pub ready : IsCourse c → (ss : List (SeatTold CourseTold)) → map seat ws ≡ ss → NewFrom shelf 0 ss → AreNumbered (map number ws)
+  pub ready : IsCourse c → (ws : List X) (ss : List (SeatTold CourseTold)) → map seat ws ≡ ss → NewFrom shelf 0 ss → AreNumbered (map number ws)
       → (ls : List LaneTold) → map lane ws ≡ ls → All (λ (l : LaneTold). HasPushed c.plan [] l.own.view.pushed) ls
       → All (λ w. (steps w ≡ 0) × ((outcomes w).items ≡ []) × (finished w ≡ false)) ws
       → All (λ w. IsAtWork c keep shelf (number w) (seat w) (steps w) (outcomes w).items (lane w).own.view.pushed) ws
-  ready k ss is new numbers ls are pushed idle = all_ready c keep shelf seat steps number outcomes lane finished k 0 ws
+  ready k ws ss is new numbers ls are pushed idle = all_ready k 0 ws
       (subst (λ (xs : List (SeatTold CourseTold)). NewFrom shelf 0 xs) (sym is) new)
       (λ i m e. let a = numbers i m e in omega arith)
       (subst (λ (xs : List LaneTold). All (λ (l : LaneTold). HasPushed c.plan [] l.own.view.pushed) xs) (sym are) pushed) idle
 
-  pub unfinished : All (λ w. (steps w ≡ 0) × ((outcomes w).items ≡ []) × (finished w ≡ false)) ws → All (λ w. finished w ≡ false) ws
-  unfinished idle = All-weaker (λ w. (steps w ≡ 0) × ((outcomes w).items ≡ []) × (finished w ≡ false)) (λ w. finished w ≡ false) (λ w i. i.2) ws idle
+  pub unfinished : (ws : List X) → All (λ w. (steps w ≡ 0) × ((outcomes w).items ≡ []) × (finished w ≡ false)) ws → All (λ w. finished w ≡ false) ws
+  unfinished ws idle = All-weaker (λ w. (steps w ≡ 0) × ((outcomes w).items ≡ []) × (finished w ≡ false)) (λ w. finished w ≡ false) (λ w i. i.2) ws idle
 
-  pub handed : length ws ≡ shelf.seats → AreNumbered (map number ws) → All (λ w. HasEnded c shelf (number w) (seat w) (steps w)) ws → AllBack shelf (map seat ws)
-  handed count numbers ended = all_handed c keep shelf seat steps number outcomes lane finished ws count numbers ended
+  -- What workers that ended hand back.
+  pub hands_back : (ws : List X) → length ws ≡ shelf.seats → AreNumbered (map number ws) → All (λ w. HasEnded c shelf (number w) (seat w) (steps w)) ws
+      → All (λ w. finished w ≡ true → HasFinished c keep shelf.plan (seat w).view (outcomes w).items) ws
+      → All (λ w. finished w ≡ true → steps w ≡ sum_by (own_of c) (seat w).view.claims) ws → (all : Bool) → (all ≡ true → All (λ w. finished w ≡ true) ws)
+      → IsHandedBack c keep shelf (map seat ws) (map (λ (v : Vec Outcome Global). v.items) (map outcomes ws)) all (sum_by steps ws)
+  hands_back ws count numbers ended done counted all each = record {
+    back = all_handed ws count numbers ended;
+    finished = λ a. all_finished ws (each a) done;
+    counted = λ a. steps_all ws (each a) counted;
+    most = steps_most ws ended;
+  }
 
-  pub finishes : All (λ w. finished w ≡ true) ws → All (λ w. finished w ≡ true → HasFinished c keep shelf.plan (seat w).view (outcomes w).items) ws
-      → HaveFinished c keep shelf.plan (map seat ws) (map (λ (v : Vec Outcome Global). v.items) (map outcomes ws))
-  finishes all each = all_finished c keep shelf seat steps number outcomes lane finished ws all each
-
-  pub most_steps : All (λ w. HasEnded c shelf (number w) (seat w) (steps w)) ws → sum_by steps ws ≤ sum_by (λ (s : SeatTold CourseTold). sum_by (own_of c) s.view.claims) (map seat ws)
-  most_steps ended = steps_most c keep shelf seat steps number outcomes lane finished ws ended
-
-  pub all_steps : All (λ w. finished w ≡ true) ws → All (λ w. finished w ≡ true → steps w ≡ sum_by (own_of c) (seat w).view.claims) ws
-      → sum_by steps ws ≡ sum_by (λ (s : SeatTold CourseTold). sum_by (own_of c) s.view.claims) (map seat ws)
-  all_steps all each = steps_all c keep shelf seat steps number outcomes lane finished ws all each
-
-  pub few_steps : All (λ w. HasEnded c shelf (number w) (seat w) (steps w)) ws → All (λ w. steps w < 2 ^ 52) ws
-  few_steps ended = steps_few c keep shelf seat steps number outcomes lane finished ws ended
-
-  pub still_numbered : (vs : List X) → length ws ≡ length vs → ((i : ℕ) (d : X) → i < length vs → number (get_or ws i d) ≡ number (get_or vs i d)) → AreNumbered (map number vs) → AreNumbered (map number ws)
-  still_numbered vs long same h = numbered_still c keep shelf seat steps number outcomes lane finished ws vs long same h
-
--- What all workers that finished tell, of equal lists.
-pub finished_told : (c d : CourseTold) (keep : Keep) (plan : ShelfPlan) → d ≡ c → (seats others : List (SeatTold CourseTold)) → others ≡ seats → (lists more : List (Vec Outcome Global)) → more ≡ lists
-    → HaveFinished c keep plan seats (map (λ (v : Vec Outcome Global). v.items) lists) → HaveFinished d keep plan others (map (λ (v : Vec Outcome Global). v.items) more)
-finished_told c d keep plan course seats others same lists more equal h =
-    subst (λ (x : CourseTold). HaveFinished x keep plan others (map (λ (v : Vec Outcome Global). v.items) more)) (sym course)
-    (subst (λ (ss : List (SeatTold CourseTold)). HaveFinished c keep plan ss (map (λ (v : Vec Outcome Global). v.items) more)) (sym same)
-    (subst (λ (vs : List (Vec Outcome Global)). HaveFinished c keep plan seats (map (λ (v : Vec Outcome Global). v.items) vs)) (sym equal) h))
+-- The same of equal lists and an equal number.
+pub handed_as : (c : CourseTold) (keep : Keep) (shelf : ShelfTold CourseTold) (seats others : List (SeatTold CourseTold)) → others ≡ seats → (lists more : List (Vec Outcome Global)) → more ≡ lists
+    → (all : Bool) (n m : ℕ) → m ≡ n → IsHandedBack c keep shelf seats (map (λ (v : Vec Outcome Global). v.items) lists) all n → IsHandedBack c keep shelf others (map (λ (v : Vec Outcome Global). v.items) more) all m
+handed_as c keep shelf seats others same lists more equal all n m counted h =
+    subst (λ (ss : List (SeatTold CourseTold)). IsHandedBack c keep shelf ss (map (λ (v : Vec Outcome Global). v.items) more) all m) (sym same)
+    (subst (λ (vs : List (Vec Outcome Global)). IsHandedBack c keep shelf seats (map (λ (v : Vec Outcome Global). v.items) vs) all m) (sym equal)
+    (subst (λ (x : ℕ). IsHandedBack c keep shelf seats (map (λ (v : Vec Outcome Global). v.items) lists) all x) (sym counted) h))
 
 -- A fact of all of a list holds of all of an equal one.
 pub moved : {X : Type 0} (xs ys : List X) → xs ≡ ys → (P : X → Type 0) → All P ys → All P xs
@@ -183,8 +173,3 @@ summed {X} xs ys e f = ap (λ (zs : List X). sum_by f zs) e
 -- What is written over all of a list.
 pub written_over : {X : Type 0} (ws rest : List X) (n : ℕ) → length ws ≡ n → take n (ws ++ rest) ≡ ws
 written_over {X} ws rest n long = ap (λ (m : ℕ). take m (ws ++ rest)) (sym long) ∙ take-append_seam ws rest
-
--- What follows of two facts of a call's answer.
-pub both_ok : {A E : Type 0} (r : Result A E) (P Q S : Type 0) → (P → Q → S) → OnOk r P → OnOk r Q → OnOk r S
-both_ok (Ok x) P Q S f p q = f p q
-both_ok (Err e) P Q S f p q = tt

@@ -16,16 +16,20 @@ use Rattle.kernel_copy.specs.Ran.{RanTold, ran_as}
 use Rattle.kernel_copy.specs.declared.kept.Keep.{Keep}
 use Rattle.branch_workers.specs.Layout.{end_key, fork_keys, key_at, grid_keys}
 
--- The shelf is of this course, with its forks.
-abbrev pub HasForks : CourseTold → ShelfTold CourseTold → Type 0
-HasForks c shelf = (shelf.course ≡ c) × (shelf.plan.forks ≡ fork_keys c.plan)
+-- a segment's run at its start, with the entries of the edits there, and at its end
+abbrev pub run_at_start : CourseTold → ℕ → Run
+run_at_start c s = started_at c.opening c.plan (segment_at c.plan s)
 
--- The shelf is of this course, with its segments, its forks and its grid of this stride.
+abbrev pub run_at_end : CourseTold → ℕ → Run
+run_at_end c s = segment_run c.opening c.plan (segment_at c.plan s)
+
+-- The shelf is of this course, with its segments, its forks and its grid of this stride, which is at least 1.
 pub record IsShelfOf (c : CourseTold) (stride : ℕ) (shelf : ShelfTold CourseTold) : Type 0 where
   pub course : shelf.course ≡ c
   pub segments : shelf.plan.segments ≡ length (segments_in c.plan)
   pub forks : shelf.plan.forks ≡ fork_keys c.plan
   pub grid : shelf.plan.grid ≡ grid_keys c.plan stride
+  pub some : 0 < stride
 
 -- The run of a segment reached this event number or passed it on its way: it begins with fewer events, and its state at the
 -- segment's end has so many or more.

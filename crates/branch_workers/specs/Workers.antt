@@ -1,5 +1,5 @@
 -- What holds of workers.
-use Rattle.std.specs.Prelude.{◌≡◌, ℕ, ◌<◌, ◌≤◌, ◌^◌, true, All, List, [], ◌∷◌, Some, length, map, sum_by, slice_get}
+use Rattle.std.specs.Prelude.{◌≡◌, ℕ, ◌<◌, ◌≤◌, ◌^◌, Bool, true, All, List, [], ◌∷◌, Some, length, map, sum_by, slice_get}
 use Rattle.branch_tree.specs.Segments.{segments_in, segment_at, last_of}
 use Rattle.shelf_core.specs.Plan.{is_in, is_sole}
 use Rattle.shelf_core.specs.Possible.{word_at}
@@ -10,6 +10,7 @@ use Rattle.shelf_core.specs.declared.seat.SeatView.{SeatView}
 use Rattle.shelf_core.specs.declared.system.System.{System}
 use Rattle.shelf_core.specs.declared.words.ClaimWord.TheVariants.{Taken}
 use Rattle.checkpoint_shelf.specs.Told.{ShelfTold, SeatTold}
+use Rattle.checkpoint_shelf.specs.Seats.{AllBack}
 use Rattle.kernel_copy.specs.declared.kept.Keep.{Keep}
 use Rattle.kernel_copy.specs.declared.run.Outcome.{Outcome}
 use Rattle.kernel_copy.specs.Segmentwise.{own_count}
@@ -66,6 +67,14 @@ HaveFinished c keep plan [] [] = Unit {0}
 HaveFinished c keep plan [] (os ∷ lists) = ⊥
 HaveFinished c keep plan (seat ∷ seats) [] = ⊥
 HaveFinished c keep plan (seat ∷ seats) (os ∷ lists) = HasFinished c keep plan seat.view os × HaveFinished c keep plan seats lists
+
+-- What workers on this shelf handed back: their seats, the outcomes of each, whether all finished, and how many steps they counted.
+pub record IsHandedBack (c : CourseTold) (keep : Keep) (shelf : ShelfTold CourseTold) (seats : List (SeatTold CourseTold)) (lists : List (List Outcome))
+    (all : Bool) (steps : ℕ) : Type 0 where
+  pub back : AllBack shelf seats
+  pub finished : all ≡ true → HaveFinished c keep shelf.plan seats lists
+  pub counted : all ≡ true → steps ≡ sum_by (λ (s : SeatTold CourseTold). sum_by (own_of c) s.view.claims) seats
+  pub most : steps ≤ sum_by (λ (s : SeatTold CourseTold). sum_by (own_of c) s.view.claims) seats
 
 -- A closed system of this plan in which so many workers ran each segment once, and nothing else: the segment's word names
 -- one of them, and the view that took in all of theirs has it once among its claims with the states that its run found and

@@ -1,6 +1,6 @@
 //! Ends of segments that a worker waits for.
 
-ghost use Rattle.std.specs.Prelude.{◌≡◌, true, Some, IfOk, IfSome, IsSome};
+ghost use Rattle.std.specs.Prelude.{◌≡◌, true, Some, IfOk, IsSome};
 ghost use Rattle.shelf_core.specs.Plan.{place_of, is_in};
 ghost use Rattle.shelf_core.specs.Made.{Stays};
 
@@ -9,26 +9,6 @@ use kernel_copy::Checkpoint;
 use market_types::Memory;
 use std::sync::{Arc, Wait};
 use std::thread;
-
-// The value of a key, if it is there.
-fn try_once(
-    shelf: &Shelf<Checkpoint>,
-    seat: &mut ShelfSeat<Checkpoint>,
-    key: Key,
-) -> Result<Option<Arc<Checkpoint>>, Memory>
-    requires seat { seat.old.shelf ≡ Some shelf.now }
-    requires place { IsSome (place_of shelf.now.plan key) }
-    ensures same { seat.new.shelf ≡ seat.old.shelf }
-    ensures stays { Stays seat.old.view seat.new.view }
-    ensures turns { seat.new.view.turns ≡ seat.old.view.turns }
-    ensures found { IfOk result (λ o. IfSome o (λ a. (a.value.key ≡ key) × (a.value.course ≡ shelf.now.course) × (is_in key seat.new.view.found ≡ true))) }
-{
-    match shelf.find(seat, key) {
-        Err(refused) => Err(refused),
-        Ok(Found::Here(value)) => Ok(Some(value)),
-        Ok(Found::NotYet(_)) => Ok(None),
-    }
-}
 
 // The value of a key, which is looked for again while it isn't there or another seat has it on loan.
 pub(crate) fn wait_for<R: Wait>(
@@ -45,7 +25,7 @@ pub(crate) fn wait_for<R: Wait>(
     ensures found { IfOk result (λ a. (a.value.key ≡ key) × (a.value.course ≡ shelf.now.course) × (is_in key seat.new.view.found ≡ true)) }
 {
     for _ in rt.forever() {
-        if let Some(value) = try_once(shelf, seat, key)? {
+        if let Found::Here(value) = shelf.find(seat, key)? {
             return Ok(value);
         }
         thread::yield_now();

@@ -39,23 +39,22 @@ impl Back {
     }
 }
 
-// Takes in what workers hand back, in order, and adds up what they counted.
+// Takes in what workers hand back, in order: how many steps they counted together.
 pub(crate) fn gather<L: Ledger, B: Room>(
     back: &mut Back,
     mut workers: Vec<Worker<L, B>>,
-    steps: &mut Steps<L>,
-)
+) -> Steps<L>
     requires seats { (back.old.seats.items ≡ []) × (vec_len back.old.seats + length workers.items ≤ vec_capacity back.old.seats) }
     requires outcomes { (back.old.outcomes.items ≡ []) × (vec_len back.old.outcomes + length workers.items ≤ vec_capacity back.old.outcomes) }
     requires finished { back.old.finished ≡ true }
     requires few { length workers.items ≤ 64 }
     requires each { All (λ w. w.steps < 2 ^ 52) workers.items }
-    requires steps { steps.old ≤ 2 ^ 63 }
     ensures seats { back.new.seats.items ≡ map (λ w. w.seat) workers.items }
     ensures outcomes { back.new.outcomes.items ≡ map (λ w. w.outcomes) workers.items }
     ensures finished { back.new.finished ≡ true → All (λ w. w.finished ≡ true) workers.items }
-    ensures steps { steps.new ≡ steps.old + sum_by (λ w. w.steps) workers.items }
+    ensures steps { result ≡ sum_by (λ w. w.steps) workers.items }
 {
+    let mut steps = Steps::new();
     while !workers.is_empty() {
         let worker = workers.remove(0);
         let Worker {
@@ -72,4 +71,5 @@ pub(crate) fn gather<L: Ledger, B: Room>(
         back.finished &= finished;
     }
     workers.destroy_empty();
+    steps
 }

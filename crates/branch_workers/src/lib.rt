@@ -9,11 +9,13 @@ mod grid;
 mod layout;
 mod order;
 mod segment;
+mod shift;
 mod staff;
 mod worker;
 
-pub use all::{Worked, work};
+pub use all::{Setup, Worked, work};
 pub use checkpoint_shelf::ClosedShelf;
 pub use kernel_copy::{Checkpoint, Keep, Kept, Key, Outcome};
 pub use layout::open_shelf;
 pub use segment::run_segment;
+pub use shift::Shift;

@@ -7,174 +7,123 @@ ghost use Rattle.market_types.specs.Timely.{IsTimely};
 ghost use Rattle.shelf_core.specs.Made.{Stays};
 ghost use Rattle.shelf_core.specs.Plan.{place_of, is_in, is_sole};
 ghost use Rattle.shelf_core.specs.Views.{times};
-ghost use Rattle.kernel_copy.specs.Courses.{IsCourse};
-ghost use Rattle.kernel_copy.specs.Kept.{kept_told, kept_as};
 ghost use Rattle.kernel_copy.specs.Outcomes.{outcome_told, outcome_of};
 ghost use Rattle.kernel_copy.specs.Ran.{ran_told, ran_as};
-ghost use Rattle.kernel_copy.specs.Segmentwise.{segment_end, segment_run, started_at, own_count};
+ghost use Rattle.kernel_copy.specs.Segmentwise.{segment_end, own_count};
 ghost use Rattle.branch_workers.specs.Layout.{end_key, key_at};
-ghost use Rattle.branch_workers.specs.Runs.{IsPassed, IsShelfOf, HasForks, HasStates, Remains};
+ghost use Rattle.branch_workers.specs.Workers.{own_of};
+ghost use Rattle.branch_workers.specs.Runs.{IsPassed, IsShelfOf, HasStates, Remains, run_at_end, run_at_start};
 
 use crate::found::wait_for;
-use crate::grid::{pass_grid, run_to};
-use crate::layout::stop_number;
+use crate::grid::{continue_to, pass_grid};
+use crate::shift::Shift;
 use checkpoint_shelf::{Begun, Key, Shelf, ShelfSeat};
 use kernel_copy::{
-    Checkpoint, Course, Keep, Kept, Outcome, Ran, go_on, kept_end, number_of_end, outcome_at,
+    Checkpoint, Course, Kept, Outcome, Ran, go_on, kept_end, number_of_end, outcome_at,
 };
 use kernel_core::Kernel;
 use market_types::{Memory, Trace};
 use outside::{Gate, Ledger, Steps};
-use std::alloc::Global;
 use std::sync::{Arc, Wait};
 
 // A kernel as it is at the end of a segment that isn't its branch's last.
-fn end_of<R: Wait>(
+fn end_of<R: Wait, G>(
     rt: &R,
-    alloc: Global,
-    course: &Course,
-    shelf: &Shelf<Checkpoint>,
+    shift: &Shift<'_, G>,
     seat: &mut ShelfSeat<Checkpoint>,
     segment: u32,
 ) -> Result<Kernel, Memory>
-    requires seat { seat.old.shelf ≡ Some shelf.now }
-    requires shelf { HasForks course.now shelf.now }
-    requires segment { segment < length (segments_in course.now.plan) }
-    requires unfinished { segment < last_of course.now.plan.branches (segment_at course.now.plan segment).branch }
+    requires seat { seat.old.shelf ≡ Some shift.now.shelf.now }
+    requires shelf { IsShelfOf shift.now.course.now.value shift.now.stride shift.now.shelf.now }
+    requires segment { segment < length (segments_in shift.now.course.now.value.plan) }
+    requires unfinished { segment < last_of shift.now.course.now.value.plan.branches (segment_at shift.now.course.now.value.plan segment).branch }
     ensures same { seat.new.shelf ≡ seat.old.shelf }
     ensures stays { Stays seat.old.view seat.new.view }
     ensures turns { seat.new.view.turns ≡ seat.old.view.turns }
-    ensures state { IfOk result (λ k. k ≡ (segment_end course.now.opening course.now.plan (segment_at course.now.plan segment)).state) }
-    ensures found { OnOk result (is_in (end_key course.now.plan segment) seat.new.view.found ≡ true) }
+    ensures state { IfOk result (λ k. k ≡ (segment_end shift.now.course.now.value.opening shift.now.course.now.value.plan (segment_at shift.now.course.now.value.plan segment)).state) }
+    ensures found { OnOk result (is_in (end_key shift.now.course.now.value.plan segment) seat.new.view.found ≡ true) }
 {
-    let stop = course.segment(segment).stop;
+    let stop = shift.course.segment(segment).stop;
     let event = number_of_end(stop);
-    let end = wait_for(rt, shelf, seat, Key { segment, event })?;
-    end.resume(alloc)
+    let end = wait_for(rt, shift.shelf, seat, Key { segment, event })?;
+    end.resume(shift.alloc)
 }
 
-// A segment's run at its beginning: the kernel of the opening or of its parent's end, and the entries of the edits.
-fn begun<R: Wait>(
+// The kernel at the start of a segment, which is the opening's or that of its parent's end, once the branch's edits were made where
+// the segment is its branch's first. They are entered.
+fn kernel_at_start<R: Wait, G>(
     rt: &R,
-    alloc: Global,
-    course: &Course,
-    shelf: &Shelf<Checkpoint>,
+    shift: &Shift<'_, G>,
     seat: &mut ShelfSeat<Checkpoint>,
     segment: u32,
     trace: &mut Trace,
 ) -> Result<Kernel, Memory>
-    requires seat { seat.old.shelf ≡ Some shelf.now }
-    requires shelf { HasForks course.now shelf.now }
-    requires segment { segment < length (segments_in course.now.plan) }
+    requires seat { seat.old.shelf ≡ Some shift.now.shelf.now }
+    requires shelf { IsShelfOf shift.now.course.now.value shift.now.stride shift.now.shelf.now }
+    requires segment { segment < length (segments_in shift.now.course.now.value.plan) }
     requires empty { trace.old.list ≡ [] }
     ensures same { seat.new.shelf ≡ seat.old.shelf }
     ensures stays { Stays seat.old.view seat.new.view }
     ensures turns { seat.new.view.turns ≡ seat.old.view.turns }
-    ensures course { IsCourse course.now }
-    ensures state { IfOk result (λ k. record { state = k; entries = trace.new.list } ≡ started_at course.now.opening course.now.plan (segment_at course.now.plan segment)) }
+    ensures state { IfOk result (λ k. record { state = k; entries = trace.new.list } ≡ run_at_start shift.now.course.now.value segment) }
     ensures timely { All IsTimely trace.new.list }
-    ensures fits { IfOk result (λ k. Fits course.now.opening k) }
-    ensures found { OnOk result ((q : ℕ) → (segment_at course.now.plan segment).parent ≡ Some q → is_in (end_key course.now.plan q) seat.new.view.found ≡ true) }
+    ensures fits { IfOk result (λ k. Fits shift.now.course.now.value.opening k) }
+    ensures found { OnOk result ((q : ℕ) → (segment_at shift.now.course.now.value.plan segment).parent ≡ Some q → is_in (end_key shift.now.course.now.value.plan q) seat.new.view.found ≡ true) }
 {
+    let course: &Course = shift.course;
     let g = course.segment(segment);
     match g.parent {
         None => {
-            let kernel = Kernel::open(alloc, course.opening())?;
+            let kernel = Kernel::open(shift.alloc, course.opening())?;
             Ok(kernel)
         }
         Some(parent) => {
-            let mut kernel = end_of(rt, alloc, course, shelf, seat, parent)?;
-            go_on(alloc, course, g.branch, parent, &mut kernel, trace)?;
+            let mut kernel = end_of(rt, shift, seat, parent)?;
+            go_on(shift.alloc, course, g.branch, parent, &mut kernel, trace)?;
             Ok(kernel)
         }
     }
-}
-
-// About how many bytes the frames of an event have.
-const EVENT_BYTES: usize = 100;
-
-// For how many events at most their bytes get room before they are made.
-const MOST_EVENTS: u32 = 65_536;
-
-// Makes room for the bytes of so many events, where frames are kept, so that they move less often as they come.
-fn make_room(kept: &mut Kept, events: u32) -> Result<(), Memory>
-    ensures { OnOk result (kept_told kept.new ≡ kept_told kept.old) }
-{
-    match kept {
-        Kept::Entries(_) => Ok(()),
-        Kept::Frames(bytes) => {
-            bytes.reserve(events.min(MOST_EVENTS) as usize * EVENT_BYTES)?;
-            Ok(())
-        }
-    }
-}
-
-// What is kept of a segment's run at its beginning, with room for the bytes of the events that it may have.
-fn kept_at_first(
-    alloc: Global,
-    course: &Arc<Course>,
-    keep: Keep,
-    segment: u32,
-    kernel: &Kernel,
-    entries: Trace,
-) -> Result<Kept, Memory>
-    requires segment { segment < length (segments_in course.now.value.plan) }
-    requires timely { All IsTimely entries.list }
-    ensures { IfOk result (λ x. kept_told x ≡ kept_as keep entries.list) }
-{
-    let mut kept = Kept::of(alloc, keep, entries)?;
-    let limit = course.opening().limit;
-    let stop = stop_number(limit, course.segment(segment).stop);
-    make_room(&mut kept, stop.saturating_sub(kernel.events()))?;
-    Ok(kept)
 }
 
 // Makes a segment's own events, of whose entries it keeps what is to be kept, and puts copies of the states at the numbers of
 // its grid on the shelf.
-fn advance<R: Wait, L: Ledger>(
+fn advance<R: Wait, G, L: Ledger>(
     rt: &R,
-    alloc: Global,
-    course: &Arc<Course>,
-    shelf: &Shelf<Checkpoint>,
+    shift: &Shift<'_, G>,
     seat: &mut ShelfSeat<Checkpoint>,
-    stride: u32,
-    keep: Keep,
     segment: u32,
     steps: &mut Steps<L>,
 ) -> Result<Ran, Memory>
-    requires seat { seat.old.shelf ≡ Some shelf.now }
-    requires shelf { IsShelfOf course.now.value stride shelf.now }
-    requires stride { 0 < stride }
-    requires segment { segment < length (segments_in course.now.value.plan) }
+    requires seat { seat.old.shelf ≡ Some shift.now.shelf.now }
+    requires shelf { IsShelfOf shift.now.course.now.value shift.now.stride shift.now.shelf.now }
+    requires segment { segment < length (segments_in shift.now.course.now.value.plan) }
     requires claim { 0 < times segment seat.old.view.claims }
     requires turns { seat.old.view.turns ≡ [] }
     requires count { steps.old ≤ 2 ^ 63 }
     ensures same { seat.new.shelf ≡ seat.old.shelf }
     ensures stays { Stays seat.old.view seat.new.view }
     ensures turns { seat.new.view.turns ≡ [] }
-    ensures course { IsCourse course.now.value }
-    ensures ran { IfOk result (λ x. ran_told x ≡ ran_as keep (segment_run course.now.value.opening course.now.value.plan (segment_at course.now.value.plan segment))) }
-    ensures fits { IfOk result (λ x. Fits course.now.value.opening x.kernel) }
-    ensures found { OnOk result ((q : ℕ) → (segment_at course.now.value.plan segment).parent ≡ Some q → is_in (end_key course.now.value.plan q) seat.new.view.found ≡ true) }
-    ensures grid { OnOk result ((e : ℕ) → is_in (key_at segment e) shelf.now.plan.grid ≡ true → is_sole shelf.now.plan (key_at segment e) ≡ true → IsPassed course.now.value segment e → is_in (key_at segment e) seat.new.view.known ≡ true) }
-    ensures rose { OnOk result (steps.new ≡ steps.old + own_count course.now.value.opening course.now.value.plan (segment_at course.now.value.plan segment)) }
-    ensures most { steps.new ≤ steps.old + own_count course.now.value.opening course.now.value.plan (segment_at course.now.value.plan segment) }
+    ensures ran { IfOk result (λ x. ran_told x ≡ ran_as shift.now.keep (run_at_end shift.now.course.now.value segment)) }
+    ensures fits { IfOk result (λ x. Fits shift.now.course.now.value.opening x.kernel) }
+    ensures found { OnOk result ((q : ℕ) → (segment_at shift.now.course.now.value.plan segment).parent ≡ Some q → is_in (end_key shift.now.course.now.value.plan q) seat.new.view.found ≡ true) }
+    ensures grid { OnOk result ((e : ℕ) → is_in (key_at segment e) shift.now.shelf.now.plan.grid ≡ true → is_sole shift.now.shelf.now.plan (key_at segment e) ≡ true → IsPassed shift.now.course.now.value segment e → is_in (key_at segment e) seat.new.view.known ≡ true) }
+    ensures rose { OnOk result (steps.new ≡ steps.old + own_of shift.now.course.now.value segment) }
+    ensures most { steps.new ≤ steps.old + own_of shift.now.course.now.value segment }
     ensures least { steps.old ≤ steps.new }
 {
-    let most = course.opening().limit;
-    let mut entries = Trace::new(alloc);
-    let kernel = begun(rt, alloc, course, shelf, seat, segment, &mut entries)?;
-    let kept = kept_at_first(alloc, course, keep, segment, &kernel, entries)?;
+    shift.course.is_course();
+    let most = shift.course.opening().limit;
+    let mut entries = Trace::new(shift.alloc);
+    let kernel = kernel_at_start(rt, shift, seat, segment, &mut entries)?;
+    let kept = Kept::of(shift.alloc, shift.keep, entries)?;
     let mut ran = Ran { kept, kernel };
-    pass_grid(
-        alloc, course, shelf, seat, stride, keep, segment, &mut ran, steps,
-    )?;
-    run_to(alloc, course, keep, segment, most, &mut ran, steps)?;
+    pass_grid(shift, seat, segment, &mut ran, steps)?;
+    continue_to(shift, segment, most, &mut ran, steps)?;
     Ok(ran)
 }
 
 // Puts a checkpoint on the shelf, where it isn't there yet.
-fn put(shelf: &Shelf<Checkpoint>, seat: &mut ShelfSeat<Checkpoint>, end: Arc<Checkpoint>)
+fn shelve(shelf: &Shelf<Checkpoint>, seat: &mut ShelfSeat<Checkpoint>, end: Arc<Checkpoint>)
     requires seat { seat.old.shelf ≡ Some shelf.now }
     requires course { end.value.course ≡ shelf.now.course }
     requires claim { 0 < times end.value.key.segment seat.old.view.claims }
@@ -194,28 +143,25 @@ fn put(shelf: &Shelf<Checkpoint>, seat: &mut ShelfSeat<Checkpoint>, end: Arc<Che
 }
 
 // Puts a segment's end on the shelf, unless the segment is its branch's last.
-fn put_end(
-    alloc: Global,
-    course: &Arc<Course>,
-    shelf: &Shelf<Checkpoint>,
+fn shelve_end<G>(
+    shift: &Shift<'_, G>,
     seat: &mut ShelfSeat<Checkpoint>,
     segment: u32,
     kernel: &Kernel,
 ) -> Result<(), Memory>
-    requires seat { seat.old.shelf ≡ Some shelf.now }
-    requires shelf { HasForks course.now.value shelf.now }
-    requires segment { segment < length (segments_in course.now.value.plan) }
+    requires seat { seat.old.shelf ≡ Some shift.now.shelf.now }
+    requires shelf { IsShelfOf shift.now.course.now.value shift.now.stride shift.now.shelf.now }
+    requires segment { segment < length (segments_in shift.now.course.now.value.plan) }
     requires claim { 0 < times segment seat.old.view.claims }
     requires turns { seat.old.view.turns ≡ [] }
-    requires state { kernel.now ≡ (segment_end course.now.value.opening course.now.value.plan (segment_at course.now.value.plan segment)).state }
+    requires state { kernel.now ≡ (segment_end shift.now.course.now.value.opening shift.now.course.now.value.plan (segment_at shift.now.course.now.value.plan segment)).state }
     ensures same { seat.new.shelf ≡ seat.old.shelf }
     ensures stays { Stays seat.old.view seat.new.view }
     ensures turns { seat.new.view.turns ≡ [] }
-    ensures known { OnOk result (segment < last_of course.now.value.plan.branches (segment_at course.now.value.plan segment).branch → is_in (end_key course.now.value.plan segment) seat.new.view.known ≡ true) }
+    ensures known { OnOk result (segment < last_of shift.now.course.now.value.plan.branches (segment_at shift.now.course.now.value.plan segment).branch → is_in (end_key shift.now.course.now.value.plan segment) seat.new.view.known ≡ true) }
 {
-    match kept_end(alloc, course, segment, kernel)? {
-        None => {}
-        Some(end) => put(shelf, seat, end),
+    if let Some(end) = kept_end(shift.alloc, shift.course, segment, kernel)? {
+        shelve(shift.shelf, seat, end);
     }
     Ok(())
 }
@@ -232,35 +178,29 @@ fn put_end(
 /// Want of memory alone. The counter then rose by at most the segment's own events, and the seat's count is as it was.
 pub fn run_segment<R: Wait, G: Gate, L: Ledger>(
     rt: &R,
-    alloc: Global,
-    course: &Arc<Course>,
-    shelf: &Shelf<Checkpoint>,
+    shift: &Shift<'_, G>,
     seat: &mut ShelfSeat<Checkpoint>,
-    stride: u32,
-    keep: Keep,
     worker: u32,
     segment: u32,
-    gate: &G,
     steps: &mut Steps<L>,
 ) -> Result<Outcome, Memory>
-    requires seat { seat.old.shelf ≡ Some shelf.now }
-    requires shelf { IsShelfOf course.now.value stride shelf.now }
-    requires stride { 0 < stride }
-    requires segment { segment < length (segments_in course.now.value.plan) }
+    requires seat { seat.old.shelf ≡ Some shift.now.shelf.now }
+    requires shelf { IsShelfOf shift.now.course.now.value shift.now.stride shift.now.shelf.now }
+    requires segment { segment < length (segments_in shift.now.course.now.value.plan) }
     requires claim { 0 < times segment seat.old.view.claims }
     requires more { seat.old.view.counts < length seat.old.view.claims }
     requires turns { seat.old.view.turns ≡ [] }
-    requires count { steps.old + own_count course.now.value.opening course.now.value.plan (segment_at course.now.value.plan segment) < 2 ^ 64 }
+    requires count { steps.old + own_count shift.now.course.now.value.opening shift.now.course.now.value.plan (segment_at shift.now.course.now.value.plan segment) < 2 ^ 64 }
     ensures same { seat.new.shelf ≡ seat.old.shelf }
 
     // What the segment's run tells, and how many steps it took.
-    ensures outcome { IfOk result (λ x. outcome_told x ≡ outcome_of course.now.value keep segment) }
-    ensures rose { OnOk result (steps.new ≡ steps.old + own_count course.now.value.opening course.now.value.plan (segment_at course.now.value.plan segment)) }
-    ensures most { steps.new ≤ steps.old + own_count course.now.value.opening course.now.value.plan (segment_at course.now.value.plan segment) }
+    ensures outcome { IfOk result (λ x. outcome_told x ≡ outcome_of shift.now.course.now.value shift.now.keep segment) }
+    ensures rose { OnOk result (steps.new ≡ steps.old + own_count shift.now.course.now.value.opening shift.now.course.now.value.plan (segment_at shift.now.course.now.value.plan segment)) }
+    ensures most { steps.new ≤ steps.old + own_count shift.now.course.now.value.opening shift.now.course.now.value.plan (segment_at shift.now.course.now.value.plan segment) }
     ensures least { steps.old ≤ steps.new }
 
     // The ends from which and to which it ran, the states on its way, and one claim more that is counted.
-    ensures states { OnOk result (HasStates course.now.value shelf.now.plan segment seat.new.view) }
+    ensures states { OnOk result (HasStates shift.now.course.now.value shift.now.shelf.now.plan segment seat.new.view) }
     ensures counted { OnOk result (seat.new.view.counts ≡ seat.old.view.counts + 1) }
     ensures uncounted { OnErr result (seat.new.view.counts ≡ seat.old.view.counts) }
 
@@ -268,15 +208,14 @@ pub fn run_segment<R: Wait, G: Gate, L: Ledger>(
     ensures remains { Remains seat.old.view seat.new.view }
     ensures turns { seat.new.view.turns ≡ [] }
 {
-    gate.pass(worker, segment);
+    shift.course.is_course();
+    shift.gate.pass(worker, segment);
     let mut own = steps.split();
-    let made = advance(
-        rt, alloc, course, shelf, seat, stride, keep, segment, &mut own,
-    );
+    let made = advance(rt, shift, seat, segment, &mut own);
     steps.join(own);
     let ran = made?;
-    put_end(alloc, course, shelf, seat, segment, &ran.kernel)?;
-    let outcome = outcome_at(alloc, course.opening(), segment, ran)?;
-    shelf.count(seat);
+    shelve_end(shift, seat, segment, &ran.kernel)?;
+    let outcome = outcome_at(shift.alloc, shift.course.opening(), segment, ran)?;
+    shift.shelf.count(seat);
     Ok(outcome)
 }

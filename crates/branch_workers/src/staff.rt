@@ -2,7 +2,6 @@
 
 ghost use Rattle.std.specs.Prelude.{◌≡◌, ℕ, ◌+◌, ◌<◌, ◌≤◌, ◌∷◌, [], All, IfOk, OnOk, Some, false, length, map};
 ghost use Rattle.branch_tree.specs.Segments.{segments_in};
-ghost use Rattle.kernel_copy.specs.Courses.{IsCourse};
 ghost use Rattle.branch_workers.specs.Claims.{HasPushed};
 ghost use Rattle.branch_workers.specs.Workers.{AreNumbered};
 
@@ -24,11 +23,10 @@ pub(crate) fn first_lanes<B: Room>(
     requires some { 0 < workers }
     requires room { count ≡ B.room }
     requires count { count ≡ length (segments_in course.now.plan) }
-    ensures course { IsCourse course.now }
     ensures count { IfOk result (λ lanes. length lanes.items ≡ workers) }
     ensures pushed { IfOk result (λ lanes. All (λ lane. HasPushed course.now.plan [] lane.own.view.pushed) lanes.items) }
 {
-    let _ = course.plan();
+    course.is_course();
     let mut lanes = open_lanes::<B>(alloc, workers, count)?;
     lanes[0].push(0);
     Ok(lanes)

@@ -8,12 +8,12 @@ ghost use Rattle.branch_workers.specs.Workers.{IsAtWork, HasEnded, HasFinished, 
 
 use crate::order::add;
 use crate::segment::run_segment;
+use crate::shift::Shift;
 use branch_deques::{Lane, Room};
 use checkpoint_shelf::{Shelf, ShelfSeat};
-use kernel_copy::{Checkpoint, Course, Keep, Outcome};
+use kernel_copy::{Checkpoint, Course, Outcome};
 use outside::{Gate, Ledger, Steps};
-use std::alloc::Global;
-use std::sync::{Arc, Wait};
+use std::sync::Wait;
 use std::thread;
 
 // What one worker has.
@@ -73,72 +73,55 @@ fn stop_others(shelf: &Shelf<Checkpoint>, seat: &mut ShelfSeat<Checkpoint>)
 // not, the others are told to stop.
 fn try_segment<R: Wait, G: Gate, L: Ledger, B: Room>(
     rt: &R,
-    alloc: Global,
-    course: &Arc<Course>,
-    shelf: &Shelf<Checkpoint>,
-    stride: u32,
-    keep: Keep,
-    gate: &G,
+    shift: &Shift<'_, G>,
     worker: &mut Worker<L, B>,
     segment: u32,
 ) -> bool
-    requires shelf { IsShelfOf course.now.value stride shelf.now }
-    requires stride { 0 < stride }
-    requires room { B.room ≡ length (segments_in course.now.value.plan) }
+    requires shelf { IsShelfOf shift.now.course.now.value shift.now.stride shift.now.shelf.now }
+    requires room { B.room ≡ length (segments_in shift.now.course.now.value.plan) }
     requires segment { segment < B.room }
-    requires work { IsAtWork course.now.value keep shelf.now worker.old.number worker.old.seat worker.old.steps worker.old.outcomes.items worker.old.lane.own.view.pushed }
+    requires work { IsAtWork shift.now.course.now.value shift.now.keep shift.now.shelf.now worker.old.number worker.old.seat worker.old.steps worker.old.outcomes.items worker.old.lane.own.view.pushed }
     ensures number { worker.new.number ≡ worker.old.number }
     ensures finished { worker.new.finished ≡ worker.old.finished }
-    ensures work { IsTrue result → IsAtWork course.now.value keep shelf.now worker.new.number worker.new.seat worker.new.steps worker.new.outcomes.items worker.new.lane.own.view.pushed }
-    ensures ended { IsFalse result → HasEnded course.now.value shelf.now worker.new.number worker.new.seat worker.new.steps }
+    ensures work { IsTrue result → IsAtWork shift.now.course.now.value shift.now.keep shift.now.shelf.now worker.new.number worker.new.seat worker.new.steps worker.new.outcomes.items worker.new.lane.own.view.pushed }
+    ensures ended { IsFalse result → HasEnded shift.now.course.now.value shift.now.shelf.now worker.new.number worker.new.seat worker.new.steps }
     ensures stopped { IsFalse result → worker.new.seat.view.stopped ≡ true }
 {
-    if !shelf.claim(&mut worker.seat, segment) {
+    if !shift.shelf.claim(&mut worker.seat, segment) {
         return true;
     }
     let number = worker.number;
     let Ok(outcome) = run_segment(
         rt,
-        alloc,
-        course,
-        shelf,
+        shift,
         &mut worker.seat,
-        stride,
-        keep,
         number,
         segment,
-        gate,
         &mut worker.steps,
     ) else {
-        stop_others(shelf, &mut worker.seat);
+        stop_others(shift.shelf, &mut worker.seat);
         return false;
     };
     let Ok(_) = add(&mut worker.outcomes, outcome) else {
-        stop_others(shelf, &mut worker.seat);
+        stop_others(shift.shelf, &mut worker.seat);
         return false;
     };
-    push_children(course, &mut worker.lane, segment);
+    push_children(shift.course, &mut worker.lane, segment);
     true
 }
 
 // Whether a worker that found no segment ends: since all are done, which it notes, or since it is told to stop.
-fn ends<L: Ledger, B: Room>(
-    course: &Arc<Course>,
-    keep: Keep,
-    shelf: &Shelf<Checkpoint>,
-    worker: &mut Worker<L, B>,
-) -> bool
-    requires work { IsAtWork course.now.value keep shelf.now worker.old.number worker.old.seat worker.old.steps worker.old.outcomes.items worker.old.lane.own.view.pushed }
+fn ends<G, L: Ledger, B: Room>(shift: &Shift<'_, G>, worker: &mut Worker<L, B>) -> bool
+    requires work { IsAtWork shift.now.course.now.value shift.now.keep shift.now.shelf.now worker.old.number worker.old.seat worker.old.steps worker.old.outcomes.items worker.old.lane.own.view.pushed }
     requires finished { worker.old.finished ≡ false }
     ensures number { worker.new.number ≡ worker.old.number }
-    ensures work { IsAtWork course.now.value keep shelf.now worker.new.number worker.new.seat worker.new.steps worker.new.outcomes.items worker.new.lane.own.view.pushed }
-    ensures done { worker.new.finished ≡ true → length (segments_in course.now.value.plan) ≤ worker.new.seat.view.done_seen }
+    ensures work { IsAtWork shift.now.course.now.value shift.now.keep shift.now.shelf.now worker.new.number worker.new.seat worker.new.steps worker.new.outcomes.items worker.new.lane.own.view.pushed }
+    ensures done { worker.new.finished ≡ true → length (segments_in shift.now.course.now.value.plan) ≤ worker.new.seat.view.done_seen }
     ensures goes_on { IsFalse result → worker.new.finished ≡ false }
     ensures stopped { IsTrue result → worker.new.finished ≡ false → worker.new.seat.view.stopped ≡ true }
 {
-    let _ = keep;
-    let count = course.plan().segments().len();
-    let progress = shelf.progress(&mut worker.seat);
+    let count = shift.course.plan().segments().len();
+    let progress = shift.shelf.progress(&mut worker.seat);
     if !progress.stopped && progress.done as usize == count {
         worker.finished = true;
         return true;
@@ -149,36 +132,28 @@ fn ends<L: Ledger, B: Room>(
 // What a worker does: it runs the segments of its lane and of the others', until all are done or it is told to stop.
 pub(crate) fn run_worker<R: Wait, G: Gate, L: Ledger, B: Room>(
     rt: &R,
-    alloc: Global,
-    course: &Arc<Course>,
-    shelf: &Shelf<Checkpoint>,
-    stride: u32,
-    keep: Keep,
-    gate: &G,
+    shift: &Shift<'_, G>,
     worker: &mut Worker<L, B>,
 )
-    requires shelf { IsShelfOf course.now.value stride shelf.now }
-    requires stride { 0 < stride }
-    requires room { B.room ≡ length (segments_in course.now.value.plan) }
-    requires work { IsAtWork course.now.value keep shelf.now worker.old.number worker.old.seat worker.old.steps worker.old.outcomes.items worker.old.lane.own.view.pushed }
+    requires shelf { IsShelfOf shift.now.course.now.value shift.now.stride shift.now.shelf.now }
+    requires room { B.room ≡ length (segments_in shift.now.course.now.value.plan) }
+    requires work { IsAtWork shift.now.course.now.value shift.now.keep shift.now.shelf.now worker.old.number worker.old.seat worker.old.steps worker.old.outcomes.items worker.old.lane.own.view.pushed }
     requires finished { worker.old.finished ≡ false }
     ensures number { worker.new.number ≡ worker.old.number }
-    ensures ended { HasEnded course.now.value shelf.now worker.new.number worker.new.seat worker.new.steps }
-    ensures finished { worker.new.finished ≡ true → HasFinished course.now.value keep shelf.now.plan worker.new.seat.view worker.new.outcomes.items }
-    ensures counted { worker.new.finished ≡ true → worker.new.steps ≡ sum_by (own_of course.now.value) worker.new.seat.view.claims }
+    ensures ended { HasEnded shift.now.course.now.value shift.now.shelf.now worker.new.number worker.new.seat worker.new.steps }
+    ensures finished { worker.new.finished ≡ true → HasFinished shift.now.course.now.value shift.now.keep shift.now.shelf.now.plan worker.new.seat.view worker.new.outcomes.items }
+    ensures counted { worker.new.finished ≡ true → worker.new.steps ≡ sum_by (own_of shift.now.course.now.value) worker.new.seat.view.claims }
     ensures stopped { worker.new.finished ≡ false → worker.new.seat.view.stopped ≡ true }
 {
     for _ in rt.forever() {
         match next_segment(rt, &mut worker.lane) {
             Some(segment) => {
-                if !try_segment(
-                    rt, alloc, course, shelf, stride, keep, gate, worker, segment,
-                ) {
+                if !try_segment(rt, shift, worker, segment) {
                     return;
                 }
             }
             None => {
-                if ends(course, keep, shelf, worker) {
+                if ends(shift, worker) {
                     return;
                 }
                 thread::yield_now();

@@ -2,6 +2,7 @@
 use Rattle.std.specs.Prelude.{ℕ, ◌≤◌, List, ◌++◌, length}
 use Rattle.std.specs.List.{flat_map}
 use Rattle.market_types.specs.declared.feed.Feed.{Feed}
+use Rattle.market_types.specs.declared.message.Message.{Message}
 use Rattle.market_types.specs.Told.{EntryTold, EventTold, EditTold, event, edit}
 use Rattle.wire_fields.specs.Wire.{spelling}
 use Rattle.itch_codec.specs.Frames.{framed}
@@ -11,7 +12,7 @@ use Rattle.bundle_frames.specs.declared.closing.ClosingCounts.{ClosingCounts}
 use Rattle.bundle_frames.specs.declared.closing.ClosingStock.{ClosingStock}
 use Rattle.bundle_frames.specs.declared.closing.ClosingOrder.{ClosingOrder}
 use Rattle.bundle_frames.specs.declared.closing.ClosingAgent.{ClosingAgent}
-use Rattle.bundle_frames.specs.Wires.{header_wire, branch_wire, event_wire, edit_wire, counts_wire, stock_wire, order_wire, agent_wire, positions_bytes, end_wire, body_bytes}
+use Rattle.bundle_frames.specs.Wires.{header_wire, branch_wire, event_wire, edit_wire, counts_wire, stock_wire, order_wire, agent_wire, positions_bytes, end_wire, waiting_wire, body_bytes}
 
 -- an agent has positions in at most sixteen stocks
 abbrev pub HasFewPositions : ClosingAgent → Type 0
@@ -56,6 +57,14 @@ header_frame agents stocks branches = framed (spelling (header_wire agents stock
 -- the end, after so many branches
 unfoldable pub end_frame : ℕ → List ℕ
 end_frame branches = framed (spelling (end_wire branches))
+
+-- a message that waits, with its body
+unfoldable pub waiting_frame : Message → List ℕ
+waiting_frame m = framed (spelling (waiting_wire m) ++ body_bytes m.body)
+
+-- messages that wait, in this order
+abbrev pub waiting_frames : List Message → List ℕ
+waiting_frames = flat_map waiting_frame
 
 -- messages of the feed in order
 abbrev pub feed_frames : List Feed → List ℕ

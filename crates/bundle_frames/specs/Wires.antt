@@ -4,13 +4,14 @@ use Rattle.std.specs.List.{flat_map}
 use Rattle.std.specs.Int.{cast_unsigned, w64, w128}
 use Rattle.market_types.specs.declared.message.Body.{Body}
 use Rattle.market_types.specs.declared.message.Body.TheVariants as body
+use Rattle.market_types.specs.declared.message.Message.{Message}
 use Rattle.market_types.specs.declared.message.Quote.{Quote}
 use Rattle.market_types.specs.Told.{EventTold, EditTold}
 use Rattle.wire_fields.specs.Values.{FieldValue, number, bytes, side_letter}
 use Rattle.wire_fields.specs.Wire.{Wire, spelling, spelled_fields}
 use Rattle.ouch_codec.specs.Inbound.{inbound_wire}
 use Rattle.ouch_codec.specs.Outbound.{reply_wire}
-use Rattle.bundle_frames.specs.Layouts.{header_kinds, branch_kinds, event_kinds, ask_kinds, quote_kinds, edit_kinds, counts_kinds, stock_kinds, order_kinds, agent_kinds, position_kinds, end_kinds}
+use Rattle.bundle_frames.specs.Layouts.{header_kinds, branch_kinds, event_kinds, ask_kinds, quote_kinds, edit_kinds, counts_kinds, stock_kinds, order_kinds, agent_kinds, position_kinds, end_kinds, waiting_kinds}
 use Rattle.bundle_frames.specs.declared.closing.ClosingAgent.{ClosingAgent}
 use Rattle.bundle_frames.specs.declared.closing.ClosingCounts.{ClosingCounts}
 use Rattle.bundle_frames.specs.declared.closing.ClosingStock.{ClosingStock}
@@ -83,6 +84,14 @@ head_wire h letter = record {
   values =
       number h.number ∷ number h.time ∷ number h.seq ∷ number h.from ∷ number h.to ∷ byte (letter_of_delivery h.put_back)
       ∷ number h.until ∷ signed h.fee ∷ byte letter ∷ [];
+}
+
+-- `w`, before the body
+abbrev pub waiting_wire : Message → Wire
+waiting_wire m = record {
+  letter = 119;
+  kinds = waiting_kinds;
+  values = number m.time ∷ number m.seq ∷ number m.from ∷ number m.to ∷ byte (letter_of_body m.body) ∷ [];
 }
 
 -- `d`

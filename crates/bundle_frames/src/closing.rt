@@ -5,20 +5,26 @@ use market_types::{AgentNo, Money, Sequence, Side, StockNo, Time, Token};
 /// The counters of a state.
 #[derive(Clone, Copy, PartialEq, Eq, Debug)]
 pub struct ClosingCounts {
-    /// `Q` no message waits, `C` the market is closed, `L` all events stand, `F` the queue was full, `-` not ended.
+    /// `Q` no message waits, `C` the market is closed, `L` all events stand, `F` the queue was full, `-` not ended. A letter and
+    /// no type of ends, since a reader of bundles takes any byte there.
     pub end: u8,
+    /// Events that stand.
     pub events: u32,
     /// Nanoseconds past midnight.
     pub time: Time,
     /// The number of the next message that joins.
     pub next_seq: u64,
+    /// Messages that wait.
     pub waiting: u32,
+    /// Messages that were dropped.
     pub dropped: u64,
     /// Enters that were ignored.
     pub enters: u64,
     /// Cancels that were ignored.
     pub cancels: u64,
+    /// Orders that the exchange accepted.
     pub orders: u64,
+    /// Matches that it made.
     pub matches: u64,
 }
 

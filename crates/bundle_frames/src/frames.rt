@@ -4,12 +4,12 @@ ghost use Rattle.std.specs.Prelude.{◌≡◌, ◌<◌, ◌/◌, ◌%◌, ◌^�
 ghost use Rattle.std.specs.Int.{cast_unsigned, w64, w128};
 ghost use Rattle.market_types.specs.Told.{edit_told};
 ghost use Rattle.wire_fields.specs.Wire.{spelling};
-ghost use Rattle.bundle_frames.specs.Wires.{header_wire, branch_wire, head_wire, edit_wire, counts_wire, stock_wire, order_wire, agent_wire, end_wire, position_bytes, letter_of_delivery, letter_of_silence, letter_of_order};
+ghost use Rattle.bundle_frames.specs.Wires.{header_wire, branch_wire, head_wire, edit_wire, counts_wire, stock_wire, order_wire, agent_wire, end_wire, position_bytes, letter_of_delivery, letter_of_silence, letter_of_order, letter_of_body, waiting_wire};
 
 use crate::closing::{ClosingAgent, ClosingCounts, ClosingOrder, ClosingStock};
 use crate::head::EventHead;
-use crate::layouts::{AGENT, BRANCH, COUNTS, EDIT, END, HEADER, ORDER, POSITION, STOCK};
-use market_types::EditMark;
+use crate::layouts::{AGENT, BRANCH, COUNTS, EDIT, END, HEADER, ORDER, POSITION, STOCK, WAITING};
+use market_types::{Body, EditMark, Message};
 use wire_fields::{Value, fields, message};
 
 // The header, for so many agents with the exchange, stocks and branches.
@@ -70,7 +70,35 @@ pub(crate) fn event_head(h: &EventHead, letter: u8) -> [u8; 43]
     head
 }
 
-// An edit.
+fn body_letter(body: &Body) -> u8
+    ensures { result ≡ letter_of_body body.now }
+{
+    match body {
+        Body::Wake => b'w',
+        Body::Order(_) => b'i',
+        Body::Answer(_) => b'o',
+        Body::Ask(_) => b'a',
+        Body::Quote(_) => b'q',
+    }
+}
+
+// A waiting message, before its body.
+pub(crate) fn waiting_head(m: &Message) -> [u8; 22]
+    ensures { result ≡ spelling (waiting_wire m.now) }
+{
+    message(
+        b'w',
+        &WAITING,
+        &[
+            Value::Number(m.time),
+            Value::Number(m.seq),
+            Value::Number(u64::from(m.from)),
+            Value::Number(u64::from(m.to)),
+            Value::Byte(body_letter(&m.body)),
+        ],
+    )
+}
+
 pub(crate) fn edit_frame(m: &EditMark) -> [u8; 18]
     ensures { result ≡ spelling (edit_wire (edit_told m.now)) }
 {
@@ -87,7 +115,6 @@ pub(crate) fn edit_frame(m: &EditMark) -> [u8; 18]
     )
 }
 
-// The counters of a closing.
 pub(crate) fn counts_frame(c: &ClosingCounts) -> [u8; 66]
     ensures { result ≡ spelling (counts_wire c.now) }
 {
@@ -109,21 +136,18 @@ pub(crate) fn counts_frame(c: &ClosingCounts) -> [u8; 66]
     )
 }
 
-// The higher half of a signed number of sixteen bytes.
 fn high_half(z: i128) -> u64
     ensures { result ≡ cast_unsigned w128 z / 2 ^ 64 }
 {
     (z.cast_unsigned() >> 64) as u64
 }
 
-// The lower half of a signed number of sixteen bytes.
 fn low_half(z: i128) -> u64
     ensures { result ≡ cast_unsigned w128 z % 2 ^ 64 }
 {
     (z.cast_unsigned() % (1 << 64)) as u64
 }
 
-// A stock of a closing.
 pub(crate) fn stock_frame(s: &ClosingStock) -> [u8; 44]
     ensures { result ≡ spelling (stock_wire s.now) }
 {
@@ -149,7 +173,6 @@ fn order_letter(shown: bool) -> u8
     if shown { b'l' } else { b'n' }
 }
 
-// A live order of a closing.
 pub(crate) fn order_frame(o: &ClosingOrder) -> [u8; 44]
     ensures { result ≡ spelling (order_wire o.now) }
 {
@@ -200,7 +223,6 @@ pub(crate) fn agent_head(a: &ClosingAgent) -> [u8; 70]
     )
 }
 
-// A position.
 #[tactic(auto, unfolding(crate::specs::Wires::position_bytes))]
 pub(crate) fn position(shares: i64) -> [u8; 8]
     ensures { result ≡ position_bytes shares }
@@ -208,7 +230,6 @@ pub(crate) fn position(shares: i64) -> [u8; 8]
     fields(&POSITION, &[Value::Number(shares.cast_unsigned())])
 }
 
-// The end of the bundle.
 pub(crate) fn end(branches: u16) -> [u8; 3]
     ensures { result ≡ spelling (end_wire branches) }
 {

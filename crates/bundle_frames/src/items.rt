@@ -1,75 +1,13 @@
 //! The frames of what happens and of a closing.
 
-ghost use Rattle.std.specs.Prelude.{◌≡◌, ◌<◌, ◌^◌, ◌++◌, OnOk, OnErr};
-ghost use Rattle.market_types.specs.Told.{event_told, edit_told};
-ghost use Rattle.market_types.specs.declared.feed.What.TheVariants as what;
-ghost use Rattle.bundle_frames.specs.Frames.{message_frame, event_frame, edit_frame};
-ghost use Rattle.bundle_frames.specs.Heads.{saying};
-
 use crate::closing::{Closing, ClosingAgent, ClosingCounts, ClosingOrder, ClosingStock};
-use crate::events::put_parts;
+use crate::events::put_parts_with_feed;
 use crate::head::EventHead;
 use crate::whole::put_whole;
 use crate::written::{Written, put_all};
 use crate::{frames, whole};
 use itch_codec::{encode_feed, frame, frame_of_two};
-use market_types::{EditMark, Entry, Feed, Memory, Record, Side, Symbol, What};
-
-// Appends an Add Order.
-fn put_added(
-    out: &mut Vec<u8>,
-    m: &Feed,
-    reference: u64,
-    side: Side,
-    shares: u32,
-    stock: &Symbol,
-    price: u32,
-) -> Result<(), Memory>
-    ensures appended { OnOk result (out.new.items ≡ out.old.items ++ saying m.now (what.Add reference side shares stock.now price)) }
-    ensures refused { OnErr result (out.new.items ≡ out.old.items) }
-{
-    put_whole(out, &whole::added(m, reference, side, shares, stock, price))
-}
-
-// Appends an Order Executed.
-fn put_executed(
-    out: &mut Vec<u8>,
-    m: &Feed,
-    reference: u64,
-    shares: u32,
-    match_number: u64,
-) -> Result<(), Memory>
-    ensures appended { OnOk result (out.new.items ≡ out.old.items ++ saying m.now (what.Executed reference shares match_number)) }
-    ensures refused { OnErr result (out.new.items ≡ out.old.items) }
-{
-    put_whole(out, &whole::executed(m, reference, shares, match_number))
-}
-
-// Appends an Order Cancel.
-fn put_canceled(out: &mut Vec<u8>, m: &Feed, reference: u64, shares: u32) -> Result<(), Memory>
-    ensures appended { OnOk result (out.new.items ≡ out.old.items ++ saying m.now (what.Cancel reference shares)) }
-    ensures refused { OnErr result (out.new.items ≡ out.old.items) }
-{
-    put_whole(out, &whole::canceled(m, reference, shares))
-}
-
-// Appends an Order Delete.
-fn put_deleted(out: &mut Vec<u8>, m: &Feed, reference: u64) -> Result<(), Memory>
-    ensures appended { OnOk result (out.new.items ≡ out.old.items ++ saying m.now (what.Delete reference)) }
-    ensures refused { OnErr result (out.new.items ≡ out.old.items) }
-{
-    put_whole(out, &whole::deleted(m, reference))
-}
-
-// Appends a message of the feed of any kind.
-#[tactic(auto, unfolding(crate::specs::Frames::message_frame))]
-fn put_any(out: &mut Vec<u8>, m: &Feed) -> Result<(), Memory>
-    requires { m.now.time < 2 ^ 48 }
-    ensures appended { OnOk result (out.new.items ≡ out.old.items ++ message_frame m.now) }
-    ensures refused { OnErr result (out.new.items ≡ out.old.items) }
-{
-    frame(encode_feed(m).as_slice(), out)
-}
+use market_types::{EditMark, Entry, Feed, Memory, Record, What};
 
 impl Written for Feed {
     ghost use Rattle.std.specs.Prelude.{◌<◌, ◌^◌};
@@ -79,6 +17,7 @@ impl Written for Feed {
 
     ghost fits = { λ m. m.time < 2 ^ 48 };
 
+    #[tactic(auto, unfolding(crate::specs::Frames::message_frame))]
     fn put(&self, out: &mut Vec<u8>) -> Result<(), Memory> {
         match &self.what {
             What::Add {
@@ -87,45 +26,23 @@ impl Written for Feed {
                 shares,
                 stock,
                 price,
-            } => put_added(out, self, *reference, *side, *shares, stock, *price),
+            } => put_whole(
+                out,
+                &whole::added(self, *reference, *side, *shares, stock, *price),
+            ),
             What::Executed {
                 reference,
                 shares,
                 number,
-            } => put_executed(out, self, *reference, *shares, *number),
-            What::Cancel { reference, shares } => put_canceled(out, self, *reference, *shares),
-            What::Delete { reference } => put_deleted(out, self, *reference),
-            _ => put_any(out, self),
+            } => put_whole(out, &whole::executed(self, *reference, *shares, *number)),
+            What::Cancel { reference, shares } => put_whole(
+                out,
+                &whole::canceled(self, *reference, *shares),
+            ),
+            What::Delete { reference } => put_whole(out, &whole::deleted(self, *reference)),
+            _ => frame(encode_feed(self).as_slice(), out),
         }
     }
-}
-
-/// Appends an event without its feed.
-#[tactic(auto, unfolding(crate::specs::Frames::event_frame))]
-pub fn put_event(out: &mut Vec<u8>, event: &Record) -> Result<(), Memory>
-    ensures appended { OnOk result (out.new.items ≡ out.old.items ++ event_frame (event_told event.now)) }
-    ensures refused { OnErr result (out.new.items ≡ out.old.items) }
-{
-    let head = EventHead {
-        number: event.number,
-        time: event.time,
-        seq: event.seq,
-        from: event.from,
-        to: event.to,
-        put_back: event.put_back,
-        until: event.until,
-        fee: event.fee,
-    };
-    put_parts(out, &head, &event.body)
-}
-
-/// Appends an edit without its feed.
-#[tactic(auto, unfolding(crate::specs::Frames::edit_frame))]
-pub fn put_mark(out: &mut Vec<u8>, mark: &EditMark) -> Result<(), Memory>
-    ensures appended { OnOk result (out.new.items ≡ out.old.items ++ edit_frame (edit_told mark.now)) }
-    ensures refused { OnErr result (out.new.items ≡ out.old.items) }
-{
-    frame(&frames::edit_frame(mark), out)
 }
 
 impl Written for Record {
@@ -138,9 +55,23 @@ impl Written for Record {
     ghost fits = { λ e. AreTimely e.before.list × AreTimely e.after.list };
 
     fn put(&self, out: &mut Vec<u8>) -> Result<(), Memory> {
-        put_all(out, self.before.as_slice())?;
-        put_event(out, self)?;
-        put_all(out, self.after.as_slice())
+        let head = EventHead {
+            number: self.number,
+            time: self.time,
+            seq: self.seq,
+            from: self.from,
+            to: self.to,
+            put_back: self.put_back,
+            until: self.until,
+            fee: self.fee,
+        };
+        put_parts_with_feed(
+            out,
+            &head,
+            &self.body,
+            self.before.as_slice(),
+            self.after.as_slice(),
+        )
     }
 }
 
@@ -153,8 +84,9 @@ impl Written for EditMark {
 
     ghost fits = { λ m. AreTimely m.feed.list };
 
+    #[tactic(auto, unfolding(crate::specs::Frames::edit_frame))]
     fn put(&self, out: &mut Vec<u8>) -> Result<(), Memory> {
-        put_mark(out, self)?;
+        frame(&frames::edit_frame(self), out)?;
         put_all(out, self.feed.as_slice())
     }
 }

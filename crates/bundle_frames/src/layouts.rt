@@ -29,6 +29,9 @@ pub const EVENT: [Kind; 9] = [
     WORD, LONG, LONG, SHORT, SHORT, DELIVERED, LONG, LONG, BODY_KIND,
 ];
 
+/// `w`, a waiting message before its body: when it is due, its number, sender, receiver, kind of body.
+pub const WAITING: [Kind; 5] = [LONG, LONG, SHORT, SHORT, BODY_KIND];
+
 /// The body of a question: stock.
 pub const ASK: [Kind; 1] = [SHORT];
 

@@ -1,6 +1,7 @@
 //! The frames of a bundle, one by one, and the values of a closing.
 #![tactic(auto)]
 
+mod bodies;
 mod closing;
 mod ends;
 mod events;
@@ -8,7 +9,7 @@ mod frames;
 mod head;
 mod items;
 mod layouts;
-mod orders;
+mod waiting;
 mod whole;
 mod worked;
 mod written;
@@ -17,9 +18,8 @@ pub use closing::{Closing, ClosingAgent, ClosingCounts, ClosingOrder, ClosingSto
 pub use ends::{put_branch, put_end, put_header};
 pub use events::{put_parts, put_parts_with_feed};
 pub use head::EventHead;
-pub use items::{put_event, put_mark};
 pub use layouts::{
-    AGENT, ASK, BRANCH, COUNTS, EDIT, END, EVENT, HEADER, ORDER, POSITION, QUOTE, STOCK,
+    AGENT, ASK, BRANCH, COUNTS, EDIT, END, EVENT, HEADER, ORDER, POSITION, QUOTE, STOCK, WAITING,
 };
 pub use worked::{one_of_each, published_kinds, published_layouts};
 pub use written::{Written, put_all};

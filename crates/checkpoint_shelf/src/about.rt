@@ -1,13 +1,13 @@
 //! What a shelf is told once, and what a seat knows.
 
-use crate::kept::Kept;
+use crate::shelved::Shelved;
 use shelf_core::{SeatView, ShelfPlan};
 use std::snapshot::Snapshot;
 use std::sync::Arc;
 
 /// What a shelf is told once.
 #[derive(Drop)]
-pub struct About<C: Kept> {
+pub struct About<C: Shelved> {
     pub(crate) plan: ShelfPlan,
     pub(crate) seats: u32,
     pub(crate) course: Snapshot<C::Course>,
@@ -15,7 +15,7 @@ pub struct About<C: Kept> {
 
 /// What a seat knows: the core's view, what the shelf is, and the number of seats that the first seat made and took
 /// in again. No value of it is made.
-pub struct View<C: Kept> {
+pub struct View<C: Shelved> {
     pub(crate) seen: SeatView,
     pub(crate) about: Option<About<C>>,
     pub(crate) leads: bool,

@@ -11,10 +11,10 @@ ghost use Rattle.checkpoint_shelf.specs.Seats.{AllBack, AreLater, all_in, gather
 
 use crate::about::{About, Held, View};
 use crate::closed::ClosedShelf;
-use crate::kept::Kept;
 use crate::law::{Law, Meets};
 use crate::seat::ShelfSeat;
 use crate::shelf::Shelf;
+use crate::shelved::Shelved;
 use crate::steps::{Inner, InnerSeat};
 use atomic_table::Table;
 use shelf_core::ShelfPlan;
@@ -22,7 +22,7 @@ use std::alloc::Global;
 use std::snapshot::Snapshot;
 
 // The first seat takes in another.
-fn meet<C: Kept>(table: &Inner<C>, first: &mut InnerSeat<C>, number: u32, other: InnerSeat<C>)
+fn meet<C: Shelved>(table: &Inner<C>, first: &mut InnerSeat<C>, number: u32, other: InnerSeat<C>)
     requires words { 0 < table.now.table_id.words }
     requires table { first.old.table_id ≡ table.now.table_id }
     requires others { other.table_id ≡ table.now.table_id }
@@ -38,7 +38,7 @@ fn meet<C: Kept>(table: &Inner<C>, first: &mut InnerSeat<C>, number: u32, other:
 }
 
 // The shelf without its table's threads.
-fn seal<C: Kept>(
+fn seal<C: Shelved>(
     table: Table<Held<C>, View<C>, About<C>, Law<C>, Global>,
     plan: ShelfPlan,
     first: InnerSeat<C>,
@@ -67,7 +67,7 @@ fn seal<C: Kept>(
 }
 
 // The first seat takes in all others.
-fn gather<C: Kept>(table: &Inner<C>, first: &mut InnerSeat<C>, mut others: Vec<ShelfSeat<C>>)
+fn gather<C: Shelved>(table: &Inner<C>, first: &mut InnerSeat<C>, mut others: Vec<ShelfSeat<C>>)
     requires words { 0 < table.now.table_id.words }
     requires table { first.old.table_id ≡ table.now.table_id }
     requires leads { first.old.me.0.leads ≡ true }
@@ -85,7 +85,7 @@ fn gather<C: Kept>(table: &Inner<C>, first: &mut InnerSeat<C>, mut others: Vec<S
     others.destroy_empty();
 }
 
-impl<C: Kept> Shelf<C> {
+impl<C: Shelved> Shelf<C> {
     /// Closes the shelf, once all its seats are handed back.
     pub fn close(self, mut seats: Vec<ShelfSeat<C>>) -> ClosedShelf<C>
         requires { AllBack self seats.items }

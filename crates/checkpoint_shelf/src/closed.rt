@@ -3,7 +3,7 @@
 ghost use Rattle.std.specs.Prelude.{◌≡◌};
 
 use crate::about::Held;
-use crate::kept::Kept;
+use crate::shelved::Shelved;
 use crate::steps::{Inner, InnerSeat};
 use atomic_table::Closed;
 use shelf_core::ShelfPlan;
@@ -12,14 +12,14 @@ use std::marker::Model;
 use std::snapshot::Snapshot;
 
 /// A closed shelf. Contracts see what it was laid out for, and the system that it was when it was closed.
-pub struct ClosedShelf<C: Kept> {
+pub struct ClosedShelf<C: Shelved> {
     pub(crate) closed: Closed<Held<C>, Global>,
     pub(crate) plan: ShelfPlan,
     pub(crate) told: Snapshot<Inner<C>>,
     pub(crate) last: Snapshot<InnerSeat<C>>,
 }
 
-impl<C: Kept> Model for ClosedShelf<C> {
+impl<C: Shelved> Model for ClosedShelf<C> {
     ghost use Rattle.std.specs.Prelude.{◌≡◌};
     ghost use Rattle.std.specs.Mem.Slots.{slots_items, IsFull};
     ghost use Rattle.checkpoint_shelf.specs.Told.{ClosedTold};
@@ -32,7 +32,7 @@ impl<C: Kept> Model for ClosedShelf<C> {
     ghost invariant = { λ s. (s.told.value.key.plan ≡ s.plan) × IsFull s.closed.words × IsFull s.closed.slots × IsClosed C.key_of C.course_of s.told.value.key (slots_items s.closed.words) (slots_items s.closed.slots) s.last.value.me.0.seen };
 }
 
-impl<C: Kept> ClosedShelf<C> {
+impl<C: Shelved> ClosedShelf<C> {
     /// What it was laid out for.
     pub fn plan(&self) -> &ShelfPlan
         ensures { result.now ≡ self.now.plan }
@@ -41,7 +41,7 @@ impl<C: Kept> ClosedShelf<C> {
     }
 }
 
-impl<C: Kept + Drop> Drop for ClosedShelf<C> {
+impl<C: Shelved + Drop> Drop for ClosedShelf<C> {
     fn drop(self) {
         let ClosedShelf {
             mut closed,

@@ -9,10 +9,10 @@ ghost use Rattle.shelf_core.specs.Calls.{Borrowed, Missed, LentElsewhere, LentKn
 ghost use Rattle.checkpoint_shelf.specs.Answers.{MatchFound, IfHere, IfNotYet};
 
 use crate::begun::Found;
-use crate::kept::Kept;
 use crate::law::Aim;
 use crate::seat::ShelfSeat;
 use crate::shelf::Shelf;
+use crate::shelved::Shelved;
 use crate::steps::{Inner, InnerSeat, give_back, lend};
 use plain_lists::Memory;
 use shelf_core::Key;
@@ -20,7 +20,7 @@ use std::marker::Brand;
 use std::sync::Arc;
 
 // Shares the value of a key, where it is there.
-fn borrow<C: Kept, B: Aim>(
+fn borrow<C: Shelved, B: Aim>(
     table: &Inner<C>,
     seat: &mut InnerSeat<C>,
     number: u32,
@@ -55,7 +55,7 @@ fn borrow<C: Kept, B: Aim>(
     }
 }
 
-impl<C: Kept> Shelf<C> {
+impl<C: Shelved> Shelf<C> {
     /// The value of a key, if it is there: it is lent to the seat, shared and returned.
     ///
     /// # Errors

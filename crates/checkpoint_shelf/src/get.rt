@@ -7,7 +7,7 @@ ghost use Rattle.shelf_core.specs.Possible.{word_at};
 
 use crate::closed::ClosedShelf;
 use crate::code::decode;
-use crate::kept::Kept;
+use crate::shelved::Shelved;
 use shelf_core::{Key, PlaceWord};
 use std::sync::Arc;
 
@@ -21,7 +21,7 @@ fn is_ready_of(word: PlaceWord, key: Key) -> bool
     }
 }
 
-impl<C: Kept> ClosedShelf<C> {
+impl<C: Shelved> ClosedShelf<C> {
     /// The value of a key: `None` where the key has no place, or its place isn't Ready of the key.
     pub fn get(&self, key: Key) -> Option<&Arc<C>>
         ensures none { IfNone result (is_ready key (word_at self.now.system key) ≡ false) }

@@ -1,7 +1,7 @@
 //! The rule of the table under a shelf, and what its steps tell.
 
 use crate::about::{About, Held, View};
-use crate::kept::Kept;
+use crate::shelved::Shelved;
 use atomic_table::{Join, Play, Split, TableRule};
 use std::marker::{Brand, PhantomData};
 
@@ -10,7 +10,7 @@ pub struct Law<C> {
     of: PhantomData<C>,
 }
 
-impl<C: Kept> TableRule<Held<C>, View<C>, About<C>> for Law<C> {
+impl<C: Shelved> TableRule<Held<C>, View<C>, About<C>> for Law<C> {
     ghost use Rattle.checkpoint_shelf.specs.Holds.{Holds, leader};
 
     ghost holds = { Holds C.key_of C.course_of };
@@ -23,7 +23,7 @@ pub(crate) struct Cuts<C> {
     of: PhantomData<C>,
 }
 
-impl<C: Kept> Split<View<C>> for Cuts<C> {
+impl<C: Shelved> Split<View<C>> for Cuts<C> {
     ghost use Rattle.checkpoint_shelf.specs.Holds.{leads_on, newcomer};
 
     ghost left = { leads_on };
@@ -36,7 +36,7 @@ pub(crate) struct Meets<C> {
     of: PhantomData<C>,
 }
 
-impl<C: Kept> Join<View<C>> for Meets<C> {
+impl<C: Shelved> Join<View<C>> for Meets<C> {
     ghost use Rattle.checkpoint_shelf.specs.Holds.{both, nobody};
 
     ghost both = { both };
@@ -46,7 +46,7 @@ impl<C: Kept> Join<View<C>> for Meets<C> {
 
 pub(crate) struct Claims;
 
-impl<C: Kept> Play<Held<C>, View<C>> for Claims {
+impl<C: Shelved> Play<Held<C>, View<C>> for Claims {
     ghost use Rattle.checkpoint_shelf.specs.Tells.{ClaimTold};
 
     ghost then = { ClaimTold };
@@ -54,7 +54,7 @@ impl<C: Kept> Play<Held<C>, View<C>> for Claims {
 
 pub(crate) struct Reads;
 
-impl<C: Kept> Play<Held<C>, View<C>> for Reads {
+impl<C: Shelved> Play<Held<C>, View<C>> for Reads {
     ghost use Rattle.checkpoint_shelf.specs.Tells.{DoneTold};
 
     ghost then = { DoneTold };
@@ -62,7 +62,7 @@ impl<C: Kept> Play<Held<C>, View<C>> for Reads {
 
 pub(crate) struct Counts;
 
-impl<C: Kept> Play<Held<C>, View<C>> for Counts {
+impl<C: Shelved> Play<Held<C>, View<C>> for Counts {
     ghost use Rattle.checkpoint_shelf.specs.Tells.{CountTold};
 
     ghost then = { CountTold };
@@ -70,7 +70,7 @@ impl<C: Kept> Play<Held<C>, View<C>> for Counts {
 
 pub(crate) struct Stops;
 
-impl<C: Kept> Play<Held<C>, View<C>> for Stops {
+impl<C: Shelved> Play<Held<C>, View<C>> for Stops {
     ghost use Rattle.checkpoint_shelf.specs.Tells.{StopTold};
 
     ghost then = { StopTold };
@@ -89,7 +89,7 @@ impl Aim for Brand {
 
 pub(crate) struct Looks;
 
-impl<C: Kept> Play<Held<C>, View<C>> for Looks {
+impl<C: Shelved> Play<Held<C>, View<C>> for Looks {
     ghost use Rattle.checkpoint_shelf.specs.Places.{LookTold};
 
     ghost then = { LookTold };
@@ -99,7 +99,7 @@ pub(crate) struct Begins<B> {
     of: PhantomData<B>,
 }
 
-impl<C: Kept, B: Aim> Play<Held<C>, View<C>> for Begins<B> {
+impl<C: Shelved, B: Aim> Play<Held<C>, View<C>> for Begins<B> {
     ghost use Rattle.checkpoint_shelf.specs.Places.{BeginTold};
 
     ghost then = { BeginTold B.key };
@@ -107,7 +107,7 @@ impl<C: Kept, B: Aim> Play<Held<C>, View<C>> for Begins<B> {
 
 pub(crate) struct Brings;
 
-impl<C: Kept> Play<Held<C>, View<C>> for Brings {
+impl<C: Shelved> Play<Held<C>, View<C>> for Brings {
     ghost use Rattle.checkpoint_shelf.specs.Places.{BringTold};
 
     ghost then = { BringTold };
@@ -117,7 +117,7 @@ pub(crate) struct Publishes<B> {
     of: PhantomData<B>,
 }
 
-impl<C: Kept, B: Aim> Play<Held<C>, View<C>> for Publishes<B> {
+impl<C: Shelved, B: Aim> Play<Held<C>, View<C>> for Publishes<B> {
     ghost use Rattle.checkpoint_shelf.specs.Places.{PublishTold};
 
     ghost then = { PublishTold B.key };
@@ -127,7 +127,7 @@ pub(crate) struct Abandons<B> {
     of: PhantomData<B>,
 }
 
-impl<C: Kept, B: Aim> Play<Held<C>, View<C>> for Abandons<B> {
+impl<C: Shelved, B: Aim> Play<Held<C>, View<C>> for Abandons<B> {
     ghost use Rattle.checkpoint_shelf.specs.Places.{AbandonTold};
 
     ghost then = { AbandonTold B.key };
@@ -137,7 +137,7 @@ pub(crate) struct Lends<B> {
     of: PhantomData<B>,
 }
 
-impl<C: Kept, B: Aim> Play<Held<C>, View<C>> for Lends<B> {
+impl<C: Shelved, B: Aim> Play<Held<C>, View<C>> for Lends<B> {
     ghost use Rattle.checkpoint_shelf.specs.Places.{LendTold};
 
     ghost then = { LendTold C.key_of C.course_of B.key };
@@ -147,7 +147,7 @@ pub(crate) struct Returns<B> {
     of: PhantomData<B>,
 }
 
-impl<C: Kept, B: Aim> Play<Held<C>, View<C>> for Returns<B> {
+impl<C: Shelved, B: Aim> Play<Held<C>, View<C>> for Returns<B> {
     ghost use Rattle.checkpoint_shelf.specs.Places.{ReturnTold};
 
     ghost then = { ReturnTold B.key };

@@ -7,10 +7,10 @@ ghost use Rattle.checkpoint_shelf.specs.Holds.{AboutFits, led, follower};
 ghost use Rattle.checkpoint_shelf.specs.Seats.{NewFrom};
 
 use crate::about::About;
-use crate::kept::Kept;
 use crate::law::Cuts;
 use crate::seat::ShelfSeat;
 use crate::shelf::Shelf;
+use crate::shelved::Shelved;
 use crate::steps::{Inner, InnerSeat};
 use atomic_table::Table;
 use plain_lists::Memory;
@@ -19,7 +19,7 @@ use std::alloc::Global;
 use std::snapshot::Snapshot;
 
 // Another seat, which the first seat makes.
-fn cut<C: Kept>(table: &Inner<C>, first: &mut InnerSeat<C>, number: u32) -> InnerSeat<C>
+fn cut<C: Shelved>(table: &Inner<C>, first: &mut InnerSeat<C>, number: u32) -> InnerSeat<C>
     requires words { 0 < table.now.table_id.words }
     requires table { first.old.table_id ≡ table.now.table_id }
     requires first { first.old.me ≡ (led table.now.key number, []) }
@@ -33,7 +33,10 @@ fn cut<C: Kept>(table: &Inner<C>, first: &mut InnerSeat<C>, number: u32) -> Inne
 }
 
 // A shelf with its table, and the first seat.
-fn lay<C: Kept + Drop>(alloc: Global, about: About<C>) -> Result<(Shelf<C>, InnerSeat<C>), Memory>
+fn lay<C: Shelved + Drop>(
+    alloc: Global,
+    about: About<C>,
+) -> Result<(Shelf<C>, InnerSeat<C>), Memory>
     requires fits { AboutFits about }
     ensures shelf { IfOk result (λ r. (r.0.plan ≡ about.plan) × (r.0.seats ≡ about.seats) × (r.0.course ≡ about.course.value)) }
     ensures seat { IfOk result (λ r. (r.1.table_id ≡ r.0.table) × (r.1.me ≡ (led about 1, []))) }
@@ -56,7 +59,7 @@ fn lay<C: Kept + Drop>(alloc: Global, about: About<C>) -> Result<(Shelf<C>, Inne
 }
 
 // Puts a seat behind others.
-fn keep<C: Kept>(all: &mut Vec<ShelfSeat<C>>, seat: ShelfSeat<C>) -> Result<(), Memory>
+fn keep<C: Shelved>(all: &mut Vec<ShelfSeat<C>>, seat: ShelfSeat<C>) -> Result<(), Memory>
     ensures { OnOk result (all.new.items ≡ all.old.items ++ seat ∷ []) }
 {
     match all.push(seat) {
@@ -66,7 +69,7 @@ fn keep<C: Kept>(all: &mut Vec<ShelfSeat<C>>, seat: ShelfSeat<C>) -> Result<(), 
 }
 
 // Puts a seat before others.
-fn keep_first<C: Kept>(all: &mut Vec<ShelfSeat<C>>, seat: ShelfSeat<C>) -> Result<(), Memory>
+fn keep_first<C: Shelved>(all: &mut Vec<ShelfSeat<C>>, seat: ShelfSeat<C>) -> Result<(), Memory>
     ensures { OnOk result (all.new.items ≡ seat ∷ all.old.items) }
 {
     match all.insert(0, seat) {
@@ -75,7 +78,7 @@ fn keep_first<C: Kept>(all: &mut Vec<ShelfSeat<C>>, seat: ShelfSeat<C>) -> Resul
     }
 }
 
-impl<C: Kept + Drop> Shelf<C> {
+impl<C: Shelved + Drop> Shelf<C> {
     /// A shelf that is laid out for a plan, and its seats, in the order of their numbers.
     ///
     /// # Errors

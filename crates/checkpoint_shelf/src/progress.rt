@@ -9,10 +9,10 @@ ghost use Rattle.shelf_core.specs.declared.words.Seen.TheVariants.{Claim as clai
 ghost use Rattle.shelf_core.specs.declared.event.Event.TheVariants.{Claim as claim_event, Count as count_event, Stop as stop_event};
 ghost use Rattle.shelf_core.specs.Made.{Makes, Sees, Same, Stays};
 
-use crate::kept::Kept;
 use crate::law::{Claims, Counts, Reads, Stops};
 use crate::seat::ShelfSeat;
 use crate::shelf::Shelf;
+use crate::shelved::Shelved;
 
 /// What the done word said.
 #[derive(Clone, Copy, PartialEq, Eq, Debug)]
@@ -23,7 +23,7 @@ pub struct Progress {
     pub stopped: bool,
 }
 
-impl<C: Kept> Shelf<C> {
+impl<C: Shelved> Shelf<C> {
     /// Claims a segment, where no seat has claimed it.
     pub fn claim(&self, seat: &mut ShelfSeat<C>, segment: u32) -> bool
         requires seat { seat.old.shelf ≡ Some self.now }

@@ -1,8 +1,8 @@
 //! The shelf that seats share.
 
 use crate::about::{About, Held, View};
-use crate::kept::Kept;
 use crate::law::Law;
+use crate::shelved::Shelved;
 use atomic_table::Table;
 use shelf_core::ShelfPlan;
 use std::alloc::Global;
@@ -10,12 +10,12 @@ use std::marker::Model;
 
 /// The shelf. Contracts see which one it is and what it was laid out for.
 #[derive(Drop)]
-pub struct Shelf<C: Kept> {
+pub struct Shelf<C: Shelved> {
     pub(crate) table: Table<Held<C>, View<C>, About<C>, Law<C>, Global>,
     pub(crate) plan: ShelfPlan,
 }
 
-impl<C: Kept> Model for Shelf<C> {
+impl<C: Shelved> Model for Shelf<C> {
     ghost use Rattle.std.specs.Prelude.{◌≡◌, ◌+◌};
     ghost use Rattle.shelf_core.specs.Plan.{place_count};
     ghost use Rattle.checkpoint_shelf.specs.Told.{ShelfTold, told_of};

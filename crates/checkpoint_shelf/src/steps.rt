@@ -17,8 +17,8 @@ ghost use Rattle.shelf_core.specs.Made.{Makes, Sees};
 
 use crate::about::{About, Held, View};
 use crate::code::{decode, encode};
-use crate::kept::Kept;
 use crate::law::{Abandons, Aim, Begins, Brings, Law, Lends, Looks, Publishes, Returns};
+use crate::shelved::Shelved;
 use atomic_table::{Seat, Shared};
 use shelf_core::{Key, PlaceWord};
 use std::sync::Arc;
@@ -28,7 +28,7 @@ pub(crate) type Inner<C> = Shared<Held<C>, View<C>, About<C>, Law<C>>;
 pub(crate) type InnerSeat<C> = Seat<Held<C>, View<C>>;
 
 // Loads the word of a place.
-pub(crate) fn look<C: Kept>(
+pub(crate) fn look<C: Shelved>(
     table: &Inner<C>,
     seat: &mut InnerSeat<C>,
     number: u32,
@@ -49,7 +49,7 @@ pub(crate) fn look<C: Kept>(
 }
 
 // Takes the turn at a place whose word is still `want`. The answer is the word that it is in place of that.
-pub(crate) fn take_turn<C: Kept + Drop, B: Aim>(
+pub(crate) fn take_turn<C: Shelved + Drop, B: Aim>(
     table: &Inner<C>,
     seat: &mut InnerSeat<C>,
     number: u32,
@@ -83,7 +83,7 @@ pub(crate) fn take_turn<C: Kept + Drop, B: Aim>(
 }
 
 // Spends a turn: the value goes to its place.
-pub(crate) fn hand_in<C: Kept, B: Aim>(
+pub(crate) fn hand_in<C: Shelved, B: Aim>(
     table: &Inner<C>,
     seat: &mut InnerSeat<C>,
     number: u32,
@@ -112,7 +112,7 @@ pub(crate) fn hand_in<C: Kept, B: Aim>(
 }
 
 // Spends a turn without a value.
-pub(crate) fn let_go<C: Kept, B: Aim>(
+pub(crate) fn let_go<C: Shelved, B: Aim>(
     table: &Inner<C>,
     seat: &mut InnerSeat<C>,
     number: u32,
@@ -136,7 +136,7 @@ pub(crate) fn let_go<C: Kept, B: Aim>(
 }
 
 // Takes the value of a key on loan. The answer is otherwise the word of its place.
-pub(crate) fn lend<C: Kept, B: Aim>(
+pub(crate) fn lend<C: Shelved, B: Aim>(
     table: &Inner<C>,
     seat: &mut InnerSeat<C>,
     number: u32,
@@ -165,7 +165,7 @@ pub(crate) fn lend<C: Kept, B: Aim>(
 }
 
 // Returns the value that the seat has on loan.
-pub(crate) fn give_back<C: Kept, B: Aim>(
+pub(crate) fn give_back<C: Shelved, B: Aim>(
     table: &Inner<C>,
     seat: &mut InnerSeat<C>,
     number: u32,

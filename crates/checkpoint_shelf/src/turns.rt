@@ -12,10 +12,10 @@ ghost use Rattle.shelf_core.specs.Calls.{Began, Refused, Published, Abandoned, L
 ghost use Rattle.checkpoint_shelf.specs.Answers.{MatchBegun, IfTaken, begun_of};
 
 use crate::begun::{Begun, Turn};
-use crate::kept::Kept;
 use crate::law::Aim;
 use crate::seat::ShelfSeat;
 use crate::shelf::Shelf;
+use crate::shelved::Shelved;
 use crate::steps::{Inner, InnerSeat, hand_in, let_go, look, take_turn};
 use shelf_core::{Key, PlaceWord, ShelfPlan};
 use std::marker::Brand;
@@ -34,7 +34,7 @@ fn may_write(plan: &ShelfPlan, place: u32, key: Key, word: PlaceWord) -> bool
 }
 
 // Takes the turn at the place of a key. The answer is otherwise the word of the place.
-fn begin_at<C: Kept + Drop, B: Aim>(
+fn begin_at<C: Shelved + Drop, B: Aim>(
     table: &Inner<C>,
     seat: &mut InnerSeat<C>,
     number: u32,
@@ -75,7 +75,7 @@ fn begun(key: Key, answer: Option<PlaceWord>) -> Begun
     }
 }
 
-impl<C: Kept> Shelf<C> {
+impl<C: Shelved> Shelf<C> {
     /// The place of a key: that of fork `i` is `i`, and the grid keys have the places behind those of the forks in turn.
     /// `None` where the key is neither, and for a grid key where there are no places for the grid.
     pub fn place_of(&self, key: Key) -> Option<u32>
@@ -85,7 +85,7 @@ impl<C: Kept> Shelf<C> {
     }
 }
 
-impl<C: Kept + Drop> Shelf<C> {
+impl<C: Shelved + Drop> Shelf<C> {
     /// Takes the turn to give the place of a key its value.
     pub fn begin(&self, seat: &mut ShelfSeat<C>, key: Key) -> Begun
         requires seat { seat.old.shelf ≡ Some self.now }

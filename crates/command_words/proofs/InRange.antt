@@ -8,12 +8,13 @@ use Rattle.std.proofs.lemmas.List.Elements.{All-cons, All-nil}
 use Rattle.command_words.specs.Line.{Parts}
 use Rattle.command_words.specs.Numbers.{number_of, count_of}
 use Rattle.command_words.specs.Marks.{IsSpelled, mark_before, mark_of, marks_of}
-use Rattle.command_words.specs.Asked.{alone, command_of, asked_from, asked_in}
+use Rattle.command_words.specs.Asked.{alone, request_of, asked_from, asked_in}
 use Rattle.command_words.specs.declared.asked.Crossing.{Crossing}
-use Rattle.command_words.specs.Ranges.{IsMark, AreMarks, IsCommand, IsInRange}
+use Rattle.command_words.specs.Ranges.{IsMark, AreMarks, IsRequest, IsInRange}
 use Rattle.command_words.specs.declared.mark.Mark.{Mark}
-use Rattle.command_words.specs.declared.asked.Command.{Command}
-use Rattle.command_words.specs.declared.asked.Command.TheVariants.{Run, Table, Check, Rewind, Big, Cross, Audit, Session}
+use Rattle.command_words.specs.declared.asked.Task.TheVariants.{Run, Table, Check, Rewind, Cross, Session}
+use Rattle.command_words.specs.declared.asked.Request.{Request}
+use Rattle.command_words.specs.declared.asked.Request.TheVariants.{File, Large, Bundle}
 use Rattle.command_words.specs.declared.asked.Asked.{Asked}
 use Rattle.command_words.proofs.Numbers.{digits_are_short, number_is_short, count_is_in_range}
 use Rattle.command_words.proofs.Spelled.{is_spelled}
@@ -47,28 +48,28 @@ marks_are (word ∷ words) marks h =
     joined (mark_of word) (marks_of words) marks (length words) h (is_mark word) (marks_are words)
 
 -- a value under a test is one of the two
-either : (P : Command → Type 0) (test : Bool) (x y : Option Command) (c : Command) → (if test then x else y) ≡ Some c
-    → (test ≡ true → x ≡ Some c → P c) → (y ≡ Some c → P c) → P c
-either P true x y c h f g = f refl h
-either P false x y c h f g = g h
+either : (P : Request → Type 0) (test : Bool) (x y : Option Request) (r : Request) → (if test then x else y) ≡ Some r
+    → (test ≡ true → x ≡ Some r → P r) → (y ≡ Some r → P r) → P r
+either P true x y r h f g = f refl h
+either P false x y r h f g = g h
 
-stands_alone : (command : Command) (more : List (List ℕ)) (c : Command) → alone command more ≡ Some c → IsCommand command → IsCommand c
-stands_alone command [] c h fits =
-    let same : command ≡ c = cc in
-    subst IsCommand same fits
-stands_alone command (word ∷ more) c h fits = cc
+stands_alone : (request : Request) (more : List (List ℕ)) (r : Request) → alone request more ≡ Some r → IsRequest request → IsRequest r
+stands_alone request [] r h fits =
+    let same : request ≡ r = cc in
+    subst IsRequest same fits
+stands_alone request (word ∷ more) r h fits = cc
 
-rewinds : (study : List ℕ) (o : Option (List Mark)) (c : Command) → option_map (Rewind study) o ≡ Some c → study ≢ []
-    → ((ms : List Mark) → o ≡ Some ms → AreMarks ms) → IsCommand c
-rewinds study None c h some are = cc
-rewinds study (Some ms) c h some are =
-    let same : Rewind study ms ≡ c = cc in
-    subst IsCommand same (some, are ms refl)
+rewinds : (study : List ℕ) (places : ℕ) (o : Option (List Mark)) (r : Request) → option_map (λ (ms : List Mark). File (Rewind ms places) study) o ≡ Some r
+    → study ≢ [] → places ≤ 128 → ((ms : List Mark) → o ≡ Some ms → AreMarks ms) → IsRequest r
+rewinds study places None r h some few are = cc
+rewinds study places (Some ms) r h some few are =
+    let same : File (Rewind ms places) study ≡ r = cc in
+    subst IsRequest same ((are ms refl, few), some)
 
-counted : (study : List ℕ) (o : Option ℕ) (more : List (List ℕ)) (c : Command) → option_and_then (λ n. alone (Big n) more) o ≡ Some c
-    → ((n : ℕ) → o ≡ Some n → n ≤ 9999) → IsCommand c
-counted study None more c h short = cc
-counted study (Some n) more c h short = stands_alone (Big n) more c h (short n refl)
+counted : (o : Option ℕ) (more : List (List ℕ)) (r : Request) → option_and_then (λ n. alone (Large n) more) o ≡ Some r
+    → ((n : ℕ) → o ≡ Some n → n ≤ 9999) → IsRequest r
+counted None more r h short = cc
+counted (Some n) more r h short = stands_alone (Large n) more r h (short n refl)
 
 -- a text that has some bytes
 filled : (text : List ℕ) → (length text == 0) ≡ false → text ≢ []
@@ -91,52 +92,57 @@ named : (word symbol file : List ℕ) (empty : Bool) (x : Crossing) → (length 
 named word symbol file true x is h = cc
 named word symbol file false x is h = marked symbol file (mark_of word) x h (is_mark word) (filled file is)
 
-crosses : (study : List ℕ) (o : Option Crossing) (c : Command) → option_map (Cross study) o ≡ Some c → study ≢ []
-    → ((x : Crossing) → o ≡ Some x → IsCrossing x) → IsCommand c
-crosses study None c h some are = cc
-crosses study (Some x) c h some are =
-    let same : Cross study x ≡ c = cc in
-    subst IsCommand same (some, (are x refl).0, (are x refl).1)
+crosses : (study : List ℕ) (places : ℕ) (o : Option Crossing) (r : Request) → option_map (λ (x : Crossing). File (Cross x places) study) o ≡ Some r
+    → study ≢ [] → places ≤ 128 → ((x : Crossing) → o ≡ Some x → IsCrossing x) → IsRequest r
+crosses study places None r h some few are = cc
+crosses study places (Some x) r h some few are =
+    let same : File (Cross x places) study ≡ r = cc in
+    subst IsRequest same (((are x refl).0, (are x refl).1, few), some)
 
-scripts : (study script : List ℕ) (empty : Bool) (c : Command) → (length script == 0) ≡ empty → (if empty then None else Some (Session study script)) ≡ Some c → study ≢ [] → IsCommand c
-scripts study script true c is h some = cc
-scripts study script false c is h some =
-    let same : Session study script ≡ c = cc in
-    subst IsCommand same (some, filled script is)
+scripts : (study script : List ℕ) (places : ℕ) (empty : Bool) (r : Request) → (length script == 0) ≡ empty
+    → (if empty then None else Some (File (Session script places) study)) ≡ Some r → study ≢ [] → places ≤ 128 → IsRequest r
+scripts study script places true r is h some few = cc
+scripts study script places false r is h some few =
+    let same : File (Session script places) study ≡ r = cc in
+    subst IsRequest same ((filled script is, few), some)
 
-is_command : (name study : List ℕ) (more : List (List ℕ)) (c : Command) → study ≢ [] → command_of name study more ≡ Some c → IsCommand c
-is_command name study more c some h =
-    let marks : is_in_range 1 64 (length more) ≡ true → (ms : List Mark) → marks_of more ≡ Some ms → AreMarks ms = λ few ms e.
+is_request : (name study : List ℕ) (more : List (List ℕ)) (places : ℕ) (r : Request) → study ≢ [] → places ≤ 128 → request_of name study more places ≡ Some r → IsRequest r
+is_request name study more places r some few h =
+    let marks : is_in_range 1 64 (length more) ≡ true → (ms : List Mark) → marks_of more ≡ Some ms → AreMarks ms = λ within ms e.
     let are = marks_are more ms e in
     let count : length ms ≡ length more = are.0 in
     record { some = grind (arith, nat_tests); few = grind (arith, nat_tests); each = are.1 } in
-    either IsCommand (bytes_eq name (codes "run")) _ _ c h (λ _ e. stands_alone (Run study) more c e some) (λ h.
-    either IsCommand (bytes_eq name (codes "table")) _ _ c h (λ _ e. stands_alone (Table study) more c e some) (λ h.
-    either IsCommand (bytes_eq name (codes "check")) _ _ c h (λ _ e. stands_alone (Check study) more c e some) (λ h.
-    either IsCommand (bytes_eq name (codes "rewind")) _ _ c h (λ _ e.
-    either IsCommand (is_in_range 1 64 (length more)) _ _ c e (λ few e. rewinds study (marks_of more) c e some (marks few)) (λ e. cc)) (λ h.
-    either IsCommand (bytes_eq name (codes "big")) _ _ c h (λ _ e. counted study (number_of 4 study) more c e (λ n e.
+    either IsRequest (bytes_eq name (codes "run")) _ _ r h (λ _ e. stands_alone (File Run study) more r e (tt, some)) (λ h.
+    either IsRequest (bytes_eq name (codes "table")) _ _ r h (λ _ e. stands_alone (File Table study) more r e (tt, some)) (λ h.
+    either IsRequest (bytes_eq name (codes "check")) _ _ r h (λ _ e. stands_alone (File Check study) more r e (tt, some)) (λ h.
+    either IsRequest (bytes_eq name (codes "rewind")) _ _ r h (λ _ e.
+    either IsRequest (is_in_range 1 64 (length more)) _ _ r e (λ within e. rewinds study places (marks_of more) r e some few (marks within)) (λ e. cc)) (λ h.
+    either IsRequest (bytes_eq name (codes "big")) _ _ r h (λ _ e. counted (number_of 4 study) more r e (λ n e.
     let short : n < 10 ^ 4 = number_is_short 4 study n e in
     omega arith)) (λ h.
-    either IsCommand (bytes_eq name (codes "cross")) _ _ c h (λ _ e.
-    either IsCommand (length more == 3) _ _ c e (λ three e. crosses study _ c e some (λ x e. named (slice_index_or more 0 []) (slice_index_or more 1 []) (slice_index_or more 2 []) _ x refl e)) (λ e. cc)) (λ h.
-    either IsCommand (bytes_eq name (codes "audit")) _ _ c h (λ _ e. stands_alone (Audit study) more c e some) (λ h.
-    either IsCommand (bytes_eq name (codes "session")) _ _ c h (λ _ e.
-    either IsCommand (length more == 1) _ _ c e (λ one e. scripts study (slice_index_or more 0 []) _ c refl e some) (λ e. cc)) (λ e. cc))))))))
+    either IsRequest (bytes_eq name (codes "cross")) _ _ r h (λ _ e.
+    either IsRequest (length more == 3) _ _ r e (λ three e. crosses study places _ r e some few (λ x e. named (slice_index_or more 0 []) (slice_index_or more 1 []) (slice_index_or more 2 []) _ x refl e)) (λ e. cc)) (λ h.
+    either IsRequest (bytes_eq name (codes "audit")) _ _ r h (λ _ e. stands_alone (Bundle study) more r e some) (λ h.
+    either IsRequest (bytes_eq name (codes "session")) _ _ r h (λ _ e.
+    either IsRequest (length more == 1) _ _ r e (λ one e. scripts study (slice_index_or more 0 []) places _ r refl e some few) (λ e. cc)) (λ e. cc))))))))
 
-ranged : (command : Option Command) (workers places : Option ℕ) (asked : Asked) → asked_from command workers places ≡ Some asked
-    → ((c : Command) → command ≡ Some c → IsCommand c)
+-- what a command asks for, with its workers
+staffed : (o : Option Request) (workers : ℕ) (asked : Asked) → option_map (λ (r : Request). record { request = r; workers = workers }) o ≡ Some asked
+    → ((r : Request) → o ≡ Some r → IsRequest r) → (1 ≤ workers) × (workers ≤ 64) → IsInRange asked
+staffed None workers asked h is within = cc
+staffed (Some r) workers asked h is within =
+    let same : record { request = r; workers = workers } ≡ asked = cc in
+    subst IsInRange same (record { request = is r refl; some_workers = within.0; few_workers = within.1 })
+
+ranged : (line : Parts) (workers places : Option ℕ) (asked : Asked) → asked_from line workers places ≡ Some asked → line.study ≢ []
     → ((n : ℕ) → workers ≡ Some n → (1 ≤ n) × (n ≤ 64))
     → ((n : ℕ) → places ≡ Some n → (0 ≤ n) × (n ≤ 128))
     → IsInRange asked
-ranged None workers places asked h c w p = cc
-ranged (Some command) None places asked h c w p = cc
-ranged (Some command) (Some workers) None asked h c w p = cc
-ranged (Some command) (Some workers) (Some places) asked h c w p =
-    let same : record { command = command; workers = workers; places = places } ≡ asked = cc in
-    let some = w workers refl in
-    let few = p places refl in
-    subst IsInRange same (record { command = c command refl; some_workers = some.0; few_workers = some.1; few_places = few.1 })
+ranged line None places asked h some w p = cc
+ranged line (Some workers) None asked h some w p = cc
+ranged line (Some workers) (Some places) asked h some w p =
+    staffed (request_of line.command line.study line.more places) workers asked h
+    (λ r of. is_request line.command line.study line.more places r some (p places refl).1 of) (w workers refl)
 
 unless_empty : (empty : Bool) (answer : Option Asked) (asked : Asked) → (if empty then None else answer) ≡ Some asked
     → (empty ≡ false → answer ≡ Some asked → IsInRange asked) → IsInRange asked
@@ -148,5 +154,5 @@ pub line_is_in_range : (line : Parts) (answer : Option Asked) → answer ≡ ask
 line_is_in_range line None h = tt
 line_is_in_range line (Some asked) h =
     unless_empty (length line.study == 0) _ asked (sym h) (λ some e.
-    ranged (command_of line.command line.study line.more) (count_of 1 64 line.workers) (count_of 0 128 line.places) asked e
-    (λ c of. is_command line.command line.study line.more c (filled line.study some) of) (count_is_in_range 1 64 line.workers) (count_is_in_range 0 128 line.places))
+    ranged line (count_of 1 64 line.workers) (count_of 0 128 line.places) asked e (filled line.study some)
+    (count_is_in_range 1 64 line.workers) (count_is_in_range 0 128 line.places))

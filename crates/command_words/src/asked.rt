@@ -2,7 +2,7 @@
 
 ghost use Rattle.std.specs.Prelude.{◌≡◌, [], IfOk, IfSome, map, slice_index_or, string_bytes};
 ghost use Rattle.command_words.specs.Line.{parts_seen};
-ghost use Rattle.command_words.specs.Asked.{alone, rewind_of, big_of, cross_of, crossing_of, scripted_of, session_of, command_of, asked_in, asked_of};
+ghost use Rattle.command_words.specs.Asked.{alone, rewind_of, big_of, cross_of, session_of, request_of, asked_in, asked_of};
 ghost use Rattle.command_words.specs.Ranges.{IsInRange};
 
 use crate::line::{Line, read_line};
@@ -23,43 +23,49 @@ pub struct Crossing<'a> {
     pub file: Text<'a>,
 }
 
-/// A command with its study, number or bundle. The name of a study, a bundle or a script is not empty.
+/// What is to be done with a study. While it is simulated for a state on the way, so many grid places, 0 to 128, keep states.
 #[derive(Drop)]
-pub enum Command<'a> {
-    /// `run STUDY`.
-    Run(Text<'a>),
-    /// `table STUDY`.
-    Table(Text<'a>),
-    /// `check STUDY`.
-    Check(Text<'a>),
-    /// `rewind STUDY B:E...`, with 1 to 64 marks in order.
-    Rewind(Text<'a>, Sequence<Mark<'a>>),
-    /// `big NUMBER`, of 1 to 4 digits.
-    Big(u32),
-    /// `cross STUDY B:E SYMBOL FILE`.
-    Cross(Text<'a>, Crossing<'a>),
-    /// `audit BUNDLE`.
-    Audit(Text<'a>),
-    /// `session STUDY SCRIPT`.
-    Session(Text<'a>, Text<'a>),
+pub enum Task<'a> {
+    /// `run STUDY`: its bundle is written.
+    Run,
+    /// `check STUDY`: its counts are written, and nothing is simulated.
+    Check,
+    /// `table STUDY`: the table that compares its branches is written.
+    Table,
+    /// `rewind STUDY B:E...`: the states at these marks are written, 1 to 64 of them in order. The number is that of the places.
+    Rewind(Sequence<Mark<'a>>, u32),
+    /// `cross STUDY B:E SYMBOL FILE`: what a stock's reopening would come to is written. The number is that of the places.
+    Cross(Crossing<'a>, u32),
+    /// `session STUDY SCRIPT`: the acts of a script are carried out over its tree of branches and their answers written. The
+    /// script's file has this name, which is not empty. The number is that of the places.
+    Session(Text<'a>, u32),
+}
+
+/// A study with what is to be done with it, or a bundle.
+#[derive(Drop)]
+pub enum Request<'a> {
+    /// A task, and the name of the study's file, which is not empty.
+    File(Task<'a>, Text<'a>),
+    /// `big NUMBER`, of 1 to 4 digits: the lines that tell of the run of the large study of this number.
+    Large(u32),
+    /// `audit BUNDLE`: the audit of the bundle whose file has this name, which is not empty.
+    Bundle(Text<'a>),
 }
 
 /// What a command line asks for.
 #[derive(Drop)]
 pub struct Asked<'a> {
-    /// The command.
-    pub command: Command<'a>,
-    /// How many workers: 1 to 64.
+    /// A study with what is to be done with it, or a bundle.
+    pub request: Request<'a>,
+    /// How many workers are to do it: 1 to 64.
     pub workers: u32,
-    /// How many grid places: 0 to 128.
-    pub places: u32,
 }
 
-// A command that takes no further words.
-fn alone<'a>(command: Command<'a>, more: &[&'a str]) -> Option<Command<'a>>
-    ensures { result ≡ alone command.entry (map (λ word. word.now) more.now) }
+// A request that takes no further words.
+fn alone<'a>(request: Request<'a>, more: &[&'a str]) -> Option<Request<'a>>
+    ensures { result ≡ alone request.entry (map (λ word. word.now) more.now) }
 {
-    if more.is_empty() { Some(command) } else { None }
+    if more.is_empty() { Some(request) } else { None }
 }
 
 // A rewind to each of 1 to 64 marks.
@@ -67,90 +73,72 @@ fn rewind<'a>(
     alloc: Global,
     study: &'a str,
     more: &[&'a str],
-) -> Result<Option<Command<'a>>, Memory>
-    ensures { IfOk result (λ command. command ≡ rewind_of study.now (map (λ word. word.now) more.now)) }
+    places: u32,
+) -> Result<Option<Request<'a>>, Memory>
+    ensures { IfOk result (λ request. request ≡ rewind_of study.now (map (λ word. word.now) more.now) places) }
 {
     if more.is_empty() || more.len() > 64 {
         return Ok(None);
     }
-    match read_marks(alloc, more) {
-        Ok(Some(marks)) => Ok(Some(Command::Rewind(Text::new(study), marks))),
-        Ok(None) => Ok(None),
-        Err(Memory) => Err(Memory),
+    match read_marks(alloc, more)? {
+        Some(marks) => Ok(Some(Request::File(Task::Rewind(marks, places), Text::new(study)))),
+        None => Ok(None),
     }
 }
 
 // A large study by its number.
-fn big<'a>(study: &'a str, more: &[&'a str]) -> Option<Command<'a>>
+fn big<'a>(study: &'a str, more: &[&'a str]) -> Option<Request<'a>>
     ensures { result ≡ big_of study.now (map (λ word. word.now) more.now) }
 {
     let number = read_number(4, study)?;
-    alone(Command::Big(number), more)
+    alone(Request::Large(number), more)
 }
 
-// A stock, a state and a file of orders, where the first word is a mark and the last is not empty.
-fn read_crossing<'a>(word: &'a str, symbol: &'a str, file: &'a str) -> Option<Crossing<'a>>
-    ensures { result ≡ crossing_of word.now symbol.now file.now }
+// A cross with a mark, a symbol and the name of a file.
+fn cross<'a>(study: &'a str, more: &[&'a str], places: u32) -> Option<Request<'a>>
+    ensures { result ≡ cross_of study.now (map (λ word. word.now) more.now) places }
 {
-    if file.is_empty() {
+    if more.len() != 3 || more[2].is_empty() {
         return None;
     }
-    Some(Crossing {
-        mark: read_mark(word)?,
-        symbol: Text::new(symbol),
-        file: Text::new(file),
-    })
+    let crossing = Crossing {
+        mark: read_mark(more[0])?,
+        symbol: Text::new(more[1]),
+        file: Text::new(more[2]),
+    };
+    Some(Request::File(Task::Cross(crossing, places), Text::new(study)))
 }
 
-// A cross with its three words.
-fn cross<'a>(study: &'a str, more: &[&'a str]) -> Option<Command<'a>>
-    ensures { result ≡ cross_of study.now (map (λ word. word.now) more.now) }
+// A session with the name of its script.
+fn session<'a>(study: &'a str, more: &[&'a str], places: u32) -> Option<Request<'a>>
+    ensures { result ≡ session_of study.now (map (λ word. word.now) more.now) places }
 {
-    if more.len() != 3 {
+    if more.len() != 1 || more[0].is_empty() {
         return None;
     }
-    let crossing = read_crossing(more[0], more[1], more[2])?;
-    Some(Command::Cross(Text::new(study), crossing))
+    let script = Text::new(more[0]);
+    Some(Request::File(Task::Session(script, places), Text::new(study)))
 }
 
-// A study and a script, whose name is not empty.
-fn scripted<'a>(study: &'a str, script: &'a str) -> Option<Command<'a>>
-    ensures { result ≡ scripted_of study.now script.now }
-{
-    if script.is_empty() {
-        return None;
-    }
-    Some(Command::Session(Text::new(study), Text::new(script)))
-}
-
-// A session with its script.
-fn session<'a>(study: &'a str, more: &[&'a str]) -> Option<Command<'a>>
-    ensures { result ≡ session_of study.now (map (λ word. word.now) more.now) }
-{
-    if more.len() != 1 {
-        return None;
-    }
-    scripted(study, more[0])
-}
-
-// The command of this name.
-fn command_named<'a>(
+// What the command of this name asks for.
+fn request_named<'a>(
     alloc: Global,
     name: &'a str,
     study: &'a str,
     more: &[&'a str],
-) -> Result<Option<Command<'a>>, Memory>
-    ensures { IfOk result (λ command. command ≡ command_of name.now study.now (map (λ word. word.now) more.now)) }
+    places: u32,
+) -> Result<Option<Request<'a>>, Memory>
+    ensures { IfOk result (λ request. request ≡ request_of name.now study.now (map (λ word. word.now) more.now) places) }
 {
     match name {
-        "run" => Ok(alone(Command::Run(Text::new(study)), more)),
-        "table" => Ok(alone(Command::Table(Text::new(study)), more)),
-        "check" => Ok(alone(Command::Check(Text::new(study)), more)),
-        "rewind" => rewind(alloc, study, more),
+        "run" => Ok(alone(Request::File(Task::Run, Text::new(study)), more)),
+        "table" => Ok(alone(Request::File(Task::Table, Text::new(study)), more)),
+        "check" => Ok(alone(Request::File(Task::Check, Text::new(study)), more)),
+        "rewind" => rewind(alloc, study, more, places),
         "big" => Ok(big(study, more)),
-        "cross" => Ok(cross(study, more)),
-        "audit" => Ok(alone(Command::Audit(Text::new(study)), more)),
-        "session" => Ok(session(study, more)),
+        "cross" => Ok(cross(study, more, places)),
+        "audit" => Ok(alone(Request::Bundle(Text::new(study)), more)),
+        "session" => Ok(session(study, more, places)),
         _ => Ok(None),
     }
 }
@@ -168,14 +156,10 @@ fn asked_in<'a>(alloc: Global, line: &Line<'a>) -> Result<Option<Asked<'a>>, Mem
     let Some(places) = read_count(0, 128, line.places) else {
         return Ok(None);
     };
-    match command_named(alloc, line.command, line.study, line.more.as_slice()) {
-        Ok(Some(command)) => Ok(Some(Asked {
-            command,
-            workers,
-            places,
-        })),
-        Ok(None) => Ok(None),
-        Err(Memory) => Err(Memory),
+    let more = line.more.as_slice();
+    match request_named(alloc, line.command, line.study, more, places)? {
+        Some(request) => Ok(Some(Asked { request, workers })),
+        None => Ok(None),
     }
 }
 
@@ -186,9 +170,8 @@ pub fn ask<'a>(alloc: Global, words: &'a [String]) -> Result<Option<Asked<'a>>, 
     ensures asked { IfOk result (λ asked. asked ≡ asked_of (map string_bytes words.entry.now)) }
     ensures in_range { IfOk result (λ asked. IfSome asked IsInRange) }
 {
-    match read_line(alloc, words) {
-        Ok(Some(line)) => asked_in(alloc, &line),
-        Ok(None) => Ok(None),
-        Err(Memory) => Err(Memory),
+    match read_line(alloc, words)? {
+        Some(line) => asked_in(alloc, &line),
+        None => Ok(None),
     }
 }

@@ -9,8 +9,7 @@ mod number;
 mod text;
 pub mod worked;
 
-pub use asked::{Asked, Command, Crossing, ask};
+pub use asked::{Asked, Crossing, Request, Task, ask};
 pub use laws::marks_are_spelled;
 pub use mark::Mark;
-pub use plain_lists::{Memory, Sequence};
 pub use text::Text;

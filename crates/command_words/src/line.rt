@@ -98,15 +98,10 @@ fn line_from<'a>(
 pub fn read_line<'a>(alloc: Global, words: &'a [String]) -> Result<Option<Line<'a>>, Memory>
     ensures { IfOk result (λ line. option_map parts_seen line ≡ line_of (map string_bytes words.entry.now)) }
 {
-    let matches = match matches_in(alloc, words) {
-        Ok(Some(matches)) => matches,
-        Ok(None) => return Ok(None),
-        Err(Memory) => return Err(Memory),
+    let Some(matches) = matches_in(alloc, words)? else {
+        return Ok(None);
     };
-    let more = match values(alloc, &matches, "more") {
-        Ok(more) => more,
-        Err(_) => return Err(Memory),
-    };
+    let more = values(alloc, &matches, "more")?;
     let command = first(&matches, "command");
     let study = first(&matches, "study");
     let workers = first(&matches, "workers");

@@ -3,40 +3,37 @@
 ghost use Rattle.std.specs.Prelude.{◌≡◌, ◌∷◌, [], codes, Some, None};
 ghost use Rattle.command_words.specs.Asked.{asked_of};
 
-use crate::asked::Command;
+use crate::asked::{Request, Task};
 
 /// Lines that are command lines.
 pub fn taken_lines()
     ensures run { asked_of (codes "run" ∷ codes "s" ∷ [])
-        ≡ Some (record { command = Command.Run (codes "s"); workers = 1; places = 16 }) }
+        ≡ Some (record { request = Request.File Task.Run (codes "s"); workers = 1 }) }
     ensures options { asked_of (codes "--workers" ∷ codes "64" ∷ codes "table" ∷ codes "s" ∷ codes "--places=0" ∷ [])
-        ≡ Some (record { command = Command.Table (codes "s"); workers = 64; places = 0 }) }
+        ≡ Some (record { request = Request.File Task.Table (codes "s"); workers = 64 }) }
     ensures escaped { asked_of (codes "check" ∷ codes "--" ∷ codes "--workers" ∷ [])
-        ≡ Some (record { command = Command.Check (codes "--workers"); workers = 1; places = 16 }) }
+        ≡ Some (record { request = Request.File Task.Check (codes "--workers"); workers = 1 }) }
     ensures rewind { asked_of (codes "rewind" ∷ codes "s" ∷ codes "root:0" ∷ codes "--workers" ∷ codes "3" ∷ codes "x-1:0027" ∷ [])
         ≡ Some (record {
-          command = Command.Rewind (codes "s") (record { word = codes "root:0"; branch = codes "root"; event = 0 } ∷ record { word = codes "x-1:0027"; branch = codes "x-1"; event = 27 } ∷ []);
+          request = Request.File (Task.Rewind (record { word = codes "root:0"; branch = codes "root"; event = 0 } ∷ record { word = codes "x-1:0027"; branch = codes "x-1"; event = 27 } ∷ []) 16) (codes "s");
           workers = 3;
-          places = 16;
         }) }
     ensures big { asked_of (codes "big" ∷ codes "0107" ∷ [])
-        ≡ Some (record { command = Command.Big 107; workers = 1; places = 16 }) }
+        ≡ Some (record { request = Request.Large 107; workers = 1 }) }
     ensures cross { asked_of (codes "cross" ∷ codes "s" ∷ codes "x-1:27" ∷ codes "ABM" ∷ codes "--places=2" ∷ codes "orders.csv" ∷ [])
         ≡ Some (record {
-          command = Command.Cross (codes "s") (record { mark = record { word = codes "x-1:27"; branch = codes "x-1"; event = 27 }; symbol = codes "ABM"; file = codes "orders.csv" });
+          request = Request.File (Task.Cross (record { mark = record { word = codes "x-1:27"; branch = codes "x-1"; event = 27 }; symbol = codes "ABM"; file = codes "orders.csv" }) 2) (codes "s");
           workers = 1;
-          places = 2;
         }) }
     ensures no_symbol { asked_of (codes "cross" ∷ codes "s" ∷ codes "root:0" ∷ [] ∷ codes "f" ∷ [])
         ≡ Some (record {
-          command = Command.Cross (codes "s") (record { mark = record { word = codes "root:0"; branch = codes "root"; event = 0 }; symbol = []; file = codes "f" });
+          request = Request.File (Task.Cross (record { mark = record { word = codes "root:0"; branch = codes "root"; event = 0 }; symbol = []; file = codes "f" }) 16) (codes "s");
           workers = 1;
-          places = 16;
         }) }
     ensures audit { asked_of (codes "audit" ∷ codes "--workers=2" ∷ codes "b" ∷ [])
-        ≡ Some (record { command = Command.Audit (codes "b"); workers = 2; places = 16 }) }
+        ≡ Some (record { request = Request.Bundle (codes "b"); workers = 2 }) }
     ensures session { asked_of (codes "session" ∷ codes "s" ∷ codes "--places=0" ∷ codes "c" ∷ [])
-        ≡ Some (record { command = Command.Session (codes "s") (codes "c"); workers = 1; places = 0 }) }
+        ≡ Some (record { request = Request.File (Task.Session (codes "c") 0) (codes "s"); workers = 1 }) }
 {}
 
 /// Lines that are none.

@@ -4,6 +4,8 @@ use Rattle.std.specs.Prelude.{nat_lt, nat_le, ◌==◌, if◌then◌else◌}
 use Rattle.std.proofs.lemmas.Bool.Decides.{nat_tests}
 use Rattle.market_types.specs.declared.order.Enter.{Enter}
 use Rattle.exchange_agent.specs.declared.verdict.Verdict.{Verdict}
+use Rattle.exchange_agent.specs.declared.verdict.Reason.{Reason}
+use Rattle.exchange_agent.specs.declared.verdict.Reason.TheVariants as why
 use Rattle.exchange_agent.specs.declared.verdict.Verdict.TheVariants.{Ignored, Forgotten, Refused, Accepted}
 use Rattle.exchange_agent.specs.Enter.{is_full, is_halted, is_memory_full, is_remembered, price_is_refused, shares_are_refused, terms_are_refused, verdict_at, verdict_found, verdict_of, verdict_there}
 use Rattle.exchange_agent.specs.State.{State, stock_at, stock_number_of}
@@ -28,15 +30,15 @@ pub record IsAcceptable (s : State) (agent : ℕ) (e : Enter) (k : ℕ) : Type 0
 
 there : (s : State) (e : Enter) (j k : ℕ) → verdict_there s e j ≡ Accepted k → (shares_are_refused e ≡ false) × (j ≡ k) × (is_full s ≡ false)
 there s e j k is =
-    let w5 = if is_full s then Refused 79 else Accepted j in
-    let w4 = if price_is_refused (stock_at s j) e then Refused 88 else w5 in
-    let w3 = if shares_are_refused e then Refused 79 else w4 in
-    let w2 = if is_halted (stock_at s j) then Refused 72 else w3 in
-    let first = past (terms_are_refused s.hidden e) (Refused 79) w2 (Accepted k) (λ (q : Refused 79 ≡ Accepted k). cc) is in
-    let second = past (is_halted (stock_at s j)) (Refused 72) w3 (Accepted k) (λ (q : Refused 72 ≡ Accepted k). cc) first.1 in
-    let third = past (shares_are_refused e) (Refused 79) w4 (Accepted k) (λ (q : Refused 79 ≡ Accepted k). cc) second.1 in
-    let fourth = past (price_is_refused (stock_at s j) e) (Refused 88) w5 (Accepted k) (λ (q : Refused 88 ≡ Accepted k). cc) third.1 in
-    let fifth = past (is_full s) (Refused 79) (Accepted j) (Accepted k) (λ (q : Refused 79 ≡ Accepted k). cc) fourth.1 in
+    let w5 = if is_full s then Refused why.Other else Accepted j in
+    let w4 = if price_is_refused (stock_at s j) e then Refused why.Price else w5 in
+    let w3 = if shares_are_refused e then Refused why.Other else w4 in
+    let w2 = if is_halted (stock_at s j) then Refused why.Halted else w3 in
+    let first = past (terms_are_refused s.hidden e) (Refused why.Other) w2 (Accepted k) (λ (q : Refused why.Other ≡ Accepted k). cc) is in
+    let second = past (is_halted (stock_at s j)) (Refused why.Halted) w3 (Accepted k) (λ (q : Refused why.Halted ≡ Accepted k). cc) first.1 in
+    let third = past (shares_are_refused e) (Refused why.Other) w4 (Accepted k) (λ (q : Refused why.Other ≡ Accepted k). cc) second.1 in
+    let fourth = past (price_is_refused (stock_at s j) e) (Refused why.Price) w5 (Accepted k) (λ (q : Refused why.Price ≡ Accepted k). cc) third.1 in
+    let fifth = past (is_full s) (Refused why.Other) (Accepted j) (Accepted k) (λ (q : Refused why.Other ≡ Accepted k). cc) fourth.1 in
     let last : Accepted j ≡ Accepted k = fifth.1 in
     (third.0, cc, fifth.0)
 
@@ -46,8 +48,8 @@ numbered s e (Some j) k is = let h = there s e j k is in let same : j ≡ k = h.
 
 pub acceptable : (s : State) (agent : ℕ) (e : Enter) (k : ℕ) → verdict_of s agent e ≡ Accepted k → IsAcceptable s agent e k
 acceptable s agent e k is =
-    let first = past (is_remembered s agent e) Ignored (if is_memory_full s then Forgotten 79 else verdict_at s e (stock_number_of e.stock s.stocks)) (Accepted k) (λ (q : Ignored ≡ Accepted k). cc) is in
-    let second = past (is_memory_full s) (Forgotten 79) (verdict_at s e (stock_number_of e.stock s.stocks)) (Accepted k) (λ (q : Forgotten 79 ≡ Accepted k). cc) first.1 in
+    let first = past (is_remembered s agent e) Ignored (if is_memory_full s then Forgotten why.Other else verdict_at s e (stock_number_of e.stock s.stocks)) (Accepted k) (λ (q : Ignored ≡ Accepted k). cc) is in
+    let second = past (is_memory_full s) (Forgotten why.Other) (verdict_at s e (stock_number_of e.stock s.stocks)) (Accepted k) (λ (q : Forgotten why.Other ≡ Accepted k). cc) first.1 in
     let third = numbered s e (stock_number_of e.stock s.stocks) k second.1 in
     record { new = first.0; room = room-from (length s.pairs) second.0; few = few-from e.shares third.0; number = third.1; place = third.2 }
 
@@ -71,7 +73,7 @@ late-at s e None = tt
 late-at s e (Some k) = late-there s e k
 
 -- what was found, by whether so many pairs are remembered as may be and by whether this one is
-early-by : (full remembered : Bool) (x v : Verdict) → IsLate x → (IsLate v → ⊥) → (if full then (if remembered then Ignored else Forgotten 79) else x) ≡ v → (if remembered then Ignored else (if full then Forgotten 79 else x)) ≡ v
+early-by : (full remembered : Bool) (x v : Verdict) → IsLate x → (IsLate v → ⊥) → (if full then (if remembered then Ignored else Forgotten why.Other) else x) ≡ v → (if remembered then Ignored else (if full then Forgotten why.Other else x)) ≡ v
 early-by true true x v late early e = e
 early-by true false x v late early e = e
 early-by false remembered x v late early e = absurd (early (subst (λ (w : Verdict). IsLate w) e late))
@@ -84,10 +86,10 @@ early s agent e v not-late is =
 pub ignored-is : (s : State) (agent : ℕ) (e : Enter) → verdict_found s agent e ≡ Ignored → verdict_of s agent e ≡ Ignored
 ignored-is s agent e is = early s agent e Ignored (λ (l : IsLate Ignored). l) is
 
-pub forgotten-is : (s : State) (agent : ℕ) (e : Enter) (reason : ℕ) → verdict_found s agent e ≡ Forgotten reason → verdict_of s agent e ≡ Forgotten reason
+pub forgotten-is : (s : State) (agent : ℕ) (e : Enter) (reason : Reason) → verdict_found s agent e ≡ Forgotten reason → verdict_of s agent e ≡ Forgotten reason
 forgotten-is s agent e reason is = early s agent e (Forgotten reason) (λ (l : IsLate (Forgotten reason)). l) is
 
-late-by : (full remembered : Bool) (x v : Verdict) → IsLate v → (if full then (if remembered then Ignored else Forgotten 79) else x) ≡ v → (full ≡ false) × (x ≡ v)
+late-by : (full remembered : Bool) (x v : Verdict) → IsLate v → (if full then (if remembered then Ignored else Forgotten why.Other) else x) ≡ v → (full ≡ false) × (x ≡ v)
 late-by true true x v late e = absurd (subst (λ (w : Verdict). IsLate w) (sym e) late)
 late-by true false x v late e = absurd (subst (λ (w : Verdict). IsLate w) (sym e) late)
 late-by false remembered x v late e = (refl, e)
@@ -106,10 +108,10 @@ late s agent e v is-late is =
       room = room-from (length s.pairs) there.0;
       at = there.1;
       is = ap (λ (w : Verdict). if is_remembered s agent e then Ignored else w) (sym there.1)
-          ∙ ap (λ (b : Bool). if is_remembered s agent e then Ignored else (if b then Forgotten 79 else verdict_at s e (stock_number_of e.stock s.stocks))) (sym there.0);
+          ∙ ap (λ (b : Bool). if is_remembered s agent e then Ignored else (if b then Forgotten why.Other else verdict_at s e (stock_number_of e.stock s.stocks))) (sym there.0);
     }
 
-pub refused-is : (s : State) (agent : ℕ) (e : Enter) (reason : ℕ) → verdict_found s agent e ≡ Refused reason → IsFound s agent e (Refused reason)
+pub refused-is : (s : State) (agent : ℕ) (e : Enter) (reason : Reason) → verdict_found s agent e ≡ Refused reason → IsFound s agent e (Refused reason)
 refused-is s agent e reason is = late s agent e (Refused reason) tt is
 
 pub accepted-is : (s : State) (agent : ℕ) (e : Enter) (k : ℕ) → verdict_found s agent e ≡ Accepted k → IsFound s agent e (Accepted k)

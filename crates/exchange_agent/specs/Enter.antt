@@ -11,6 +11,8 @@ use Rattle.price_time_book.specs.declared.resting.Resting.{Resting}
 use Rattle.price_time_book.specs.Matched.{matched}
 use Rattle.exchange_agent.specs.declared.verdict.Verdict.{Verdict}
 use Rattle.exchange_agent.specs.declared.verdict.Verdict.TheVariants as verdict
+use Rattle.exchange_agent.specs.declared.verdict.Reason.{Reason}
+use Rattle.exchange_agent.specs.declared.verdict.Reason.TheVariants as why
 use Rattle.exchange_agent.specs.Pairs.{has_pair, pair_of, with_pair}
 use Rattle.exchange_agent.specs.declared.settle.Taking.{Taking}
 use Rattle.exchange_agent.specs.Settle.{Way, all_settled}
@@ -58,31 +60,38 @@ price_is_refused k e = (e.price == 0) || nat_lt 1999999900 e.price || not (is_al
 abbrev pub is_full : State → Bool
 is_full s = nat_le 16384 (resting_over s.stocks)
 
--- lines 4 to 9, at the stock of a number; 'O' is 79, 'H' 72, 'X' 88
+-- the letter of a reason: 'S', 'H', 'X' or 'O'
+abbrev pub reason_letter : Reason → ℕ
+reason_letter why.UnknownStock = 83
+reason_letter why.Halted = 72
+reason_letter why.Price = 88
+reason_letter why.Other = 79
+
+-- lines 4 to 9, at the stock of a number
 abbrev pub verdict_there : State → Enter → ℕ → Verdict
 verdict_there s e k =
-    if terms_are_refused s.hidden e then verdict.Refused 79
-    else (if is_halted (stock_at s k) then verdict.Refused 72
-    else (if shares_are_refused e then verdict.Refused 79
-    else (if price_is_refused (stock_at s k) e then verdict.Refused 88
-    else (if is_full s then verdict.Refused 79
+    if terms_are_refused s.hidden e then verdict.Refused why.Other
+    else (if is_halted (stock_at s k) then verdict.Refused why.Halted
+    else (if shares_are_refused e then verdict.Refused why.Other
+    else (if price_is_refused (stock_at s k) e then verdict.Refused why.Price
+    else (if is_full s then verdict.Refused why.Other
     else verdict.Accepted k))))
 
--- line 3: the symbol is no stock; 'S' is 83
+-- line 3: the symbol is no stock
 abbrev pub verdict_at : State → Enter → Option ℕ → Verdict
-verdict_at s e None = verdict.Refused 83
+verdict_at s e None = verdict.Refused why.UnknownStock
 verdict_at s e (Some k) = verdict_there s e k
 
 -- the first of the nine lines that applies
 abbrev pub verdict_of : State → ℕ → Enter → Verdict
 verdict_of s agent e =
     if is_remembered s agent e then verdict.Ignored
-    else (if is_memory_full s then verdict.Forgotten 79
+    else (if is_memory_full s then verdict.Forgotten why.Other
     else verdict_at s e (stock_number_of e.stock s.stocks))
 
 -- line 1 or 2, where 131,072 pairs are remembered
 abbrev pub verdict_when_full : State → ℕ → Enter → Verdict
-verdict_when_full s agent e = if is_remembered s agent e then verdict.Ignored else verdict.Forgotten 79
+verdict_when_full s agent e = if is_remembered s agent e then verdict.Ignored else verdict.Forgotten why.Other
 
 -- the line that answers where the first is not asked while there is room for a pair
 abbrev pub verdict_found : State → ℕ → Enter → Verdict
@@ -94,8 +103,8 @@ verdict_found s agent e =
 abbrev pub remembering : State → ℕ → Enter → State
 remembering s agent e = record s { pairs = with_pair (pair_of agent e.token) s.pairs }
 
-abbrev pub rejection_of : ℕ → Enter → ℕ → Reply
-rejection_of time e reason = Rejected time e.token reason
+abbrev pub rejection_of : ℕ → Enter → Reason → Reply
+rejection_of time e reason = Rejected time e.token (reason_letter reason)
 
 -- the reply Accepted with the entered shares and the order's reference; the order's state is 'L' and the BBO weight a space
 abbrev pub acceptance_of : ℕ → Enter → ℕ → Reply

@@ -4,15 +4,22 @@ use Rattle.exchange_agent.specs.declared.listing.Listing.{Listing}
 use Rattle.exchange_agent.specs.declared.pair.Pair.{Pair}
 use Rattle.exchange_agent.specs.declared.told.Counts.{Counts}
 use Rattle.exchange_agent.specs.declared.handled.Handled.{Handled}
+use Rattle.exchange_agent.specs.declared.trading.Trading.{Trading}
+use Rattle.exchange_agent.specs.declared.trading.Trading.TheVariants.{Open, Halted}
 use Rattle.exchange_agent.specs.Settle.{Way}
-use Rattle.exchange_agent.specs.State.{State, Stock}
+use Rattle.exchange_agent.specs.State.{State, Stock, trades, stands_still}
+
+-- the letter of a trading state
+abbrev pub trading_letter : Trading → ℕ
+trading_letter Open = trades
+trading_letter Halted = stands_still
 
 abbrev pub stock_of : Listing → Stock
 stock_of k = record {
   symbol = k.symbol;
   bands = k.ticks;
   fees = k.fees;
-  trading = k.trading;
+  trading = trading_letter k.trading;
   book = k.book.list;
   tally = record { last = k.last; matched = k.matched; taken = k.taken; positions = k.positions.items };
 }

@@ -2,8 +2,10 @@
 
 ghost use Rattle.std.specs.Prelude.{◌≡◌, ◌<◌, ◌++◌, OnOk, OnErr, All, length};
 ghost use Rattle.exchange_agent.specs.Changes.{changed_by, turned};
+ghost use Rattle.exchange_agent.specs.View.{trading_letter};
 
 use crate::exchange::Exchange;
+use crate::trading::Trading;
 use market_rules::Change;
 use market_types::{Feed, FeedList, Memory, StockNo, Time, What};
 
@@ -13,17 +15,17 @@ impl Exchange {
         &mut self,
         time: Time,
         stock: StockNo,
-        letter: u8,
+        trading: Trading,
         feed: &mut FeedList,
     ) -> Result<(), Memory>
         requires { stock < length self.old.stocks }
-        ensures state { OnOk result (self.new ≡ (turned self.old time stock letter).state) }
-        ensures feed { OnOk result (feed.new.list ≡ feed.old.list ++ (turned self.old time stock letter).feed) }
+        ensures state { OnOk result (self.new ≡ (turned self.old time stock (trading_letter trading)).state) }
+        ensures feed { OnOk result (feed.new.list ≡ feed.old.list ++ (turned self.old time stock (trading_letter trading)).feed) }
         ensures exchange_refused { OnErr result (self.new ≡ self.old) }
         ensures feed_refused { OnErr result (feed.new ≡ feed.old) }
     {
         let listing = &mut self.stocks[usize::from(stock)];
-        if listing.trading == letter {
+        if listing.trading == trading {
             return Ok(());
         }
         feed.push(Feed {
@@ -32,12 +34,12 @@ impl Exchange {
             time,
             what: What::Trading {
                 stock: listing.symbol,
-                state: letter,
+                state: trading.letter(),
                 reserved: b' ',
                 reason: [b' '; 4],
             },
         })?;
-        listing.trading = letter;
+        listing.trading = trading;
         Ok(())
     }
 
@@ -70,8 +72,8 @@ impl Exchange {
                 self.stocks[usize::from(stock)].fees = *fees;
                 Ok(())
             }
-            Change::Halt => self.turn(time, stock, b'H', feed),
-            Change::Resume => self.turn(time, stock, b'T', feed),
+            Change::Halt => self.turn(time, stock, Trading::Halted, feed),
+            Change::Resume => self.turn(time, stock, Trading::Open, feed),
         }
     }
 }

@@ -16,7 +16,7 @@ use crate::pair::Pair;
 use crate::remembered::Remembered;
 use crate::settle::Taking;
 use crate::told::Counts;
-use crate::verdict::Verdict;
+use crate::verdict::{Reason, Verdict};
 use market_types::{AgentNo, Body, Enter, Memory, Money, Reply, Symbol, Time};
 use price_time_book::bytes::is_same;
 use price_time_book::keeping::changes_keep;
@@ -85,6 +85,17 @@ fn resting(stocks: &[Listing]) -> usize
     count
 }
 
+// The reply Rejected.
+fn rejection(time: Time, e: &Enter, reason: Reason) -> Reply
+    ensures { result ≡ rejection_of time e.now reason }
+{
+    Reply::Rejected {
+        time,
+        token: e.token,
+        reason: reason.letter(),
+    }
+}
+
 // The reply Accepted.
 fn acceptance(time: Time, e: &Enter, reference: u64) -> Reply
     ensures { result ≡ acceptance_of time e.now reference }
@@ -119,7 +130,7 @@ impl Exchange {
         }
         match stock_number(self.stocks.as_slice(), &e.stock) {
             Some(stock) => self.verdict_there(e, stock),
-            None => Verdict::Refused(b'S'),
+            None => Verdict::Refused(Reason::UnknownStock),
         }
     }
 
@@ -134,7 +145,7 @@ impl Exchange {
         if self.pairs.contains(&pair) {
             return Verdict::Ignored;
         }
-        Verdict::Forgotten(b'O')
+        Verdict::Forgotten(Reason::Other)
     }
 
     // Which of the lines from the fourth on answers it, at the stock of this number.
@@ -144,19 +155,19 @@ impl Exchange {
     {
         let listing = &self.stocks[stock];
         if has_strange_terms(self.hidden, e) {
-            return Verdict::Refused(b'O');
+            return Verdict::Refused(Reason::Other);
         }
-        if listing.trading != b'T' {
-            return Verdict::Refused(b'H');
+        if listing.trading.is_halted() {
+            return Verdict::Refused(Reason::Halted);
         }
         if has_strange_size(e) {
-            return Verdict::Refused(b'O');
+            return Verdict::Refused(Reason::Other);
         }
         if has_strange_price(listing, e) {
-            return Verdict::Refused(b'X');
+            return Verdict::Refused(Reason::Price);
         }
         if resting(self.stocks.as_slice()) >= MOST_RESTING {
-            return Verdict::Refused(b'O');
+            return Verdict::Refused(Reason::Other);
         }
         Verdict::Accepted(stock)
     }
@@ -182,7 +193,7 @@ impl Exchange {
         time: Time,
         from: AgentNo,
         e: &Enter,
-        reason: u8,
+        reason: Reason,
         out: &mut Handled,
     ) -> Result<(), Memory>
         requires room { length self.old.pairs < 131072 }
@@ -204,34 +215,26 @@ impl Exchange {
             self.ignore_enter();
             return Ok(());
         }
-        out.reply(
-            from,
-            Body::Answer(Reply::Rejected {
-                time,
-                token: e.token,
-                reason,
-            }),
-        );
+        out.reply(from, Body::Answer(rejection(time, e, reason)));
         Ok(())
     }
 }
 
 // An Enter is rejected, and the pair is not remembered.
-fn forget(time: Time, from: AgentNo, e: &Enter, reason: u8, out: &mut Handled) -> Result<(), Memory>
+fn forget(
+    time: Time,
+    from: AgentNo,
+    e: &Enter,
+    reason: Reason,
+    out: &mut Handled,
+) -> Result<(), Memory>
     ensures replies { OnOk result (out.new.replies.list ≡ out.old.replies.list ++ record { to = from; body = Body.Answer (rejection_of time e.now reason) } ∷ []) }
     ensures feed { out.new.feed.list ≡ out.old.feed.list }
     ensures fee { out.new.fee ≡ out.old.fee }
     ensures replies_refused { OnErr result (out.new.replies.list ≡ out.old.replies.list) }
 {
     out.reserve(1, 0)?;
-    out.reply(
-        from,
-        Body::Answer(Reply::Rejected {
-            time,
-            token: e.token,
-            reason,
-        }),
-    );
+    out.reply(from, Body::Answer(rejection(time, e, reason)));
     Ok(())
 }
 
@@ -275,7 +278,7 @@ fn admit(
     ensures fee_refused { OnErr result (out.new.fee ≡ out.old.fee) }
 {
     changes_keep();
-    let most = listing.book.most_fills(e.side, e.price);
+    let most = listing.book.most_fills(taking.side, e.price, e.shares);
     out.reserve(2 * most + 2, most + 1)?;
     listing.book.reserve(1)?;
     let pair = Pair {

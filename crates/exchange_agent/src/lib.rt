@@ -19,6 +19,7 @@ mod remembered;
 mod settle;
 mod tokens;
 mod told;
+mod trading;
 mod verdict;
 pub mod worked;
 

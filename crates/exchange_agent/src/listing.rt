@@ -7,6 +7,7 @@ ghost use Rattle.exchange_agent.specs.Open.{listed, told_of};
 ghost use Rattle.exchange_agent.specs.View.{stock_of};
 
 use crate::told::{StockRules, StockTold};
+use crate::trading::Trading;
 use market_rules::{FeeTable, TickTable};
 use market_types::{Memory, Quote, Side, StockNo, Symbol};
 use price_time_book::{Best, Book, Resting};
@@ -18,7 +19,7 @@ pub struct Listing {
     pub symbol: Symbol,
     pub ticks: TickTable,
     pub fees: FeeTable,
-    pub trading: u8,
+    pub trading: Trading,
     pub book: Book,
     pub last: u32,
     pub matched: u64,
@@ -50,7 +51,7 @@ impl Listing {
             symbol: rules.symbol,
             ticks,
             fees: rules.fees,
-            trading: b'T',
+            trading: Trading::Open,
             book: Book::new(alloc),
             last: 0,
             matched: 0,
@@ -88,7 +89,7 @@ impl Listing {
         let ask = best_or_none(self.book.best(Side::Sell));
         Quote {
             stock: number,
-            state: self.trading,
+            state: self.trading.letter(),
             bid: bid.price,
             bid_shares: bid.shares,
             ask: ask.price,
@@ -103,7 +104,7 @@ impl Listing {
         ensures { result ≡ told_of (stock_of self.now) }
     {
         StockTold {
-            state: self.trading,
+            state: self.trading.letter(),
             last: self.last,
             matched: self.matched,
             fees: self.taken,

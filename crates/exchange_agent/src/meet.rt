@@ -4,7 +4,7 @@ ghost use Rattle.std.specs.Prelude.{◌≡◌, ◌<◌, ◌≤◌, ◌+◌, ◌*
 ghost use Rattle.price_time_book.specs.declared.resting.Resting.{Resting};
 ghost use Rattle.price_time_book.specs.Matched.{after_fill, fill_of, matched};
 ghost use Rattle.price_time_book.specs.Kept.{IsKeptByFills};
-ghost use Rattle.price_time_book.specs.Next.{crossing_of, next_of};
+ghost use Rattle.price_time_book.specs.Next.{next_of};
 ghost use Rattle.price_time_book.specs.Orders.{order_of};
 ghost use Rattle.exchange_agent.specs.Enter.{added_feed, remainder, resting_of, way_of};
 ghost use Rattle.exchange_agent.specs.Settle.{all_settled, settled, Way};
@@ -15,7 +15,7 @@ use crate::handled::Handled;
 use crate::listing::Listing;
 use crate::settle::Taking;
 use market_types::{Body, Enter, Feed, Money, Reply, Side, What};
-use price_time_book::keeping::{a_fill_keeps, a_match_keeps, fills_add_up, matching_goes_on};
+use price_time_book::keeping::{a_fill_keeps, a_match_keeps, matching_goes_on};
 use price_time_book::laws::{matching_ends, next_is_best};
 use price_time_book::{Fill, Resting};
 
@@ -157,8 +157,8 @@ impl Listing {
         requires traders { length self.old.positions.items ≡ length cash.old.items }
         requires small { IsSmall 131072 0 (way_at self.old cash.old.items matches.old out.old) }
         requires book_room { 0 < self.old.book.spare }
-        requires room { 2 * crossing_of e.now.side e.now.price self.old.book.list + 1 ≤ out.old.replies.spare }
-        requires feed_room { crossing_of e.now.side e.now.price self.old.book.list + 1 ≤ out.old.feed.spare }
+        requires room { 2 * length (matched self.old.book.list taking.now.side e.now.price e.now.shares).fills + 1 ≤ out.old.replies.spare }
+        requires feed_room { length (matched self.old.book.list taking.now.side e.now.price e.now.shares).fills + 1 ≤ out.old.feed.spare }
         ensures way { way_at self.new cash.new.items matches.new out.new ≡ way_of taking.now e.now reference (way_at self.old cash.old.items matches.old out.old) }
         ensures small { (orders : ℕ) → IsSmall orders 0 (way_at self.old cash.old.items matches.old out.old) → IsSmall orders e.now.shares (way_at self.new cash.new.items matches.new out.new) }
         ensures same { length cash.new.items ≡ length cash.old.items }
@@ -166,7 +166,6 @@ impl Listing {
         ensures few { length self.new.book.list ≤ length self.old.book.list + 1 }
         ensures tested { (p : Resting → Bool) → IsKeptByFills p → ((left : ℕ) → p (resting_of reference taking.now.agent e.now left) ≡ true) → All (λ o. p o ≡ true) self.old.book.list → All (λ o. p o ≡ true) self.new.book.list }
     {
-        fills_add_up();
         a_match_keeps();
         let left = self.cross(taking, e.price, e.shares, cash, matches, out);
         self.leave(taking, e, reference, left, out);

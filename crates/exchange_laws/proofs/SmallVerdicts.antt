@@ -6,6 +6,7 @@ use Rattle.market_rules.specs.Ticks.{is_allowed}
 use Rattle.market_types.specs.Limits.{highest_price}
 use Rattle.market_types.specs.declared.order.Enter.{Enter}
 use Rattle.exchange_agent.specs.declared.verdict.Verdict.{Verdict}
+use Rattle.exchange_agent.specs.declared.verdict.Reason.TheVariants as why
 use Rattle.exchange_agent.specs.declared.verdict.Verdict.TheVariants.{Ignored, Forgotten, Refused, Accepted}
 use Rattle.exchange_agent.specs.Enter.{is_full, is_halted, is_memory_full, is_remembered, price_is_refused, shares_are_refused, terms_are_refused, verdict_at, verdict_of, verdict_there}
 use Rattle.exchange_agent.specs.State.{State, resting_over, stock_at, stock_number_of}
@@ -40,15 +41,15 @@ pub record IsAcceptable (s : State) (e : Enter) (k : ℕ) : Type 0 where
 
 there : (s : State) (e : Enter) (j k : ℕ) → verdict_there s e j ≡ Accepted k → (shares_are_refused e ≡ false) × (price_is_refused (stock_at s j) e ≡ false) × (j ≡ k) × (is_full s ≡ false)
 there s e j k is =
-    let w5 = if is_full s then Refused 79 else Accepted j in
-    let w4 = if price_is_refused (stock_at s j) e then Refused 88 else w5 in
-    let w3 = if shares_are_refused e then Refused 79 else w4 in
-    let w2 = if is_halted (stock_at s j) then Refused 72 else w3 in
-    let first = past (terms_are_refused s.hidden e) (Refused 79) w2 (Accepted k) (λ (q : Refused 79 ≡ Accepted k). cc) is in
-    let second = past (is_halted (stock_at s j)) (Refused 72) w3 (Accepted k) (λ (q : Refused 72 ≡ Accepted k). cc) first.1 in
-    let third = past (shares_are_refused e) (Refused 79) w4 (Accepted k) (λ (q : Refused 79 ≡ Accepted k). cc) second.1 in
-    let fourth = past (price_is_refused (stock_at s j) e) (Refused 88) w5 (Accepted k) (λ (q : Refused 88 ≡ Accepted k). cc) third.1 in
-    let fifth = past (is_full s) (Refused 79) (Accepted j) (Accepted k) (λ (q : Refused 79 ≡ Accepted k). cc) fourth.1 in
+    let w5 = if is_full s then Refused why.Other else Accepted j in
+    let w4 = if price_is_refused (stock_at s j) e then Refused why.Price else w5 in
+    let w3 = if shares_are_refused e then Refused why.Other else w4 in
+    let w2 = if is_halted (stock_at s j) then Refused why.Halted else w3 in
+    let first = past (terms_are_refused s.hidden e) (Refused why.Other) w2 (Accepted k) (λ (q : Refused why.Other ≡ Accepted k). cc) is in
+    let second = past (is_halted (stock_at s j)) (Refused why.Halted) w3 (Accepted k) (λ (q : Refused why.Halted ≡ Accepted k). cc) first.1 in
+    let third = past (shares_are_refused e) (Refused why.Other) w4 (Accepted k) (λ (q : Refused why.Other ≡ Accepted k). cc) second.1 in
+    let fourth = past (price_is_refused (stock_at s j) e) (Refused why.Price) w5 (Accepted k) (λ (q : Refused why.Price ≡ Accepted k). cc) third.1 in
+    let fifth = past (is_full s) (Refused why.Other) (Accepted j) (Accepted k) (λ (q : Refused why.Other ≡ Accepted k). cc) fourth.1 in
     let last : Accepted j ≡ Accepted k = fifth.1 in
     (third.0, fourth.0, cc, fifth.0)
 
@@ -66,6 +67,6 @@ numbered s e (Some j) k is number =
 
 pub acceptable : (s : State) (agent : ℕ) (e : Enter) (k : ℕ) → verdict_of s agent e ≡ Accepted k → IsAcceptable s e k
 acceptable s agent e k is =
-    let first = past (is_remembered s agent e) Ignored (if is_memory_full s then Forgotten 79 else verdict_at s e (stock_number_of e.stock s.stocks)) (Accepted k) (λ (q : Ignored ≡ Accepted k). cc) is in
-    let second = past (is_memory_full s) (Forgotten 79) (verdict_at s e (stock_number_of e.stock s.stocks)) (Accepted k) (λ (q : Forgotten 79 ≡ Accepted k). cc) first.1 in
+    let first = past (is_remembered s agent e) Ignored (if is_memory_full s then Forgotten why.Other else verdict_at s e (stock_number_of e.stock s.stocks)) (Accepted k) (λ (q : Ignored ≡ Accepted k). cc) is in
+    let second = past (is_memory_full s) (Forgotten why.Other) (verdict_at s e (stock_number_of e.stock s.stocks)) (Accepted k) (λ (q : Forgotten why.Other ≡ Accepted k). cc) first.1 in
     numbered s e (stock_number_of e.stock s.stocks) k second.1 refl

@@ -8,11 +8,11 @@ ghost use Rattle.market_types.specs.declared.feed.What.TheVariants as what;
 ghost use Rattle.itch_codec.specs.Messages.{feed_wire, what_wire};
 
 use crate::layouts::{
-    ADD_TYPE, CANCEL_TYPE, CROSS, CROSS_TYPE, DELETE_TYPE, DIRECTORY, DIRECTORY_TYPE,
-    EXECUTED_TYPE, SYSTEM, SYSTEM_TYPE, TRADE_TYPE, TRADING, TRADING_TYPE,
+    ADD_TYPE, CANCEL_TYPE, CROSS_TYPE, DELETE_TYPE, DIRECTORY_TYPE, EXECUTED_TYPE, SYSTEM_TYPE,
+    TRADE_TYPE, TRADING_TYPE,
 };
 use market_types::{Feed, Side, Symbol, What};
-use wire_fields::{MessageBytes, Value, side_letter};
+use wire_fields::{MessageBytes, side_letter};
 
 /// The bytes of a feed message, at most 44, seen as their list.
 pub type FeedBytes = MessageBytes<44>;
@@ -24,71 +24,15 @@ pub fn encode_feed(m: &Feed) -> FeedBytes
     ensures spelled { IsInRange (feed_wire m.now) → IsSpelled result (feed_wire m.now) }
     ensures size { length result ≤ 44 }
 {
-    let locate = Value::Number(u64::from(m.locate));
-    let tracking = Value::Number(u64::from(m.tracking));
-    let time = Value::Number(m.time);
     match m.what {
-        What::System { code } => FeedBytes::of(
-            SYSTEM_TYPE,
-            &SYSTEM,
-            &[locate, tracking, time, Value::Byte(code)],
-        ),
-        What::Directory {
-            stock,
-            category,
-            financial,
-            lot,
-            lots_only,
-            class,
-            sub_type,
-            authenticity,
-            short_sale,
-            ipo,
-            tier,
-            etp,
-            leverage,
-            inverse,
-        } => FeedBytes::of(
-            DIRECTORY_TYPE,
-            &DIRECTORY,
-            &[
-                locate,
-                tracking,
-                time,
-                Value::Symbol(stock),
-                Value::Byte(category),
-                Value::Byte(financial),
-                Value::Number(u64::from(lot)),
-                Value::Byte(lots_only),
-                Value::Byte(class),
-                Value::Two(sub_type),
-                Value::Byte(authenticity),
-                Value::Byte(short_sale),
-                Value::Byte(ipo),
-                Value::Byte(tier),
-                Value::Byte(etp),
-                Value::Number(u64::from(leverage)),
-                Value::Byte(inverse),
-            ],
-        ),
+        What::System { code } => system(m, code),
+        What::Directory { .. } => directory(m),
         What::Trading {
             stock,
             state,
             reserved,
             reason,
-        } => FeedBytes::of(
-            TRADING_TYPE,
-            &TRADING,
-            &[
-                locate,
-                tracking,
-                time,
-                Value::Symbol(stock),
-                Value::Byte(state),
-                Value::Byte(reserved),
-                Value::Four(reason),
-            ],
-        ),
+        } => trading(m, stock, state, reserved, reason),
         What::Add {
             reference,
             side,
@@ -117,20 +61,7 @@ pub fn encode_feed(m: &Feed) -> FeedBytes
             price,
             number,
             kind,
-        } => FeedBytes::of(
-            CROSS_TYPE,
-            &CROSS,
-            &[
-                locate,
-                tracking,
-                time,
-                Value::Number(shares),
-                Value::Symbol(stock),
-                Value::Number(u64::from(price)),
-                Value::Number(number),
-                Value::Byte(kind),
-            ],
-        ),
+        } => cross(m, shares, stock, price, number, kind),
     }
 }
 
@@ -144,6 +75,72 @@ fn started(letter: u8, m: &Feed) -> FeedBytes
     bytes.push(&m.locate.to_be_bytes());
     bytes.push(&m.tracking.to_be_bytes());
     bytes.push(&[a, b, c, d, e, f]);
+    bytes
+}
+
+// A System Event.
+fn system(m: &Feed, code: u8) -> FeedBytes
+    ensures spelling { result ≡ spelling (what_wire (number m.now.locate) (number m.now.tracking) (number m.now.time) (what.System code)) }
+    ensures size { length result ≤ 44 }
+{
+    let mut bytes = started(SYSTEM_TYPE, m);
+    bytes.push(&[code]);
+    bytes
+}
+
+// A Stock Directory.
+fn directory(m: &Feed) -> FeedBytes
+    requires { (feed_wire m.now).letter ≡ DIRECTORY_TYPE }
+    ensures spelling { result ≡ spelling (feed_wire m.now) }
+    ensures size { length result ≤ 44 }
+{
+    let What::Directory {
+        stock,
+        category,
+        financial,
+        lot,
+        lots_only,
+        class,
+        sub_type,
+        authenticity,
+        short_sale,
+        ipo,
+        tier,
+        etp,
+        leverage,
+        inverse,
+    } = m.what
+    else {
+        unreachable!()
+    };
+    let mut bytes = started(DIRECTORY_TYPE, m);
+    bytes.push(&stock.0);
+    bytes.push(&[category]);
+    bytes.push(&[financial]);
+    bytes.push(&lot.to_be_bytes());
+    bytes.push(&[lots_only]);
+    bytes.push(&[class]);
+    bytes.push(&sub_type);
+    bytes.push(&[authenticity]);
+    bytes.push(&[short_sale]);
+    bytes.push(&[ipo]);
+    bytes.push(&[tier]);
+    bytes.push(&[etp]);
+    bytes.push(&leverage.to_be_bytes());
+    bytes.push(&[inverse]);
+    bytes
+}
+
+// A Stock Trading Action.
+fn trading(m: &Feed, stock: Symbol, state: u8, reserved: u8, reason: [u8; 4]) -> FeedBytes
+    ensures spelling { result ≡ spelling (what_wire (number m.now.locate) (number m.now.tracking) (number m.now.time) (what.Trading stock state reserved reason)) }
+    ensures size { length result ≤ 44 }
+{
+    let mut bytes = started(TRADING_TYPE, m);
+    bytes.push(&stock.0);
+    bytes.push(&[state]);
+    bytes.push(&[reserved]);
+    bytes.push(&reason);
     bytes
 }
 
@@ -214,5 +211,19 @@ fn trade(
     bytes.push(&stock.0);
     bytes.push(&price.to_be_bytes());
     bytes.push(&match_number.to_be_bytes());
+    bytes
+}
+
+// A Cross Trade.
+fn cross(m: &Feed, shares: u64, stock: Symbol, price: u32, match_number: u64, kind: u8) -> FeedBytes
+    ensures spelling { result ≡ spelling (what_wire (number m.now.locate) (number m.now.tracking) (number m.now.time) (what.Cross shares stock price match_number kind)) }
+    ensures size { length result ≤ 44 }
+{
+    let mut bytes = started(CROSS_TYPE, m);
+    bytes.push(&shares.to_be_bytes());
+    bytes.push(&stock.0);
+    bytes.push(&price.to_be_bytes());
+    bytes.push(&match_number.to_be_bytes());
+    bytes.push(&[kind]);
     bytes
 }

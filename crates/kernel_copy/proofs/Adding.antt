@@ -1,6 +1,6 @@
 -- The segments of a course, one more at a time.
-use Rattle.std.proofs.Common.{◌≡◌, ℕ, ◌+◌, ◌*◌, ◌^◌, ◌<◌, ◌≤◌, List, [], ◌∷◌, ◌++◌, sum_by, length, take, drop, map, Option, refl, sym, ap, ◌∙◌, arith, suc, zero, add-one}
-use Rattle.std.proofs.lemmas.List.{take_more, take_all, take-append-drop, map-append}
+use Rattle.std.proofs.Common.{◌≡◌, ℕ, ◌+◌, ◌*◌, ◌^◌, ◌<◌, ◌≤◌, List, [], ◌∷◌, sum_by, length, take, sym, ap, ◌∙◌, arith, suc, zero, add-one}
+use Rattle.std.proofs.lemmas.List.{take_more, take_all}
 use Rattle.std.proofs.lemmas.List.Sums.{sum_by-append}
 use Rattle.bundle_frames.specs.declared.closing.Closing.{Closing}
 use Rattle.branch_tree.specs.declared.segment.Segment.{Segment}
@@ -10,12 +10,12 @@ use Rattle.market_floor.specs.declared.opening.Opening.{Opening}
 use Rattle.kernel_core.specs.State.{State}
 use Rattle.kernel_core.specs.Until.{Run}
 use Rattle.kernel_copy.specs.Segmentwise.{segment_end, segment_run, own_count, own_before, distinct}
-use Rattle.kernel_copy.specs.Courses.{CourseTold, IsCourse, CheckpointTold, kept_of, kept_before}
+use Rattle.kernel_copy.specs.Courses.{CourseTold, IsCourse}
 use Rattle.kernel_copy.specs.Closing.{closing_at}
 use Rattle.kernel_copy.specs.declared.kept.Keep.{Keep}
 use Rattle.kernel_copy.specs.Kept.{KeptTold}
 use Rattle.kernel_copy.specs.Ran.{RanTold, ran_as}
-use Rattle.kernel_copy.specs.Outcomes.{OutcomeTold, outcome_of, outcomes_before}
+use Rattle.kernel_copy.specs.Outcomes.{OutcomeTold, outcome_of}
 use Rattle.kernel_copy.proofs.Trees.{course-tree}
 use Rattle.kernel_copy.proofs.Walks.{segment-copy, segment-within}
 
@@ -27,42 +27,14 @@ own-more o p n l =
     ap (λ (ys : List Segment). sum_by own ys) (take_more xs n no_segment l)
     ∙ omega (arith, sum_by-append own (take n xs) (segment_at p n ∷ []))
 
-pub own-part : (o : Opening) (p : Plan) (n : ℕ) → own_before o p n ≤ distinct o p
-own-part o p n =
-    let own : Segment → ℕ = λ g. own_count o p g in
-    let xs = segments_in p in
-    let whole : distinct o p ≡ sum_by own (take n xs ++ drop n xs) = ap (λ (ys : List Segment). sum_by own ys) (sym (take-append-drop n xs)) in
-    omega (arith, sum_by-append own (take n xs) (drop n xs))
-
--- the events of the segments up to this one are among all
-pub own-most : (o : Opening) (p : Plan) (n : ℕ) → n < length (segments_in p) → own_before o p n + own_count o p (segment_at p n) ≤ distinct o p
-own-most o p n l = omega (arith, own-more o p n l, own-part o p (n + 1))
-
 -- those of all segments
 pub own-all : (o : Opening) (p : Plan) (n : ℕ) → length (segments_in p) ≤ n → own_before o p n ≡ distinct o p
 own-all o p n l = ap (λ (ys : List Segment). sum_by (λ (g : Segment). own_count o p g) ys) (take_all n (segments_in p) l)
 
--- one outcome more, where a list tells the outcomes of the segments before
-pub outcomes-more : {X : Type 0} (f : X → OutcomeTold) (c : CourseTold) (k : Keep) (n : ℕ) (xs : List X) (x : X) → map f xs ≡ outcomes_before c k n → f x ≡ outcome_of c k n → map f (xs ++ x ∷ []) ≡ outcomes_before c k (n + 1)
-outcomes-more f c k n xs x h e =
-    map-append f xs (x ∷ []) ∙ ap (λ (ys : List OutcomeTold). ys ++ f x ∷ []) h ∙ ap (λ (y : OutcomeTold). outcomes_before c k n ++ y ∷ []) e
-    ∙ sym (ap (λ (m : ℕ). outcomes_before c k m) (add-one n))
-
--- one kept state more
-pub kept-more : {X : Type 0} (f : X → Option CheckpointTold) (c : CourseTold) (n : ℕ) (xs : List X) (x : X) → map f xs ≡ kept_before c n → f x ≡ kept_of c n → map f (xs ++ x ∷ []) ≡ kept_before c (n + 1)
-kept-more f c n xs x h e =
-    map-append f xs (x ∷ []) ∙ ap (λ (ys : List (Option CheckpointTold)). ys ++ f x ∷ []) h ∙ ap (λ (y : Option CheckpointTold). kept_before c n ++ y ∷ []) e
-    ∙ sym (ap (λ (m : ℕ). kept_before c m) (add-one n))
-
 -- a segment's own run ends with its end's state
-pub run-ends : (c : CourseTold) (s : ℕ) (r : Run) → IsCourse c → s < length (segments_in c.plan) → r ≡ segment_run c.opening c.plan (segment_at c.plan s)
-    → r.state ≡ (segment_end c.opening c.plan (segment_at c.plan s)).state
-run-ends c s r h l e =
-    ap (λ (q : Run). q.state) e ∙ sym (ap (λ (q : Run). q.state) (segment-copy c.opening c.plan s (course-tree c h) h.limit l))
-
 pub ran-ends : (c : CourseTold) (k : Keep) (s : ℕ) (x : RanTold) → IsCourse c → s < length (segments_in c.plan) → x ≡ ran_as k (segment_run c.opening c.plan (segment_at c.plan s))
     → x.state ≡ (segment_end c.opening c.plan (segment_at c.plan s)).state
-ran-ends c k s x h l e = ap (λ (y : RanTold). y.state) e ∙ run-ends c s (segment_run c.opening c.plan (segment_at c.plan s)) h l refl
+ran-ends c k s x h l e = ap (λ (y : RanTold). y.state) e ∙ sym (ap (λ (q : Run). q.state) (segment-copy c.opening c.plan s (course-tree c h) h.limit l))
 
 told-by : (a b m n : ℕ) (xs ys : KeptTold) (u v : Closing) → a ≡ b → xs ≡ ys → m ≡ n → u ≡ v
     → ◌≡◌ {A = OutcomeTold} (record { segment = a; kept = xs; events = m; closing = u }) (record { segment = b; kept = ys; events = n; closing = v })

@@ -1,12 +1,10 @@
--- What is kept of a course's segments.
-use Rattle.std.proofs.Common.{◌≡◌, ℕ, ◌+◌, ◌-◌, ◌<◌, inl, inr, List, [], ◌∷◌, ◌++◌, Option, Some, None, length, get_or, map, refl, sym, ap, ◌∙◌, arith, suc, zero, subst}
-use Rattle.std.proofs.lemmas.Bool.{cases_lt, lt-ltb}
-use Rattle.std.proofs.lemmas.List.{get_or_append_left, get_or_push, length_push, get_or-map}
+-- What a course knows of its segments.
+use Rattle.std.proofs.Common.{◌≡◌, ℕ, ◌+◌, ◌-◌, ◌<◌, inl, Some, length, get_or, refl, sym, ap, ◌∙◌, arith, suc, zero, subst}
 use Rattle.branch_tree.specs.declared.segment.Segment.{Segment}
 use Rattle.branch_tree.specs.Plan.{Plan}
 use Rattle.branch_tree.specs.Segments.{counted, numbers_of, cuts_of, count_before, last_of, segments_in, segment_at}
 use Rattle.kernel_copy.specs.Segmentwise.{segment_end, fork_number, after}
-use Rattle.kernel_copy.specs.Courses.{CourseTold, CheckpointTold, IsCourse, IsKeyOf, GoesOnFrom, end_of_segment, kept_of, kept_before}
+use Rattle.kernel_copy.specs.Courses.{CourseTold, IsCourse, IsKeyOf, GoesOnFrom}
 use Rattle.kernel_copy.proofs.Trees.{course-tree}
 use Rattle.branch_tree.specs.Stops.{IsWithin}
 use Rattle.kernel_copy.proofs.Afters.{after-end}
@@ -28,25 +26,6 @@ last-number p b d =
     let k = count_before p.branches b in
     ap (λ (i : ℕ). get_or (counted k (n + 1)) (i - 1) d) (length-counted k (n + 1)) ∙ counted-at k (n + 1) (n + 1 - 1) d (omega arith) ∙ omega arith
 
-pub some-number : (p : Plan) (b : ℕ) → 0 < length (numbers_of p b)
-some-number p b = omega (arith, length-counted (count_before p.branches b) (length (cuts_of p.branches b) + 1))
-
-length-kept : (c : CourseTold) (n : ℕ) → length (kept_before c n) ≡ n
-length-kept c zero = refl
-length-kept c (suc n) = omega (arith, length_push (kept_before c n) (kept_of c n), length-kept c n)
-
-kept-at : (c : CourseTold) (n q : ℕ) → q < n → get_or (kept_before c n) q None ≡ kept_of c q
-kept-at c zero q h = absurd (omega arith)
-kept-at c (suc n) q h = elim (cases_lt q n) [
-  | inl l ↦ get_or_append_left (kept_before c n) (kept_of c n ∷ []) None q (omega (arith, length-kept c n)) ∙ kept-at c n q l
-  | inr m ↦ let same : n ≡ q = omega arith in
-      subst (λ (k : ℕ). get_or (kept_before c n ++ kept_of c n ∷ []) k None ≡ kept_of c k) same (get_or_push (kept_before c n) (kept_of c n) None n (length-kept c n))
-]
-
--- the end of a segment that isn't its branch's last is kept
-pub kept-end : (c : CourseTold) (n q : ℕ) → q < n → q < last_of c.plan.branches (segment_at c.plan q).branch → get_or (kept_before c n) q None ≡ Some (end_of_segment c q)
-kept-end c n q l u = kept-at c n q l ∙ rw (lt-ltb q (last_of c.plan.branches (segment_at c.plan q).branch) u) refl
-
 -- a segment's end is the course's state at its key
 pub end-key : (c : CourseTold) (s : ℕ) → s < length (segments_in c.plan) → IsKeyOf c (record { segment = s; event = fork_number (segment_at c.plan s).stop })
 end-key c s l = record { segment = l; event = inl refl }
@@ -54,13 +33,7 @@ end-key c s l = record { segment = l; event = inl refl }
 pub end-state : (c : CourseTold) (s : ℕ) → (segment_end c.opening c.plan (segment_at c.plan s)).state ≡ after c.opening c.plan (segment_at c.plan s) (fork_number (segment_at c.plan s).stop)
 end-state c s = sym (after-end c.opening c.plan (segment_at c.plan s))
 
--- what was kept of a segment that isn't its branch's last, read from the list of what was kept
-pub kept-read : {X : Type 0} (f : X → Option CheckpointTold) (xs : List X) (c : CourseTold) (n s : ℕ) (x : X) → map f xs ≡ kept_before c n → s < length xs → s < n
-    → s < last_of c.plan.branches (segment_at c.plan s).branch → x ≡ get_or xs s x → f x ≡ Some (end_of_segment c s)
-kept-read f xs c n s x h within below u at =
-    ap f at ∙ sym (get_or-map f xs s x None within) ∙ ap (λ (ks : List (Option CheckpointTold)). get_or ks s None) h ∙ kept-end c n s below u
-
--- what a course knows of its segments
+-- a segment's branch, its stop, and the segment from which it goes on
 pub segment-facts : (k : CourseTold) (s : ℕ) (g : Segment) → IsCourse k → s < length (segments_in k.plan) → g ≡ segment_at k.plan s
     → (g.branch < length k.plan.branches) × IsWithin k.opening.limit g.stop × ((q : ℕ) → g.parent ≡ Some q → GoesOnFrom k.plan s q)
 segment-facts k s g h l e =

@@ -1,8 +1,8 @@
 -- Runs that go on, and what is kept of them.
-use Rattle.std.proofs.Common.{◌≡◌, ℕ, ◌-◌, zero, suc, List, [], ◌∷◌, ◌++◌, All, map, Option, Some, None, Result, Ok, Err, OnOk, min, refl, sym, ap, ◌∙◌, subst, append_assoc, append-nil, length-append, arith}
+use Rattle.std.proofs.Common.{◌≡◌, ℕ, ◌-◌, zero, suc, List, [], ◌∷◌, ◌++◌, All, map, Option, Some, None, Result, Ok, Err, OnOk, min, refl, sym, ap, ◌∙◌, subst, append_assoc, append-nil, arith}
 use Rattle.std.specs.List.{flat_map}
 use Rattle.std.proofs.lemmas.Grind.{flat_map-append}
-use Rattle.std.proofs.lemmas.List.{get_or-map, get_or_append_left, length-map}
+use Rattle.std.proofs.lemmas.List.{get_or-map, length-map}
 use Rattle.std.proofs.lemmas.List.Folds.{flat_map-map}
 use Rattle.market_types.specs.declared.entry.Entry.{Entry}
 use Rattle.market_types.specs.Told.{EntryTold, EventTold, event, edit, entry_told}
@@ -20,8 +20,8 @@ use Rattle.kernel_core.proofs.Times.{time-some}
 use Rattle.branch_tree.specs.declared.stop.Stop.{Stop}
 use Rattle.branch_tree.specs.declared.stop.Stop.TheVariants.{At, When}
 use Rattle.kernel_copy.specs.Segmentwise.{afresh}
-use Rattle.kernel_copy.specs.UntilStop.{until_stop, until_part}
-use Rattle.kernel_copy.proofs.Halts.{stop-behind, part-behind}
+use Rattle.kernel_copy.specs.UntilStop.{until_part}
+use Rattle.kernel_copy.proofs.Halts.{part-behind}
 use Rattle.kernel_copy.specs.declared.kept.Keep.{Keep}
 use Rattle.kernel_copy.specs.declared.kept.Keep.TheVariants as keep
 use Rattle.kernel_copy.specs.Kept.{KeptTold, frames, kept_as, kept_with, frames_of, with_event_frames, IsWritable}
@@ -62,22 +62,12 @@ part_fresh o s n r = ap (λ (q : Run). until_part o s n q) (fresh r) ∙ part-be
 pub state_afresh : (o : Opening) (n : ℕ) (r : Run) → (until o n (afresh r.state)).state ≡ (until o n r).state
 state_afresh o n r = sym (ap (λ (q : Run). q.state) (until_fresh o n r))
 
-pub part_afresh : (o : Opening) (s : Stop) (n : ℕ) (r : Run) → (until_part o s n (afresh r.state)).state ≡ (until_part o s n r).state
-part_afresh o s n r = sym (ap (λ (q : Run). q.state) (part_fresh o s n r))
-
 -- and what is kept of it is what is kept of the run
 pub goes_on_kept : (k : Keep) (o : Opening) (s : Stop) (n : ℕ) (r : Run) → ran_with (ran_as k r) (until_part o s n (afresh r.state)) ≡ ran_as k (until_part o s n r)
 goes_on_kept k o s n r =
     let more = until_part o s n (afresh r.state) in
     ap (λ (t : KeptTold). let x : RanTold = record { state = more.state; kept = t } in x) (as_with k r.entries more.entries)
     ∙ ap (λ (q : Run). ran_as k q) (sym (part_fresh o s n r))
-
--- what holds of each entry of a run that went on to a stop holds of the entries of the run before
-pub all_first : (P : EntryTold → Type 0) (o : Opening) (s : Stop) (r : Run) → All P (until_stop o s r).entries → All P r.entries
-all_first P o s r all =
-    let more = (until_stop o s (afresh r.state)).entries in
-    let whole = subst (λ (q : Run). All P q.entries) (ap (λ (q : Run). until_stop o s q) (fresh r) ∙ stop-behind o s r.entries (afresh r.state)) all in
-    λ i d within. subst P (get_or_append_left r.entries more d i within) (whole i d (omega (arith, length-append r.entries more)))
 
 folded-more : (bytes : List ℕ) (es : List EntryTold) (e : EventTold) → folded with_event_frames bytes (es ++ event e ∷ []) ≡ with_event_frames (folded with_event_frames bytes es) e
 folded-more bytes [] e = refl

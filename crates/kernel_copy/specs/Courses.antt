@@ -1,5 +1,5 @@
 -- Courses, and the checkpoints of their states.
-use Rattle.std.specs.Prelude.{◌≡◌, ◌<◌, ◌≤◌, ◌⊎◌, ℕ, true, nat_lt, if◌then◌else◌, List, [], ◌∷◌, ◌++◌, Option, None, Some, length, All, suc, zero}
+use Rattle.std.specs.Prelude.{◌≡◌, ◌<◌, ◌≤◌, ◌⊎◌, ℕ, true, nat_lt, if◌then◌else◌, List, Option, None, Some, length, All}
 use Rattle.market_rules.specs.declared.edit.Edit.{Edit}
 use Rattle.branch_tree.specs.declared.branch.Branch.{Branch}
 use Rattle.branch_tree.specs.declared.segment.Segment.{Segment}
@@ -79,8 +79,3 @@ end_of_segment c s = record {
 -- what is kept of a segment: its end, unless it is its branch's last
 abbrev pub kept_of : CourseTold → ℕ → Option CheckpointTold
 kept_of c s = if nat_lt s (last_of c.plan.branches (segment_at c.plan s).branch) then Some (end_of_segment c s) else None
-
--- what is kept of the segments before this one
-abbrev pub kept_before : CourseTold → ℕ → List (Option CheckpointTold)
-kept_before c zero = []
-kept_before c (suc n) = kept_before c n ++ kept_of c n ∷ []

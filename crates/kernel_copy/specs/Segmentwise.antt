@@ -9,6 +9,7 @@ use Rattle.branch_tree.specs.Segments.{segments_in, segment_at, last_of}
 use Rattle.market_floor.specs.declared.opening.Opening.{Opening}
 use Rattle.kernel_core.specs.State.{State}
 use Rattle.kernel_core.specs.Until.{Run}
+pub use Rattle.kernel_core.specs.Seen.{afresh}
 use Rattle.kernel_copy.specs.UntilStop.{until_stop}
 use Rattle.kernel_copy.specs.Full.{opening_run, edited_by, reach, full}
 
@@ -20,10 +21,6 @@ segment_end o p g = reach o p g.branch g.stop
 abbrev pub parent_end : Opening → Plan → Option ℕ → Run
 parent_end o p None = opening_run o
 parent_end o p (Some q) = segment_end o p (segment_at p q)
-
--- a state from which a run is made that has no entry yet
-abbrev pub afresh : State → Run
-afresh s = record { state = s; entries = [] }
 
 -- A segment's own run at its beginning: it goes on from its parent's end with no entry, and where it is its branch's
 -- first, its parent being of another branch, with the branch's edits made.

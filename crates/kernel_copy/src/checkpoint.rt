@@ -4,7 +4,7 @@ ghost use Rattle.std.specs.Prelude.{◌≡◌, IfOk};
 ghost use Rattle.kernel_copy.specs.Courses.{IsKeyOf, state_at};
 
 use crate::course::Course;
-use checkpoint_shelf::Kept;
+use checkpoint_shelf::Shelved;
 use kernel_core::Kernel;
 use market_types::Memory;
 use shelf_core::Key;
@@ -98,7 +98,7 @@ impl Checkpoint {
     }
 }
 
-impl Kept for Checkpoint {
+impl Shelved for Checkpoint {
     type Course = Course;
 
     ghost key_of = { λ c. c.key };

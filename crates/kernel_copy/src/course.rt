@@ -1,9 +1,10 @@
 //! What all branches of a study share.
 
-ghost use Rattle.std.specs.Prelude.{◌≡◌, ◌<◌, ◌≤◌, ℕ, Some, length, All};
+ghost use Rattle.std.specs.Prelude.{◌≡◌, ◌<◌, ◌≤◌, ◌^◌, ℕ, None, Some, length, All};
 ghost use Rattle.branch_tree.specs.Plan.{branch_at};
 ghost use Rattle.branch_tree.specs.Stops.{IsWithin};
 ghost use Rattle.branch_tree.specs.Segments.{last_of, segments_in, segment_at};
+ghost use Rattle.branch_tree.specs.Tree.{IsRooted, plan_refusal};
 ghost use Rattle.market_floor.specs.Opening.{IsOpening};
 ghost use Rattle.kernel_core.specs.Edited.{IsEditOf};
 ghost use Rattle.kernel_core.specs.Open.{opened};
@@ -31,6 +32,17 @@ impl Model for Course {
     ghost invariant = { λ c. IsCourse (record { opening = c.opening; plan = c.plan }) };
 }
 
+// What holds of each plan: its branches make a tree under its limit of events, and its segments are few. A proof has these
+// facts behind a call.
+pub(crate) fn is_tree(plan: &BranchPlan)
+    ensures rooted { IsRooted plan.now.branches }
+    ensures accepted { plan_refusal plan.now.branches plan.now.limit ≡ None }
+    ensures few { length (segments_in plan.now) < 2 ^ 32 }
+{
+    let _branches = plan.branches();
+    let _segments = plan.segments();
+}
+
 impl Course {
     /// The course of an opening and a plan under its limit of events, each of whose branches has at most 16 edits that can be made
     /// at the opening.
@@ -40,8 +52,16 @@ impl Course {
         requires edits { All (λ b. AreEdits opening b.edits) plan.branches }
         ensures { result ≡ record { opening = opening; plan = plan } }
     {
-        let _ = plan.branches();
+        is_tree(&plan);
         Course { opening, plan }
+    }
+
+    /// What holds of each course: its opening and edits are in the ranges of a study's rules, and its branches make a tree under
+    /// the opening's limit of events. A proof has these facts behind a call.
+    pub fn is_course(&self)
+        ensures { IsCourse self.now }
+    {
+        let _opening = &self.opening;
     }
 
     /// What a run starts from.

@@ -14,7 +14,7 @@ ghost use Rattle.kernel_copy.specs.Full.{opening_run, full, full_run};
 ghost use Rattle.kernel_copy.specs.Reached.{IsReached};
 ghost use Rattle.kernel_copy.specs.Segmentwise.{segment_end, segment_run, segment_entries, started_at, parent_end, from_count, own_count, distinct, chain_of};
 
-use crate::course::Course;
+use crate::course::{Course, is_tree};
 use branch_tree::BranchPlan;
 use exchange_agent::laws::books_stay_short;
 use market_floor::Opening;
@@ -39,7 +39,7 @@ pub fn branches_by_segments(o: &Opening, plan: &BranchPlan)
     ensures stays { (s n e : ℕ) → s < length (segments_in plan.now) → (segment_at plan.now s).stop ≡ At n → (segment_end o.now plan.now (segment_at plan.now s)).state.events ≤ e → e ≤ n → full o.now plan.now (segment_at plan.now s).branch e ≡ segment_end o.now plan.now (segment_at plan.now s) }
     ensures within { (s : ℕ) → s < length (segments_in plan.now) → (segment_end o.now plan.now (segment_at plan.now s)).state.events ≤ o.now.limit }
 {
-    let _ = plan.branches();
+    is_tree(plan);
 }
 
 /// Each state of a course is one in which its branches' edits can be made, after at most 255 times 16 of them, and the times of
@@ -59,5 +59,6 @@ pub fn segments_have_few_events(course: &Arc<Course>)
     ensures each { (s : ℕ) → s < length (segments_in course.now.value.plan) → own_count course.now.value.opening course.now.value.plan (segment_at course.now.value.plan s) ≤ 1000000 }
     ensures all { distinct course.now.value.opening course.now.value.plan < 2 ^ 52 }
 {
-    let _ = course.plan().segments().len();
+    course.is_course();
+    is_tree(course.plan());
 }

@@ -1,6 +1,6 @@
-//! Running the segments of a course one after another.
+//! How a segment of a course is run, from where it goes on to what its end tells.
 
-ghost use Rattle.std.specs.Prelude.{◌≡◌, ◌<◌, ◌≤◌, ◌+◌, ◌-◌, ◌^◌, [], ◌∷◌, ◌++◌, Some, None, OnOk, IfOk, length, map, option_map, nat_lt, All};
+ghost use Rattle.std.specs.Prelude.{◌≡◌, ◌<◌, ◌≤◌, ◌+◌, ◌-◌, ◌^◌, [], Some, OnOk, IfOk, length, option_map, nat_lt, All};
 ghost use Rattle.branch_tree.specs.Planned.{IsTree};
 ghost use Rattle.branch_tree.specs.Segments.{segments_in, segment_at, last_of};
 ghost use Rattle.kernel_core.specs.Edited.{IsEditOf, edited_from};
@@ -10,19 +10,18 @@ ghost use Rattle.kernel_core.specs.Seen.{folded};
 ghost use Rattle.kernel_core.specs.Until.{until};
 ghost use Rattle.market_types.specs.Timely.{IsTimely};
 ghost use Rattle.kernel_copy.specs.Closing.{closing_at};
-ghost use Rattle.kernel_copy.specs.Courses.{kept_of, kept_before};
+ghost use Rattle.kernel_copy.specs.Courses.{kept_of};
 ghost use Rattle.kernel_copy.specs.Kept.{entries, frames, kept_told, kept_with};
-ghost use Rattle.kernel_copy.specs.Outcomes.{outcome_told, outcomes_before};
-ghost use Rattle.kernel_copy.specs.Ran.{ran_told, ran_as, ran_with};
+ghost use Rattle.kernel_copy.specs.Ran.{ran_told, ran_with};
 ghost use Rattle.kernel_copy.specs.Reached.{IsReached};
 ghost use Rattle.kernel_copy.specs.UntilStop.{until_part};
-ghost use Rattle.kernel_copy.specs.Segmentwise.{afresh, segment_end, segment_run, started_from, started_at, own_count, distinct};
+ghost use Rattle.kernel_copy.specs.Segmentwise.{afresh, segment_end, started_from};
 
 use crate::checkpoint::Checkpoint;
 use crate::closing_of;
 use crate::course::Course;
 use crate::frame_bytes::FrameBytes;
-use crate::kept::{Keep, Kept};
+use crate::kept::Kept;
 use crate::keys::number_of_end;
 use crate::laws::courses_stay_in_range;
 use crate::packed_events::PackedEvents;
@@ -153,6 +152,10 @@ fn run_packed<L: Ledger>(
     let mut events = PackedEvents {
         packed: replace(packed, Packed::new(alloc)),
     };
+    let left = last_number(stop, o.limit)
+        .min(most)
+        .saturating_sub(kernel.events());
+    events.packed.expect(left as usize);
     let ran = run_part(alloc, o, stop, most, kernel, &mut events, steps);
     *packed = events.packed;
     ran
@@ -193,7 +196,7 @@ impl Ran {
     }
 }
 
-// A branch's edits in order.
+// Makes a branch's edits one after another, and enters each.
 fn apply_all(
     alloc: Global,
     o: &Opening,
@@ -245,26 +248,8 @@ pub fn kept_end(
         return Ok(None);
     }
     let event = number_of_end(plan.segments()[segment as usize].stop);
-    let kept = Checkpoint::keep(alloc, course, Key { segment, event }, kernel)?;
-    Ok(Some(kept))
-}
-
-// The kernel of a segment's end.
-fn resumed(
-    alloc: Global,
-    course: &Course,
-    kept: &[Option<Arc<Checkpoint>>],
-    segment: u32,
-) -> Result<Kernel, Memory>
-    requires kept { map (λ k. option_map (λ c. c.value) k) kept.now ≡ kept_before course.now (length kept.now) }
-    requires within { segment < length kept.now }
-    requires unfinished { segment < last_of course.now.plan.branches (segment_at course.now.plan segment).branch }
-    ensures { IfOk result (λ k. k ≡ (segment_end course.now.opening course.now.plan (segment_at course.now.plan segment)).state) }
-{
-    match &kept[segment as usize] {
-        Some(checkpoint) => checkpoint.resume(alloc),
-        None => unreachable!(),
-    }
+    let end = Checkpoint::keep(alloc, course, Key { segment, event }, kernel)?;
+    Ok(Some(end))
 }
 
 /// Lets a kernel at a segment's end go on as this branch, whose edits are made and entered where it is another branch than
@@ -296,117 +281,6 @@ pub fn go_on(
     apply_all(alloc, course.opening(), branch, edits, kernel, trace)
 }
 
-// The run of a segment of this branch at its beginning, where it goes on from this parent's end: the kernel, and the
-// entries of the branch's edits where the parent is of another branch.
-fn gone_on(
-    alloc: Global,
-    course: &Course,
-    kept: &[Option<Arc<Checkpoint>>],
-    branch: u16,
-    parent: u32,
-    trace: &mut Trace,
-) -> Result<Kernel, Memory>
-    requires kept { map (λ k. option_map (λ c. c.value) k) kept.now ≡ kept_before course.now (length kept.now) }
-    requires within { parent < length kept.now }
-    requires segment { parent < length (segments_in course.now.plan) }
-    requires unfinished { parent < last_of course.now.plan.branches (segment_at course.now.plan parent).branch }
-    requires branch { branch < length course.now.plan.branches }
-    requires empty { trace.old.list ≡ [] }
-    ensures state { IfOk result (λ k. record { state = k; entries = trace.new.list } ≡ started_from course.now.opening course.now.plan branch (Some parent)) }
-    ensures fits { IfOk result (λ k. Fits course.now.opening k) }
-{
-    courses_stay_in_range();
-    let mut kernel = resumed(alloc, course, kept, parent)?;
-    go_on(alloc, course, branch, parent, &mut kernel, trace)?;
-    Ok(kernel)
-}
-
-// A segment's run at its beginning.
-fn begun(
-    alloc: Global,
-    course: &Course,
-    kept: &[Option<Arc<Checkpoint>>],
-    segment: u32,
-    trace: &mut Trace,
-) -> Result<Kernel, Memory>
-    requires kept { map (λ k. option_map (λ c. c.value) k) kept.now ≡ kept_before course.now (length kept.now) }
-    requires next { segment ≡ length kept.now }
-    requires segment { segment < length (segments_in course.now.plan) }
-    requires empty { trace.old.list ≡ [] }
-    ensures state { IfOk result (λ k. record { state = k; entries = trace.new.list } ≡ started_at course.now.opening course.now.plan (segment_at course.now.plan segment)) }
-    ensures fits { IfOk result (λ k. Fits course.now.opening k) }
-{
-    let g = course.segment(segment);
-    match g.parent {
-        None => {
-            let kernel = Kernel::open(alloc, course.opening())?;
-            Ok(kernel)
-        }
-        Some(parent) => {
-            let kernel = gone_on(alloc, course, kept, g.branch, parent, trace)?;
-            Ok(kernel)
-        }
-    }
-}
-
-// Runs a segment from its beginning to its stop, and keeps what is to be kept of its entries. After want of memory the counter
-// rose by no more than the segment's own events.
-fn run_on<L: Ledger>(
-    alloc: Global,
-    course: &Course,
-    keep: Keep,
-    segment: u32,
-    kernel: Kernel,
-    entries: Trace,
-    steps: &mut Steps<L>,
-) -> Result<Ran, Memory>
-    requires segment { segment < length (segments_in course.now.plan) }
-    requires state { record { state = kernel; entries = entries.list } ≡ started_at course.now.opening course.now.plan (segment_at course.now.plan segment) }
-    requires fits { Fits course.now.opening kernel }
-    requires count { steps.old + course.now.opening.limit < 2 ^ 64 }
-    ensures ran { IfOk result (λ x. ran_told x ≡ ran_as keep (segment_run course.now.opening course.now.plan (segment_at course.now.plan segment))) }
-    ensures fits { IfOk result (λ x. Fits course.now.opening x.kernel) }
-    ensures rose { OnOk result (steps.new ≡ steps.old + own_count course.now.opening course.now.plan (segment_at course.now.plan segment)) }
-    ensures least { steps.old ≤ steps.new }
-    ensures most { steps.new ≤ steps.old + own_count course.now.opening course.now.plan (segment_at course.now.plan segment) }
-{
-    courses_stay_in_range();
-    let o = course.opening();
-    let stop = course.segment(segment).stop;
-    let kept = Kept::of(alloc, keep, entries)?;
-    let mut ran = Ran { kept, kernel };
-    ran.run_to(alloc, o, stop, o.limit, steps)?;
-    Ok(ran)
-}
-
-// Runs a segment, from a copy of its parent's end.
-fn run_segment<L: Ledger>(
-    alloc: Global,
-    course: &Course,
-    keep: Keep,
-    kept: &[Option<Arc<Checkpoint>>],
-    segment: u32,
-    steps: &mut Steps<L>,
-) -> Result<Ran, Memory>
-    requires kept { map (λ k. option_map (λ c. c.value) k) kept.now ≡ kept_before course.now (length kept.now) }
-    requires next { segment ≡ length kept.now }
-    requires segment { segment < length (segments_in course.now.plan) }
-    requires count { steps.old + own_count course.now.opening course.now.plan (segment_at course.now.plan segment) < 2 ^ 64 }
-    ensures ran { IfOk result (λ x. ran_told x ≡ ran_as keep (segment_run course.now.opening course.now.plan (segment_at course.now.plan segment))) }
-    ensures fits { IfOk result (λ x. Fits course.now.opening x.kernel) }
-    ensures rose { OnOk result (steps.new ≡ steps.old + own_count course.now.opening course.now.plan (segment_at course.now.plan segment)) }
-    ensures least { steps.old ≤ steps.new }
-    ensures most { steps.new ≤ steps.old + own_count course.now.opening course.now.plan (segment_at course.now.plan segment) }
-{
-    let _ = course.plan();
-    let mut entries = Trace::new(alloc);
-    let kernel = begun(alloc, course, kept, segment, &mut entries)?;
-    let mut own = steps.split();
-    let ran = run_on(alloc, course, keep, segment, kernel, entries, &mut own);
-    steps.join(own);
-    ran
-}
-
 /// What a segment's run tells.
 ///
 /// # Errors
@@ -425,41 +299,4 @@ pub fn outcome_at(alloc: Global, o: &Opening, segment: u32, ran: Ran) -> Result<
         kept: ran.kept,
         closing,
     })
-}
-
-// Appends a value to a list.
-fn add<T: Drop>(list: &mut Vec<T>, value: T) -> Result<(), Memory>
-    ensures { OnOk result (list.new.items ≡ list.old.items ++ value ∷ []) }
-{
-    Ok(list.push(value)?)
-}
-
-/// Runs each segment of a course once, in order of number, each from a copy of its parent's end: each outcome has what is
-/// to be kept of the segment's own entries and the closing of its end, and the counter rises by the events of all segments.
-///
-/// # Errors
-/// Want of memory alone. The counter then rose by no more.
-pub fn run_segments<L: Ledger>(
-    alloc: Global,
-    course: &Arc<Course>,
-    keep: Keep,
-    steps: &mut Steps<L>,
-) -> Result<Vec<Outcome>, Memory>
-    requires { steps.old + distinct course.now.value.opening course.now.value.plan < 2 ^ 64 }
-    ensures outcomes { IfOk result (λ v. map outcome_told v.items ≡ outcomes_before course.now.value keep (length (segments_in course.now.value.plan))) }
-    ensures rose { OnOk result (steps.new ≡ steps.old + distinct course.now.value.opening course.now.value.plan) }
-    ensures least { steps.old ≤ steps.new }
-    ensures most { steps.new ≤ steps.old + distinct course.now.value.opening course.now.value.plan }
-{
-    let mut outcomes = Vec::new(alloc);
-    let mut kept = Vec::new(alloc);
-    let count = course.plan().segments().len();
-    'segments: for i in 0..count {
-        let ran = run_segment(alloc, course, keep, kept.as_slice(), i as u32, steps)?;
-        let end = kept_end(alloc, course, i as u32, &ran.kernel)?;
-        let outcome = outcome_at(alloc, course.opening(), i as u32, ran)?;
-        add(&mut kept, end)?;
-        add(&mut outcomes, outcome)?;
-    }
-    Ok(outcomes)
 }

@@ -5,8 +5,7 @@ ghost use Rattle.kernel_core.specs.Step.{Fits};
 ghost use Rattle.kernel_copy.specs.States.{state_frames_of};
 
 use crate::closing_of;
-use crate::waiting::put_all_waiting;
-use bundle_frames::Written;
+use bundle_frames::{Written, put_all};
 use kernel_core::Kernel;
 use market_floor::Opening;
 use market_types::Memory;
@@ -25,6 +24,6 @@ pub fn state_frames(alloc: Global, o: &Opening, kernel: &Kernel) -> Result<Vec<u
     let messages = kernel.messages(alloc)?;
     let mut out = Vec::new(alloc);
     closing.put(&mut out)?;
-    put_all_waiting(&mut out, messages.as_slice())?;
+    put_all(&mut out, messages.as_slice())?;
     Ok(out)
 }

@@ -5,9 +5,9 @@ ghost use Rattle.market_types.specs.declared.message.Body.TheVariants as body;
 ghost use Rattle.event_queue.specs.InOrder.{in_order};
 ghost use Rattle.kernel_core.specs.Worked.{full_run};
 ghost use Rattle.market_floor.specs.OpeningWorked.{market, watcher};
-ghost use Rattle.bundle_frames.specs.Frames.{closing_frames};
+ghost use Rattle.bundle_frames.specs.Frames.{closing_frames, waiting_frame};
 ghost use Rattle.kernel_copy.specs.Closing.{closing_at};
-ghost use Rattle.kernel_copy.specs.States.{waiting_frame, state_frames_of};
+ghost use Rattle.kernel_copy.specs.States.{state_frames_of};
 ghost use Rattle.kernel_copy.specs.Worked.{worked_message};
 
 /// A wakeup and a question that wait, byte by byte.

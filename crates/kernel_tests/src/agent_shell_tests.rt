@@ -1,3 +1,4 @@
+use crate::facts::holds;
 use agent_shell::Shell;
 use market_types::{Reply, Side};
 use std::process::Abort;
@@ -33,7 +34,7 @@ fn an_order_is_executed_and_removed(rt: HostRuntime) -> Result<(), Fail> {
     };
     take(&rt, &mut shell, &executed);
     let account = shell.account();
-    assert!(rt; account.position == 10 && account.cash == -9_999_000);
+    holds(&rt, account.position == 10 && account.cash == -9_999_000);
     let copy = shell.copy()?;
     let rejected = Reply::Rejected {
         time: 5,
@@ -41,7 +42,10 @@ fn an_order_is_executed_and_removed(rt: HostRuntime) -> Result<(), Fail> {
         reason: b'H',
     };
     take(&rt, &mut shell, &rejected);
-    assert!(rt; shell.open_token(0).is_none());
-    assert!(rt; copy.open_len() == 1 && copy.tokens() == 1 && copy.agent() == 37);
+    holds(&rt, shell.open_token(0).is_none());
+    holds(
+        &rt,
+        copy.open_len() == 1 && copy.tokens() == 1 && copy.agent() == 37,
+    );
     Ok(())
 }

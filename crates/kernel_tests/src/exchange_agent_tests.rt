@@ -1,11 +1,16 @@
 //! The exchange on worked examples, each public call once.
 
+ghost use Rattle.std.specs.Prelude.{◌≡◌, ◌≤◌, ◌+◌, length};
+
 use crate::exchange_examples::{numbered, opened, sent};
-use exchange_agent::Handled;
+use crate::facts::{equal, holds};
+use exchange_agent::{Exchange, Handled};
 use market_rules::{Band, Change, FeeTable, TickTable};
 use market_types::{
-    AgentNo, Body, Cancel, Enter, FeedList, Inbound, Reply, Side, Symbol, Token, What,
+    AgentNo, Body, Cancel, Enter, FeedList, Inbound, Reply, Side, Symbol, Time, Token, What,
 };
+use std::alloc::Global;
+use std::process::Abort;
 
 // An order for the day whose token begins with a letter.
 fn order(letter: u8, side: Side, shares: u32, price: u32) -> Enter {
@@ -70,84 +75,91 @@ fn fed(out: &Handled, i: usize) -> Option<(u8, u64, u32, u64)> {
     }
 }
 
+// Three sells come to rest, and a buy sweeps them: what is told of the buy.
+fn swept(rt: &impl Abort, alloc: Global, exchange: &mut Exchange) -> Handled
+    requires traders { length exchange.old.cash ≡ 3 }
+    requires enters { exchange.old.counts.enters ≡ 0 }
+    requires cancels { exchange.old.counts.cancels ≡ 0 }
+    ensures traders { length exchange.new.cash ≡ length exchange.old.cash }
+    ensures stocks { length exchange.new.stocks ≡ length exchange.old.stocks }
+{
+    let first = Inbound::Enter(order(b'A', Side::Sell, 100, 100_100));
+    let second = Inbound::Enter(order(b'B', Side::Sell, 200, 100_000));
+    let third = Inbound::Enter(order(b'C', Side::Sell, 300, 100_000));
+    let sweep = Inbound::Enter(order(b'D', Side::Buy, 700, 100_100));
+    sent(rt, alloc, exchange, 3000, 2, first);
+    sent(rt, alloc, exchange, 3000, 2, second);
+    sent(rt, alloc, exchange, 3000, 3, third);
+    sent(rt, alloc, exchange, 3000, 1, sweep)
+}
+
+const SWEEP_SAID: [(AgentNo, u8, u32, u32, u8, u64); 7] = [
+    (1, b'A', 700, 100_100, b'L', 4),
+    (2, b'E', 200, 100_000, b'A', 1),
+    (1, b'E', 200, 100_000, b'R', 1),
+    (3, b'E', 300, 100_000, b'A', 2),
+    (1, b'E', 300, 100_000, b'R', 2),
+    (2, b'E', 100, 100_100, b'A', 3),
+    (1, b'E', 100, 100_100, b'R', 3),
+];
+
+const SWEEP_FED: [(u8, u64, u32, u64); 4] = [
+    (b'E', 2, 200, 1),
+    (b'E', 3, 300, 2),
+    (b'E', 1, 100, 3),
+    (b'A', 4, 100, 100_100),
+];
+
+// What is told of the sweep.
+fn sweep_is_told(rt: &impl Abort, out: &Handled) {
+    for (i, reply) in SWEEP_SAID.iter().enumerate() {
+        equal(rt, said(out, i), Some(*reply));
+    }
+    equal(rt, out.len(), 7);
+    for (i, feed) in SWEEP_FED.iter().enumerate() {
+        equal(rt, fed(out, i), Some(*feed));
+    }
+    equal(rt, out.fee, 6000);
+}
+
+// What the traders have after the sweep.
+fn sweep_is_settled(rt: &impl Abort, exchange: &Exchange)
+    requires traders { length exchange.now.cash ≡ 3 }
+    requires stocks { length exchange.now.stocks ≡ 1 }
+{
+    equal(rt, exchange.cash(1), -6_001_018_000);
+    equal(rt, exchange.cash(2), 3_001_006_000);
+    equal(rt, exchange.cash(3), 3_000_006_000);
+    equal(rt, exchange.position(1, 0), 600);
+    equal(rt, exchange.position(2, 0), -300);
+}
+
+// What the stock and the exchange count after the sweep.
+fn sweep_is_counted(rt: &impl Abort, exchange: &Exchange)
+    requires { length exchange.now.stocks ≡ 1 }
+{
+    let told = exchange.stock(0);
+    equal(
+        rt,
+        (told.state, told.last, told.matched, told.fees, told.live),
+        (b'T', 100_100, 600, 6000, 1),
+    );
+    let counts = exchange.counts();
+    equal(
+        rt,
+        (counts.orders, counts.matches, counts.enters, counts.cancels),
+        (4, 3, 0, 0),
+    );
+}
+
 #[test]
 fn three_sells_are_swept(rt: HostRuntime) {
     let alloc = rt.alloc();
     let mut exchange = opened(&rt, alloc);
-    sent(
-        &rt,
-        alloc,
-        &mut exchange,
-        3000,
-        2,
-        Inbound::Enter(order(b'A', Side::Sell, 100, 100_100)),
-    );
-    sent(
-        &rt,
-        alloc,
-        &mut exchange,
-        3000,
-        2,
-        Inbound::Enter(order(b'B', Side::Sell, 200, 100_000)),
-    );
-    sent(
-        &rt,
-        alloc,
-        &mut exchange,
-        3000,
-        3,
-        Inbound::Enter(order(b'C', Side::Sell, 300, 100_000)),
-    );
-    let out = sent(
-        &rt,
-        alloc,
-        &mut exchange,
-        3000,
-        1,
-        Inbound::Enter(order(b'D', Side::Buy, 700, 100_100)),
-    );
-    for (i, reply) in [
-        (1, b'A', 700, 100_100, b'L', 4),
-        (2, b'E', 200, 100_000, b'A', 1),
-        (1, b'E', 200, 100_000, b'R', 1),
-        (3, b'E', 300, 100_000, b'A', 2),
-        (1, b'E', 300, 100_000, b'R', 2),
-        (2, b'E', 100, 100_100, b'A', 3),
-        (1, b'E', 100, 100_100, b'R', 3),
-    ]
-    .into_iter()
-    .enumerate()
-    {
-        assert_eq!(rt; said(&out, i), Some(reply), "reply {i}");
-    }
-    assert_eq!(rt; out.len(), 7);
-    for (i, feed) in [
-        (b'E', 2, 200, 1),
-        (b'E', 3, 300, 2),
-        (b'E', 1, 100, 3),
-        (b'A', 4, 100, 100_100),
-    ]
-    .into_iter()
-    .enumerate()
-    {
-        assert_eq!(rt; fed(&out, i), Some(feed), "feed {i}");
-    }
-    assert_eq!(rt; out.fee, 6000);
-    assert_eq!(rt; exchange.cash(1), -6_001_018_000);
-    assert_eq!(rt; exchange.cash(2), 3_001_006_000);
-    assert_eq!(rt; exchange.cash(3), 3_000_006_000);
-    assert_eq!(rt; exchange.position(1, 0), 600);
-    assert_eq!(rt; exchange.position(2, 0), -300);
-    let told = exchange.stock(0);
-    assert_eq!(rt;
-        (told.state, told.last, told.matched, told.fees, told.live),
-        (b'T', 100_100, 600, 6000, 1)
-    );
-    let counts = exchange.counts();
-    assert_eq!(rt;
-        (counts.orders, counts.matches, counts.enters, counts.cancels),
-        (4, 3, 0, 0)
-    );
+    let out = swept(&rt, alloc, &mut exchange);
+    sweep_is_told(&rt, &out);
+    sweep_is_settled(&rt, &exchange);
+    sweep_is_counted(&rt, &exchange);
 }
 
 // An order for the day to sell one share, and what is refused of it, with the reason.
@@ -178,34 +190,25 @@ fn refused() -> [(Enter, u8); 9] {
     ]
 }
 
+// An order is refused for this reason.
+fn is_refused(rt: &impl Abort, alloc: Global, e: Enter, reason: u8) {
+    let mut exchange = opened(rt, alloc);
+    let out = sent(rt, alloc, &mut exchange, 3000, 1, Inbound::Enter(e));
+    equal(rt, said(&out, 0), Some((1, b'J', 0, 0, reason, 0)));
+    equal(rt, (out.len(), out.feed.len(), out.fee), (1, 0, 0));
+    // the pair is remembered, whatever the other fields
+    let like = Inbound::Enter(order(b'A', Side::Buy, 5, 500));
+    let again = sent(rt, alloc, &mut exchange, 3000, 1, like);
+    equal(rt, (again.len(), exchange.counts().enters), (0, 1));
+    // and another agent's is not
+    let other = sent(rt, alloc, &mut exchange, 3000, 2, like);
+    equal(rt, said(&other, 0), Some((2, b'A', 5, 500, b'L', 1)));
+}
+
 #[test]
 fn orders_are_refused_with_their_reasons(rt: HostRuntime) {
-    let alloc = rt.alloc();
     for (e, reason) in refused() {
-        let mut exchange = opened(&rt, alloc);
-        let out = sent(&rt, alloc, &mut exchange, 3000, 1, Inbound::Enter(e));
-        assert_eq!(rt; said(&out, 0), Some((1, b'J', 0, 0, reason, 0)));
-        assert_eq!(rt; (out.len(), out.feed.len(), out.fee), (1, 0, 0));
-        // the pair is remembered, whatever the other fields
-        let again = sent(
-            &rt,
-            alloc,
-            &mut exchange,
-            3000,
-            1,
-            Inbound::Enter(order(b'A', Side::Buy, 5, 500)),
-        );
-        assert_eq!(rt; (again.len(), exchange.counts().enters), (0, 1));
-        // and another agent's is not
-        let other = sent(
-            &rt,
-            alloc,
-            &mut exchange,
-            3000,
-            2,
-            Inbound::Enter(order(b'A', Side::Buy, 5, 500)),
-        );
-        assert_eq!(rt; said(&other, 0), Some((2, b'A', 5, 500, b'L', 1)));
+        is_refused(&rt, rt.alloc(), e, reason);
     }
 }
 
@@ -218,51 +221,149 @@ fn an_immediate_order_does_not_rest(rt: HostRuntime) {
         ..order(b'A', Side::Buy, 100, 100_000)
     };
     let out = sent(&rt, alloc, &mut exchange, 3000, 1, Inbound::Enter(e));
-    assert_eq!(rt; said(&out, 0), Some((1, b'A', 100, 100_000, b'L', 1)));
-    assert_eq!(rt; said(&out, 1), Some((1, b'C', 100, 0, b'I', 0)));
-    assert_eq!(rt; (out.len(), out.feed.len()), (2, 0));
-    assert_eq!(rt; exchange.stock(0).live, 0);
+    equal(&rt, said(&out, 0), Some((1, b'A', 100, 100_000, b'L', 1)));
+    equal(&rt, said(&out, 1), Some((1, b'C', 100, 0, b'I', 0)));
+    equal(&rt, (out.len(), out.feed.len()), (2, 0));
+    equal(&rt, exchange.stock(0).live, 0);
+}
+
+// A reply in short.
+type Said = (AgentNo, u8, u32, u32, u8, u64);
+
+// Shares that a cancel leaves, its reply, its feed message, and how many orders stay.
+const CANCELS: [(u32, Option<Said>, Option<(u8, u64, u32, u64)>, u32); 3] = [
+    (
+        150,
+        Some((2, b'C', 300, 0, b'U', 0)),
+        Some((b'D', 1, 0, 0)),
+        0,
+    ),
+    (
+        350,
+        Some((2, b'C', 150, 0, b'U', 0)),
+        Some((b'X', 1, 150, 0)),
+        1,
+    ),
+    (500, None, None, 1),
+];
+
+// An order of 500 of which 200 are executed is canceled down to so many shares: the exchange and what is told.
+fn canceled(rt: &impl Abort, alloc: Global, shares: u32) -> (Exchange, Handled)
+    ensures { length result.0.stocks ≡ 1 }
+{
+    let mut exchange = opened(rt, alloc);
+    let resting = order(b'A', Side::Sell, 500, 100_000);
+    let buy = Inbound::Enter(order(b'B', Side::Buy, 200, 100_000));
+    sent(rt, alloc, &mut exchange, 3000, 2, Inbound::Enter(resting));
+    sent(rt, alloc, &mut exchange, 3000, 1, buy);
+    let cancel = Cancel {
+        token: resting.token,
+        shares,
+    };
+    let out = sent(rt, alloc, &mut exchange, 3001, 2, Inbound::Cancel(cancel));
+    (exchange, out)
 }
 
 #[test]
 fn a_cancel_counts_executed_shares(rt: HostRuntime) {
-    let alloc = rt.alloc();
-    for (shares, reply, feed, live) in [
-        (
-            150,
-            Some((2, b'C', 300, 0, b'U', 0)),
-            Some((b'D', 1, 0, 0)),
-            0,
-        ),
-        (
-            350,
-            Some((2, b'C', 150, 0, b'U', 0)),
-            Some((b'X', 1, 150, 0)),
-            1,
-        ),
-        (500, None, None, 1),
-    ] {
-        let mut exchange = opened(&rt, alloc);
-        let resting = order(b'A', Side::Sell, 500, 100_000);
-        sent(&rt, alloc, &mut exchange, 3000, 2, Inbound::Enter(resting));
-        sent(
-            &rt,
-            alloc,
-            &mut exchange,
-            3000,
-            1,
-            Inbound::Enter(order(b'B', Side::Buy, 200, 100_000)),
-        );
-        let cancel = Cancel {
-            token: resting.token,
-            shares,
-        };
-        let out = sent(&rt, alloc, &mut exchange, 3001, 2, Inbound::Cancel(cancel));
-        assert_eq!(rt; said(&out, 0), reply, "to {shares}");
-        assert_eq!(rt; fed(&out, 0), feed, "to {shares}");
-        assert_eq!(rt; exchange.stock(0).live, live);
-        assert_eq!(rt; exchange.counts().cancels, u64::from(reply.is_none()));
+    for (shares, reply, feed, live) in CANCELS.iter() {
+        let (exchange, out) = canceled(&rt, rt.alloc(), *shares);
+        equal(&rt, said(&out, 0), *reply);
+        equal(&rt, fed(&out, 0), *feed);
+        equal(&rt, exchange.stock(0).live, *live);
+        equal(&rt, exchange.counts().cancels, u64::from(reply.is_none()));
     }
+}
+
+// A change is made.
+fn make_change(
+    rt: &impl Abort,
+    exchange: &mut Exchange,
+    time: Time,
+    change: &Change,
+    feed: &mut FeedList,
+)
+    requires stocks { length exchange.old.stocks ≡ 1 }
+    ensures traders { length exchange.new.cash ≡ length exchange.old.cash }
+    ensures stocks { length exchange.new.stocks ≡ length exchange.old.stocks }
+    ensures counts { exchange.new.counts ≡ exchange.old.counts }
+{
+    holds(rt, exchange.apply_change(time, 0, change, feed).is_ok());
+}
+
+// A stock is halted twice: an order is refused, and a cancel is not.
+fn is_halted(
+    rt: &impl Abort,
+    alloc: Global,
+    exchange: &mut Exchange,
+    feed: &mut FeedList,
+    resting: Token,
+)
+    requires traders { length exchange.old.cash ≡ 3 }
+    requires stocks { length exchange.old.stocks ≡ 1 }
+    requires enters { exchange.old.counts.enters ≤ 1000 }
+    requires cancels { exchange.old.counts.cancels ≤ 1000 }
+    ensures traders { length exchange.new.cash ≡ length exchange.old.cash }
+    ensures stocks { length exchange.new.stocks ≡ length exchange.old.stocks }
+    ensures enters { exchange.new.counts.enters ≤ exchange.old.counts.enters + 2 }
+    ensures cancels { exchange.new.counts.cancels ≤ exchange.old.counts.cancels + 2 }
+{
+    make_change(rt, exchange, 4500, &Change::Halt, feed);
+    make_change(rt, exchange, 4500, &Change::Halt, feed);
+    equal(rt, feed.len(), 1);
+    let sell = Inbound::Enter(order(b'B', Side::Sell, 10, 100_000));
+    let out = sent(rt, alloc, exchange, 4600, 2, sell);
+    equal(rt, said(&out, 0), Some((2, b'J', 0, 0, b'H', 0)));
+    let cancel = Inbound::Cancel(Cancel {
+        token: resting,
+        shares: 0,
+    });
+    let out = sent(rt, alloc, exchange, 4700, 1, cancel);
+    equal(rt, said(&out, 0), Some((1, b'C', 10, 0, b'U', 0)));
+}
+
+// It trades again, and an order comes to rest.
+fn is_resumed(rt: &impl Abort, alloc: Global, exchange: &mut Exchange, feed: &mut FeedList)
+    requires traders { length exchange.old.cash ≡ 3 }
+    requires stocks { length exchange.old.stocks ≡ 1 }
+    requires enters { exchange.old.counts.enters ≤ 1000 }
+    requires cancels { exchange.old.counts.cancels ≤ 1000 }
+    ensures traders { length exchange.new.cash ≡ length exchange.old.cash }
+    ensures stocks { length exchange.new.stocks ≡ length exchange.old.stocks }
+    ensures enters { exchange.new.counts.enters ≤ exchange.old.counts.enters + 2 }
+    ensures cancels { exchange.new.counts.cancels ≤ exchange.old.counts.cancels + 2 }
+{
+    make_change(rt, exchange, 4800, &Change::Resume, feed);
+    equal(rt, (feed.len(), exchange.stock(0).state), (2, b'T'));
+    let sell = Inbound::Enter(order(b'C', Side::Sell, 10, 100_100));
+    let out = sent(rt, alloc, exchange, 4999, 2, sell);
+    equal(rt, said(&out, 0), Some((2, b'A', 10, 100_100, b'L', 2)));
+}
+
+// Its ticks are five cents, and an order between two of them is refused; then it has no fees, and one trades free.
+fn has_new_rules(rt: &impl Abort, alloc: Global, exchange: &mut Exchange, feed: &mut FeedList)
+    requires traders { length exchange.old.cash ≡ 3 }
+    requires stocks { length exchange.old.stocks ≡ 1 }
+    requires enters { exchange.old.counts.enters ≤ 1000 }
+    requires cancels { exchange.old.counts.cancels ≤ 1000 }
+    ensures traders { length exchange.new.cash ≡ length exchange.old.cash }
+    ensures stocks { length exchange.new.stocks ≡ length exchange.old.stocks }
+    ensures enters { exchange.new.counts.enters ≤ exchange.old.counts.enters + 2 }
+    ensures cancels { exchange.new.counts.cancels ≤ exchange.old.counts.cancels + 2 }
+{
+    let Ok(table) = TickTable::new(alloc, &[Band { from: 0, tick: 500 }]) else {
+        panic!(rt; "no table");
+    };
+    make_change(rt, exchange, 5000, &Change::Tick(table), feed);
+    equal(rt, exchange.ticks(0).tick_at(100_100), 500);
+    let sell = Inbound::Enter(order(b'D', Side::Sell, 10, 100_100));
+    let out = sent(rt, alloc, exchange, 5000, 2, sell);
+    equal(rt, said(&out, 0), Some((2, b'J', 0, 0, b'X', 0)));
+    let fees = Change::Fee(FeeTable { add: 0, take: 0 });
+    make_change(rt, exchange, 5100, &fees, feed);
+    let buy = Inbound::Enter(order(b'E', Side::Buy, 10, 100_500));
+    let out = sent(rt, alloc, exchange, 5200, 3, buy);
+    equal(rt, (out.fee, feed.len()), (0, 2));
 }
 
 #[test]
@@ -272,76 +373,9 @@ fn rules_change_between_messages(rt: HostRuntime) {
     let resting = order(b'A', Side::Buy, 10, 100_000);
     sent(&rt, alloc, &mut exchange, 4000, 1, Inbound::Enter(resting));
     let mut feed = FeedList::new(alloc);
-    assert!(rt;
-        exchange
-            .apply_change(4500, 0, &Change::Halt, &mut feed)
-            .is_ok()
-    );
-    assert!(rt;
-        exchange
-            .apply_change(4500, 0, &Change::Halt, &mut feed)
-            .is_ok()
-    );
-    assert_eq!(rt; feed.len(), 1);
-    let out = sent(
-        &rt,
-        alloc,
-        &mut exchange,
-        4600,
-        2,
-        Inbound::Enter(order(b'B', Side::Sell, 10, 100_000)),
-    );
-    assert_eq!(rt; said(&out, 0), Some((2, b'J', 0, 0, b'H', 0)));
-    let cancel = Cancel {
-        token: resting.token,
-        shares: 0,
-    };
-    let out = sent(&rt, alloc, &mut exchange, 4700, 1, Inbound::Cancel(cancel));
-    assert_eq!(rt; said(&out, 0), Some((1, b'C', 10, 0, b'U', 0)));
-    assert!(rt;
-        exchange
-            .apply_change(4800, 0, &Change::Resume, &mut feed)
-            .is_ok()
-    );
-    assert_eq!(rt; (feed.len(), exchange.stock(0).state), (2, b'T'));
-    let out = sent(
-        &rt,
-        alloc,
-        &mut exchange,
-        4999,
-        2,
-        Inbound::Enter(order(b'C', Side::Sell, 10, 100_100)),
-    );
-    assert_eq!(rt; said(&out, 0), Some((2, b'A', 10, 100_100, b'L', 2)));
-    let Ok(table) = TickTable::new(alloc, &[Band { from: 0, tick: 500 }]) else {
-        panic!(rt; "no table");
-    };
-    assert!(rt;
-        exchange
-            .apply_change(5000, 0, &Change::Tick(table), &mut feed)
-            .is_ok()
-    );
-    assert_eq!(rt; exchange.ticks(0).tick_at(100_100), 500);
-    let out = sent(
-        &rt,
-        alloc,
-        &mut exchange,
-        5000,
-        2,
-        Inbound::Enter(order(b'D', Side::Sell, 10, 100_100)),
-    );
-    assert_eq!(rt; said(&out, 0), Some((2, b'J', 0, 0, b'X', 0)));
-    let fees = Change::Fee(FeeTable { add: 0, take: 0 });
-    assert!(rt; exchange.apply_change(5100, 0, &fees, &mut feed).is_ok());
-    let out = sent(
-        &rt,
-        alloc,
-        &mut exchange,
-        5200,
-        3,
-        Inbound::Enter(order(b'E', Side::Buy, 10, 100_500)),
-    );
-    assert_eq!(rt; (out.fee, feed.len()), (0, 2));
+    is_halted(&rt, alloc, &mut exchange, &mut feed, resting.token);
+    is_resumed(&rt, alloc, &mut exchange, &mut feed);
+    has_new_rules(&rt, alloc, &mut exchange, &mut feed);
 }
 
 #[test]
@@ -370,15 +404,16 @@ fn a_copy_goes_its_own_way(rt: HostRuntime) {
     let Ok(orders) = copy.orders(alloc, 0) else {
         panic!(rt; "no orders");
     };
-    assert_eq!(rt; (orders.len(), exchange.stock(0).live), (1, 0));
+    equal(&rt, (orders.len(), exchange.stock(0).live), (1, 0));
     let mut out = Handled::new(alloc);
     let mut copy = copy;
     assert!(rt; copy.handle(3001, 3, &Body::Ask(0), &mut out).is_ok());
     match out.get(0) {
         Some((to, Body::Quote(quote))) => {
-            assert_eq!(rt;
+            equal(
+                &rt,
                 (to, quote.state, quote.bid, quote.bid_shares, quote.ask),
-                (3, b'T', 100_000, 10, 0)
+                (3, b'T', 100_000, 10, 0),
             );
         }
         _ => panic!(rt; "no quote"),

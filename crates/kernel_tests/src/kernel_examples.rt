@@ -13,6 +13,7 @@ ghost use Rattle.market_floor.specs.OpeningWorked.{market_of, trader};
 ghost use Rattle.kernel_core.specs.Step.{Fits};
 ghost use Rattle.kernel_core.specs.EditsWorked.{IsPlain};
 
+use crate::facts::holds;
 use agent_shell::{Kind, TraderSetting};
 use kernel_core::{Kernel, Opening};
 use market_floor::opening_worked::{markets_are_openings, opening};
@@ -238,8 +239,11 @@ fn each_kind_of_edit_is_made(rt: HostRuntime) -> Result<(), Fail> {
     let kernel = each_kind(alloc, &o, &mut trace)?;
     let marks = trace.as_slice().iter().map(mark_of);
     let letters = b"tfhrlpsiv".iter().copied();
-    assert!(rt; marks.eq(letters.zip(0..9)));
-    assert!(rt; first_of_all(&kernel, &o) == (true, -5, 500) && kernel.counts().waiting == 2);
+    holds(&rt, marks.eq(letters.zip(0..9)));
+    holds(
+        &rt,
+        first_of_all(&kernel, &o) == (true, -5, 500) && kernel.counts().waiting == 2,
+    );
     Ok(())
 }
 
@@ -250,6 +254,20 @@ fn row(entry: &Entry) -> Option<(Time, u64, bool, Time)> {
         Entry::Edit(_) => None,
     }
 }
+
+const BUSY: [(Time, u64, bool, Time); 11] = [
+    (1000, 0, false, 1000),
+    (1000, 1, false, 1000),
+    (1003, 2, false, 1003),
+    (1005, 3, false, 1008),
+    (1005, 5, true, 1008),
+    (1008, 5, false, 1011),
+    (1008, 7, true, 1011),
+    (1011, 7, false, 1014),
+    (1013, 9, false, 1013),
+    (1016, 10, false, 1016),
+    (1019, 11, false, 1019),
+];
 
 #[test]
 fn a_busy_exchange_puts_back(rt: HostRuntime) -> Result<(), Fail> {
@@ -263,29 +281,18 @@ fn a_busy_exchange_puts_back(rt: HostRuntime) -> Result<(), Fail> {
     )?;
     let mut trace = Trace::new(alloc);
     let kernel = branch(alloc, &o, &[], 100, &mut trace)?;
-    let rows = [
-        (1000, 0, false, 1000),
-        (1000, 1, false, 1000),
-        (1003, 2, false, 1003),
-        (1005, 3, false, 1008),
-        (1005, 5, true, 1008),
-        (1008, 5, false, 1011),
-        (1008, 7, true, 1011),
-        (1011, 7, false, 1014),
-        (1013, 9, false, 1013),
-        (1016, 10, false, 1016),
-        (1019, 11, false, 1019),
-    ];
-    assert!(rt;
+    holds(
+        &rt,
         trace
             .as_slice()
             .iter()
             .map(row)
-            .eq(rows.iter().map(|r| Some(*r)))
+            .eq(BUSY.iter().map(|r| Some(*r))),
     );
     let counts = kernel.counts();
-    assert!(rt;
-        kernel.end(&o) == Some(End::Closed) && counts.waiting == 3 && counts.next_seq == 12
+    holds(
+        &rt,
+        kernel.end(&o) == Some(End::Closed) && counts.waiting == 3 && counts.next_seq == 12,
     );
     Ok(())
 }
@@ -306,7 +313,7 @@ fn a_latency_is_drawn_by_number(rt: HostRuntime) -> Result<(), Fail> {
     let alloc = rt.alloc();
     let o = market(alloc, 2000, 0, &[(Kind::Watcher, 1000)])?;
     for (jitter, time) in [(0, 1000), (9, 1005), (4_294_967_295, 2_419_979_656)] {
-        assert!(rt; due(alloc, &o, jitter)? == Some(time), "under {jitter}");
+        holds(&rt, due(alloc, &o, jitter)? == Some(time));
     }
     Ok(())
 }
@@ -345,7 +352,7 @@ fn a_closed_run_goes_on(rt: HostRuntime) -> Result<(), Fail> {
         &[(Kind::Watcher, 1000), (Kind::Watcher, 1000)],
     )?;
     let closed = ending(alloc, &o, &[(50, order(b'A', 100))])?;
-    assert!(rt; closed == (Some(End::Closed), 8, 1115, 2, 10, 0));
+    holds(&rt, closed == (Some(End::Closed), 8, 1115, 2, 10, 0));
     Ok(())
 }
 
@@ -356,7 +363,7 @@ fn a_quiet_run_goes_on(rt: HostRuntime) -> Result<(), Fail> {
     let o = market(alloc, 2000, 0, &[(Kind::Watcher, 1000)])?;
     let edits = [(0, Edit::Silence { agent: 1 }), (50, order(b'A', 100))];
     let quiet = ending(alloc, &o, &edits)?;
-    assert!(rt; quiet == (Some(End::Quiet), 3, 1105, 0, 3, 0));
+    holds(&rt, quiet == (Some(End::Quiet), 3, 1105, 0, 3, 0));
     Ok(())
 }
 
@@ -370,15 +377,16 @@ fn an_order_into_a_full_queue_is_dropped_and_counted(rt: HostRuntime) -> Result<
         (65_535, order(b'A', 100)),
     ];
     let full = ending(alloc, &o, &edits)?;
-    assert!(rt;
+    holds(
+        &rt,
         full == (
             Some(End::QueueFull),
             65_535,
             65_534_001_000,
             65_536,
             131_071,
-            1
-        )
+            1,
+        ),
     );
     Ok(())
 }

@@ -4,6 +4,7 @@ ghost use Rattle.std.specs.Prelude.{◌≡◌, ◌<◌, ◌+◌, ◌^◌, ◌∷
 ghost use Rattle.latency_model.specs.Tables.{group_count};
 ghost use Rattle.market_floor.specs.OpeningWorked.{market, watcher};
 
+use crate::facts::{equal, holds};
 use agent_shell::{Kind, TraderSetting};
 use kernel_core::Mail;
 use latency_model::Groups;
@@ -121,11 +122,11 @@ fn messages_are_due_by_their_own_draws(rt: HostRuntime) -> Result<(), Fail> {
     wake(&mut mail, &o, &groups, 1200);
     let copy = mail.copy(alloc)?;
     let moved = mail.put_back(1500);
-    assert!(rt; moved.map_or(false, |m| m.time == 1017 && m.seq == 1));
+    holds(&rt, moved.map_or(false, |m| m.time == 1017 && m.seq == 1));
     let now = [(1200, 2, 1, 1), (1500, 0, 1, 0), (1500, 1, 1, 0)];
-    assert_eq!(rt; rows(alloc, &mail)?.as_slice(), now.as_slice());
+    holds(&rt, rows(alloc, &mail)?.as_slice() == now.as_slice());
     let before = [(1017, 1, 1, 0), (1200, 2, 1, 1), (1500, 0, 1, 0)];
-    assert_eq!(rt; rows(alloc, &copy)?.as_slice(), before.as_slice());
+    holds(&rt, rows(alloc, &copy)?.as_slice() == before.as_slice());
     Ok(())
 }
 
@@ -138,11 +139,11 @@ fn full_mail_drops_what_is_to_join(rt: HostRuntime) -> Result<(), Fail> {
     let mut copy = mail.copy(alloc)?;
     cancel(&mut copy, 0);
     wake(&mut copy, &o, &o.groups, 1200);
-    assert_eq!(rt; counts(&copy), (65_536, 65_536, 2));
-    assert_eq!(rt; take(&mut copy), Some(65_535));
+    equal(&rt, counts(&copy), (65_536, 65_536, 2));
+    equal(&rt, take(&mut copy), Some(65_535));
     wake(&mut copy, &o, &o.groups, 0);
-    assert!(rt; copy.least().map_or(false, |m| m.seq == 65_536));
-    assert_eq!(rt; counts(&copy), (65_536, 65_537, 2));
-    assert_eq!(rt; counts(&mail), (65_536, 65_536, 0));
+    holds(&rt, copy.least().map_or(false, |m| m.seq == 65_536));
+    equal(&rt, counts(&copy), (65_536, 65_537, 2));
+    equal(&rt, counts(&mail), (65_536, 65_536, 0));
     Ok(())
 }

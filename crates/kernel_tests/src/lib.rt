@@ -8,6 +8,8 @@ mod exchange_agent_tests;
 #[cfg(test)]
 mod exchange_examples;
 #[cfg(test)]
+mod facts;
+#[cfg(test)]
 mod kernel_examples;
 #[cfg(test)]
 mod kernel_mail_tests;

@@ -7,6 +7,7 @@ ghost use Rattle.market_floor.specs.Floor.{floor_at_opening};
 ghost use Rattle.market_floor.specs.Sound.{FitsFloor, IsSoundFloor};
 ghost use Rattle.market_floor.specs.Worked.{halting};
 
+use crate::facts::holds;
 use agent_shell::{Kind, TraderSetting};
 use market_floor::laws::floors_stay_sound;
 use market_floor::opening_worked::{markets_are_openings, opening};
@@ -150,9 +151,12 @@ fn a_halt_comes_at_its_time(rt: HostRuntime) -> Result<(), Fail> {
     let o = halting_opening(alloc)?;
     let mut floor = Floor::open(alloc, &o)?;
     let early = deliver(&rt, alloc, &o, &mut floor, 0, 1399, 1, 0, Body::Ask(0))?;
-    assert!(rt; is_quote(&early, b'T') && early.before.len() == 0 && early.delay == 7);
+    holds(
+        &rt,
+        is_quote(&early, b'T') && early.before.len() == 0 && early.delay == 7,
+    );
     let late = deliver(&rt, alloc, &o, &mut floor, 1, 1400, 1, 0, Body::Ask(0))?;
-    assert!(rt; is_quote(&late, b'H') && late.before.len() == 1);
+    holds(&rt, is_quote(&late, b'H') && late.before.len() == 1);
     Ok(())
 }
 
@@ -164,7 +168,7 @@ fn a_copy_halts(rt: HostRuntime) -> Result<(), Fail> {
     let floor = Floor::open(alloc, &o)?;
     let mut copy = floor.copy(alloc)?;
     let feed = copy.rule(alloc, &o, 0, 1600)?;
-    assert!(rt; feed.len() == 1 && applied_by(&o, 0, 1600) == 2);
+    holds(&rt, feed.len() == 1 && applied_by(&o, 0, 1600) == 2);
     Ok(())
 }
 

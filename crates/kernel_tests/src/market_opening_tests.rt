@@ -1,5 +1,6 @@
 //! An opening made in code.
 
+use crate::facts::equal;
 use agent_shell::{Kind, TraderSetting};
 use market_floor::group_number;
 use market_floor::opening_worked::opening;
@@ -23,13 +24,14 @@ fn agents_are_in_their_groups(rt: HostRuntime) -> Result<(), Fail> {
     }
     let o = opening(alloc, 2000, 100, 3, traders)?;
     assert!(rt; o.traders.len() == 2);
-    assert_eq!(rt;
+    equal(
+        &rt,
         (
             group_number(&o, 0),
             group_number(&o, 1),
-            group_number(&o, 2)
+            group_number(&o, 2),
         ),
-        (0, 3, 4)
+        (0, 3, 4),
     );
     Ok(())
 }

@@ -1,49 +1,21 @@
-ghost use Rattle.std.specs.Prelude.{[]};
 ghost use Rattle.agent_shell.specs.Parameters.{IsKind};
-ghost use Rattle.quoter_agents.specs.Quoter.{IsQuoterKind};
 
 use crate::tick_tables::cents;
+use crate::trader_party_tests::react;
 use agent_shell::{Kind, Sending, Sends, TraderSetting};
-use market_rules::{TickTable, View};
-use market_types::{Body, Inbound, Memory, Quote, Side, Symbol};
-use quoter_agents::Quoter;
+use market_floor::Party;
+use market_types::{Body, Inbound, Quote, Side};
 use std::alloc::Global;
 use std::process::Abort;
 use std::test::Fail;
 
-const KEY: [u8; 32] = [0; 32];
-
-// Decides on a message at 1000 with a value of 100,000, where the counts and the account are small.
-fn decide(
-    rt: &impl Abort,
-    trader: &mut Quoter,
-    ticks: &TickTable,
-    body: &Body,
-    out: &mut Sends,
-) -> Result<(), Memory> {
-    let told = trader.told();
-    assert!(rt; told.tokens < 1000 && told.draws < 1000 && told.quotes < 1000);
-    let position = told.account.position;
-    let cash = told.account.cash;
-    assert!(rt; -1_000_000 < position);
-    assert!(rt; position < 1_000_000);
-    assert!(rt; -1_000_000_000_000 < cash);
-    assert!(rt; cash < 1_000_000_000_000);
-    let view = View {
-        time: 1000,
-        key: &KEY,
-        symbol: Symbol(*b"ABM     "),
-        value: 100_000,
-        ticks,
-    };
-    trader.decide(&view, body, out)
-}
+// The value of the stock.
+const VALUE: u32 = 100_000;
 
 // What agent 1 sends for these messages. It wakes each 500 nanoseconds, and goes on as a copy of itself
 // after each message.
 fn sends_of(rt: &impl Abort, alloc: Global, kind: Kind, bodies: &[Body]) -> Result<Sends, Fail>
-    requires range { IsKind kind }
-    requires quoter { IsQuoterKind kind [] }
+    requires { IsKind kind }
 {
     let ticks = cents(alloc)?;
     let setting = TraderSetting {
@@ -57,9 +29,9 @@ fn sends_of(rt: &impl Abort, alloc: Global, kind: Kind, bodies: &[Body]) -> Resu
         cash: 0,
     };
     let mut out = Sends::new(alloc);
-    let mut trader = Quoter::open(alloc, 1, &setting)?;
+    let mut trader = Party::open(alloc, 1, &setting)?;
     for body in bodies {
-        decide(rt, &mut trader, &ticks, body, &mut out)?;
+        react(rt, &mut trader, VALUE, &ticks, body, &mut out)?;
         trader = trader.copy()?;
     }
     Ok(out)

@@ -1,50 +1,23 @@
 ghost use Rattle.agent_shell.specs.Parameters.{IsKind};
-ghost use Rattle.taker_agents.specs.Taker.{IsTakerKind};
 
 use crate::tick_tables::cents;
+use crate::trader_party_tests::react;
 use agent_shell::{Kind, Sending, Sends, TraderSetting};
-use market_rules::{TickTable, View};
-use market_types::{Body, Inbound, Memory, Quote, Side, Symbol};
+use market_floor::Party;
+use market_types::{Body, Inbound, Quote, Side};
 use std::alloc::Global;
 use std::process::Abort;
 use std::test::Fail;
-use taker_agents::Taker;
 
 // Under the zero key the words of stream 0 are 0xade0b876, 0x903df1a0, 0xe56a5d40, 0x28bd8653, 0xb819d2bd,
 // 0x1aed8da0, 0xccef36a8, 0xc70d778b, 0x7c5941da: a word is tails where it is 0x80000000 or more.
-const ZERO_KEY: [u8; 32] = [0; 32];
-
-// Decides on a message at 1000 with a value of 100,050, where the counts and the account are small.
-fn decide(
-    rt: &impl Abort,
-    trader: &mut Taker,
-    ticks: &TickTable,
-    body: &Body,
-    out: &mut Sends,
-) -> Result<(), Memory> {
-    let told = trader.told();
-    assert!(rt; told.tokens < 1000 && told.draws < 1000 && told.quotes < 1000);
-    let position = told.account.position;
-    let cash = told.account.cash;
-    assert!(rt; -1_000_000 < position);
-    assert!(rt; position < 1_000_000);
-    assert!(rt; -1_000_000_000_000 < cash);
-    assert!(rt; cash < 1_000_000_000_000);
-    let view = View {
-        time: 1000,
-        key: &ZERO_KEY,
-        symbol: Symbol(*b"ABM     "),
-        value: 100_050,
-        ticks,
-    };
-    trader.decide(&view, body, out)
-}
+// The value of the stock.
+const VALUE: u32 = 100_050;
 
 // What agent 0 sends for these messages. It wakes each 500 nanoseconds and up to 9 more, and goes on as a copy of itself
 // after each message.
 fn sends_of(rt: &impl Abort, alloc: Global, kind: Kind, bodies: &[Body]) -> Result<Sends, Fail>
-    requires range { IsKind kind }
-    requires taker { IsTakerKind kind }
+    requires { IsKind kind }
 {
     let ticks = cents(alloc)?;
     let setting = TraderSetting {
@@ -58,9 +31,9 @@ fn sends_of(rt: &impl Abort, alloc: Global, kind: Kind, bodies: &[Body]) -> Resu
         cash: 1000,
     };
     let mut out = Sends::new(alloc);
-    let mut trader = Taker::open(alloc, 0, &setting)?;
+    let mut trader = Party::open(alloc, 0, &setting)?;
     for body in bodies {
-        decide(rt, &mut trader, &ticks, body, &mut out)?;
+        react(rt, &mut trader, VALUE, &ticks, body, &mut out)?;
         trader = trader.copy()?;
     }
     Ok(out)

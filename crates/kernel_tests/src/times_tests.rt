@@ -5,6 +5,7 @@ ghost use Rattle.market_floor.specs.Opening.{IsOpening};
 ghost use Rattle.kernel_core.specs.Step.{Fits};
 ghost use Rattle.kernel_core.specs.EditsWorked.{IsPlain};
 
+use crate::facts::holds;
 use crate::kernel_examples::copies::{Gone, are_alike, crowd, gone_on};
 use crate::kernel_examples::{branch, market, run};
 use agent_shell::Kind;
@@ -56,29 +57,30 @@ fn reached(
     Ok((end, ticks, kernel.events(), kernel.time(), due))
 }
 
+// After how many events a run goes on, up to when, how many events it may make, and what it reaches.
+const STOPS: [(u32, Time, u32, Reached); 11] = [
+    (0, 999, 100, (None, 0, 0, 1000, false)),
+    (0, 1000, 0, (None, 0, 0, 1000, true)),
+    (0, 1000, 1, (None, 1, 1, 1000, true)),
+    (0, 1000, 100, (None, 2, 2, 1000, false)),
+    (0, 1004, 100, (None, 2, 2, 1000, false)),
+    (0, 1005, 3, (None, 3, 3, 1005, true)),
+    (2, 1000, 100, (None, 0, 2, 1000, false)),
+    (3, 1005, 2, (None, 0, 3, 1005, true)),
+    (0, 1005, 100, (Some(End::Closed), 4, 4, 1005, false)),
+    (0, 5000, 100, (Some(End::Closed), 4, 4, 1005, false)),
+    (4, 5000, 0, (Some(End::Closed), 0, 4, 1005, false)),
+];
+
 // Two watchers wake at 1000 and ask, and the market closes at 1005, when their questions are due.
 #[test]
 fn a_run_stops_at_a_time(rt: HostRuntime) -> Result<(), Fail> {
     let alloc = rt.alloc();
     let watchers = [(Kind::Watcher, 1000), (Kind::Watcher, 1000)];
     let o = market(alloc, 1005, 0, &watchers)?;
-    let closed = Some(End::Closed);
-    let rows = [
-        (0, 999, 100, (None, 0, 0, 1000, false)),
-        (0, 1000, 0, (None, 0, 0, 1000, true)),
-        (0, 1000, 1, (None, 1, 1, 1000, true)),
-        (0, 1000, 100, (None, 2, 2, 1000, false)),
-        (0, 1004, 100, (None, 2, 2, 1000, false)),
-        (0, 1005, 3, (None, 3, 3, 1005, true)),
-        (2, 1000, 100, (None, 0, 2, 1000, false)),
-        (3, 1005, 2, (None, 0, 3, 1005, true)),
-        (0, 1005, 100, (closed, 4, 4, 1005, false)),
-        (0, 5000, 100, (closed, 4, 4, 1005, false)),
-        (4, 5000, 0, (closed, 0, 4, 1005, false)),
-    ];
-    for (first, when, most, hoped) in rows {
-        let told = reached(alloc, &o, &[], first, when, most)?;
-        assert!(rt; told == hoped, "from {first} to {when} with {most}");
+    for (first, when, most, hoped) in STOPS.iter() {
+        let told = reached(alloc, &o, &[], *first, *when, *most)?;
+        holds(&rt, told == *hoped);
     }
     Ok(())
 }
@@ -90,7 +92,7 @@ fn a_run_up_to_a_time_tells_that_it_is_quiet(rt: HostRuntime) -> Result<(), Fail
     let o = market(alloc, 2000, 0, &[(Kind::Watcher, 1000)])?;
     let silence = [(0, Edit::Silence { agent: 1 })];
     let quiet = reached(alloc, &o, &silence, 0, 5000, 100)?;
-    assert!(rt; quiet == (Some(End::Quiet), 1, 1, 1000, false));
+    holds(&rt, quiet == (Some(End::Quiet), 1, 1, 1000, false));
     Ok(())
 }
 
@@ -111,12 +113,15 @@ fn a_run_that_stops_at_a_time_goes_on_as_if_it_had_not(rt: HostRuntime) -> Resul
     let o = crowd(alloc)?;
     let kernel = Kernel::open(alloc, &o)?;
     let whole = gone_on(alloc, &o, kernel)?;
-    assert!(rt; whole.end == Some(End::Closed) && whole.kernel.events() > 1000);
+    holds(
+        &rt,
+        whole.end == Some(End::Closed) && whole.kernel.events() > 1000,
+    );
     for when in [0, 1000, 1_001_000, 30_000_000, 60_000_000, 90_000_000] {
         let parts = stopped(alloc, &o, when)?;
-        assert!(rt;
+        holds(
+            &rt,
             parts.end == whole.end && are_alike(alloc, &parts, &whole)?,
-            "at {when}"
         );
     }
     Ok(())

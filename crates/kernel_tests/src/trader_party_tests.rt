@@ -38,10 +38,11 @@ fn opened(alloc: Global, kind: Kind) -> Result<Party, Memory>
     Party::open(alloc, 1, &setting)
 }
 
-// Takes a message at 1000 with a value of 100,050, where the counts and the account are small.
-fn react(
+/// Takes a message at 1000 where the stock has this value and the counts and the account are small.
+pub fn react(
     rt: &impl Abort,
     party: &mut Party,
+    value: u32,
     ticks: &TickTable,
     body: &Body,
     out: &mut Sends,
@@ -58,7 +59,7 @@ fn react(
         time: 1000,
         key: &[0; 32],
         symbol: Symbol(*b"ABM     "),
-        value: 100_050,
+        value,
         ticks,
     };
     party.react(&view, body, out)
@@ -70,8 +71,8 @@ fn a_watcher_wakes_and_hears(rt: HostRuntime) -> Result<(), Fail> {
     let ticks = cents(alloc)?;
     let mut out = Sends::new(alloc);
     let mut party = opened(alloc, Kind::Watcher)?;
-    react(&rt, &mut party, &ticks, &Body::Wake, &mut out)?;
-    react(&rt, &mut party, &ticks, &QUOTE, &mut out)?;
+    react(&rt, &mut party, 100_050, &ticks, &Body::Wake, &mut out)?;
+    react(&rt, &mut party, 100_050, &ticks, &QUOTE, &mut out)?;
     let told = party.told();
     assert!(rt; told.draws == 1 && told.quotes == 1);
     assert!(rt; !party.is_silent() && out.as_slice().len() == 2);
@@ -87,15 +88,15 @@ fn a_silenced_watcher_is_still(rt: HostRuntime) -> Result<(), Fail> {
     let mut party = opened(alloc, Kind::Watcher)?;
     party.silence();
     let mut copy = party.copy()?;
-    react(&rt, &mut copy, &ticks, &Body::Wake, &mut out)?;
-    react(&rt, &mut copy, &ticks, &QUOTE, &mut out)?;
+    react(&rt, &mut copy, 100_050, &ticks, &Body::Wake, &mut out)?;
+    react(&rt, &mut copy, 100_050, &ticks, &QUOTE, &mut out)?;
     let told = copy.told();
     assert!(rt; told.draws == 0 && told.quotes == 0);
     assert!(rt; copy.is_silent() && out.as_slice().is_empty());
     Ok(())
 }
 
-// A maker is kept as the other kind of trader, and quotes two orders.
+// A maker quotes two orders.
 #[test]
 fn a_maker_quotes(rt: HostRuntime) -> Result<(), Fail> {
     let alloc = rt.alloc();
@@ -109,7 +110,7 @@ fn a_maker_quotes(rt: HostRuntime) -> Result<(), Fail> {
     };
     let mut out = Sends::new(alloc);
     let mut party = opened(alloc, kind)?;
-    react(&rt, &mut party, &ticks, &QUOTE, &mut out)?;
+    react(&rt, &mut party, 100_050, &ticks, &QUOTE, &mut out)?;
     let copy = party.copy()?;
     let told = copy.told();
     assert!(rt; out.as_slice().len() == 2 && told.live == 2 && told.tokens == 2);

@@ -1,4 +1,5 @@
 pub mod Openings
+pub mod Parties
 pub mod Markets
 pub mod Changes
 pub mod Halting

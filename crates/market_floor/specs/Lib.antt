@@ -2,7 +2,7 @@ pub mod Opening
 pub mod Groups
 pub mod Postings
 pub mod OpeningWorked
-pub mod Form
+pub mod Past
 pub mod Party
 pub mod PartyWorked
 pub mod Edited

@@ -1,131 +1,98 @@
 //! A trader of any kind.
 
-ghost use Rattle.std.specs.Prelude.{◌≡◌, ◌<◌, ◌≤◌, ◌+◌, ◌++◌, ◌^◌, ℕ, [], true, IfOk, OnOk, OnErr};
-ghost use Rattle.agent_shell.specs.Bounds.{AreSendings, IsAfter, IsMoved};
-ghost use Rattle.agent_shell.specs.Decide.{answered, decided};
+ghost use Rattle.std.specs.Prelude.{◌≡◌, ◌<◌, ◌≤◌, ◌+◌, ◌++◌, ◌^◌, ℕ, true, IfOk, OnOk, OnErr};
+ghost use Rattle.agent_shell.specs.Bounds.{AreSendings, IsAfter};
+ghost use Rattle.agent_shell.specs.Decide.{quoted};
 ghost use Rattle.agent_shell.specs.Parameters.{IsOwnParam, IsSetting};
+ghost use Rattle.agent_shell.specs.Parts.{trader_of};
 ghost use Rattle.agent_shell.specs.Sight.{sight_of};
-ghost use Rattle.agent_shell.specs.Trader.{told_of, trader_at_opening, trader_with};
-ghost use Rattle.market_floor.specs.Form.{trader_of};
-ghost use Rattle.market_floor.specs.Party.{party_at_opening, reacted, silenced, with_trader};
+ghost use Rattle.agent_shell.specs.Sound.{IsTrader};
+ghost use Rattle.agent_shell.specs.Trader.{IsReady, told_of, trader_at_opening, trader_with};
+ghost use Rattle.market_floor.specs.Party.{party_at_opening, reacted, with_trader};
+ghost use Rattle.market_floor.specs.Past.{IsPast};
 
 use agent_shell::laws::traders_stay_in_range;
-use agent_shell::{Kind, Sends, TraderSetting};
+use agent_shell::{Kind, Levels, Parts, Sends, TraderSetting};
 use market_rules::{Param, View};
-use market_types::{AgentNo, Body, Memory, StockNo, Time, TraderTold};
-use quoter_agents::Quoter;
+use market_types::{AgentNo, Body, Memory, Quote, StockNo, Time, TraderTold};
+use quoter_agents::{History, follow, make};
 use std::alloc::Global;
 use std::marker::Model;
-use taker_agents::Taker;
-
-#[derive(Drop)]
-enum Form {
-    Taker(Taker),
-    Quoter(Quoter),
-}
+use taker_agents::take;
 
 /// A trader, and whether it is silenced: it then takes replies, and nothing else moves it.
 #[derive(Drop)]
 pub struct Party {
-    form: Form,
-    stock: StockNo,
+    parts: Parts,
+    past: History,
     silent: bool,
 }
 
 impl Model for Party {
     ghost use Rattle.std.specs.Prelude.{◌≡◌};
-    ghost use Rattle.market_floor.specs.Form.{trader_of};
+    ghost use Rattle.agent_shell.specs.Parts.{trader_of};
+    ghost use Rattle.agent_shell.specs.Sound.{IsTrader};
     ghost use Rattle.market_floor.specs.Party.{PartyState};
+    ghost use Rattle.market_floor.specs.Past.{IsPast};
 
     ghost Value = { PartyState };
 
-    ghost view = { λ p. record { trader = trader_of p.form; silent = p.silent } };
+    ghost view = { λ p. record { trader = trader_of p.past p.parts; silent = p.silent } };
 
-    ghost invariant = { λ p. p.stock ≡ (trader_of p.form).setting.stock };
+    ghost invariant = { λ p. record {
+      sound : IsTrader (trader_of p.past p.parts);
+      past : IsPast p.parts.setting.kind p.past;
+      stream : p.parts.stream ≡ p.parts.shell.orders.agent;
+    } };
 }
 
-impl Form {
-    fn open(alloc: Global, agent: AgentNo, setting: &TraderSetting) -> Result<Form, Memory>
-        requires agent { agent ≤ 511 }
-        requires setting { IsSetting setting.now }
-        ensures value { IfOk result (λ t. trader_of t ≡ trader_at_opening agent setting.now) }
-        ensures fresh { IfOk result (λ t. IsAfter 0 (trader_of t)) }
-    {
-        match setting.kind {
+// What a trader does with a quote.
+fn take_quote(
+    parts: &mut Parts,
+    past: &mut History,
+    view: &View,
+    quote: &Quote,
+    out: &mut Sends,
+) -> Result<(), Memory>
+    requires sound { IsTrader (trader_of past.old parts.old) }
+    requires past { IsPast parts.old.setting.kind past.old }
+    requires stream { parts.old.stream ≡ parts.old.shell.orders.agent }
+    requires ready { IsReady (trader_of past.old parts.old) }
+    ensures trader { OnOk result (trader_of past.new parts.new ≡ (quoted (sight_of view.now) (trader_of past.old parts.old) quote.now).trader) }
+    ensures sends { OnOk result (out.new.list ≡ out.old.list ++ (quoted (sight_of view.now) (trader_of past.old parts.old) quote.now).sends) }
+    ensures sound { IsTrader (trader_of past.new parts.new) }
+    ensures past { IsPast parts.new.setting.kind past.new }
+    ensures stream { parts.new.stream ≡ parts.new.shell.orders.agent }
+    ensures unmoved { OnErr result (trader_of past.new parts.new ≡ trader_of past.old parts.old) }
+    ensures nothing_sent { OnErr result (out.new.list ≡ out.old.list) }
+{
+    if quote.state == b'T' {
+        match parts.setting.kind {
             Kind::Watcher | Kind::Noise { .. } | Kind::Value { .. } => {
-                let taker = Taker::open(alloc, agent, setting)?;
-                Ok(Form::Taker(taker))
+                take(parts, view, quote, out)?;
             }
-            Kind::Momentum { .. } | Kind::Maker { .. } => {
-                let quoter = Quoter::open(alloc, agent, setting)?;
-                Ok(Form::Quoter(quoter))
+            Kind::Momentum { size, short, long } => {
+                follow(parts, past, view, quote, size, short, long, out)?;
             }
-        }
-    }
-
-    // What the trader does with any message.
-    fn decide(&mut self, view: &View, body: &Body, out: &mut Sends) -> Result<(), Memory>
-        requires time { view.now.time < 2 ^ 62 }
-        requires few { IsAfter 1000000 (trader_of self.old) }
-        ensures trader { OnOk result (trader_of self.new ≡ (decided (sight_of view.now) (trader_of self.old) body.now).trader) }
-        ensures sends { OnOk result (out.new.list ≡ out.old.list ++ (decided (sight_of view.now) (trader_of self.old) body.now).sends) }
-        ensures refused { OnErr result (trader_of self.new ≡ trader_of self.old) }
-        ensures nothing_sent { OnErr result (out.new.list ≡ out.old.list) }
-        ensures sendings { AreSendings (sight_of view.now) (trader_of self.old) (decided (sight_of view.now) (trader_of self.old) body.now).sends }
-        ensures moved { IsMoved (trader_of self.old) (trader_of self.new) }
-    {
-        traders_stay_in_range();
-        match self {
-            Form::Taker(taker) => taker.decide(view, body, out),
-            Form::Quoter(quoter) => quoter.decide(view, body, out),
-        }
-    }
-
-    fn set(&mut self, name: Param, value: u64)
-        requires { IsOwnParam (trader_of self.old).setting.kind name value }
-        ensures value { trader_of self.new ≡ trader_with name value (trader_of self.old) }
-        ensures stock { (trader_of self.new).setting.stock ≡ (trader_of self.old).setting.stock }
-    {
-        match self {
-            Form::Taker(taker) => taker.set(name, value),
-            Form::Quoter(quoter) => quoter.set(name, value),
-        }
-    }
-
-    fn delay(&self) -> Time
-        ensures value { result ≡ (trader_of self.now).setting.delay }
-        ensures hour { result ≤ 3600000000000 }
-    {
-        match self {
-            Form::Taker(taker) => taker.delay(),
-            Form::Quoter(quoter) => quoter.delay(),
-        }
-    }
-
-    fn told(&self) -> TraderTold
-        ensures value { result ≡ told_of (trader_of self.now) }
-        ensures few { result.live ≤ 64 }
-    {
-        match self {
-            Form::Taker(taker) => taker.told(),
-            Form::Quoter(quoter) => quoter.told(),
-        }
-    }
-
-    fn copy(&self) -> Result<Form, Memory>
-        ensures { IfOk result (λ t. trader_of t ≡ trader_of self.now) }
-    {
-        match self {
-            Form::Taker(taker) => {
-                let taker = taker.copy()?;
-                Ok(Form::Taker(taker))
-            }
-            Form::Quoter(quoter) => {
-                let quoter = quoter.copy()?;
-                Ok(Form::Quoter(quoter))
+            Kind::Maker {
+                size,
+                half,
+                step,
+                levels,
+                pause,
+            } => {
+                let each = Levels {
+                    size,
+                    half,
+                    step,
+                    pause,
+                };
+                make(parts, view, quote, &each, levels, out)?;
             }
         }
     }
+    parts.quotes += 1;
+    Ok(())
 }
 
 impl Party {
@@ -139,10 +106,10 @@ impl Party {
         ensures value { IfOk result (λ p. p ≡ party_at_opening agent setting.now) }
         ensures fresh { IfOk result (λ p. IsAfter 0 p.trader) }
     {
-        let form = Form::open(alloc, agent, setting)?;
+        let parts = Parts::open(alloc, agent, setting)?;
         Ok(Party {
-            form,
-            stock: setting.stock,
+            parts,
+            past: History::new(alloc),
             silent: false,
         })
     }
@@ -164,12 +131,20 @@ impl Party {
         ensures after { (n : ℕ) → IsAfter n self.old.trader → IsAfter (n + 1) self.new.trader }
     {
         traders_stay_in_range();
-        if !self.silent {
-            return self.form.decide(view, body, out);
-        }
         match body {
-            Body::Answer(_) => self.form.decide(view, body, out),
-            Body::Wake | Body::Order(_) | Body::Ask(_) | Body::Quote(_) => Ok(()),
+            Body::Answer(reply) => {
+                self.parts.shell.take_reply(reply);
+                Ok(())
+            }
+            Body::Wake if !self.silent => self.parts.wake(view, out),
+            Body::Quote(quote) if !self.silent => take_quote(
+                &mut self.parts,
+                &mut self.past,
+                view,
+                quote,
+                out,
+            ),
+            Body::Wake | Body::Quote(_) | Body::Order(_) | Body::Ask(_) => Ok(()),
         }
     }
 
@@ -181,7 +156,7 @@ impl Party {
         ensures after { (n : ℕ) → IsAfter n self.old.trader → IsAfter n self.new.trader }
     {
         traders_stay_in_range();
-        self.form.set(name, value);
+        self.parts.setting = self.parts.setting.with(name, value);
     }
 
     /// The trader sends nothing from now on.
@@ -202,7 +177,7 @@ impl Party {
     pub fn stock(&self) -> StockNo
         ensures { result ≡ self.now.trader.setting.stock }
     {
-        self.stock
+        self.parts.setting.stock
     }
 
     /// The computation delay in nanoseconds.
@@ -210,7 +185,7 @@ impl Party {
         ensures value { result ≡ self.now.trader.setting.delay }
         ensures hour { result ≤ 3600000000000 }
     {
-        self.form.delay()
+        self.parts.setting.delay
     }
 
     /// What the trader tells of itself.
@@ -218,7 +193,7 @@ impl Party {
         ensures value { result ≡ told_of self.now.trader }
         ensures few { result.live ≤ 64 }
     {
-        self.form.told()
+        self.parts.told()
     }
 
     /// An equal trader.
@@ -228,10 +203,11 @@ impl Party {
     pub fn copy(&self) -> Result<Party, Memory>
         ensures { IfOk result (λ p. p ≡ self.now) }
     {
-        let form = self.form.copy()?;
+        let parts = self.parts.copy()?;
+        let past = self.past.copy()?;
         Ok(Party {
-            form,
-            stock: self.stock,
+            parts,
+            past,
             silent: self.silent,
         })
     }

@@ -91,7 +91,8 @@ pub fn read_orders(alloc: Global, traders: usize, text: &[u8]) -> Result<Vec<Int
         .from_reader(alloc, text);
     let mut line = ByteRecord::new(alloc);
     let mut orders = Vec::new(alloc);
-    for number in 0..16_386 {
+    let mut number = 0;
+    'records: loop {
         let Ok(found) = next_record(&mut reader, &mut line) else {
             return Err(OrdersError::Memory);
         };
@@ -104,6 +105,6 @@ pub fn read_orders(alloc: Global, traders: usize, text: &[u8]) -> Result<Vec<Int
         if !taken {
             return Err(OrdersError::Refused(number));
         }
+        number += 1;
     }
-    unreachable!()
 }

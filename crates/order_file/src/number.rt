@@ -6,14 +6,12 @@ ghost use Rattle.std.specs.List.{list_all};
 ghost use Rattle.study_market.specs.Records.{is_digits, number_after};
 ghost use Rattle.order_file.specs.Fields.{number_in};
 
-// Whether a byte is a digit.
 fn is_digit(byte: u8) -> bool
     ensures { result ≡ is_in_range 48 57 byte }
 {
     matches!(byte, b'0'..=b'9')
 }
 
-// Whether each byte is a digit.
 fn each_is_digit(text: &[u8]) -> bool
     ensures { result ≡ list_all (is_in_range 48 57) text.now }
 {

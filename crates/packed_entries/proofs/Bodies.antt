@@ -1,5 +1,6 @@
 -- Bodies and what the columns have of them.
-use Rattle.std.proofs.Common.{◌≡◌, ◌≤◌, ℕ, Bool, true, false, List, [], ◌∷◌, ◌++◌, length, refl, arith}
+use Rattle.std.proofs.Common.{◌≡◌, ◌≤◌, ℕ, Bool, true, false, List, [], ◌∷◌, ◌++◌, length, refl, ap, arith}
+use Rattle.std.specs.Prelude.{if◌then◌else◌}
 use Rattle.market_types.specs.declared.order.Inbound.TheVariants as inbound
 use Rattle.market_types.specs.declared.reply.Reply.TheVariants as reply
 use Rattle.market_types.specs.declared.message.Body.{Body}
@@ -38,22 +39,9 @@ body_joined kind.Executed s p q e c a t u = first-append executed body.Wake p.sh
 body_joined kind.Rejected s p q e c a t u = first-append rejected body.Wake p.shorts q.shorts t
 body_joined kind.Edit s p q e c a t u = refl
 
-no_true : false ≡ true → ⊥
-no_true h = cc
-
--- an entry that is an edit has one
-pub edits_needed : (k : Kind) → is_edit k ≡ true → edits_in k ≡ 1
-edits_needed kind.Wake h = absurd (no_true h)
-edits_needed kind.Ask h = absurd (no_true h)
-edits_needed kind.Enter h = absurd (no_true h)
-edits_needed kind.Cancel h = absurd (no_true h)
-edits_needed kind.Quote h = absurd (no_true h)
-edits_needed kind.System h = absurd (no_true h)
-edits_needed kind.Accepted h = absurd (no_true h)
-edits_needed kind.Canceled h = absurd (no_true h)
-edits_needed kind.Executed h = absurd (no_true h)
-edits_needed kind.Rejected h = absurd (no_true h)
-edits_needed kind.Edit h = refl
+-- an entry that is an edit has one, another has none
+pub edits_needed : (k : Kind) (b : Bool) → is_edit k ≡ b → edits_in k ≡ (if b then 1 else 0)
+edits_needed k b h = ap (λ (c : Bool). if c then 1 else 0) h
 
 -- an event is no edit
 pub not_edit : (x : Body) → is_edit (kind_of x) ≡ false
@@ -69,16 +57,7 @@ not_edit (body.Ask stock) = refl
 not_edit (body.Quote quote) = refl
 
 pub edits_has : (x : Body) → edits_in (kind_of x) ≡ 0
-edits_has body.Wake = refl
-edits_has (body.Order (inbound.Enter o)) = refl
-edits_has (body.Order (inbound.Cancel o)) = refl
-edits_has (body.Answer (reply.System time code)) = refl
-edits_has (body.Answer (reply.Accepted time token side shares stock price tif firm display reference capacity sweep minimum cross state bbo)) = refl
-edits_has (body.Answer (reply.Canceled time token decrement reason)) = refl
-edits_has (body.Answer (reply.Executed time token shares price flag number)) = refl
-edits_has (body.Answer (reply.Rejected time token reason)) = refl
-edits_has (body.Ask stock) = refl
-edits_has (body.Quote quote) = refl
+edits_has x = edits_needed (kind_of x) false (not_edit x)
 
 pub enters_has : (x : Body) → enters_in (kind_of x) ≡ length (enters_of x)
 enters_has body.Wake = refl

@@ -1,2 +1,4 @@
+pub mod Behind
 pub mod Bodies
 pub mod Packing
+pub mod Rooms

@@ -1,5 +1,5 @@
 -- The entries that marks and columns are.
-use Rattle.std.specs.Prelude.{◌≡◌, ◌≤◌, ℕ, ◌+◌, ℤ, pos, Bool, true, false, if◌then◌else◌, List, [], ◌∷◌, length, take, drop, Option, Some, None, slice_get}
+use Rattle.std.specs.Prelude.{◌≡◌, ◌<◌, ◌≤◌, ℕ, ◌+◌, ◌^◌, pos, Bool, if◌then◌else◌, List, [], ◌∷◌, length, take, drop, Option, Some, None, slice_get}
 use Rattle.market_types.specs.declared.order.Enter.{Enter}
 use Rattle.market_types.specs.declared.order.Cancel.{Cancel}
 use Rattle.market_types.specs.declared.order.Inbound.TheVariants as inbound
@@ -71,36 +71,47 @@ body_in kind.Executed stock p = first executed body.Wake p.shorts
 body_in kind.Rejected stock p = first rejected body.Wake p.shorts
 body_in kind.Edit stock p = body.Wake
 
--- ---- the fee, and how many messages of the feed there are
+-- ---- the numbers of an entry that stand in its mark, or elsewhere
 
-abbrev pub fee_in : Bool → List Extra → ℤ
-fee_in more xs = first_if more (λ (x : Extra). x.fee) (pos 0) xs
+-- from the mark alone
+abbrev pub short : Mark → Extra
+short m = record { seq = m.seq; until = m.time + m.later; fee = pos 0; before = m.before; after = m.after }
 
-abbrev pub before_in : Bool → List Extra → ℕ
-before_in more xs = first_if more (λ (x : Extra). x.before) 0 xs
-
-abbrev pub after_in : Bool → List Extra → ℕ
-after_in more xs = first_if more (λ (x : Extra). x.after) 0 xs
+abbrev pub extra_in : Mark → List Extra → Extra
+extra_in m xs = first_if m.is_more (λ (x : Extra). x) (short m) xs
 
 abbrev pub extras_in : Bool → ℕ
 extras_in more = if more then 1 else 0
 
 -- ---- the first entry, and the columns behind it
 
-abbrev pub event_in : Mark → Parts → EventTold
-event_in m p = record {
+abbrev pub event_with : Mark → Extra → Body → List Feed → List Feed → EventTold
+event_with m x body before after = record {
   number = m.number;
   time = m.time;
-  seq = m.seq;
+  seq = x.seq;
   from = m.from;
   to = m.to;
   put_back = m.put_back;
-  until = m.until;
-  fee = fee_in m.is_more p.extras;
-  body = body_in m.kind m.stock p;
-  before = take (before_in m.is_more p.extras) p.feed;
-  after = take (after_in m.is_more p.extras) (drop (before_in m.is_more p.extras) p.feed);
+  until = x.until;
+  fee = x.fee;
+  body = body;
+  before = before;
+  after = after;
 }
+
+-- the messages of the feed before an event, of the event itself, and those behind them
+abbrev pub feed_before : Extra → List Feed → List Feed
+feed_before x feed = take x.before feed
+
+abbrev pub feed_after : Extra → List Feed → List Feed
+feed_after x feed = take x.after (drop x.before feed)
+
+abbrev pub feed_behind : Extra → List Feed → List Feed
+feed_behind x feed = drop x.after (drop x.before feed)
+
+abbrev pub event_in : Mark → Parts → EventTold
+event_in m p = event_with m (extra_in m p.extras) (body_in m.kind m.stock p) (feed_before (extra_in m p.extras) p.feed) (feed_after (extra_in m p.extras) p.feed)
 
 abbrev pub with_feed : List Feed → EditHead → EditTold
 with_feed feed d = record { events = d.events; time = d.time; branch = d.branch; index = d.index; letter = d.letter; feed = feed }
@@ -109,7 +120,7 @@ abbrev pub no_edit : EditTold
 no_edit = record { events = 0; time = 0; branch = 0; index = 0; letter = 0; feed = [] }
 
 abbrev pub edit_in : Mark → Parts → EditTold
-edit_in m p = first (with_feed (take (before_in m.is_more p.extras) p.feed)) no_edit p.edits
+edit_in m p = first (with_feed (feed_before (extra_in m p.extras) p.feed)) no_edit p.edits
 
 abbrev pub entry_in : Mark → Parts → EntryTold
 entry_in m p = if is_edit m.kind then edit (edit_in m p) else event (event_in m p)
@@ -123,7 +134,7 @@ left_by m p = record {
   quotes = drop (quotes_in m.kind) p.quotes;
   extras = drop (extras_in m.is_more) p.extras;
   edits = drop (edits_in m.kind) p.edits;
-  feed = drop (before_in m.is_more p.extras + after_in m.is_more p.extras) p.feed;
+  feed = feed_behind (extra_in m p.extras) p.feed;
 }
 
 -- the columns have what a mark's entry has of them
@@ -135,7 +146,8 @@ pub record HasFor (m : Mark) (p : Parts) : Type 0 where
   pub quotes : quotes_in m.kind ≤ length p.quotes
   pub extras : extras_in m.is_more ≤ length p.extras
   pub edits : edits_in m.kind ≤ length p.edits
-  pub feed : before_in m.is_more p.extras + after_in m.is_more p.extras ≤ length p.feed
+  pub feed : (extra_in m p.extras).before + (extra_in m p.extras).after ≤ length p.feed
+  pub until : m.time + m.later < 2 ^ 64
 
 -- ---- all entries
 

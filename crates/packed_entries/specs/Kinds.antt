@@ -1,5 +1,5 @@
 -- What entries of each kind take from the columns.
-use Rattle.std.specs.Prelude.{ℕ, Bool, true, false}
+use Rattle.std.specs.Prelude.{ℕ, Bool, true, false, if◌then◌else◌}
 use Rattle.packed_entries.specs.declared.mark.Kind.{Kind}
 use Rattle.packed_entries.specs.declared.mark.Kind.TheVariants as kind
 
@@ -32,5 +32,4 @@ quotes_in kind.Quote = 1
 quotes_in k = 0
 
 abbrev pub edits_in : Kind → ℕ
-edits_in kind.Edit = 1
-edits_in k = 0
+edits_in k = if is_edit k then 1 else 0

@@ -1,5 +1,5 @@
 -- The mark and the parts of one entry.
-use Rattle.std.specs.Prelude.{ℕ, pos, Bool, true, false, if◌then◌else◌, List, [], ◌∷◌, ◌++◌, length, replicate}
+use Rattle.std.specs.Prelude.{ℕ, ◌-◌, pos, Bool, false, if◌then◌else◌, List, [], ◌∷◌, ◌++◌, length, replicate}
 use Rattle.market_types.specs.declared.order.Enter.{Enter}
 use Rattle.market_types.specs.declared.order.Cancel.{Cancel}
 use Rattle.market_types.specs.declared.order.Inbound.{Inbound}
@@ -120,24 +120,30 @@ quotes_of (body.Answer reply) = []
 quotes_of (body.Ask stock) = []
 quotes_of (body.Quote quote) = quote ∷ []
 
--- ---- an event, and an edit, with a flag that says whether there is a fee or a feed
+-- ---- an event, and an edit, with a flag that says whether it has more than its mark has room for
+
+-- a number in a mark, unless it stands elsewhere
+abbrev pub low : Bool → ℕ → ℕ
+low more n = if more then 0 else n
 
 abbrev pub mark_of : Bool → EventTold → Mark
 mark_of more e = record {
   time = e.time;
-  seq = e.seq;
-  until = e.until;
   number = e.number;
+  seq = low more e.seq;
+  later = low more (e.until - e.time);
   from = e.from;
   to = e.to;
   stock = stock_of e.body;
+  before = low more (length e.before);
+  after = low more (length e.after);
   kind = kind_of e.body;
   put_back = e.put_back;
   is_more = more;
 }
 
 abbrev pub extra_of : EventTold → Extra
-extra_of e = record { fee = e.fee; before = length e.before; after = length e.after }
+extra_of e = record { seq = e.seq; until = e.until; fee = e.fee; before = length e.before; after = length e.after }
 
 abbrev pub own_parts : Bool → EventTold → Parts
 own_parts more e = record {
@@ -151,15 +157,17 @@ own_parts more e = record {
   feed = e.before ++ e.after;
 }
 
-abbrev pub edit_mark : Bool → Mark
-edit_mark more = record {
+abbrev pub edit_mark : Bool → EditTold → Mark
+edit_mark more d = record {
   time = 0;
-  seq = 0;
-  until = 0;
   number = 0;
+  seq = 0;
+  later = 0;
   from = 0;
   to = 0;
   stock = 0;
+  before = low more (length d.feed);
+  after = 0;
   kind = kind.Edit;
   put_back = false;
   is_more = more;
@@ -169,7 +177,7 @@ abbrev pub edit_head : EditTold → EditHead
 edit_head d = record { events = d.events; time = d.time; branch = d.branch; index = d.index; letter = d.letter }
 
 abbrev pub edit_extra : EditTold → Extra
-edit_extra d = record { fee = pos 0; before = length d.feed; after = 0 }
+edit_extra d = record { seq = 0; until = 0; fee = pos 0; before = length d.feed; after = 0 }
 
 abbrev pub edit_parts : Bool → EditTold → Parts
 edit_parts more d = record {

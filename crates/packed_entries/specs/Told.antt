@@ -36,16 +36,15 @@ columns_told c = record {
   feed = c.feed.list;
 }
 
--- each column keeps a place for one item, and that of the feed places for so many messages
+-- each column but that of the feed keeps places for so many items
 pub record HasRoom (n : ℕ) (c : Columns) : Type 0 where
-  pub enters : 1 ≤ c.enters.spare
-  pub cancels : 1 ≤ c.cancels.spare
-  pub accepted : 1 ≤ c.accepted.spare
-  pub shorts : 1 ≤ c.shorts.spare
-  pub quotes : 1 ≤ c.quotes.spare
-  pub extras : 1 ≤ c.extras.spare
-  pub edits : 1 ≤ c.edits.spare
-  pub feed : n ≤ c.feed.spare
+  pub enters : n ≤ c.enters.spare
+  pub cancels : n ≤ c.cancels.spare
+  pub accepted : n ≤ c.accepted.spare
+  pub shorts : n ≤ c.shorts.spare
+  pub quotes : n ≤ c.quotes.spare
+  pub extras : n ≤ c.extras.spare
+  pub edits : n ≤ c.edits.spare
 
 abbrev pub rest_told : Rest → Parts
 rest_told r = record {

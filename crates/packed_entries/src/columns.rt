@@ -1,8 +1,8 @@
 //! The columns, to which what an entry has is put.
 
-ghost use Rattle.std.specs.Prelude.{◌≡◌, ◌+◌, ◌≤◌, ◌++◌, ◌∷◌, [], OnOk, if◌then◌else◌, length};
+ghost use Rattle.std.specs.Prelude.{◌≡◌, ℕ, ◌+◌, ◌<◌, ◌≤◌, ◌++◌, ◌∷◌, [], OnOk, if◌then◌else◌, length};
 ghost use Rattle.market_types.specs.Told.{edit_told};
-ghost use Rattle.packed_entries.specs.Own.{accepted_of, accepted_told, cancels_of, edit_head, edit_parts, enters_of, extra_of, edit_extra, own_parts, quotes_of, shorts_of, shorts_told};
+ghost use Rattle.packed_entries.specs.Own.{accepted_of, accepted_told, cancels_of, cancels_sent, edit_extra, edit_head, edit_parts, enters_of, enters_sent, extra_of, own_parts, quotes_of, shorts_of, shorts_told};
 ghost use Rattle.packed_entries.specs.Parts.{joined};
 ghost use Rattle.packed_entries.specs.Told.{HasRoom, columns_told, parts_told};
 
@@ -27,58 +27,55 @@ pub(crate) struct Columns {
     pub feed: Roomy<Feed>,
 }
 
-fn put_enter(column: &mut Roomy<Enter>, body: &Body)
-    requires { 1 ≤ column.old.spare }
-    ensures { column.new.list ≡ column.old.list ++ enters_of body.now }
+fn put_order(enters: &mut Roomy<Enter>, cancels: &mut Roomy<Cancel>, order: &Inbound)
+    requires enters { 1 ≤ enters.old.spare }
+    requires cancels { 1 ≤ cancels.old.spare }
+    ensures enters { enters.new.list ≡ enters.old.list ++ enters_sent order.now }
+    ensures cancels { cancels.new.list ≡ cancels.old.list ++ cancels_sent order.now }
+    ensures enters_room { enters.old.spare ≤ enters.new.spare + 1 }
+    ensures cancels_room { cancels.old.spare ≤ cancels.new.spare + 1 }
 {
-    if let Body::Order(Inbound::Enter(order)) = body {
-        column.put(*order);
+    match order {
+        Inbound::Enter(enter) => enters.put(*enter),
+        Inbound::Cancel(cancel) => cancels.put(*cancel),
     }
 }
 
-fn put_cancel(column: &mut Roomy<Cancel>, body: &Body)
-    requires { 1 ≤ column.old.spare }
-    ensures { column.new.list ≡ column.old.list ++ cancels_of body.now }
+fn put_reply(replies: &mut Roomy<Accepted>, shorts: &mut Roomy<Short>, reply: &Reply)
+    requires replies { 1 ≤ replies.old.spare }
+    requires shorts { 1 ≤ shorts.old.spare }
+    ensures replies { replies.new.list ≡ replies.old.list ++ accepted_told reply.now }
+    ensures shorts { shorts.new.list ≡ shorts.old.list ++ shorts_told reply.now }
+    ensures replies_room { replies.old.spare ≤ replies.new.spare + 1 }
+    ensures shorts_room { shorts.old.spare ≤ shorts.new.spare + 1 }
 {
-    if let Body::Order(Inbound::Cancel(cancel)) = body {
-        column.put(*cancel);
-    }
-}
-
-fn put_quote(column: &mut Roomy<Quote>, body: &Body)
-    requires { 1 ≤ column.old.spare }
-    ensures { column.new.list ≡ column.old.list ++ quotes_of body.now }
-{
-    if let Body::Quote(quote) = body {
-        column.put(*quote);
-    }
-}
-
-// An accepted order.
-fn put_accepted_reply(column: &mut Roomy<Accepted>, reply: &Reply)
-    requires { 1 ≤ column.old.spare }
-    ensures { column.new.list ≡ column.old.list ++ accepted_told reply.now }
-{
-    if let Reply::Accepted {
-        time,
-        token,
-        side,
-        shares,
-        stock,
-        price,
-        tif,
-        firm,
-        display,
-        reference,
-        capacity,
-        sweep,
-        minimum,
-        cross,
-        state,
-        bbo,
-    } = *reply
-    {
-        column.put(Accepted {
+    match *reply {
+        Reply::System { time, code } => shorts.put(Short {
+            time,
+            number: 0,
+            shares: 0,
+            price: 0,
+            token: Token([0; 14]),
+            letter: code,
+        }),
+        Reply::Accepted {
+            time,
+            token,
+            side,
+            shares,
+            stock,
+            price,
+            tif,
+            firm,
+            display,
+            reference,
+            capacity,
+            sweep,
+            minimum,
+            cross,
+            state,
+            bbo,
+        } => replies.put(Accepted {
             time,
             reference,
             shares,
@@ -95,40 +92,13 @@ fn put_accepted_reply(column: &mut Roomy<Accepted>, reply: &Reply)
             cross,
             state,
             bbo,
-        });
-    }
-}
-
-fn put_accepted(column: &mut Roomy<Accepted>, body: &Body)
-    requires { 1 ≤ column.old.spare }
-    ensures { column.new.list ≡ column.old.list ++ accepted_of body.now }
-{
-    if let Body::Answer(reply) = body {
-        put_accepted_reply(column, reply);
-    }
-}
-
-// Any other reply.
-fn put_short_reply(column: &mut Roomy<Short>, reply: &Reply)
-    requires { 1 ≤ column.old.spare }
-    ensures { column.new.list ≡ column.old.list ++ shorts_told reply.now }
-{
-    match *reply {
-        Reply::System { time, code } => column.put(Short {
-            time,
-            number: 0,
-            shares: 0,
-            price: 0,
-            token: Token([0; 14]),
-            letter: code,
         }),
-        Reply::Accepted { .. } => (),
         Reply::Canceled {
             time,
             token,
             decrement,
             reason,
-        } => column.put(Short {
+        } => shorts.put(Short {
             time,
             number: 0,
             shares: decrement,
@@ -143,7 +113,7 @@ fn put_short_reply(column: &mut Roomy<Short>, reply: &Reply)
             price,
             flag,
             number,
-        } => column.put(Short {
+        } => shorts.put(Short {
             time,
             number,
             shares,
@@ -155,7 +125,7 @@ fn put_short_reply(column: &mut Roomy<Short>, reply: &Reply)
             time,
             token,
             reason,
-        } => column.put(Short {
+        } => shorts.put(Short {
             time,
             number: 0,
             shares: 0,
@@ -166,21 +136,15 @@ fn put_short_reply(column: &mut Roomy<Short>, reply: &Reply)
     }
 }
 
-fn put_short(column: &mut Roomy<Short>, body: &Body)
-    requires { 1 ≤ column.old.spare }
-    ensures { column.new.list ≡ column.old.list ++ shorts_of body.now }
-{
-    if let Body::Answer(reply) = body {
-        put_short_reply(column, reply);
-    }
-}
-
 fn put_extra(column: &mut Roomy<Extra>, is_more: bool, e: &EventParts<'_>)
     requires { 1 ≤ column.old.spare }
-    ensures { column.new.list ≡ column.old.list ++ (if is_more then extra_of (parts_told e.now) ∷ [] else []) }
+    ensures room { column.old.spare ≤ column.new.spare + 1 }
+    ensures list { column.new.list ≡ column.old.list ++ (if is_more then extra_of (parts_told e.now) ∷ [] else []) }
 {
     if is_more {
         column.put(Extra {
+            seq: e.seq,
+            until: e.until,
             fee: e.fee,
             before: e.before.len(),
             after: e.after.len(),
@@ -190,10 +154,13 @@ fn put_extra(column: &mut Roomy<Extra>, is_more: bool, e: &EventParts<'_>)
 
 fn put_edit_extra(column: &mut Roomy<Extra>, is_more: bool, d: &EditMark)
     requires { 1 ≤ column.old.spare }
-    ensures { column.new.list ≡ column.old.list ++ (if is_more then edit_extra (edit_told d.now) ∷ [] else []) }
+    ensures room { column.old.spare ≤ column.new.spare + 1 }
+    ensures list { column.new.list ≡ column.old.list ++ (if is_more then edit_extra (edit_told d.now) ∷ [] else []) }
 {
     if is_more {
         column.put(Extra {
+            seq: 0,
+            until: 0,
             fee: 0,
             before: d.feed.len(),
             after: 0,
@@ -228,31 +195,75 @@ impl Columns {
         }
     }
 
-    // Makes room for one item in each column, and for so many messages.
-    pub(crate) fn reserve(&mut self, messages: usize) -> Result<(), Memory>
+    // Makes room for so many items in each column but that of the feed.
+    pub(crate) fn reserve(&mut self, items: usize) -> Result<(), Memory>
         ensures lists { columns_told self.new ≡ columns_told self.old }
-        ensures room { OnOk result (HasRoom messages self.new) }
+        ensures room { OnOk result (HasRoom items self.new) }
     {
-        self.enters.reserve(1)?;
-        self.cancels.reserve(1)?;
-        self.accepted.reserve(1)?;
-        self.shorts.reserve(1)?;
-        self.quotes.reserve(1)?;
-        self.extras.reserve(1)?;
-        self.edits.reserve(1)?;
+        self.enters.reserve(items)?;
+        self.cancels.reserve(items)?;
+        self.accepted.reserve(items)?;
+        self.shorts.reserve(items)?;
+        self.quotes.reserve(items)?;
+        self.extras.reserve(items)?;
+        self.edits.reserve(items)
+    }
+
+    // Makes room for what so many events may have. That is a hint.
+    pub(crate) fn expect(&mut self, events: usize)
+        ensures lists { columns_told self.new ≡ columns_told self.old }
+        ensures room { (n : ℕ) → HasRoom n self.old → HasRoom n self.new }
+    {
+        let _ = self.enters.reserve(events / 4);
+        let _ = self.cancels.reserve(events / 4);
+        let _ = self.accepted.reserve(events / 4);
+        let _ = self.shorts.reserve(events / 3);
+        let _ = self.quotes.reserve(events / 4);
+        let _ = self.feed.reserve(events / 4);
+    }
+
+    // Makes room for so many messages.
+    pub(crate) fn reserve_feed(&mut self, messages: usize) -> Result<(), Memory>
+        ensures lists { columns_told self.new ≡ columns_told self.old }
+        ensures room { (n : ℕ) → HasRoom n self.old → HasRoom n self.new }
+        ensures feed { OnOk result (messages ≤ self.new.feed.spare) }
+    {
         self.feed.reserve(messages)
+    }
+
+    // Puts what a body has.
+    fn put_body(&mut self, body: &Body)
+        requires { HasRoom 1 self.old }
+        ensures enters { self.new.enters.list ≡ self.old.enters.list ++ enters_of body.now }
+        ensures cancels { self.new.cancels.list ≡ self.old.cancels.list ++ cancels_of body.now }
+        ensures accepted { self.new.accepted.list ≡ self.old.accepted.list ++ accepted_of body.now }
+        ensures shorts { self.new.shorts.list ≡ self.old.shorts.list ++ shorts_of body.now }
+        ensures quotes { self.new.quotes.list ≡ self.old.quotes.list ++ quotes_of body.now }
+        ensures enters_room { self.old.enters.spare ≤ self.new.enters.spare + 1 }
+        ensures cancels_room { self.old.cancels.spare ≤ self.new.cancels.spare + 1 }
+        ensures accepted_room { self.old.accepted.spare ≤ self.new.accepted.spare + 1 }
+        ensures shorts_room { self.old.shorts.spare ≤ self.new.shorts.spare + 1 }
+        ensures quotes_room { self.old.quotes.spare ≤ self.new.quotes.spare + 1 }
+        ensures extras { self.new.extras ≡ self.old.extras }
+        ensures edits { self.new.edits ≡ self.old.edits }
+        ensures feed { self.new.feed ≡ self.old.feed }
+    {
+        match body {
+            Body::Wake | Body::Ask(_) => (),
+            Body::Order(order) => put_order(&mut self.enters, &mut self.cancels, order),
+            Body::Answer(reply) => put_reply(&mut self.accepted, &mut self.shorts, reply),
+            Body::Quote(quote) => self.quotes.put(*quote),
+        }
     }
 
     // Puts what an event has.
     pub(crate) fn put_event(&mut self, is_more: bool, e: &EventParts<'_>)
-        requires { HasRoom (length e.now.before.now + length e.now.after.now) self.old }
-        ensures { columns_told self.new ≡ joined (columns_told self.old) (own_parts is_more (parts_told e.now)) }
+        requires room { HasRoom 1 self.old }
+        requires feed { length e.now.before.now + length e.now.after.now ≤ self.old.feed.spare }
+        ensures told { columns_told self.new ≡ joined (columns_told self.old) (own_parts is_more (parts_told e.now)) }
+        ensures room { (n m : ℕ) → m < n → HasRoom n self.old → HasRoom m self.new }
     {
-        put_enter(&mut self.enters, e.body);
-        put_cancel(&mut self.cancels, e.body);
-        put_accepted(&mut self.accepted, e.body);
-        put_short(&mut self.shorts, e.body);
-        put_quote(&mut self.quotes, e.body);
+        self.put_body(e.body);
         put_extra(&mut self.extras, is_more, e);
         put_feed(&mut self.feed, e.before);
         put_feed(&mut self.feed, e.after);
@@ -260,8 +271,10 @@ impl Columns {
 
     // Puts what an edit has.
     pub(crate) fn put_edit(&mut self, is_more: bool, d: &EditMark)
-        requires { HasRoom (length d.now.feed.list) self.old }
-        ensures { columns_told self.new ≡ joined (columns_told self.old) (edit_parts is_more (edit_told d.now)) }
+        requires room { HasRoom 1 self.old }
+        requires feed { length d.now.feed.list ≤ self.old.feed.spare }
+        ensures told { columns_told self.new ≡ joined (columns_told self.old) (edit_parts is_more (edit_told d.now)) }
+        ensures room { (n m : ℕ) → m < n → HasRoom n self.old → HasRoom m self.new }
     {
         put_edit_extra(&mut self.extras, is_more, d);
         self.edits.put(edit_head(d));

@@ -18,26 +18,32 @@ pub(crate) enum Kind {
     Edit,
 }
 
-// What each event has, in 40 bytes. Of an edit only its kind says something.
+// What each event has, in 32 bytes. Of an edit only its kind and the number of its messages say something.
 #[derive(Clone, Copy)]
 pub(crate) struct Mark {
     pub time: Time,
-    pub seq: u64,
-    pub until: Time,
     pub number: u32,
+    pub seq: u32,
+    // From the event's time to the receiver's own time after it.
+    pub later: u32,
     pub from: AgentNo,
     pub to: AgentNo,
     // The stock of a question.
     pub stock: StockNo,
+    // How many messages its feeds have; an edit's feed stands as the one before.
+    pub before: u8,
+    pub after: u8,
     pub kind: Kind,
     pub put_back: bool,
-    // Whether there is a fee, or a feed.
+    // Whether what follows stands in an `Extra`, and not here: an event with a fee, or with a number that has no room here.
     pub is_more: bool,
 }
 
-// The fee of an event, and how many messages its feeds have; an edit's feed stands as the one before.
+// What a mark has no room for.
 #[derive(Clone, Copy)]
 pub(crate) struct Extra {
+    pub seq: u64,
+    pub until: Time,
     pub fee: i64,
     pub before: usize,
     pub after: usize,

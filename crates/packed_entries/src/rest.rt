@@ -1,16 +1,14 @@
 //! Columns as they are read.
 
-ghost use Rattle.std.specs.Prelude.{◌≡◌, OnOk};
+ghost use Rattle.std.specs.Prelude.{◌≡◌, OnOk, OnErr, drop, false, true};
 ghost use Rattle.market_types.specs.Told.{edit_told, event_told};
 ghost use Rattle.market_types.specs.declared.message.Body.TheVariants as body;
 ghost use Rattle.packed_entries.specs.Entries.{HasFor, accepted, body_in, cancelled, edit_in, entered, event_in, executed, first, left_by, lowered, no_edit, quoted, rejected, system, with_feed};
+ghost use Rattle.packed_entries.specs.Kinds.{accepted_in, cancels_in, enters_in, is_edit, quotes_in, shorts_in};
 ghost use Rattle.packed_entries.specs.Told.{rest_told};
 
 use crate::mark::{Accepted, EditHead, Extra, Kind, Mark, Short};
-use crate::reading::{
-    accepted_in, after_in, before_in, cancels_in, edits_in, enters_in, extras_in, fee_in, fill,
-    quotes_in, shorts_in,
-};
+use crate::reading::{extra_in, extras_in, fill};
 use market_types::{Body, Cancel, EditMark, Enter, Feed, Inbound, Memory, Quote, Record, Reply};
 
 // What is left of the columns.
@@ -26,38 +24,38 @@ pub(crate) struct Rest<'a> {
     pub feed: &'a [Feed],
 }
 
-fn entered(enters: &[Enter]) -> Body
-    ensures { result ≡ first entered body.Wake enters.now }
+fn entered(enters: &[Enter], to: &mut Body)
+    ensures { to.new ≡ first entered body.Wake enters.now }
 {
     match enters.first() {
-        Some(order) => Body::Order(Inbound::Enter(*order)),
-        None => Body::Wake,
+        Some(order) => *to = Body::Order(Inbound::Enter(*order)),
+        None => *to = Body::Wake,
     }
 }
 
-fn cancelled(cancels: &[Cancel]) -> Body
-    ensures { result ≡ first cancelled body.Wake cancels.now }
+fn cancelled(cancels: &[Cancel], to: &mut Body)
+    ensures { to.new ≡ first cancelled body.Wake cancels.now }
 {
     match cancels.first() {
-        Some(cancel) => Body::Order(Inbound::Cancel(*cancel)),
-        None => Body::Wake,
+        Some(cancel) => *to = Body::Order(Inbound::Cancel(*cancel)),
+        None => *to = Body::Wake,
     }
 }
 
-fn quoted(quotes: &[Quote]) -> Body
-    ensures { result ≡ first quoted body.Wake quotes.now }
+fn quoted(quotes: &[Quote], to: &mut Body)
+    ensures { to.new ≡ first quoted body.Wake quotes.now }
 {
     match quotes.first() {
-        Some(quote) => Body::Quote(*quote),
-        None => Body::Wake,
+        Some(quote) => *to = Body::Quote(*quote),
+        None => *to = Body::Wake,
     }
 }
 
-fn accepted(replies: &[Accepted]) -> Body
-    ensures { result ≡ first accepted body.Wake replies.now }
+fn accepted(replies: &[Accepted], to: &mut Body)
+    ensures { to.new ≡ first accepted body.Wake replies.now }
 {
     match replies.first() {
-        Some(a) => Body::Answer(Reply::Accepted {
+        Some(a) => *to = Body::Answer(Reply::Accepted {
             time: a.time,
             token: a.token,
             side: a.side,
@@ -75,41 +73,41 @@ fn accepted(replies: &[Accepted]) -> Body
             state: a.state,
             bbo: a.bbo,
         }),
-        None => Body::Wake,
+        None => *to = Body::Wake,
     }
 }
 
-fn system(replies: &[Short]) -> Body
-    ensures { result ≡ first system body.Wake replies.now }
+fn system(replies: &[Short], to: &mut Body)
+    ensures { to.new ≡ first system body.Wake replies.now }
 {
     match replies.first() {
-        Some(s) => Body::Answer(Reply::System {
+        Some(s) => *to = Body::Answer(Reply::System {
             time: s.time,
             code: s.letter,
         }),
-        None => Body::Wake,
+        None => *to = Body::Wake,
     }
 }
 
-fn lowered(replies: &[Short]) -> Body
-    ensures { result ≡ first lowered body.Wake replies.now }
+fn lowered(replies: &[Short], to: &mut Body)
+    ensures { to.new ≡ first lowered body.Wake replies.now }
 {
     match replies.first() {
-        Some(s) => Body::Answer(Reply::Canceled {
+        Some(s) => *to = Body::Answer(Reply::Canceled {
             time: s.time,
             token: s.token,
             decrement: s.shares,
             reason: s.letter,
         }),
-        None => Body::Wake,
+        None => *to = Body::Wake,
     }
 }
 
-fn executed(replies: &[Short]) -> Body
-    ensures { result ≡ first executed body.Wake replies.now }
+fn executed(replies: &[Short], to: &mut Body)
+    ensures { to.new ≡ first executed body.Wake replies.now }
 {
     match replies.first() {
-        Some(s) => Body::Answer(Reply::Executed {
+        Some(s) => *to = Body::Answer(Reply::Executed {
             time: s.time,
             token: s.token,
             shares: s.shares,
@@ -117,20 +115,20 @@ fn executed(replies: &[Short]) -> Body
             flag: s.letter,
             number: s.number,
         }),
-        None => Body::Wake,
+        None => *to = Body::Wake,
     }
 }
 
-fn rejected(replies: &[Short]) -> Body
-    ensures { result ≡ first rejected body.Wake replies.now }
+fn rejected(replies: &[Short], to: &mut Body)
+    ensures { to.new ≡ first rejected body.Wake replies.now }
 {
     match replies.first() {
-        Some(s) => Body::Answer(Reply::Rejected {
+        Some(s) => *to = Body::Answer(Reply::Rejected {
             time: s.time,
             token: s.token,
             reason: s.letter,
         }),
-        None => Body::Wake,
+        None => *to = Body::Wake,
     }
 }
 
@@ -158,74 +156,98 @@ fn head_into(edits: &[EditHead], edit: &mut EditMark)
 }
 
 impl<'a> Rest<'a> {
-    // The body of the event of a mark.
-    fn body(&self, mark: &Mark) -> Body
-        ensures { result ≡ body_in mark.now.kind mark.now.stock (rest_told self.now) }
+    // Makes a body that of a mark's event, and goes on behind what it has.
+    fn take_body(&mut self, mark: &Mark, to: &mut Body)
+        requires { HasFor mark.now (rest_told self.old) }
+        ensures value { to.new ≡ body_in mark.now.kind mark.now.stock (rest_told self.old) }
+        ensures enters { self.new.enters.now ≡ drop (enters_in mark.now.kind) self.old.enters.now }
+        ensures cancels { self.new.cancels.now ≡ drop (cancels_in mark.now.kind) self.old.cancels.now }
+        ensures accepted { self.new.accepted.now ≡ drop (accepted_in mark.now.kind) self.old.accepted.now }
+        ensures shorts { self.new.shorts.now ≡ drop (shorts_in mark.now.kind) self.old.shorts.now }
+        ensures quotes { self.new.quotes.now ≡ drop (quotes_in mark.now.kind) self.old.quotes.now }
+        ensures extras { self.new.extras.now ≡ self.old.extras.now }
+        ensures edits { self.new.edits.now ≡ self.old.edits.now }
+        ensures feed { self.new.feed.now ≡ self.old.feed.now }
     {
         match mark.kind {
-            Kind::Wake | Kind::Edit => Body::Wake,
-            Kind::Ask => Body::Ask(mark.stock),
-            Kind::Enter => entered(self.enters),
-            Kind::Cancel => cancelled(self.cancels),
-            Kind::Quote => quoted(self.quotes),
-            Kind::System => system(self.shorts),
-            Kind::Accepted => accepted(self.accepted),
-            Kind::Canceled => lowered(self.shorts),
-            Kind::Executed => executed(self.shorts),
-            Kind::Rejected => rejected(self.shorts),
+            Kind::Wake | Kind::Edit => *to = Body::Wake,
+            Kind::Ask => *to = Body::Ask(mark.stock),
+            Kind::Enter => {
+                entered(self.enters, to);
+                self.enters = &self.enters[1..];
+            }
+            Kind::Cancel => {
+                cancelled(self.cancels, to);
+                self.cancels = &self.cancels[1..];
+            }
+            Kind::Quote => {
+                quoted(self.quotes, to);
+                self.quotes = &self.quotes[1..];
+            }
+            Kind::Accepted => {
+                accepted(self.accepted, to);
+                self.accepted = &self.accepted[1..];
+            }
+            Kind::System => {
+                system(self.shorts, to);
+                self.shorts = &self.shorts[1..];
+            }
+            Kind::Canceled => {
+                lowered(self.shorts, to);
+                self.shorts = &self.shorts[1..];
+            }
+            Kind::Executed => {
+                executed(self.shorts, to);
+                self.shorts = &self.shorts[1..];
+            }
+            Kind::Rejected => {
+                rejected(self.shorts, to);
+                self.shorts = &self.shorts[1..];
+            }
         }
     }
 
-    // Makes a record the event of a mark.
-    pub(crate) fn read_event(&self, mark: &Mark, event: &mut Record) -> Result<(), Memory>
-        requires { HasFor mark.now (rest_told self.now) }
-        ensures { OnOk result (event_told event.new ≡ event_in mark.now (rest_told self.now)) }
+    // Makes a record the event of a mark, and goes on behind it.
+    pub(crate) fn take_event(&mut self, mark: &Mark, event: &mut Record) -> Result<(), Memory>
+        requires has { HasFor mark.now (rest_told self.old) }
+        requires kind { is_edit mark.now.kind ≡ false }
+        ensures told { OnOk result (event_told event.new ≡ event_in mark.now (rest_told self.old)) }
+        ensures left { OnOk result (rest_told self.new ≡ left_by mark.now (rest_told self.old)) }
+        ensures refused { OnErr result (rest_told self.new ≡ rest_told self.old) }
     {
-        let before = before_in(mark.is_more, self.extras);
-        let own = &self.feed[before..];
-        fill(&mut event.before, &self.feed[..before])?;
-        fill(
-            &mut event.after,
-            &own[..after_in(mark.is_more, self.extras)],
-        )?;
+        let more = extra_in(mark, self.extras);
+        let own = &self.feed[more.before..];
+        fill(&mut event.before, &self.feed[..more.before])?;
+        fill(&mut event.after, &own[..more.after])?;
         event.number = mark.number;
         event.time = mark.time;
-        event.seq = mark.seq;
+        event.seq = more.seq;
         event.from = mark.from;
         event.to = mark.to;
         event.put_back = mark.put_back;
-        event.until = mark.until;
-        event.fee = fee_in(mark.is_more, self.extras);
-        event.body = self.body(mark);
-        Ok(())
-    }
-
-    // Makes a mark of a trace the edit of a mark.
-    pub(crate) fn read_edit(&self, mark: &Mark, edit: &mut EditMark) -> Result<(), Memory>
-        requires { HasFor mark.now (rest_told self.now) }
-        ensures { OnOk result (edit_told edit.new ≡ edit_in mark.now (rest_told self.now)) }
-    {
-        fill(
-            &mut edit.feed,
-            &self.feed[..before_in(mark.is_more, self.extras)],
-        )?;
-        head_into(self.edits, edit);
-        Ok(())
-    }
-
-    // Goes on behind the entry of a mark.
-    pub(crate) fn leave(&mut self, mark: &Mark)
-        requires { HasFor mark.now (rest_told self.old) }
-        ensures { rest_told self.new ≡ left_by mark.now (rest_told self.old) }
-    {
-        let feed = before_in(mark.is_more, self.extras) + after_in(mark.is_more, self.extras);
-        self.enters = &self.enters[enters_in(mark.kind)..];
-        self.cancels = &self.cancels[cancels_in(mark.kind)..];
-        self.accepted = &self.accepted[accepted_in(mark.kind)..];
-        self.shorts = &self.shorts[shorts_in(mark.kind)..];
-        self.quotes = &self.quotes[quotes_in(mark.kind)..];
+        event.until = more.until;
+        event.fee = more.fee;
+        self.take_body(mark, &mut event.body);
         self.extras = &self.extras[extras_in(mark.is_more)..];
-        self.edits = &self.edits[edits_in(mark.kind)..];
-        self.feed = &self.feed[feed..];
+        self.feed = &own[more.after..];
+        Ok(())
+    }
+
+    // Makes a mark of a trace the edit of a mark, and goes on behind it.
+    pub(crate) fn take_edit(&mut self, mark: &Mark, edit: &mut EditMark) -> Result<(), Memory>
+        requires has { HasFor mark.now (rest_told self.old) }
+        requires kind { is_edit mark.now.kind ≡ true }
+        ensures told { OnOk result (edit_told edit.new ≡ edit_in mark.now (rest_told self.old)) }
+        ensures left { OnOk result (rest_told self.new ≡ left_by mark.now (rest_told self.old)) }
+        ensures refused { OnErr result (rest_told self.new ≡ rest_told self.old) }
+    {
+        let more = extra_in(mark, self.extras);
+        let rest = &self.feed[more.before..];
+        fill(&mut edit.feed, &self.feed[..more.before])?;
+        head_into(self.edits, edit);
+        self.extras = &self.extras[extras_in(mark.is_more)..];
+        self.edits = &self.edits[1..];
+        self.feed = &rest[more.after..];
+        Ok(())
     }
 }

@@ -72,13 +72,11 @@ impl<'a> Walk<'a> {
             return Ok(Step::End);
         };
         if is_edit(mark.kind) {
-            self.rest.read_edit(mark, edit)?;
-            self.rest.leave(mark);
+            self.rest.take_edit(mark, edit)?;
             self.marks = later;
             return Ok(Step::Edit);
         }
-        self.rest.read_event(mark, event)?;
-        self.rest.leave(mark);
+        self.rest.take_event(mark, event)?;
         self.marks = later;
         Ok(Step::Event)
     }

@@ -464,6 +464,14 @@ fills-few book side limit shares h =
       shares_add_up side limit (record { fills = []; book = book; shares = shares }),
     )
 
+-- nor than the lesser of those and the orders of the other side
+pub fills-least : (book : List Resting) (side : Side) (limit shares : ℕ) → IsOrderly book → length (matched book side limit shares).fills ≤ min (depth_of (opposite_of side) book) shares
+fills-least book side limit shares h = omega (arith, fills-few book side limit shares h, few_fills side limit (record { fills = []; book = book; shares = shares }))
+
+-- nor than the orders that cross
+pub fills-crossing : (book : List Resting) (side : Side) (limit shares : ℕ) → length (matched book side limit shares).fills ≤ crossing_of side limit book
+fills-crossing book side limit shares = omega (arith, crossing_fills side limit (record { fills = []; book = book; shares = shares }))
+
 -- ---- a lowered order
 found_among : (p : Resting → Bool) (w : List Resting) (o : Resting) → find p w ≡ Some o → IsAmong o w
 found_among p [] o e = absurd (cc e)

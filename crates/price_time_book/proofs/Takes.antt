@@ -15,13 +15,13 @@ use Rattle.std.specs.Option.{option_map_or}
 use Rattle.std.proofs.lemmas.List.Elements.{recursion_from_All}
 use Rattle.price_time_book.specs.declared.resting.Best.{Best}
 use Rattle.price_time_book.specs.Next.{crosses, crossing_of, next_of}
-use Rattle.price_time_book.specs.Queues.{best_in, better_of, first_of, hidden_of, shares_in, shown_of, top_in}
+use Rattle.price_time_book.specs.Queues.{best_in, better_of, first_of, hidden_of, queue_of, shares_in, shown_of, top_in}
 use Rattle.price_time_book.proofs.Bests.{none_crosses}
 use Rattle.price_time_book.specs.Orderly.{IsOrderly}
 use Rattle.price_time_book.specs.Orders.{changed, order_with}
 use Rattle.price_time_book.specs.Sides.{is_better, is_within, opposite_of}
 use Rattle.price_time_book.proofs.Changes.{orderly-changed}
-use Rattle.price_time_book.proofs.Firsts.{key_queue, open-changed}
+use Rattle.price_time_book.proofs.Firsts.{key_at, key_queue, open-changed}
 use Rattle.price_time_book.proofs.Joins.{price_at}
 use Rattle.price_time_book.proofs.Lowers.{indexed_lower-other, open_each, with_left}
 use Rattle.price_time_book.proofs.Prices.{no_better_both, rising_le, worse_apart, worse_before}
@@ -81,6 +81,15 @@ level_found q os nx ls at p k x o le low high =
     let most : IsNoBetter s (get_or ps at 0) p = subst (λ n. IsNoBetter s (get_or ps at 0) n) value (rising_le s ps at c.0 x.rising from c.1) in
     (within, λ e. no_better_both s (get_or ls at e).price p (subst (λ n. IsNoBetter s n p) (price_at ls at e within) most) (high e within))
 
+-- the level of an open order stands where its price does among the levels, seen as a slice
+pub level_of : (q : Queue) (os : List Resting) (nx : List ℕ) (ls v : List Level) (at p i : ℕ) → queue_of (get_or os i nothing) ≡ q → i < length os → 0 < (get_or os i nothing).left → p ≡ (get_or os i nothing).price → v ≡ ls → IsIndexed q os nx ls → at ≤ length v → ((d : Level) → 0 < at → IsWorse q.side (get_or v (at - 1) d).price p) → ((d : Level) → at < length v → IsNoBetter q.side p (get_or v at d).price) → (at < length ls) × ((d : Level) → IsOpenAt os (key q (get_or ls at d).price) i)
+level_of q os nx ls v at p i mine within some price seen x le low high =
+    let o = get_or os i nothing in
+    let here : IsOpenAt os (key q o.price) i = record { within = within; left = some; price = key_at q o mine } in
+    let there : IsOpenAt os (key q p) i = subst (λ n. IsOpenAt os (key q n) i) (sym price) here in
+    let found = level_found q os nx ls at p i x there (subst (λ (w : List Level). at ≤ length w) seen le) (λ d. subst (λ (w : List Level). 0 < at → IsWorse q.side (get_or w (at - 1) d).price p) seen (low d)) (λ d. subst (λ (w : List Level). at < length w → IsNoBetter q.side p (get_or w at d).price) seen (high d)) in
+    (found.0, λ d. subst (λ n. IsOpenAt os (key q n) i) (sym (found.1 d)) there)
+
 -- ---- the fit of a level's shares
 shares_few : (p : ℕ) (w : List Resting) → IsSmall w → shares_by p w ≤ 4294967295 * length w
 shares_few p [] a = omega arith
@@ -88,13 +97,6 @@ shares_few p (o ∷ w) a = elim (eqb (key_of o) p) as (λ b. cond b o.left 0 + s
 
 pub levels_fit : (q : Queue) (os : List Resting) (nx : List ℕ) (ls : List Level) → IsIndexed q os nx ls → IsSmall (open_orders os) → length (open_orders os) < 4294967296 → All (λ (l : Level). l.shares < 18446744069414584320) ls
 levels_fit q os nx ls x small few = λ k d h. omega (arith, (x.right k d h).shares, shares_few (key q (get_or ls k d).price) (open_orders os) small, few)
-
-pub taken : (os new : List Resting) (i : ℕ) (o : Resting) (v : ℕ) → o ≡ get_or os i nothing → IsOrderly (open_orders os) → i < length os → v < o.left → new ≡ with_left os i v o.intended → IsLowered os new o v o.intended
-taken os new i o v same h in_range less is =
-    let left = ap (λ (q : Resting). q.left) same in
-    let intended = ap (λ (q : Resting). q.intended) same in
-    let le = open_each (λ (x : Resting). x.left ≤ x.intended) os i in_range (omega (arith, left)) h.within in
-    lowered os new i o v o.intended same h in_range less (omega (arith, left, intended, le)) is
 
 -- the same at slices of the vectors
 pub placed_seen : (mine : Queue) (s w : List Resting) (t v : List Level) (at i : ℕ) → s ≡ w → t ≡ v → ((d : Level) → IsOpenAt s (key mine (get_or t at d).price) i) → (d : Level) → IsOpenAt w (key mine (get_or v at d).price) i

@@ -3,14 +3,14 @@
 ghost use Rattle.std.specs.Prelude.{false, ◌≡◌, ◌<◌, ◌≤◌, ◌-◌, ◌∷◌, ◌++◌, ◌↔◌, [], IsTrue, OnErr, OnOk, IfOk, IfSome, IfNone, All, Some, None, length, option_map, slice_get};
 ghost use Rattle.price_time_book.specs.Awaited.{AreAwaited};
 ghost use Rattle.price_time_book.specs.Indexed.{open_orders};
-ghost use Rattle.price_time_book.specs.Matched.{fill_of, after_fill};
+ghost use Rattle.price_time_book.specs.Matched.{fill_of, after_fill, matched};
 ghost use Rattle.price_time_book.specs.Next.{best_at, crossing_of, next_of};
 ghost use Rattle.price_time_book.specs.Orderly.{IsOrderly};
 ghost use Rattle.price_time_book.specs.Orders.{order_of, order_with, changed, reduced};
 ghost use Rattle.price_time_book.specs.Sides.{depth_of};
 
 use crate::index::{ReferenceEntry, TokenEntry, enter_reference, enter_token};
-use crate::levels::{Level, Queue, best_in, fits, is_met, join};
+use crate::levels::{Half, Queue, best_in, fits, is_met, join};
 use crate::lowering::{lower_at, take_first};
 use crate::resting::{Best, Fill, Resting};
 use crate::search::{crossing_in, held_at, open_of, order_of};
@@ -21,8 +21,8 @@ use std::marker::Model;
 // How many orders may have left before the vector of arrival is made anew.
 const LEFT_BEHIND: usize = 32;
 
-// Of how many orders of a side it is not worth while to count those that cross.
-const FEW_ORDERS: usize = 64;
+// For how many fills at most room is made without a count of the orders that cross.
+const FEW_FILLS: usize = 512;
 
 /// The resting orders of one stock.
 ///
@@ -34,12 +34,8 @@ const FEW_ORDERS: usize = 64;
 pub struct Book {
     orders: Vec<Resting>,
     nexts: Vec<usize>,
-    buys: Vec<Level>,
-    sells: Vec<Level>,
-    hidden_buys: Vec<Level>,
-    hidden_sells: Vec<Level>,
-    buy_count: usize,
-    sell_count: usize,
+    buys: Half,
+    sells: Half,
     references: Vec<ReferenceEntry>,
     tokens: Vec<TokenEntry>,
     spare: usize,
@@ -63,18 +59,18 @@ impl Model for Book {
     ghost invariant = { λ b. record {
       orders_room : vec_len b.orders + b.spare ≤ vec_capacity b.orders;
       nexts_room : vec_len b.nexts + b.spare ≤ vec_capacity b.nexts;
-      buys_room : vec_len b.buys + b.spare ≤ vec_capacity b.buys;
-      sells_room : vec_len b.sells + b.spare ≤ vec_capacity b.sells;
-      hidden_buys_room : vec_len b.hidden_buys + b.spare ≤ vec_capacity b.hidden_buys;
-      hidden_sells_room : vec_len b.hidden_sells + b.spare ≤ vec_capacity b.hidden_sells;
+      buys_room : vec_len b.buys.shown + b.spare ≤ vec_capacity b.buys.shown;
+      sells_room : vec_len b.sells.shown + b.spare ≤ vec_capacity b.sells.shown;
+      hidden_buys_room : vec_len b.buys.hidden + b.spare ≤ vec_capacity b.buys.hidden;
+      hidden_sells_room : vec_len b.sells.hidden + b.spare ≤ vec_capacity b.sells.hidden;
       references_room : vec_len b.references + b.spare ≤ vec_capacity b.references;
       tokens_room : vec_len b.tokens + b.spare ≤ vec_capacity b.tokens;
-      buys : IsIndexed (shown_of Buy) b.orders.items b.nexts.items b.buys.items;
-      sells : IsIndexed (shown_of Sell) b.orders.items b.nexts.items b.sells.items;
-      hidden_buys : IsIndexed (hidden_of Buy) b.orders.items b.nexts.items b.hidden_buys.items;
-      hidden_sells : IsIndexed (hidden_of Sell) b.orders.items b.nexts.items b.hidden_sells.items;
-      buy_count : b.buy_count ≡ depth_of Buy (open_orders b.orders.items);
-      sell_count : b.sell_count ≡ depth_of Sell (open_orders b.orders.items);
+      buys : IsIndexed (shown_of Buy) b.orders.items b.nexts.items b.buys.shown.items;
+      sells : IsIndexed (shown_of Sell) b.orders.items b.nexts.items b.sells.shown.items;
+      hidden_buys : IsIndexed (hidden_of Buy) b.orders.items b.nexts.items b.buys.hidden.items;
+      hidden_sells : IsIndexed (hidden_of Sell) b.orders.items b.nexts.items b.sells.hidden.items;
+      buy_count : b.buys.count ≡ depth_of Buy (open_orders b.orders.items);
+      sell_count : b.sells.count ≡ depth_of Sell (open_orders b.orders.items);
       references : IsByReference b.orders.items b.references.items;
       tokens : IsByToken b.orders.items b.tokens.items;
       orderly : IsOrderly (open_orders b.orders.items);
@@ -90,12 +86,16 @@ impl Book {
         Book {
             orders: Vec::new(alloc),
             nexts: Vec::new(alloc),
-            buys: Vec::new(alloc),
-            sells: Vec::new(alloc),
-            hidden_buys: Vec::new(alloc),
-            hidden_sells: Vec::new(alloc),
-            buy_count: 0,
-            sell_count: 0,
+            buys: Half {
+                shown: Vec::new(alloc),
+                hidden: Vec::new(alloc),
+                count: 0,
+            },
+            sells: Half {
+                shown: Vec::new(alloc),
+                hidden: Vec::new(alloc),
+                count: 0,
+            },
             references: Vec::new(alloc),
             tokens: Vec::new(alloc),
             spare: 0,
@@ -126,21 +126,25 @@ impl Book {
     {
         let orders = copied(alloc, self.orders.as_slice())?;
         let nexts = copied(alloc, self.nexts.as_slice())?;
-        let buys = copied(alloc, self.buys.as_slice())?;
-        let sells = copied(alloc, self.sells.as_slice())?;
-        let hidden_buys = copied(alloc, self.hidden_buys.as_slice())?;
-        let hidden_sells = copied(alloc, self.hidden_sells.as_slice())?;
+        let buys = copied(alloc, self.buys.shown.as_slice())?;
+        let sells = copied(alloc, self.sells.shown.as_slice())?;
+        let hidden_buys = copied(alloc, self.buys.hidden.as_slice())?;
+        let hidden_sells = copied(alloc, self.sells.hidden.as_slice())?;
         let references = copied(alloc, self.references.as_slice())?;
         let tokens = copied(alloc, self.tokens.as_slice())?;
         Ok(Book {
             orders,
             nexts,
-            buys,
-            sells,
-            hidden_buys,
-            hidden_sells,
-            buy_count: self.buy_count,
-            sell_count: self.sell_count,
+            buys: Half {
+                shown: buys,
+                hidden: hidden_buys,
+                count: self.buys.count,
+            },
+            sells: Half {
+                shown: sells,
+                hidden: hidden_sells,
+                count: self.sells.count,
+            },
             references,
             tokens,
             spare: 0,
@@ -153,8 +157,8 @@ impl Book {
         ensures { result ≡ best_at side self.now.list }
     {
         match side {
-            Side::Buy => best_in(Queue { side, shown: true }, self.buys.as_slice()),
-            Side::Sell => best_in(Queue { side, shown: true }, self.sells.as_slice()),
+            Side::Buy => best_in(Queue { side, shown: true }, self.buys.shown.as_slice()),
+            Side::Sell => best_in(Queue { side, shown: true }, self.sells.shown.as_slice()),
         }
     }
 
@@ -176,8 +180,6 @@ impl Book {
                 Side::Sell,
                 orders,
                 &mut self.sells,
-                &mut self.hidden_sells,
-                &mut self.sell_count,
                 nexts,
                 side,
                 limit,
@@ -187,8 +189,6 @@ impl Book {
                 Side::Buy,
                 orders,
                 &mut self.buys,
-                &mut self.hidden_buys,
-                &mut self.buy_count,
                 nexts,
                 side,
                 limit,
@@ -214,25 +214,13 @@ impl Book {
         enter_token(&mut self.tokens, &order, place);
         match order.side {
             Side::Buy => {
-                join(
-                    &mut self.orders,
-                    &mut self.nexts,
-                    &mut self.buys,
-                    &mut self.hidden_buys,
-                    order,
-                );
-                self.buy_count += 1;
+                join(&mut self.orders, &mut self.nexts, &mut self.buys, order);
+                self.buys.count += 1;
                 self.spare -= 1;
             }
             Side::Sell => {
-                join(
-                    &mut self.orders,
-                    &mut self.nexts,
-                    &mut self.sells,
-                    &mut self.hidden_sells,
-                    order,
-                );
-                self.sell_count += 1;
+                join(&mut self.orders, &mut self.nexts, &mut self.sells, order);
+                self.sells.count += 1;
                 self.spare -= 1;
             }
         }
@@ -267,17 +255,7 @@ impl Book {
         let (orders, nexts) = (&mut self.orders, self.nexts.as_slice());
         match resting.side {
             Side::Buy => {
-                lower_at(
-                    Side::Buy,
-                    orders,
-                    &mut self.buys,
-                    &mut self.hidden_buys,
-                    &mut self.buy_count,
-                    nexts,
-                    at,
-                    left,
-                    intended,
-                );
+                lower_at(Side::Buy, orders, &mut self.buys, nexts, at, left, intended);
                 Some(resting)
             }
             Side::Sell => {
@@ -285,8 +263,6 @@ impl Book {
                     Side::Sell,
                     orders,
                     &mut self.sells,
-                    &mut self.hidden_sells,
-                    &mut self.sell_count,
                     nexts,
                     at,
                     left,
@@ -302,8 +278,8 @@ impl Book {
         ensures { result ≡ depth_of side self.now.list }
     {
         match side {
-            Side::Buy => self.buy_count,
-            Side::Sell => self.sell_count,
+            Side::Buy => self.buys.count,
+            Side::Sell => self.sells.count,
         }
     }
 
@@ -318,27 +294,30 @@ impl Book {
         crossing_in(self.orders.as_slice(), side, limit)
     }
 
-    /// A number that the fills of no match of an incoming order of `side` with this limit exceed. Where few orders rest on
-    /// the other side it is their number, or 0 where none crosses, and the orders are not gone over.
-    pub fn most_fills(&self, side: Side, limit: u32) -> usize
-        ensures enough { crossing_of side limit self.now.list ≤ result }
+    /// A number that the fills of a match of an incoming order of `side` with this limit, which wants `shares`
+    /// shares, do not exceed. It is 0 where nothing crosses. Else it is the lesser of the orders that rest on the other
+    /// side and the shares, since each fill has a share; and only where that is large are the orders gone over to count
+    /// those that cross.
+    pub fn most_fills(&self, side: Side, limit: u32, shares: u32) -> usize
+        ensures enough { length (matched self.now.list side limit shares).fills ≤ result }
         ensures few { result ≤ length self.now.list }
     {
-        let depth = self.depth(side.opposite());
-        if depth > FEW_ORDERS {
-            return self.crossing(side, limit);
+        self.is_orderly();
+        if !self.is_met(side, limit) {
+            return 0;
         }
-        if self.is_met(side, limit) {
-            return depth;
+        let most = self.depth(side.opposite()).min(shares as usize);
+        if most <= FEW_FILLS {
+            return most;
         }
-        0
+        self.crossing(side, limit).min(most)
     }
 
     /// How many orders rest in the book.
     pub fn len(&self) -> usize
         ensures { result ≡ length self.now.list }
     {
-        self.buy_count + self.sell_count
+        self.buys.count + self.sells.count
     }
 
     /// Whether no order rests in the book.
@@ -368,18 +347,8 @@ impl Book {
         ensures { result ≡ false → crossing_of side limit self.now.list ≡ 0 }
     {
         match side {
-            Side::Buy => is_met(
-                side,
-                limit,
-                self.sells.as_slice(),
-                self.hidden_sells.as_slice(),
-            ),
-            Side::Sell => is_met(
-                side,
-                limit,
-                self.buys.as_slice(),
-                self.hidden_buys.as_slice(),
-            ),
+            Side::Buy => is_met(side, limit, &self.sells),
+            Side::Sell => is_met(side, limit, &self.buys),
         }
     }
 
@@ -400,10 +369,10 @@ impl Book {
         }
         let orders = self.orders.reserve(n);
         let nexts = self.nexts.reserve(n);
-        let buys = self.buys.reserve(n);
-        let sells = self.sells.reserve(n);
-        let hidden_buys = self.hidden_buys.reserve(n);
-        let hidden_sells = self.hidden_sells.reserve(n);
+        let buys = self.buys.shown.reserve(n);
+        let sells = self.sells.shown.reserve(n);
+        let hidden_buys = self.buys.hidden.reserve(n);
+        let hidden_sells = self.sells.hidden.reserve(n);
         let references = self.references.reserve(n);
         let tokens = self.tokens.reserve(n);
         match (orders, nexts, buys, sells) {

@@ -38,6 +38,14 @@ pub struct Level {
     pub shares: u64,
 }
 
+/// A side of a book: the levels of its shown and of its hidden orders, and how many orders rest on it.
+#[derive(Drop)]
+pub struct Half {
+    pub shown: Vec<Level>,
+    pub hidden: Vec<Level>,
+    pub count: usize,
+}
+
 // Whether a price is worse than another for orders that rest on this side.
 fn is_worse(side: Side, a: u32, b: u32) -> bool
     ensures worse { result ≡ true → IsWorse side a b }
@@ -96,10 +104,10 @@ pub fn best_in(queue: Queue, levels: &[Level]) -> Option<Best>
 
 // Whether the best price of shown or that of hidden orders of the other side meets the limit of an incoming
 // order of this side. If neither does, nothing crosses.
-pub fn is_met(side: Side, limit: u32, shown: &[Level], hidden: &[Level]) -> bool
+pub fn is_met(side: Side, limit: u32, half: &Half) -> bool
     ensures { (os : List Resting) (nx : List ℕ) →
-        IsIndexed (shown_of (opposite_of side)) os nx shown.now →
-        IsIndexed (hidden_of (opposite_of side)) os nx hidden.now →
+        IsIndexed (shown_of (opposite_of side)) os nx half.now.shown.items →
+        IsIndexed (hidden_of (opposite_of side)) os nx half.now.hidden.items →
         result ≡ false → crossing_of side limit (open_orders os) ≡ 0 }
 {
     let other = side.opposite();
@@ -108,14 +116,14 @@ pub fn is_met(side: Side, limit: u32, shown: &[Level], hidden: &[Level]) -> bool
             side: other,
             shown: true,
         },
-        shown,
+        half.shown.as_slice(),
     );
     let behind = best_in(
         Queue {
             side: other,
             shown: false,
         },
-        hidden,
+        half.hidden.as_slice(),
     );
     is_crossed(before, side, limit) || is_crossed(behind, side, limit)
 }
@@ -248,39 +256,34 @@ fn join_queue(
 }
 
 // An order joins the levels of its side, whether shown or hidden.
-pub fn join(
-    orders: &mut Vec<Resting>,
-    nexts: &mut Vec<usize>,
-    shown: &mut Vec<Level>,
-    hidden: &mut Vec<Level>,
-    order: Resting,
-)
+pub fn join(orders: &mut Vec<Resting>, nexts: &mut Vec<usize>, half: &mut Half, order: Resting)
     requires orders_room { vec_len orders.old < vec_capacity orders.old }
     requires nexts_room { vec_len nexts.old < vec_capacity nexts.old }
-    requires shown_room { vec_len shown.old < vec_capacity shown.old }
-    requires hidden_room { vec_len hidden.old < vec_capacity hidden.old }
+    requires shown_room { vec_len half.old.shown < vec_capacity half.old.shown }
+    requires hidden_room { vec_len half.old.hidden < vec_capacity half.old.hidden }
     requires open { 0 < order.left }
-    requires shown_small { All (λ (l : Level). l.shares < 18446744069414584320) shown.old.items }
-    requires hidden_small { All (λ (l : Level). l.shares < 18446744069414584320) hidden.old.items }
-    requires shown { IsIndexed (shown_of order.side) orders.old.items nexts.old.items shown.old.items }
-    requires hidden { IsIndexed (hidden_of order.side) orders.old.items nexts.old.items hidden.old.items }
+    requires shown_small { All (λ (l : Level). l.shares < 18446744069414584320) half.old.shown.items }
+    requires hidden_small { All (λ (l : Level). l.shares < 18446744069414584320) half.old.hidden.items }
+    requires shown { IsIndexed (shown_of order.side) orders.old.items nexts.old.items half.old.shown.items }
+    requires hidden { IsIndexed (hidden_of order.side) orders.old.items nexts.old.items half.old.hidden.items }
     ensures orders { orders.new.items ≡ orders.old.items ++ order ∷ [] }
-    ensures shown { IsIndexed (shown_of order.side) orders.new.items nexts.new.items shown.new.items }
-    ensures hidden { IsIndexed (hidden_of order.side) orders.new.items nexts.new.items hidden.new.items }
+    ensures shown { IsIndexed (shown_of order.side) orders.new.items nexts.new.items half.new.shown.items }
+    ensures hidden { IsIndexed (hidden_of order.side) orders.new.items nexts.new.items half.new.hidden.items }
     ensures others { (t : Queue) (ls : List Level) → t.side ≢ order.side → IsIndexed t orders.old.items nexts.old.items ls → IsIndexed t orders.new.items nexts.new.items ls }
     ensures orders_capacity { vec_capacity orders.old ≤ vec_capacity orders.new }
     ensures nexts_len { vec_len nexts.new ≡ vec_len nexts.old + 1 }
     ensures nexts_capacity { vec_capacity nexts.old ≤ vec_capacity nexts.new }
-    ensures shown_len { vec_len shown.new ≤ vec_len shown.old + 1 }
-    ensures shown_capacity { vec_capacity shown.old ≤ vec_capacity shown.new }
-    ensures hidden_len { vec_len hidden.new ≤ vec_len hidden.old + 1 }
-    ensures hidden_capacity { vec_capacity hidden.old ≤ vec_capacity hidden.new }
+    ensures shown_len { vec_len half.new.shown ≤ vec_len half.old.shown + 1 }
+    ensures shown_capacity { vec_capacity half.old.shown ≤ vec_capacity half.new.shown }
+    ensures hidden_len { vec_len half.new.hidden ≤ vec_len half.old.hidden + 1 }
+    ensures hidden_capacity { vec_capacity half.old.hidden ≤ vec_capacity half.new.hidden }
+    ensures count { half.new.count ≡ half.old.count }
 {
     if order.shown {
-        join_queue(orders, nexts, shown, order);
+        join_queue(orders, nexts, &mut half.shown, order);
         return;
     }
-    join_queue(orders, nexts, hidden, order);
+    join_queue(orders, nexts, &mut half.hidden, order);
 }
 
 // Open shares are a number of 32 bits.

@@ -14,7 +14,7 @@ ghost use Rattle.price_time_book.specs.Orders.{changed};
 ghost use Rattle.price_time_book.specs.Queues.{better_of, first_of, hidden_of, queue_of, shown_of, top_in};
 ghost use Rattle.price_time_book.specs.Sides.{depth_of, opposite_of};
 
-use crate::levels::{Level, Queue, place_of, place_of_best};
+use crate::levels::{Half, Level, Queue, place_of, place_of_best};
 use crate::resting::{Fill, Resting};
 use crate::search::{is_better, is_within};
 use market_types::Side;
@@ -118,35 +118,35 @@ fn earlier(
 }
 
 // The first order of a side, shown or hidden.
-fn first_of(
-    side: Side,
-    orders: &[Resting],
-    nexts: &[usize],
-    shown: &mut Vec<Level>,
-    hidden: &mut Vec<Level>,
-) -> Option<First>
-    requires shown { IsIndexed (shown_of side) orders.now nexts.now shown.old.items }
-    requires hidden { IsIndexed (hidden_of side) orders.now nexts.now hidden.old.items }
+fn first_of(side: Side, orders: &[Resting], nexts: &[usize], half: &mut Half) -> Option<First>
+    requires shown { IsIndexed (shown_of side) orders.now nexts.now half.old.shown.items }
+    requires hidden { IsIndexed (hidden_of side) orders.now nexts.now half.old.hidden.items }
     ensures first { first_of side (open_orders orders.now) ≡ option_map (λ f. slice_index_or orders.now f.place nothing) result }
     ensures within { IfSome result (λ f. f.place < length orders.now) }
-    ensures shown_level { IfSome result (λ f. f.shown ≡ true → f.level < length shown.new.items) }
-    ensures hidden_level { IfSome result (λ f. f.shown ≡ false → f.level < length hidden.new.items) }
-    ensures shown_placed { IfSome result (λ f. f.shown ≡ true → (d : Level) → IsOpenAt orders.now (key (shown_of side) (slice_index_or shown.new.items f.level d).price) f.place) }
-    ensures hidden_placed { IfSome result (λ f. f.shown ≡ false → (d : Level) → IsOpenAt orders.now (key (hidden_of side) (slice_index_or hidden.new.items f.level d).price) f.place) }
-    ensures shown { IsIndexed (shown_of side) orders.now nexts.now shown.new.items }
-    ensures hidden { IsIndexed (hidden_of side) orders.now nexts.now hidden.new.items }
-    ensures shown_len { vec_len shown.new ≡ vec_len shown.old }
-    ensures shown_capacity { vec_capacity shown.new ≡ vec_capacity shown.old }
-    ensures hidden_len { vec_len hidden.new ≡ vec_len hidden.old }
-    ensures hidden_capacity { vec_capacity hidden.new ≡ vec_capacity hidden.old }
+    ensures shown_level { IfSome result (λ f. f.shown ≡ true → f.level < length half.new.shown.items) }
+    ensures hidden_level { IfSome result (λ f. f.shown ≡ false → f.level < length half.new.hidden.items) }
+    ensures shown_placed { IfSome result (λ f. f.shown ≡ true → (d : Level) → IsOpenAt orders.now (key (shown_of side) (slice_index_or half.new.shown.items f.level d).price) f.place) }
+    ensures hidden_placed { IfSome result (λ f. f.shown ≡ false → (d : Level) → IsOpenAt orders.now (key (hidden_of side) (slice_index_or half.new.hidden.items f.level d).price) f.place) }
+    ensures shown { IsIndexed (shown_of side) orders.now nexts.now half.new.shown.items }
+    ensures hidden { IsIndexed (hidden_of side) orders.now nexts.now half.new.hidden.items }
+    ensures shown_len { vec_len half.new.shown ≡ vec_len half.old.shown }
+    ensures shown_capacity { vec_capacity half.new.shown ≡ vec_capacity half.old.shown }
+    ensures hidden_len { vec_len half.new.hidden ≡ vec_len half.old.hidden }
+    ensures hidden_capacity { vec_capacity half.new.hidden ≡ vec_capacity half.old.hidden }
+    ensures count { half.new.count ≡ half.old.count }
 {
-    let before = first_in(Queue { side, shown: true }, orders, nexts, shown);
-    let behind = first_in(Queue { side, shown: false }, orders, nexts, hidden);
+    let before = first_in(Queue { side, shown: true }, orders, nexts, &mut half.shown);
+    let behind = first_in(
+        Queue { side, shown: false },
+        orders,
+        nexts,
+        &mut half.hidden,
+    );
     earlier(side, orders, before, behind)
 }
 
-// The order at a place keeps fewer open shares; its level keeps some.
-fn lower(
+// The order at a place keeps fewer open shares; its level, where it keeps none, leaves.
+fn set_left(
     queue: Queue,
     orders: &mut Vec<Resting>,
     levels: &mut Vec<Level>,
@@ -159,7 +159,6 @@ fn lower(
     requires level { at < vec_len levels.old }
     requires place { (d : Level) → IsOpenAt orders.old.items (key queue (slice_index_or levels.old.items at d).price) place }
     requires lower { (d : Resting) → left < (slice_index_or orders.old.items place d).left }
-    requires some { (d : Level) (e : Resting) → (slice_index_or orders.old.items place e).left < (slice_index_or levels.old.items at d).shares + left }
     requires indexed { IsIndexed queue orders.old.items nexts.now levels.old.items }
     ensures orders { orders.new.items ≡ slice_set orders.old.items place (record (slice_index_or orders.old.items place nothing) { left = left; intended = intended }) }
     ensures indexed { IsIndexed queue orders.new.items nexts.now levels.new.items }
@@ -175,73 +174,15 @@ fn lower(
         ..order
     };
     let level = levels[at];
+    let taken = u64::from(order.left - left);
+    if level.shares <= taken {
+        let _ = levels.remove(at);
+        return;
+    }
     levels[at] = Level {
-        shares: level.shares - u64::from(order.left - left),
+        shares: level.shares - taken,
         ..level
     };
-}
-
-// The order at a place keeps fewer open shares; its level keeps none and leaves.
-fn close(
-    queue: Queue,
-    orders: &mut Vec<Resting>,
-    levels: &mut Vec<Level>,
-    nexts: &[usize],
-    at: usize,
-    place: usize,
-    left: u32,
-    intended: u32,
-)
-    requires level { at < vec_len levels.old }
-    requires place { (d : Level) → IsOpenAt orders.old.items (key queue (slice_index_or levels.old.items at d).price) place }
-    requires lower { (d : Resting) → left < (slice_index_or orders.old.items place d).left }
-    requires none { (d : Level) (e : Resting) → (slice_index_or levels.old.items at d).shares + left ≤ (slice_index_or orders.old.items place e).left }
-    requires indexed { IsIndexed queue orders.old.items nexts.now levels.old.items }
-    ensures orders { orders.new.items ≡ slice_set orders.old.items place (record (slice_index_or orders.old.items place nothing) { left = left; intended = intended }) }
-    ensures indexed { IsIndexed queue orders.new.items nexts.now levels.new.items }
-    ensures orders_len { vec_len orders.new ≡ vec_len orders.old }
-    ensures orders_capacity { vec_capacity orders.new ≡ vec_capacity orders.old }
-    ensures levels_len { vec_len levels.new ≤ vec_len levels.old }
-    ensures levels_capacity { vec_capacity levels.new ≡ vec_capacity levels.old }
-{
-    let order = orders[place];
-    orders[place] = Resting {
-        left,
-        intended,
-        ..order
-    };
-    let _ = levels.remove(at);
-}
-
-// The order at a place keeps fewer open shares.
-pub fn set_left(
-    queue: Queue,
-    orders: &mut Vec<Resting>,
-    levels: &mut Vec<Level>,
-    nexts: &[usize],
-    at: usize,
-    place: usize,
-    left: u32,
-    intended: u32,
-)
-    requires level { at < vec_len levels.old }
-    requires place { (d : Level) → IsOpenAt orders.old.items (key queue (slice_index_or levels.old.items at d).price) place }
-    requires lower { (d : Resting) → left < (slice_index_or orders.old.items place d).left }
-    requires indexed { IsIndexed queue orders.old.items nexts.now levels.old.items }
-    ensures orders { orders.new.items ≡ slice_set orders.old.items place (record (slice_index_or orders.old.items place nothing) { left = left; intended = intended }) }
-    ensures indexed { IsIndexed queue orders.new.items nexts.now levels.new.items }
-    ensures orders_len { vec_len orders.new ≡ vec_len orders.old }
-    ensures orders_capacity { vec_capacity orders.new ≡ vec_capacity orders.old }
-    ensures levels_len { vec_len levels.new ≤ vec_len levels.old }
-    ensures levels_capacity { vec_capacity levels.new ≡ vec_capacity levels.old }
-{
-    let had = orders[place].left;
-    let shares = levels[at].shares;
-    if shares <= u64::from(had - left) {
-        close(queue, orders, levels, nexts, at, place, left, intended);
-    } else {
-        lower(queue, orders, levels, nexts, at, place, left, intended);
-    }
 }
 
 // An order with no open shares is counted no more.
@@ -253,6 +194,43 @@ fn count_out(count: &mut usize, left: u32)
     if left == 0 {
         *count -= 1;
     }
+}
+
+// The order at a place of a level keeps fewer open shares and another intended size.
+fn lower_in(
+    queue: Queue,
+    orders: &mut Vec<Resting>,
+    levels: &mut Vec<Level>,
+    count: &mut usize,
+    nexts: &[usize],
+    at: usize,
+    place: usize,
+    left: u32,
+    intended: u32,
+)
+    requires level { at < vec_len levels.old }
+    requires place { (d : Level) → IsOpenAt orders.old.items (key queue (slice_index_or levels.old.items at d).price) place }
+    requires lower { left < (slice_index_or orders.old.items place nothing).left }
+    requires size { left ≤ intended }
+    requires indexed { IsIndexed queue orders.old.items nexts.now levels.old.items }
+    requires count { count.old ≡ depth_of queue.side (open_orders orders.old.items) }
+    requires orderly { IsOrderly (open_orders orders.old.items) }
+    ensures list { open_orders orders.new.items ≡ changed (record (slice_index_or orders.old.items place nothing) { left = left; intended = intended }) (open_orders orders.old.items) }
+    ensures indexed { IsIndexed queue orders.new.items nexts.now levels.new.items }
+    ensures others { (t : Queue) (ls : List Level) → t ≢ queue → IsIndexed t orders.old.items nexts.now ls → IsIndexed t orders.new.items nexts.now ls }
+    ensures lessened { AreLessened orders.old.items orders.new.items }
+    ensures count { count.new ≡ depth_of queue.side (open_orders orders.new.items) }
+    ensures other_count { (t : Side) → t ≢ queue.side →
+        depth_of t (open_orders orders.new.items) ≡ depth_of t (open_orders orders.old.items) }
+    ensures orderly { IsOrderly (open_orders orders.new.items) }
+    ensures small { IsSmall (open_orders orders.old.items) → IsSmall (open_orders orders.new.items) }
+    ensures orders_len { vec_len orders.new ≡ vec_len orders.old }
+    ensures orders_capacity { vec_capacity orders.new ≡ vec_capacity orders.old }
+    ensures levels_len { vec_len levels.new ≤ vec_len levels.old }
+    ensures levels_capacity { vec_capacity levels.new ≡ vec_capacity levels.old }
+{
+    set_left(queue, orders, levels, nexts, at, place, left, intended);
+    count_out(count, left);
 }
 
 // The order at a place of a level gives up to so many shares.
@@ -291,17 +269,17 @@ fn give(
     let resting = orders[place];
     let taken = shares.min(resting.left);
     let left = resting.left - taken;
-    set_left(
+    lower_in(
         queue,
         orders,
         levels,
+        count,
         nexts,
         at,
         place,
         left,
         resting.intended,
     );
-    count_out(count, left);
     Fill {
         resting,
         shares: taken,
@@ -312,9 +290,7 @@ fn give(
 pub fn take_first(
     mine: Side,
     orders: &mut Vec<Resting>,
-    shown: &mut Vec<Level>,
-    hidden: &mut Vec<Level>,
-    count: &mut usize,
+    half: &mut Half,
     nexts: &[usize],
     side: Side,
     limit: u32,
@@ -322,97 +298,72 @@ pub fn take_first(
 ) -> Option<Fill>
     requires some { 0 < shares }
     requires side { mine ≡ opposite_of side }
-    requires shown { IsIndexed (shown_of mine) orders.old.items nexts.now shown.old.items }
-    requires hidden { IsIndexed (hidden_of mine) orders.old.items nexts.now hidden.old.items }
-    requires count { count.old ≡ depth_of mine (open_orders orders.old.items) }
+    requires shown { IsIndexed (shown_of mine) orders.old.items nexts.now half.old.shown.items }
+    requires hidden { IsIndexed (hidden_of mine) orders.old.items nexts.now half.old.hidden.items }
+    requires count { half.old.count ≡ depth_of mine (open_orders orders.old.items) }
     requires orderly { IsOrderly (open_orders orders.old.items) }
     ensures next { result ≡ option_map (fill_of shares) (next_of (open_orders orders.old.items) side limit) }
     ensures gives { IfSome result (λ f. 0 < f.shares) }
     ensures filled { IfSome result (λ f. open_orders orders.new.items ≡ after_fill f (open_orders orders.old.items)) }
     ensures unmatched { IfNone result (orders.new.items ≡ orders.old.items) }
-    ensures shown { IsIndexed (shown_of mine) orders.new.items nexts.now shown.new.items }
-    ensures hidden { IsIndexed (hidden_of mine) orders.new.items nexts.now hidden.new.items }
+    ensures shown { IsIndexed (shown_of mine) orders.new.items nexts.now half.new.shown.items }
+    ensures hidden { IsIndexed (hidden_of mine) orders.new.items nexts.now half.new.hidden.items }
     ensures others { (t : Queue) (ls : List Level) → t.side ≢ mine → IsIndexed t orders.old.items nexts.now ls → IsIndexed t orders.new.items nexts.now ls }
     ensures lessened { AreLessened orders.old.items orders.new.items }
-    ensures count { count.new ≡ depth_of mine (open_orders orders.new.items) }
+    ensures count { half.new.count ≡ depth_of mine (open_orders orders.new.items) }
     ensures other_count { (t : Side) → t ≢ mine →
         depth_of t (open_orders orders.new.items) ≡ depth_of t (open_orders orders.old.items) }
     ensures orderly { IsOrderly (open_orders orders.new.items) }
     ensures small { IsSmall (open_orders orders.old.items) → IsSmall (open_orders orders.new.items) }
     ensures orders_len { vec_len orders.new ≡ vec_len orders.old }
     ensures orders_capacity { vec_capacity orders.new ≡ vec_capacity orders.old }
-    ensures shown_len { vec_len shown.new ≤ vec_len shown.old }
-    ensures shown_capacity { vec_capacity shown.new ≡ vec_capacity shown.old }
-    ensures hidden_len { vec_len hidden.new ≤ vec_len hidden.old }
-    ensures hidden_capacity { vec_capacity hidden.new ≡ vec_capacity hidden.old }
+    ensures shown_len { vec_len half.new.shown ≤ vec_len half.old.shown }
+    ensures shown_capacity { vec_capacity half.new.shown ≡ vec_capacity half.old.shown }
+    ensures hidden_len { vec_len half.new.hidden ≤ vec_len half.old.hidden }
+    ensures hidden_capacity { vec_capacity half.new.hidden ≡ vec_capacity half.old.hidden }
 {
-    let First {
-        shown: is_shown,
-        level,
-        place,
-    } = first_of(mine, orders.as_slice(), nexts, shown, hidden)?;
-    let price = orders[place].price;
+    let first = first_of(mine, orders.as_slice(), nexts, half)?;
+    let price = orders[first.place].price;
     if !is_within(side, limit, price) {
         return None;
     }
-    if is_shown {
+    if first.shown {
         let queue = Queue {
             side: mine,
             shown: true,
         };
-        return Some(give(queue, orders, shown, count, nexts, level, place, shares));
+        return Some(give(
+            queue,
+            orders,
+            &mut half.shown,
+            &mut half.count,
+            nexts,
+            first.level,
+            first.place,
+            shares,
+        ));
     }
     let queue = Queue {
         side: mine,
         shown: false,
     };
-    Some(give(queue, orders, hidden, count, nexts, level, place, shares))
-}
-
-// The open order at a place keeps fewer open shares and another intended size; its queue is known.
-fn lower_in(
-    queue: Queue,
-    orders: &mut Vec<Resting>,
-    levels: &mut Vec<Level>,
-    count: &mut usize,
-    nexts: &[usize],
-    place: usize,
-    left: u32,
-    intended: u32,
-)
-    requires within { place < length orders.old.items }
-    requires queue { queue_of (slice_index_or orders.old.items place nothing) ≡ queue }
-    requires lower { left < (slice_index_or orders.old.items place nothing).left }
-    requires size { left ≤ intended }
-    requires indexed { IsIndexed queue orders.old.items nexts.now levels.old.items }
-    requires count { count.old ≡ depth_of queue.side (open_orders orders.old.items) }
-    requires orderly { IsOrderly (open_orders orders.old.items) }
-    ensures list { open_orders orders.new.items ≡ changed (record (slice_index_or orders.old.items place nothing) { left = left; intended = intended }) (open_orders orders.old.items) }
-    ensures indexed { IsIndexed queue orders.new.items nexts.now levels.new.items }
-    ensures others { (t : Queue) (ls : List Level) → t ≢ queue → IsIndexed t orders.old.items nexts.now ls → IsIndexed t orders.new.items nexts.now ls }
-    ensures lessened { AreLessened orders.old.items orders.new.items }
-    ensures count { count.new ≡ depth_of queue.side (open_orders orders.new.items) }
-    ensures other_count { (t : Side) → t ≢ queue.side →
-        depth_of t (open_orders orders.new.items) ≡ depth_of t (open_orders orders.old.items) }
-    ensures orderly { IsOrderly (open_orders orders.new.items) }
-    ensures small { IsSmall (open_orders orders.old.items) → IsSmall (open_orders orders.new.items) }
-    ensures orders_len { vec_len orders.new ≡ vec_len orders.old }
-    ensures orders_capacity { vec_capacity orders.new ≡ vec_capacity orders.old }
-    ensures levels_len { vec_len levels.new ≤ vec_len levels.old }
-    ensures levels_capacity { vec_capacity levels.new ≡ vec_capacity levels.old }
-{
-    let at = place_of(queue.side, levels.as_slice(), orders[place].price);
-    set_left(queue, orders, levels, nexts, at, place, left, intended);
-    count_out(count, left);
+    Some(give(
+        queue,
+        orders,
+        &mut half.hidden,
+        &mut half.count,
+        nexts,
+        first.level,
+        first.place,
+        shares,
+    ))
 }
 
 // The open order at a place keeps fewer open shares and another intended size.
 pub fn lower_at(
     mine: Side,
     orders: &mut Vec<Resting>,
-    shown: &mut Vec<Level>,
-    hidden: &mut Vec<Level>,
-    count: &mut usize,
+    half: &mut Half,
     nexts: &[usize],
     place: usize,
     left: u32,
@@ -422,26 +373,26 @@ pub fn lower_at(
     requires side { (slice_index_or orders.old.items place nothing).side ≡ mine }
     requires lower { left < (slice_index_or orders.old.items place nothing).left }
     requires size { left ≤ intended }
-    requires shown { IsIndexed (shown_of mine) orders.old.items nexts.now shown.old.items }
-    requires hidden { IsIndexed (hidden_of mine) orders.old.items nexts.now hidden.old.items }
-    requires count { count.old ≡ depth_of mine (open_orders orders.old.items) }
+    requires shown { IsIndexed (shown_of mine) orders.old.items nexts.now half.old.shown.items }
+    requires hidden { IsIndexed (hidden_of mine) orders.old.items nexts.now half.old.hidden.items }
+    requires count { half.old.count ≡ depth_of mine (open_orders orders.old.items) }
     requires orderly { IsOrderly (open_orders orders.old.items) }
     ensures list { open_orders orders.new.items ≡ changed (record (slice_index_or orders.old.items place nothing) { left = left; intended = intended }) (open_orders orders.old.items) }
-    ensures shown { IsIndexed (shown_of mine) orders.new.items nexts.now shown.new.items }
-    ensures hidden { IsIndexed (hidden_of mine) orders.new.items nexts.now hidden.new.items }
+    ensures shown { IsIndexed (shown_of mine) orders.new.items nexts.now half.new.shown.items }
+    ensures hidden { IsIndexed (hidden_of mine) orders.new.items nexts.now half.new.hidden.items }
     ensures others { (t : Queue) (ls : List Level) → t.side ≢ mine → IsIndexed t orders.old.items nexts.now ls → IsIndexed t orders.new.items nexts.now ls }
     ensures lessened { AreLessened orders.old.items orders.new.items }
-    ensures count { count.new ≡ depth_of mine (open_orders orders.new.items) }
+    ensures count { half.new.count ≡ depth_of mine (open_orders orders.new.items) }
     ensures other_count { (t : Side) → t ≢ mine →
         depth_of t (open_orders orders.new.items) ≡ depth_of t (open_orders orders.old.items) }
     ensures orderly { IsOrderly (open_orders orders.new.items) }
     ensures small { IsSmall (open_orders orders.old.items) → IsSmall (open_orders orders.new.items) }
     ensures orders_len { vec_len orders.new ≡ vec_len orders.old }
     ensures orders_capacity { vec_capacity orders.new ≡ vec_capacity orders.old }
-    ensures shown_len { vec_len shown.new ≤ vec_len shown.old }
-    ensures shown_capacity { vec_capacity shown.new ≡ vec_capacity shown.old }
-    ensures hidden_len { vec_len hidden.new ≤ vec_len hidden.old }
-    ensures hidden_capacity { vec_capacity hidden.new ≡ vec_capacity hidden.old }
+    ensures shown_len { vec_len half.new.shown ≤ vec_len half.old.shown }
+    ensures shown_capacity { vec_capacity half.new.shown ≡ vec_capacity half.old.shown }
+    ensures hidden_len { vec_len half.new.hidden ≤ vec_len half.old.hidden }
+    ensures hidden_capacity { vec_capacity half.new.hidden ≡ vec_capacity half.old.hidden }
 {
     let resting = orders[place];
     if resting.shown {
@@ -449,12 +400,34 @@ pub fn lower_at(
             side: mine,
             shown: true,
         };
-        lower_in(queue, orders, shown, count, nexts, place, left, intended);
+        let at = place_of(mine, half.shown.as_slice(), resting.price);
+        lower_in(
+            queue,
+            orders,
+            &mut half.shown,
+            &mut half.count,
+            nexts,
+            at,
+            place,
+            left,
+            intended,
+        );
         return;
     }
     let queue = Queue {
         side: mine,
         shown: false,
     };
-    lower_in(queue, orders, hidden, count, nexts, place, left, intended);
+    let at = place_of(mine, half.hidden.as_slice(), resting.price);
+    lower_in(
+        queue,
+        orders,
+        &mut half.hidden,
+        &mut half.count,
+        nexts,
+        at,
+        place,
+        left,
+        intended,
+    );
 }

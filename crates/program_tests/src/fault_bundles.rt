@@ -1,10 +1,11 @@
 //! The bundle of three branches, cut or changed, as it is read.
 
-use crate::fault_runs::{QUIET, branched_study, ran};
+use crate::facts::{equal, holds};
+use crate::fault_runs::{Ended, QUIET, branched_study, ran};
 use bundle_reader::{BundleError, read_bundle};
 use std::alloc::Global;
+use std::process::Abort;
 use std::sync::Wait;
-use std::test::Fail;
 use std::thread::Threads;
 
 // Where its frames begin, as far as its first 200 bytes.
@@ -79,26 +80,34 @@ const CHANGED: [(usize, Option<BundleError>); 65] = [
     (400, None),
 ];
 
-fn three_branches<R: Threads + Wait + Sync>(rt: &R, alloc: Global) -> Result<Vec<u8>, Fail> {
-    let study = branched_study(alloc)?;
-    let ran = ran(rt, alloc, "run s", study.as_bytes(), QUIET)?;
-    Ok(ran.out.taken().to_vec(alloc)?)
+// What a run of three branches writes.
+fn three_branches<R: Abort + Threads + Wait + Sync>(rt: &R, alloc: Global) -> Ended {
+    let Ok(study) = branched_study(alloc) else {
+        panic!(rt; "out of memory");
+    };
+    ran(rt, alloc, "run s", study.as_bytes(), QUIET)
+}
+
+// Whether so many first bytes are answered by a cut with so many bytes left.
+fn is_cut(alloc: Global, bytes: &[u8], size: usize, left: usize) -> bool {
+    match bytes.get(..size) {
+        Some(cut) => read_bundle(alloc, cut).err() == Some(BundleError::Cut(left)),
+        None => false,
+    }
 }
 
 #[test]
-fn each_cut_is_told(rt: HostRuntime) -> Result<(), Fail> {
+fn each_cut_is_told(rt: HostRuntime) {
     let alloc = rt.alloc();
-    let bytes = three_branches(&rt, alloc)?;
+    let ran = three_branches(&rt, alloc);
     let mut start = 0;
     for size in 0..201 {
         if STARTS.contains(&size) {
             start = size;
         }
-        let cut = bytes.get(..size).ok_or("too few bytes")?;
-        let left = Some(BundleError::Cut(size.wrapping_sub(start)));
-        assert_eq!(rt; read_bundle(alloc, cut).err(), left, "{size} bytes");
+        let left = size.wrapping_sub(start);
+        holds(&rt, is_cut(alloc, ran.out.taken(), size, left));
     }
-    Ok(())
 }
 
 // Changes all bits of a byte.
@@ -108,19 +117,27 @@ fn turn(bytes: &mut [u8], at: usize) {
     }
 }
 
+// Whether bytes with all bits of one byte changed are answered so; they are then as they were.
+fn is_told(alloc: Global, bytes: &mut [u8], at: usize, answer: Option<BundleError>) -> bool {
+    turn(bytes, at);
+    let told = read_bundle(alloc, bytes).err() == answer;
+    turn(bytes, at);
+    told
+}
+
 #[test]
-fn each_changed_byte_is_told(rt: HostRuntime) -> Result<(), Fail> {
+fn each_changed_byte_is_told(rt: HostRuntime) {
     let alloc = rt.alloc();
-    let mut bytes = three_branches(&rt, alloc)?;
+    let ran = three_branches(&rt, alloc);
+    let Ok(mut bytes) = ran.out.taken().to_vec(alloc) else {
+        panic!(rt; "out of memory");
+    };
     let mut start = 0;
-    for (end, answer) in CHANGED {
-        for at in start..end {
-            turn(&mut bytes, at);
-            assert_eq!(rt; read_bundle(alloc, &bytes).err(), answer, "byte {at}");
-            turn(&mut bytes, at);
+    for (end, answer) in CHANGED.iter() {
+        for at in start..*end {
+            holds(&rt, is_told(alloc, bytes.as_mut_slice(), at, *answer));
         }
-        start = end;
+        start = *end;
     }
-    assert_eq!(rt; start, 400);
-    Ok(())
+    equal(&rt, start, 400);
 }

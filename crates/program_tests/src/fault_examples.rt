@@ -1,15 +1,16 @@
 //! Writes and notes that fail.
 
+use crate::facts::{equal, holds};
 use crate::fault_runs::{Around, QUIET, WATCHERS, branched_study, empty_study, ran};
 use abides_run::Status;
+use market_types::Memory;
 use std::alloc::Global;
 use std::process::Abort;
 use std::sync::Wait;
-use std::test::Fail;
 use std::thread::Threads;
 
 // How many bytes a sink has taken before each of its calls, where pieces of these sizes are written to it.
-fn taken_before_calls(alloc: Global, pieces: &[usize]) -> Result<Vec<usize>, Fail> {
+fn taken_before_calls(alloc: Global, pieces: &[usize]) -> Result<Vec<usize>, Memory> {
     let mut taken = Vec::new(alloc);
     let mut before: usize = 0;
     for piece in pieces {
@@ -21,6 +22,45 @@ fn taken_before_calls(alloc: Global, pieces: &[usize]) -> Result<Vec<usize>, Fai
     Ok(taken)
 }
 
+const WRITE_FAILED: &[u8] = b"write failed\n";
+
+// A run of a study of so many steps, whose write of this number fails, has written these bytes.
+fn fail_a_write<R: Abort + Threads + Wait + Sync>(
+    rt: &R,
+    alloc: Global,
+    study: &str,
+    steps: u64,
+    call: u32,
+    written: Option<&[u8]>,
+) {
+    let around = Around {
+        failing_write: call,
+        ..QUIET
+    };
+    let ran = ran(rt, alloc, "run s", study.as_bytes(), around);
+    holds(rt, ran.status == Status::WriteFault && ran.steps == steps);
+    holds(rt, written == Some(ran.out.taken()));
+    holds(rt, ran.notes.taken() == WRITE_FAILED);
+}
+
+// A run of a study of so many steps that has no write of this number writes the whole.
+fn fail_no_write<R: Abort + Threads + Wait + Sync>(
+    rt: &R,
+    alloc: Global,
+    study: &str,
+    steps: u64,
+    call: u32,
+    whole: &[u8],
+) {
+    let around = Around {
+        failing_write: call,
+        ..QUIET
+    };
+    let ran = ran(rt, alloc, "run s", study.as_bytes(), around);
+    holds(rt, ran.status == Status::Ok && ran.steps == steps);
+    holds(rt, ran.out.taken() == whole && ran.notes.taken().is_empty());
+}
+
 // Runs a study of so many steps once for each write, which fails, and once more; the pieces are the sizes of its header, then
 // for each branch of what stands before the entries, of the entries of each segment and of what stands behind, and of its end.
 fn fail_each_write<R: Abort + Threads + Wait + Sync>(
@@ -29,98 +69,94 @@ fn fail_each_write<R: Abort + Threads + Wait + Sync>(
     study: &str,
     steps: u64,
     pieces: &[usize],
-) -> Result<usize, Fail> {
-    let whole = ran(rt, alloc, "run s", study.as_bytes(), QUIET)?;
+) -> usize {
+    let Ok(calls) = taken_before_calls(alloc, pieces) else {
+        panic!(rt; "out of memory");
+    };
+    let ran = ran(rt, alloc, "run s", study.as_bytes(), QUIET);
+    let whole = ran.out.taken();
     let mut call = 1;
-    for taken in taken_before_calls(alloc, pieces)? {
-        let around = Around {
-            failing_write: call,
-            ..QUIET
-        };
-        let ran = ran(rt, alloc, "run s", study.as_bytes(), around)?;
-        assert!(rt;
-            ran.status == Status::WriteFault && ran.steps == steps,
-            "call {call}"
-        );
-        assert!(rt;
-            whole.out.taken().get(..taken) == Some(ran.out.taken()),
-            "call {call}"
-        );
-        assert_eq!(rt; ran.notes.taken(), b"write failed\n".as_slice());
+    for taken in calls.iter() {
+        fail_a_write(rt, alloc, study, steps, call, whole.get(..*taken));
         call = call.saturating_add(1);
     }
-    let around = Around {
-        failing_write: call,
-        ..QUIET
+    fail_no_write(rt, alloc, study, steps, call, whole);
+    whole.len()
+}
+
+const EMPTY_PIECES: [usize; 5] = [11, 98, 0, 288, 5];
+
+const BRANCHED_PIECES: [usize; 18] = [
+    11, 98, 90, 246, 368, 95, 90, 266, 368, 95, 90, 266, 368, 95, 90, 246, 368, 5,
+];
+
+#[test]
+fn each_write_fails_in_turn(rt: HostRuntime) {
+    let alloc = rt.alloc();
+    let (Ok(empty), Ok(branched)) = (empty_study(alloc), branched_study(alloc)) else {
+        panic!(rt; "out of memory");
     };
-    let ran = ran(rt, alloc, "run s", study.as_bytes(), around)?;
-    assert!(rt;
-        ran.status == Status::Ok && ran.steps == steps,
-        "no call {call}"
+    equal(
+        &rt,
+        fail_each_write(&rt, alloc, empty.as_str(), 0, &EMPTY_PIECES),
+        402,
     );
-    assert!(rt; ran.out.taken() == whole.out.taken() && ran.notes.taken().is_empty());
-    Ok(whole.out.taken().len())
+    equal(
+        &rt,
+        fail_each_write(&rt, alloc, branched.as_str(), 18, &BRANCHED_PIECES),
+        3255,
+    );
 }
 
 #[test]
-fn each_write_fails_in_turn(rt: HostRuntime) -> Result<(), Fail> {
+fn a_sink_without_room_is_a_fault(rt: HostRuntime) {
     let alloc = rt.alloc();
-    let empty = empty_study(alloc)?;
-    let branched = branched_study(alloc)?;
-    let size = fail_each_write(&rt, alloc, empty.as_str(), 0, &[11, 98, 0, 288, 5])?;
-    assert_eq!(rt; size, 402);
-    let pieces = [
-        11, 98, 90, 246, 368, 95, 90, 266, 368, 95, 90, 266, 368, 95, 90, 246, 368, 5,
-    ];
-    let size = fail_each_write(&rt, alloc, branched.as_str(), 18, &pieces)?;
-    assert_eq!(rt; size, 3255);
-    Ok(())
-}
-
-#[test]
-fn a_sink_without_room_is_a_fault(rt: HostRuntime) -> Result<(), Fail> {
-    let alloc = rt.alloc();
-    let study = branched_study(alloc)?;
+    let Ok(study) = branched_study(alloc) else {
+        panic!(rt; "out of memory");
+    };
     for (line, steps) in [("run s", 18), ("check s", 0)] {
         let around = Around { room: 0, ..QUIET };
-        let ran = ran(&rt, alloc, line, study.as_bytes(), around)?;
-        assert!(rt; ran.status == Status::WriteFault && ran.steps == steps);
-        assert!(rt; ran.out.taken().is_empty());
-        assert_eq!(rt; ran.notes.taken(), b"write failed\n".as_slice());
+        let ran = ran(&rt, alloc, line, study.as_bytes(), around);
+        holds(&rt, ran.status == Status::WriteFault && ran.steps == steps);
+        holds(&rt, ran.out.taken().is_empty());
+        holds(&rt, ran.notes.taken() == WRITE_FAILED);
     }
-    Ok(())
 }
 
+// The words, the study, the read that fails, the room of the output, and how the run ends.
+const ROWS: [(&str, &str, u32, usize, Status); 9] = [
+    ("run s", WATCHERS, 0, 1000, Status::Ok),
+    ("ran s", WATCHERS, 0, 1000, Status::Usage),
+    ("run s", "series = \"u\"", 0, 1000, Status::NoStudy),
+    (
+        "run s",
+        "version = 2",
+        0,
+        1000,
+        Status::Refused { rule: 1, place: 2 },
+    ),
+    ("run s", WATCHERS, 1, 1000, Status::ReadFault),
+    ("run s", WATCHERS, 0, 100, Status::WriteFault),
+    ("check s", WATCHERS, 0, 0, Status::WriteFault),
+    ("rewind s x:0", WATCHERS, 0, 1000, Status::NoBranch),
+    ("rewind s root:7", WATCHERS, 0, 1000, Status::NoEvent),
+];
+
 #[test]
-fn notes_that_fail_change_no_status(rt: HostRuntime) -> Result<(), Fail> {
-    let alloc = rt.alloc();
-    let good = WATCHERS.as_bytes();
-    let refused = Status::Refused { rule: 1, place: 2 };
-    let rows: [(&str, &[u8], u32, usize, Status); 9] = [
-        ("run s", good, 0, 1000, Status::Ok),
-        ("ran s", good, 0, 1000, Status::Usage),
-        ("run s", b"series = \"u\"", 0, 1000, Status::NoStudy),
-        ("run s", b"version = 2", 0, 1000, refused),
-        ("run s", good, 1, 1000, Status::ReadFault),
-        ("run s", good, 0, 100, Status::WriteFault),
-        ("check s", good, 0, 0, Status::WriteFault),
-        ("rewind s x:0", good, 0, 1000, Status::NoBranch),
-        ("rewind s root:7", good, 0, 1000, Status::NoEvent),
-    ];
-    for (line, study, failing_read, room, status) in rows {
+fn notes_that_fail_change_no_status(rt: HostRuntime) {
+    for (line, study, failing_read, room, status) in ROWS.iter() {
         // notes with room, and without: there each write fails
         for notes_room in [100, 0] {
             let around = Around {
-                failing_read,
+                failing_read: *failing_read,
                 failing_write: 0,
-                room,
+                room: *room,
                 notes_room,
             };
-            let ran = ran(&rt, alloc, line, study, around)?;
-            assert_eq!(rt; ran.status, status, "{line}");
-            let silent = notes_room == 0 || status == Status::Ok;
-            assert_eq!(rt; ran.notes.taken().is_empty(), silent);
+            let ran = ran(&rt, rt.alloc(), line, study.as_bytes(), around);
+            equal(&rt, ran.status, *status);
+            let silent = notes_room == 0 || *status == Status::Ok;
+            equal(&rt, ran.notes.taken().is_empty(), silent);
         }
     }
-    Ok(())
 }

@@ -1,11 +1,12 @@
 //! Studies, and one run of the call over a library and sinks in memory.
 
 use abides_run::{Status, run};
+use market_types::Memory;
 use outside::{Counted, MemoryLibrary, MemorySink, OpenGate, Steps};
 use probe_desk::Probe;
 use std::alloc::Global;
+use std::process::Abort;
 use std::sync::Wait;
-use std::test::Fail;
 use std::thread::Threads;
 
 /// Two watchers of one stock.
@@ -65,27 +66,27 @@ at = 2
 ";
 
 /// One watcher that would first wake after the close.
-pub fn empty_study(alloc: Global) -> Result<String, Fail> {
+pub fn empty_study(alloc: Global) -> Result<String, Memory> {
     let text = WATCHERS.replacen(alloc, "close = 2000", "close = 1000", 1)?;
     let text = text.replacen(alloc, "first = 1000", "first = 2000", 1)?;
     Ok(text.replacen(alloc, "count = 2\n", "", 1)?)
 }
 
 /// The two watchers with three branches that leave the root after two events.
-pub fn branched_study(alloc: Global) -> Result<String, Fail> {
+pub fn branched_study(alloc: Global) -> Result<String, Memory> {
     Ok(format!(in alloc; "{WATCHERS}{BRANCHES}")?)
 }
 
 // A library with the file `s`, one call of which fails; none at 0.
-fn library(alloc: Global, study: &[u8], failing: u32) -> Result<MemoryLibrary, Fail> {
+fn library(alloc: Global, study: &[u8], failing: u32) -> Result<MemoryLibrary, Memory> {
     let mut files = Vec::with_capacity(alloc, 1)?;
     files.push((String::from_str(alloc, "s")?, study.to_vec(alloc)?))?;
-    Ok(MemoryLibrary::new(files, vec![in alloc; failing]?)?)
+    MemoryLibrary::new(files, vec![in alloc; failing]?)
 }
 
 // A sink that takes at most 64 bytes a call, one call of which fails; none at 0.
-fn sink(alloc: Global, room: usize, failing: u32) -> Result<MemorySink, Fail> {
-    Ok(MemorySink::new(alloc, room, 64, vec![in alloc; failing]?)?)
+fn sink(alloc: Global, room: usize, failing: u32) -> Result<MemorySink, Memory> {
+    MemorySink::new(alloc, room, 64, vec![in alloc; failing]?)
 }
 
 /// What surrounds a run: the read and the write that fail (none at 0), and how many bytes the output and the notes take.
@@ -114,33 +115,47 @@ pub struct Ended {
     pub notes: MemorySink,
 }
 
+// What stands between a line's spaces.
+fn words_of(alloc: Global, line: &str) -> Result<Vec<String>, Memory> {
+    let mut words = Vec::new(alloc);
+    for word in line.split(' ') {
+        words.push(String::from_str(alloc, word)?)?;
+    }
+    Ok(words)
+}
+
 /// Runs the words between a line's spaces on the study `s`, without probes. A sink takes at most 64 bytes a call.
-pub fn ran<R: Threads + Wait + Sync>(
+pub fn ran<R: Abort + Threads + Wait + Sync>(
     rt: &R,
     alloc: Global,
     line: &str,
     study: &[u8],
     around: Around,
-) -> Result<Ended, Fail> {
+) -> Ended {
     ran_with(rt, alloc, line, study, around, Vec::new(alloc))
 }
 
 /// The same with these probes.
-pub fn ran_with<R: Threads + Wait + Sync>(
+pub fn ran_with<R: Abort + Threads + Wait + Sync>(
     rt: &R,
     alloc: Global,
     line: &str,
     study: &[u8],
     around: Around,
     probes: Vec<Box<dyn Probe>>,
-) -> Result<Ended, Fail> {
-    let mut words = Vec::new(alloc);
-    for word in line.split(' ') {
-        words.push(String::from_str(alloc, word)?)?;
-    }
-    let mut library = library(alloc, study, around.failing_read)?;
-    let mut out = sink(alloc, around.room, around.failing_write)?;
-    let mut notes = sink(alloc, around.notes_room, 0)?;
+) -> Ended {
+    let (Ok(words), Ok(mut library)) = (
+        words_of(alloc, line),
+        library(alloc, study, around.failing_read),
+    ) else {
+        panic!(rt; "out of memory");
+    };
+    let (Ok(mut out), Ok(mut notes)) = (
+        sink(alloc, around.room, around.failing_write),
+        sink(alloc, around.notes_room, 0),
+    ) else {
+        panic!(rt; "out of memory");
+    };
     let mut steps: Steps<Counted> = Steps::new();
     let status = run(
         rt,
@@ -153,11 +168,10 @@ pub fn ran_with<R: Threads + Wait + Sync>(
         &OpenGate,
         &mut steps,
     );
-    let steps = steps.close();
-    Ok(Ended {
+    Ended {
         status,
-        steps,
+        steps: steps.close(),
         out,
         notes,
-    })
+    }
 }

@@ -6,6 +6,8 @@ mod bundles;
 pub use bundles::{EMPTY_RUN, TWO_WATCHERS};
 
 #[cfg(test)]
+mod facts;
+#[cfg(test)]
 mod fault_bundles;
 #[cfg(test)]
 mod fault_examples;

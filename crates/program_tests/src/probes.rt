@@ -1,10 +1,11 @@
 //! A probe whose sum stays at the ends of its type.
 
+use crate::facts::{equal, holds};
 use crate::fault_runs::{QUIET, branched_study, ran_with};
 use abides_run::Status;
-use market_types::Record;
+use market_types::{Memory, Record};
 use probe_desk::Probe;
-use std::test::Fail;
+use std::alloc::Global;
 
 // It adds one number at each record.
 #[derive(Drop)]
@@ -46,24 +47,37 @@ const ENDS: [(i128, &str); 2] = [
     (i128::MIN, "-170141183460469231731687303715884105728"),
 ];
 
-#[test]
-fn a_sum_stays_at_the_ends_of_its_type(rt: HostRuntime) -> Result<(), Fail> {
-    let alloc = rt.alloc();
-    let study = branched_study(alloc)?;
-    for (term, sum) in ENDS {
-        let mut probes: Vec<Box<dyn Probe>> = Vec::new(alloc);
-        probes.push(Box::new(alloc, Adding { term, total: 0 })?)?;
-        let ran = ran_with(&rt, alloc, "table s", study.as_bytes(), QUIET, probes)?;
-        let table = format!(in alloc;
-            "branch,parent,stop,events,end,first_difference,adding
+// A probe that adds this.
+fn adding_probe(alloc: Global, term: i128) -> Result<Vec<Box<dyn Probe>>, Memory> {
+    let mut probes: Vec<Box<dyn Probe>> = Vec::new(alloc);
+    probes.push(Box::new(alloc, Adding { term, total: 0 })?)?;
+    Ok(probes)
+}
+
+// The table of three branches where each sum is this.
+fn table_of(alloc: Global, sum: &str) -> Result<String, Memory> {
+    Ok(format!(in alloc;
+        "branch,parent,stop,events,end,first_difference,adding
 root,,0,6,Closed,0,{sum}
 x,root,2,6,Closed,5,{sum}
 y,root,2,6,Closed,5,{sum}
 z,root,2,6,Closed,0,{sum}
 "
-        )?;
-        assert_eq!(rt; ran.status, Status::Ok);
-        assert!(rt; ran.out.taken() == table.as_bytes());
+    )?)
+}
+
+#[test]
+fn a_sum_stays_at_the_ends_of_its_type(rt: HostRuntime) {
+    let alloc = rt.alloc();
+    let Ok(study) = branched_study(alloc) else {
+        panic!(rt; "out of memory");
+    };
+    for (term, sum) in ENDS.iter() {
+        let (Ok(probes), Ok(table)) = (adding_probe(alloc, *term), table_of(alloc, sum)) else {
+            panic!(rt; "out of memory");
+        };
+        let ran = ran_with(&rt, alloc, "table s", study.as_bytes(), QUIET, probes);
+        equal(&rt, ran.status, Status::Ok);
+        holds(&rt, ran.out.taken() == table.as_bytes());
     }
-    Ok(())
 }

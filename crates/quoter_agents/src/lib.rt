@@ -7,4 +7,5 @@ mod momentum;
 mod quoter;
 pub mod worked;
 
-pub use quoter::Quoter;
+pub use history::History;
+pub use quoter::{follow, make};

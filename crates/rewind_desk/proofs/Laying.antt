@@ -24,10 +24,10 @@ later-in true x key keys e = or_right (same_key x key) (is_in key keys) e
 later-in false x key keys e = e
 
 -- a key of the first or of the second list is one of both together
-in-left : (k : Key) (xs ys : List Key) → is_in k xs ≡ true → is_in k (xs ++ ys) ≡ true
+pub in-left : (k : Key) (xs ys : List Key) → is_in k xs ≡ true → is_in k (xs ++ ys) ≡ true
 in-left k xs ys e = list_any-append (λ x. same_key x k) xs ys ∙ or_left (is_in k xs) (is_in k ys) e
 
-in-right : (k : Key) (xs ys : List Key) → is_in k ys ≡ true → is_in k (xs ++ ys) ≡ true
+pub in-right : (k : Key) (xs ys : List Key) → is_in k ys ≡ true → is_in k (xs ++ ys) ≡ true
 in-right k xs ys e = list_any-append (λ x. same_key x k) xs ys ∙ or_right (is_in k xs) (is_in k ys) e
 
 multiples-have : (stride s e n k : ℕ) → e ≤ k → k < e + n → k % stride ≡ 0 → is_in (key_at s k) (multiples_from stride s e n) ≡ true

@@ -3,11 +3,10 @@ use Rattle.std.proofs.Common.{◌≡◌, ◌≤◌, ◌<◌, ℕ, ◌+◌, ◌-�
 use Rattle.std.specs.Prelude.{nat_le, nat_lt}
 use Rattle.std.proofs.Math.Nat.{mul-mod_left, mod-lt}
 use Rattle.std.proofs.lemmas.Bool.{cases_eq, cases_lt, le-leb, lt-ltb, or_left, or_right, ne_eqb}
-use Rattle.std.proofs.lemmas.List.Folds.{list_any-append}
 use Rattle.std.proofs.lemmas.Nat.{div-add-mod'}
 use Rattle.shelf_core.specs.declared.plan.Key.{Key}
 use Rattle.shelf_core.specs.declared.plan.ShelfPlan.{ShelfPlan}
-use Rattle.shelf_core.specs.Plan.{is_in, is_sole, same_key}
+use Rattle.shelf_core.specs.Plan.{is_in, is_sole}
 use Rattle.shelf_core.proofs.Plans.{and_left, and_right}
 use Rattle.checkpoint_shelf.specs.Told.{ClosedTold}
 use Rattle.branch_tree.specs.declared.branch.Branch.{Branch}
@@ -38,6 +37,7 @@ use Rattle.rewind_desk.proofs.Chained.{on-more, on-self, parent_cases}
 use Rattle.rewind_desk.proofs.Halting.{stop-ended}
 use Rattle.rewind_desk.proofs.Lasts.{last-end}
 use Rattle.rewind_desk.proofs.Most.{and-true, most-fewer, most-least}
+use Rattle.rewind_desk.proofs.Laying.{in-left as in-front, in-right as in-back}
 
 -- segments that go on from no other start at a stop
 abbrev Start : Stop → List Segment → Type 0
@@ -159,13 +159,6 @@ stop-above c s n (At m) h l is own less = elim (cases_lt m (from_events c s)) [
   | inr ahead ↦ omega (arith, less, segment-until c.opening c.plan s m (course-tree c h) h.limit l is ahead)
 ]
 stop-above c s n (When w) h l is own less = omega (arith, less, h.limit, segment-within c.opening c.plan s (course-tree c h) h.limit l)
-
--- a key stands in one of two lists
-in-front : (k : Key) (xs ys : List Key) → is_in k xs ≡ true → is_in k (xs ++ ys) ≡ true
-in-front k xs ys i = list_any-append (λ (x : Key). same_key x k) xs ys ∙ or_left (is_in k xs) (is_in k ys) i
-
-in-back : (k : Key) (xs ys : List Key) → is_in k ys ≡ true → is_in k (xs ++ ys) ≡ true
-in-back k xs ys i = list_any-append (λ (x : Key). same_key x k) xs ys ∙ or_right (is_in k xs) (is_in k ys) i
 
 -- a state that surely stands and is near has at most the events of the nearest one
 sure-least : (c : CourseTold) (plan : ShelfPlan) (b e : ℕ) (k : Key) → is_in k (keys_in plan) ≡ true → is_sure c plan k ≡ true → IsOn c.plan (last_of c.plan.branches b) k.segment

@@ -8,7 +8,7 @@ ghost use Rattle.rewind_desk.specs.Rewinds.{last_event, rewind_refusal};
 
 use crate::finding::nearest_to;
 use crate::near::events_of;
-use crate::reach::{lesser, reach};
+use crate::reach::reach;
 use checkpoint_shelf::ClosedShelf;
 use kernel_copy::{Checkpoint, Course};
 use kernel_core::Kernel;
@@ -66,7 +66,7 @@ pub fn reached<L: Ledger>(
 {
     let last = course.last_segment(branch);
     let near = nearest_to(course, shelf, last, event);
-    let most = lesser(event, course.opening().limit);
+    let most = event.min(course.opening().limit);
     let arrival = reach(alloc, course, shelf, near, last, most, steps)?;
     Ok(Rewound {
         kernel: arrival.kernel,

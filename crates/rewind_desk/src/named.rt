@@ -11,8 +11,8 @@ fn has_name(branch: &Branch, name: &[u8]) -> bool
     branch.name.as_slice() == name
 }
 
-// The place of the first branch of a name.
-fn place_named(branches: &[Branch], name: &[u8]) -> Option<usize>
+/// The place of the first of these branches that has a name, byte for byte.
+pub fn place_named(branches: &[Branch], name: &[u8]) -> Option<usize>
     ensures first { result ≡ branch_of branches.now name.now }
     ensures within { IfSome result (λ i. i < length branches.now) }
 {

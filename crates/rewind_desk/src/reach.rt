@@ -1,10 +1,9 @@
 //! From a state that a closed shelf holds on to another of its branch.
 
-ghost use Rattle.std.specs.Prelude.{◌≡◌, ◌≢◌, ◌<◌, ◌≤◌, ◌+◌, ◌-◌, ◌^◌, min, None, Some, IfOk, IfSome, IfNone, length};
+ghost use Rattle.std.specs.Prelude.{◌≡◌, ◌≢◌, ◌<◌, ◌≤◌, ◌+◌, ◌-◌, ◌^◌, None, Some, IfOk, IfSome, IfNone, length};
 ghost use Rattle.branch_tree.specs.Segments.{segments_in, segment_at};
 ghost use Rattle.kernel_core.specs.Step.{Fits};
-ghost use Rattle.kernel_copy.specs.UntilStop.{until_part};
-ghost use Rattle.kernel_copy.specs.Segmentwise.{afresh, segment_end};
+ghost use Rattle.kernel_copy.specs.Segmentwise.{segment_end};
 ghost use Rattle.rewind_desk.specs.Nearest.{IsHeld, events_of};
 ghost use Rattle.rewind_desk.specs.Reach.{IsAt, IsOn, RunsOn, has_more};
 
@@ -29,13 +28,6 @@ pub(crate) struct Arrival {
     pub(crate) has_more: bool,
 }
 
-// The lesser of two numbers.
-pub(crate) fn lesser(a: u32, b: u32) -> u32
-    ensures { result ≡ min a b }
-{
-    if a < b { a } else { b }
-}
-
 // A state, if it is one of this segment.
 fn own_of(near: Option<Near>, segment: u32) -> Option<Near>
     ensures own { IfSome result (λ n. (near ≡ Some n) × (n.key.segment ≡ segment)) }
@@ -53,8 +45,8 @@ fn own_of(near: Option<Near>, segment: u32) -> Option<Near>
     }
 }
 
-// Whether a kernel has one more event before a stop.
-fn has_more(o: &Opening, stop: Stop, kernel: &Kernel) -> bool
+/// Whether a kernel has one more event before a stop.
+pub fn has_more(o: &Opening, stop: Stop, kernel: &Kernel) -> bool
     ensures { result ≡ has_more o.now stop kernel.now }
 {
     match stop {
@@ -64,29 +56,6 @@ fn has_more(o: &Opening, stop: Stop, kernel: &Kernel) -> bool
         },
         Stop::When(time) => kernel.due_by(o, time),
     }
-}
-
-// Lets a kernel run to a stop, and to no more than so many events.
-fn run_to<L: Ledger>(
-    alloc: Global,
-    o: &Opening,
-    stop: Stop,
-    event: u32,
-    kernel: Kernel,
-    steps: &mut Steps<L>,
-) -> Result<Kernel, Memory>
-    requires fits { Fits o.now kernel }
-    requires early { kernel.events ≤ event }
-    requires count { steps.old + (event - kernel.events) < 2 ^ 64 }
-    ensures state { IfOk result (λ k. k ≡ (until_part o.now stop event (afresh kernel)).state) }
-    ensures ticks { IfOk result (λ k. steps.new + kernel.events ≡ steps.old + k.events) }
-    ensures least { steps.old ≤ steps.new }
-    ensures most { steps.new + kernel.events ≤ steps.old + event }
-{
-    let kept = Kept::Entries(Packed::new(alloc));
-    let mut ran = Ran { kept, kernel };
-    ran.run_to(alloc, o, stop, event, steps)?;
-    Ok(ran.kernel)
 }
 
 // Lets a kernel from which a segment's run goes on run until so many events stand or the segment ends.
@@ -111,10 +80,12 @@ fn arrive<L: Ledger>(
 {
     let o = course.opening();
     let stop = course.segment(segment).stop;
-    let reached = run_to(alloc, o, stop, event, kernel, steps)?;
-    let more = has_more(o, stop, &reached);
+    let kept = Kept::Entries(Packed::new(alloc));
+    let mut ran = Ran { kept, kernel };
+    ran.run_to(alloc, o, stop, event, steps)?;
+    let more = has_more(o, stop, &ran.kernel);
     Ok(Arrival {
-        kernel: reached,
+        kernel: ran.kernel,
         has_more: more,
     })
 }
@@ -134,7 +105,7 @@ fn resumed(
     ensures events { IfOk result (λ k. k.events ≡ near.events) }
 {
     courses_stay_in_range();
-    let _ = course.opening();
+    course.is_course();
     let Some(kept) = shelf.get(near.key) else {
         unreachable!()
     };
@@ -237,7 +208,7 @@ fn onward<L: Ledger>(
     ensures least { steps.old ≤ steps.new }
     ensures most { steps.new + before.kernel.events ≤ steps.old + event }
 {
-    let _ = course.opening();
+    course.is_course();
     if before.has_more {
         return Ok(before);
     }

@@ -19,10 +19,11 @@ use Rattle.exchange_agent.specs.declared.cancel.Found.{Found}
 use Rattle.exchange_agent.specs.declared.handled.Outgoing.{Outgoing}
 use Rattle.exchange_agent.specs.declared.settle.Taking.{Taking}
 use Rattle.exchange_agent.specs.declared.verdict.Verdict.{Verdict}
+use Rattle.exchange_agent.specs.declared.verdict.Reason.TheVariants as why
 use Rattle.exchange_agent.specs.declared.verdict.Verdict.TheVariants.{Ignored, Forgotten, Refused, Accepted}
 use Rattle.exchange_agent.specs.Cancel.{cancel_of, canceled, found_from, found_here, open_of, unheard}
 use Rattle.exchange_agent.specs.Changes.{Changed, changed_by, turned}
-use Rattle.exchange_agent.specs.Enter.{entered_by, is_full, is_halted, is_memory_full, is_remembered, price_is_refused, remainder, remembering, resting_of, shares_are_refused, taking_of, terms_are_refused, verdict_at, verdict_of, verdict_there, way_from, way_of}
+use Rattle.exchange_agent.specs.Enter.{entered_by, is_full, is_halted, is_memory_full, is_remembered, price_is_refused, reason_letter, remainder, remembering, resting_of, shares_are_refused, taking_of, terms_are_refused, verdict_at, verdict_of, verdict_there, way_from, way_of}
 use Rattle.exchange_agent.specs.Market.{market}
 use Rattle.exchange_agent.specs.Outcome.{Outcome}
 use Rattle.exchange_agent.specs.Settle.{Way, added, all_settled, execution_of, removed, settled}
@@ -110,17 +111,17 @@ one-reply r h = All-cons HasReplyTexts r [] h (All-nil HasReplyTexts)
 -- the reason of a refusal is a letter
 abbrev HasReason : Verdict → Type 0
 HasReason Ignored = Unit {0}
-HasReason (Forgotten reason) = IsLetter reason
-HasReason (Refused reason) = IsLetter reason
+HasReason (Forgotten reason) = IsLetter (reason_letter reason)
+HasReason (Refused reason) = IsLetter (reason_letter reason)
 HasReason (Accepted k) = Unit {0}
 
 reason-there : (s : State) (e : Enter) (k : ℕ) → HasReason (verdict_there s e k)
 reason-there s e k =
-    if-both (terms_are_refused s.hidden e) HasReason (Refused 79) _ letter-o
-    (if-both (is_halted (stock_at s k)) HasReason (Refused 72) _ letter-h
-    (if-both (shares_are_refused e) HasReason (Refused 79) _ letter-o
-    (if-both (price_is_refused (stock_at s k) e) HasReason (Refused 88) _ letter-x
-    (if-both (is_full s) HasReason (Refused 79) (Accepted k) letter-o tt))))
+    if-both (terms_are_refused s.hidden e) HasReason (Refused why.Other) _ letter-o
+    (if-both (is_halted (stock_at s k)) HasReason (Refused why.Halted) _ letter-h
+    (if-both (shares_are_refused e) HasReason (Refused why.Other) _ letter-o
+    (if-both (price_is_refused (stock_at s k) e) HasReason (Refused why.Price) _ letter-x
+    (if-both (is_full s) HasReason (Refused why.Other) (Accepted k) letter-o tt))))
 
 reason-at : (s : State) (e : Enter) (k : Option ℕ) → HasReason (verdict_at s e k)
 reason-at s e None = letter-s
@@ -129,12 +130,12 @@ reason-at s e (Some k) = reason-there s e k
 reason-is : (s : State) (agent : ℕ) (e : Enter) → HasReason (verdict_of s agent e)
 reason-is s agent e =
     if-both (is_remembered s agent e) HasReason Ignored _ tt
-    (if-both (is_memory_full s) HasReason (Forgotten 79) _ letter-o (reason-at s e (stock_number_of e.stock s.stocks)))
+    (if-both (is_memory_full s) HasReason (Forgotten why.Other) _ letter-o (reason-at s e (stock_number_of e.stock s.stocks)))
 
 entered-spelled : (s : State) (time agent : ℕ) (e : Enter) (v : Verdict) → AreEnterTexts e → HasReason v → All HasTokens s.stocks → IsSpelledOutcome (entered_by s time agent e v)
 entered-spelled s time agent e Ignored t reason h = record { books = h; replies = All-nil HasReplyTexts }
-entered-spelled s time agent e (Forgotten r) t reason h = record { books = h; replies = one-reply _ (rejected-texts time e.token r t.token reason) }
-entered-spelled s time agent e (Refused r) t reason h = record { books = h; replies = one-reply _ (rejected-texts time e.token r t.token reason) }
+entered-spelled s time agent e (Forgotten r) t reason h = record { books = h; replies = one-reply _ (rejected-texts time e.token (reason_letter r) t.token reason) }
+entered-spelled s time agent e (Refused r) t reason h = record { books = h; replies = one-reply _ (rejected-texts time e.token (reason_letter r) t.token reason) }
 entered-spelled s time agent e (Accepted k) t reason h =
     let c = taking_of time agent e k in
     let w = way_from (remembering s agent e) time agent e k in

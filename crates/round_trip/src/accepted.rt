@@ -12,14 +12,17 @@ ghost use Rattle.round_trip.specs.Back.{bundle_back};
 ghost use Rattle.round_trip.specs.AcceptedBack.{IsBackOf};
 
 use crate::accepted_laws::accepted_messages_are_spelled;
+use branch_workers::{Setup, work};
 use bundle_reader::{Bundle, BundleError};
+use kernel_copy::Keep;
 use kernel_copy::laws::segments_have_few_events;
-use kernel_copy::{Keep, run_segments};
-use outside::{Ledger, Steps};
+use outside::{Ledger, OpenGate, Steps};
 use std::alloc::Global;
+use std::sync::Wait;
+use std::thread::Threads;
 use study_file::RawStudy;
 use study_rules::{AcceptError, Study, accept};
-use trace_bundle::Ran;
+use trace_bundle::RunOutcomes;
 use trace_bundle::laws::outcomes_are_a_run;
 
 /// Writes the bundle of an accepted study, from a run that holds the entries themselves, and reads it: the branches' full
@@ -27,7 +30,7 @@ use trace_bundle::laws::outcomes_are_a_run;
 ///
 /// # Errors
 /// Want of memory alone.
-pub fn round_trip<W: Ran>(
+pub fn accepted_round_trip<W: RunOutcomes>(
     alloc: Global,
     raw: &RawStudy,
     series: Option<&[u8]>,
@@ -44,13 +47,14 @@ pub fn round_trip<W: Ran>(
     crate::round_trip(alloc, &study.course, ran)
 }
 
-/// Accepts a study, runs its segments one after another, writes its bundle and reads it: the branches' full runs, their feed
-/// split as reading splits it.
+/// Accepts a study, has its segments run by one worker, writes its bundle and reads it: the branches' full runs, their feed
+/// split as reading splits it. It may wait.
 ///
 /// # Errors
 /// The first broken rule of the study, and no step was counted; or want of memory. The counter rises by the events of all
 /// segments, and after want of memory by no more.
-pub fn run_and_read<L: Ledger>(
+pub fn run_and_read<R: Threads + Wait + Sync, L: Ledger + Send>(
+    rt: &R,
     alloc: Global,
     raw: &RawStudy,
     series: Option<&[u8]>,
@@ -66,11 +70,17 @@ pub fn run_and_read<L: Ledger>(
 {
     let study = accept(alloc, raw, series)?;
     segments_have_few_events(&study.course);
-    let Ok(ran) = run_segments(alloc, &study.course, Keep::Entries, steps) else {
+    let setup = Setup {
+        stride: 1,
+        places: 0,
+        keep: Keep::Entries,
+        workers: 1,
+    };
+    let Ok(worked) = work(rt, alloc, &study.course, setup, &OpenGate, steps) else {
         return Err(AcceptError::Memory);
     };
     outcomes_are_a_run();
-    match round_trip(alloc, raw, series, &study, &ran) {
+    match accepted_round_trip(alloc, raw, series, &study, &worked.outcomes) {
         Ok(bundle) => Ok(bundle),
         Err(_) => Err(AcceptError::Memory),
     }

@@ -15,7 +15,7 @@ use bundle_reader::{Bundle, BundleError, read_bundle};
 use kernel_copy::Course;
 use market_types::Memory;
 use std::alloc::Global;
-use trace_bundle::Ran;
+use trace_bundle::RunOutcomes;
 use trace_bundle::laws::listed_runs_are_runs;
 
 /// What is read of the bytes that are written of a study: each branch's full run, its feed split as reading splits it.
@@ -28,7 +28,7 @@ pub fn read_written(alloc: Global, course: &Course, bytes: &[u8]) -> Result<Bund
     ensures { Gives (bundle_back course.now) result }
 {
     bundles_come_back();
-    let _ = course.opening();
+    course.is_course();
     read_bundle(alloc, bytes)
 }
 
@@ -37,7 +37,11 @@ pub fn read_written(alloc: Global, course: &Course, bytes: &[u8]) -> Result<Bund
 ///
 /// # Errors
 /// Want of memory alone.
-pub fn round_trip<W: Ran>(alloc: Global, course: &Course, ran: &W) -> Result<Bundle, BundleError>
+pub fn round_trip<W: RunOutcomes>(
+    alloc: Global,
+    course: &Course,
+    ran: &W,
+) -> Result<Bundle, BundleError>
     requires ran { IsListedRunOf course.now (W.count ran.now) (W.kept_of ran.now) (W.closing_of ran.now) }
     requires spelled { AreMessagesSpelled course.now }
     ensures { Gives (bundle_back course.now) result }

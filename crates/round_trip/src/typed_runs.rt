@@ -22,10 +22,15 @@ use kernel_copy::laws::courses_stay_in_range;
 use market_types::Memory;
 use std::alloc::Global;
 use trace_bundle::laws::listed_runs_are_runs;
-use trace_bundle::{Ran, trace_of_segment};
+use trace_bundle::{RunOutcomes, trace_of_segment};
 
 // The entries of the segments from the root's first to this one.
-fn segments_fit<W: Ran>(alloc: Global, course: &Course, ran: &W, segment: u32) -> Result<(), Memory>
+fn segments_fit<W: RunOutcomes>(
+    alloc: Global,
+    course: &Course,
+    ran: &W,
+    segment: u32,
+) -> Result<(), Memory>
     requires segment { segment < length (segments_in course.now.plan) }
     requires ran { IsListedRunOf course.now (W.count ran.now) (W.kept_of ran.now) (W.closing_of ran.now) }
     ensures { OnOk result (All IsTyped (segment_end course.now.opening course.now.plan (segment_at course.now.plan segment)).entries) }
@@ -38,25 +43,30 @@ fn segments_fit<W: Ran>(alloc: Global, course: &Course, ran: &W, segment: u32) -
 }
 
 // The closing of a segment's end.
-fn ending_fits<W: Ran>(course: &Course, ran: &W, segment: u32)
+fn ending_fits<W: RunOutcomes>(course: &Course, ran: &W, segment: u32)
     requires segment { segment < length (segments_in course.now.plan) }
     requires ran { IsRunOf course.now (W.count ran.now) (W.kept_of ran.now) (W.closing_of ran.now) }
     ensures { All (HasRanges (Some (length course.now.opening.stocks))) (closing_list (closing_at course.now.opening (segment_end course.now.opening course.now.plan (segment_at course.now.plan segment)).state)) }
 {
     courses_stay_in_range();
     agents_have_all_positions();
-    let _ = course.opening();
+    course.is_course();
     closing_fits(ran.closing(segment));
 }
 
 // A branch's full run.
-fn branch_fits<W: Ran>(alloc: Global, course: &Course, ran: &W, branch: u16) -> Result<(), Memory>
+fn branch_fits<W: RunOutcomes>(
+    alloc: Global,
+    course: &Course,
+    ran: &W,
+    branch: u16,
+) -> Result<(), Memory>
     requires branch { branch < length course.now.plan.branches }
     requires ran { IsListedRunOf course.now (W.count ran.now) (W.kept_of ran.now) (W.closing_of ran.now) }
     ensures { OnOk result (IsTypedRun course.now branch) }
 {
     listed_runs_are_runs();
-    let _ = course.opening();
+    course.is_course();
     let last = course.last_segment(branch);
     segments_fit(alloc, course, ran, last)?;
     ending_fits(course, ran, last);
@@ -64,7 +74,7 @@ fn branch_fits<W: Ran>(alloc: Global, course: &Course, ran: &W, branch: u16) -> 
 }
 
 // The full runs of all branches.
-fn branches_fit<W: Ran>(alloc: Global, course: &Course, ran: &W) -> Result<(), Memory>
+fn branches_fit<W: RunOutcomes>(alloc: Global, course: &Course, ran: &W) -> Result<(), Memory>
     requires { IsListedRunOf course.now (W.count ran.now) (W.kept_of ran.now) (W.closing_of ran.now) }
     ensures { OnOk result ((b : ℕ) → b < length course.now.plan.branches → IsTypedRun course.now b) }
 {
@@ -87,7 +97,11 @@ fn names_fit(branches: &[Branch])
 
 /// What a run holds has its fields in their ranges where the orders have that edits inject: numbers and names are so by their
 /// types, and all other texts are the market's.
-pub(crate) fn runs_fit<W: Ran>(alloc: Global, course: &Course, ran: &W) -> Result<(), Memory>
+pub(crate) fn runs_fit<W: RunOutcomes>(
+    alloc: Global,
+    course: &Course,
+    ran: &W,
+) -> Result<(), Memory>
     requires { IsListedRunOf course.now (W.count ran.now) (W.kept_of ran.now) (W.closing_of ran.now) }
     ensures { OnOk result (AreMessagesSpelled course.now → IsInRange course.now) }
 {

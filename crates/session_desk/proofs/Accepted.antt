@@ -1,5 +1,5 @@
 -- Which trees stay accepted: what is left of one without its last branch, and one with other edits.
-use Rattle.std.proofs.Common.{◌≡◌, ℕ, ◌+◌, ◌*◌, ◌<◌, ◌≤◌, true, false, cond, ltb, leb, Bool, List, [], ◌∷◌, ◌++◌, Option, Some, None, option_map, length, get_or, map, set, refl, sym, ap, ◌∙◌, arith, suc, zero, ◌&&◌, ◌||◌, inl, inr}
+use Rattle.std.proofs.Common.{◌≡◌, ℕ, ◌+◌, ◌*◌, ◌<◌, ◌≤◌, ltb, leb, Bool, List, [], ◌∷◌, ◌++◌, Option, Some, None, option_map, length, get_or, map, set, refl, sym, ap, ◌∙◌, arith, suc, zero, ◌&&◌, ◌||◌, inl, inr}
 use Rattle.std.specs.Prelude.{if◌then◌else◌, nat_lt}
 use Rattle.std.specs.List.{list_any}
 use Rattle.std.proofs.lemmas.Bool.{cases_eq, le-leb, leb-true}
@@ -13,7 +13,7 @@ use Rattle.branch_tree.specs.declared.error.PlanError.TheVariants.{ParentNotBefo
 use Rattle.branch_tree.specs.Stops.{is_within, no_earlier}
 use Rattle.branch_tree.specs.Plan.{no_branch, branch_at, parent_at, stop_at}
 use Rattle.branch_tree.specs.Tree.{IsRooted, late_from, late_parent, is_in_range, out_from, out_of_range, same_name, repeated_from, repeated_name, mixes, mixed_from, mixed_stop, first_of, too_many, too_much, plan_refusal}
-use Rattle.branch_tree.proofs.TreeLemmas.{tree_from}
+use Rattle.branch_tree.proofs.TreeLemmas.{tree_from, late_passed as passed, none_first, none_mapped, few_passed, mixed_passed as unmet}
 use Rattle.session_desk.specs.Acts.{branch_with}
 
 -- Of branches that aren't refused none is refused for any cause.
@@ -24,14 +24,6 @@ pub record Parts (bs : List Branch) (limit : ℕ) : Type 0 where
   pub names : repeated_name bs ≡ None
   pub much : too_much (length bs) limit ≡ None
   pub kinds : mixed_stop bs ≡ None
-
-none_first : (x y : Option PlanError) → first_of x y ≡ None → (x ≡ None) × (y ≡ None)
-none_first None y h = (refl, h)
-none_first (Some e) y h = cc
-
-none_mapped : (f : ℕ → PlanError) (x : Option ℕ) → option_map f x ≡ None → x ≡ None
-none_mapped f None h = refl
-none_mapped f (Some e) h = cc
 
 pub parts-of : (bs : List Branch) (limit : ℕ) → plan_refusal bs limit ≡ None → Parts bs limit
 parts-of bs limit h =
@@ -60,14 +52,6 @@ all_none a b c d e f p q r s t u = rw (p, q, r, s, t, u) refl
 
 pub from-parts : (bs : List Branch) (limit : ℕ) → Parts bs limit → plan_refusal bs limit ≡ None
 from-parts bs limit h = all_none (late_parent bs) (out_of_range limit bs) (too_many (length bs)) (repeated_name bs) (too_much (length bs) limit) (mixed_stop bs) h.late h.range h.many h.names h.much h.kinds
-
-passed : (t : Bool) (x : Option ℕ) (k : ℕ) → cond t x (Some k) ≡ None → (t ≡ true) × (x ≡ None)
-passed true x k h = (refl, h)
-passed false x k h = cc
-
-unmet : (t : Bool) (x : Option ℕ) (k : ℕ) → cond t (Some k) x ≡ None → (t ≡ false) × (x ≡ None)
-unmet true x k h = cc
-unmet false x k h = (refl, h)
 
 -- without the last branch each cause stays away
 late-less : (k : ℕ) (bs : List Branch) (b : Branch) → late_from k (bs ++ b ∷ []) ≡ None → late_from k bs ≡ None
@@ -101,10 +85,6 @@ kinds-less before k (x ∷ xs) b h =
 mixed-less : (bs : List Branch) (b : Branch) → mixed_stop (bs ++ b ∷ []) ≡ None → mixed_stop bs ≡ None
 mixed-less [] b h = refl
 mixed-less (root ∷ bs) b h = kinds-less [] 1 bs b h
-
-few_passed : (t : Bool) (e : PlanError) → cond t None (Some e) ≡ None → t ≡ true
-few_passed true e h = refl
-few_passed false e h = cc
 
 many-less : (n m : ℕ) → m ≤ n → too_many n ≡ None → too_many m ≡ None
 many-less n m l h =

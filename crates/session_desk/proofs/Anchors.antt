@@ -1,5 +1,5 @@
 -- Anchors of branches.
-use Rattle.std.proofs.Common.{◌≡◌, ◌<◌, ◌≤◌, ℕ, true, false, Bool, ◌&&◌, List, [], ◌∷◌, ◌++◌, Option, Some, None, length, min, is_some, refl, sym, ap, ◌∙◌, subst, arith, suc, zero, ◌⊎◌, inl, inr, true≢false}
+use Rattle.std.proofs.Common.{◌≡◌, ◌<◌, ◌≤◌, ℕ, true, false, Bool, ◌&&◌, List, [], ◌∷◌, ◌++◌, Option, Some, None, length, min, is_some, refl, sym, ap, ◌∙◌, subst, arith, suc, zero, inl, inr, true≢false}
 use Rattle.std.specs.Prelude.{if◌then◌else◌, not}
 use Rattle.std.proofs.lemmas.Bool.{cases_eq, cases_Bool}
 use Rattle.branch_tree.specs.declared.branch.Branch.{Branch}
@@ -13,14 +13,11 @@ use Rattle.session_desk.specs.Session.{SessionTold, IsSession, full_in, is_own, 
 use Rattle.session_desk.specs.Anchors.{anchor_of, first_other, follower_of, last_own, shared_count, up_to}
 use Rattle.session_desk.proofs.Numbered.{LeaveBy, number_at, numbered, path-by}
 use Rattle.session_desk.proofs.Paths.{AreAlike, own-alike, same-path, same-runs}
+use Rattle.rewind_desk.proofs.Chained.{parent_cases as option_cases}
 
 none_is : (x : Option ℕ) → not (is_some x) ≡ true → x ≡ None
 none_is None h = refl
 none_is (Some c) h = cc
-
-option_cases : (x : Option ℕ) → (x ≡ None) ⊎ ((c : ℕ) × (x ≡ Some c))
-option_cases None = inl refl
-option_cases (Some c) = inr (c, refl)
 
 -- whether all are own, with one more behind
 pub kept-push : (own : ℕ → Bool) (xs : List ℕ) (b : ℕ) → not (is_some (first_other own (xs ++ b ∷ []))) ≡ (not (is_some (first_other own xs)) && own b)

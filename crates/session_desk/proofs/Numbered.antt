@@ -1,5 +1,5 @@
 -- A tree whose branches fork by event number: along each path the stops rise.
-use Rattle.std.proofs.Common.{◌≡◌, ◌<◌, ◌≤◌, ℕ, ◌+◌, true, false, cond, Bool, List, [], ◌∷◌, ◌++◌, Option, Some, None, All, length, get_or, drop, refl, sym, ap, subst, arith, suc, zero, inl, inr}
+use Rattle.std.proofs.Common.{◌≡◌, ◌<◌, ◌≤◌, ℕ, ◌+◌, true, false, List, [], ◌∷◌, ◌++◌, All, length, drop, refl, sym, ap, subst, arith, suc, zero, inl, inr}
 use Rattle.std.proofs.lemmas.Bool.{and_parts, cases_eq, cases_lt, leb-true}
 use Rattle.std.proofs.lemmas.List.{get_or_past}
 use Rattle.std.proofs.lemmas.List.Elements.{All-get_or}
@@ -10,9 +10,8 @@ use Rattle.branch_tree.specs.Stops.{is_time, is_within, no_earlier, number_of}
 use Rattle.branch_tree.specs.Plan.{no_branch, parent_at, stop_at}
 use Rattle.branch_tree.specs.Paths.{path_of}
 use Rattle.branch_tree.specs.Planned.{IsTree}
-use Rattle.branch_tree.specs.Tree.{is_in_range, out_from}
 use Rattle.branch_tree.proofs.PathLemmas.{path-more}
-use Rattle.branch_tree.proofs.TreeLemmas.{tree_from}
+use Rattle.branch_tree.proofs.TreeLemmas.{tree_from, stops-in-range as in-range}
 use Rattle.kernel_copy.specs.Full.{forks_of}
 use Rattle.session_desk.specs.Session.{SessionTold, IsSession}
 use Rattle.session_desk.proofs.Accepted.{parts-of}
@@ -32,19 +31,10 @@ pub record IsNumbered (bs : List Branch) (limit : ℕ) : Type 0 where
   pub rises : (b : ℕ) → 0 < b → b < length bs → number_at bs (parent_at bs b) ≤ number_at bs b
   pub start : number_at bs 0 ≡ 0
 
-passed : (t : Bool) (x : Option ℕ) (k : ℕ) → cond t x (Some k) ≡ None → (t ≡ true) × (x ≡ None)
-passed true x k h = (refl, h)
-passed false x k h = cc
-
-in-range : (limit : ℕ) (all : List Branch) (k : ℕ) (bs : List Branch) (i : ℕ) → out_from limit all k bs ≡ None → i < length bs → is_in_range limit all (get_or bs i no_branch) ≡ true
-in-range limit all k [] i h l = absurd (omega arith)
-in-range limit all k (b ∷ bs) zero h l = (passed (is_in_range limit all b) (out_from limit all (k + 1) bs) k h).0
-in-range limit all k (b ∷ bs) (suc i) h l = in-range limit all (k + 1) bs i (passed (is_in_range limit all b) (out_from limit all (k + 1) bs) k h).1 (omega arith)
-
 no-less : (x y : Stop) (m n : ℕ) → x ≡ At m → y ≡ At n → no_earlier x y ≡ true → m ≤ n
 no-less x y m n p q h = leb-true m n (subst (λ (s : Stop). no_earlier (At m) s ≡ true) q (subst (λ (s : Stop). no_earlier s y ≡ true) p h))
 
-numbers-at : (bs : List Branch) (b : ℕ) → All (λ (x : Branch). is_time x.stop ≡ false) bs → is_time (stop_at bs b) ≡ false
+pub numbers-at : (bs : List Branch) (b : ℕ) → All (λ (x : Branch). is_time x.stop ≡ false) bs → is_time (stop_at bs b) ≡ false
 numbers-at bs b h = elim (cases_lt b (length bs)) [
   | inl l ↦ All-get_or (λ (x : Branch). is_time x.stop ≡ false) bs b no_branch l h
   | inr past ↦ ap (λ (x : Branch). is_time x.stop) (get_or_past bs b no_branch past)

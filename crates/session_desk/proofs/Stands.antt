@@ -3,10 +3,10 @@ use Rattle.std.proofs.Common.{◌≡◌, ◌<◌, ◌≤◌, ◌-◌, ℕ, true,
 use Rattle.std.specs.Prelude.{Result, Ok, Err, OnOk, OnErr}
 use Rattle.std.proofs.lemmas.Bool.{cases_lt, cases_eq}
 use Rattle.std.proofs.lemmas.List.{get_or_append_left, get_or-append_right, get_or_past, get_or-replicate, get_or-set_same, get_or-set_other, length-replicate, length-set, length_push}
-use Rattle.std.proofs.lemmas.List.Elements.{All-get_or, All-push, All-pop, All-set}
+use Rattle.std.proofs.lemmas.List.Elements.{All-push, All-pop, All-set}
 use Rattle.market_rules.specs.declared.edit.Edit.{Edit}
 use Rattle.branch_tree.specs.declared.branch.Branch.{Branch}
-use Rattle.branch_tree.specs.Plan.{no_branch, branch_at, stop_at}
+use Rattle.branch_tree.specs.Plan.{no_branch, branch_at}
 use Rattle.branch_tree.specs.Stops.{is_time}
 use Rattle.branch_tree.specs.Tree.{plan_refusal}
 use Rattle.kernel_copy.specs.Courses.{AreEdits, CourseTold, IsCourse}
@@ -14,6 +14,7 @@ use Rattle.session_desk.specs.Session.{SessionTold, IsSession, IsStudys, first_s
 use Rattle.session_desk.specs.Acts.{branch_with, with_fork, with_edits}
 use Rattle.session_desk.specs.Answers.{fork_refusal}
 use Rattle.session_desk.proofs.Accepted.{accepted-edits, accepted-less, before-last, rooted-less, rooted-more}
+use Rattle.session_desk.proofs.Numbered.{numbers-at as number-at}
 
 -- what stands past a list isn't own
 past-own : (own : List Bool) (b : ℕ) → length own ≤ b → get_or own b false ≡ true → ⊥
@@ -118,13 +119,6 @@ undo-stands s bs b os x here own some h =
     let p = ap (λ (ys : List Branch). let q : SessionTold = record { course = s.course; branches = ys; own = s.own } in q) here
     ∙ ap (λ (ys : List Bool). let q : SessionTold = record { course = s.course; branches = bs ++ b ∷ []; own = ys } in q) own in
     less-stands s.course bs b os x some (subst (λ (q : SessionTold). IsSession q) p h)
-
--- with other edits
-number-at : (bs : List Branch) (i : ℕ) → All (λ (x : Branch). is_time x.stop ≡ false) bs → is_time (stop_at bs i) ≡ false
-number-at bs i h = elim (cases_lt i (length bs)) [
-  | inl l ↦ All-get_or (λ (x : Branch). is_time x.stop ≡ false) bs i no_branch l h
-  | inr past ↦ ap (λ (x : Branch). is_time x.stop) (get_or_past bs i no_branch past)
-]
 
 edit-own : (s : SessionTold) (i : ℕ) (es : List Edit) (j : ℕ) → IsSession s → is_own (with_edits i es s) j ≡ true → IsStudys (with_edits i es s) j
 edit-own s i es j h is = elim (cases_eq j i) [

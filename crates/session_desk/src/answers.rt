@@ -8,7 +8,6 @@ ghost use Rattle.session_desk.specs.Along.{BeginWith, event_count};
 ghost use Rattle.session_desk.specs.Answers.{branch_refusal, state_refusal};
 
 use crate::error::SessionError;
-use crate::onward::lesser;
 use crate::session::Session;
 use crate::walk::{reach, recorded};
 use checkpoint_shelf::ClosedShelf;
@@ -61,7 +60,7 @@ impl Session {
         if self.lacks(branch) {
             return Err(SessionError::NoBranch);
         }
-        let most = lesser(event, self.course().opening().limit);
+        let most = event.min(self.course().opening().limit);
         match reach(self, shelf, branch, most, steps) {
             Ok(kernel) => {
                 let events = kernel.events();

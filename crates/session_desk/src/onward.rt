@@ -1,34 +1,16 @@
 //! A run that goes on from a branch's parent.
 
-ghost use Rattle.std.specs.Prelude.{◌≡◌, ◌<◌, ◌≤◌, ◌+◌, ◌-◌, ◌^◌, OnOk, length, min};
-ghost use Rattle.branch_tree.specs.declared.stop.Stop.TheVariants.{At};
+ghost use Rattle.std.specs.Prelude.{◌≡◌, ◌<◌, ◌≤◌, ◌+◌, ◌-◌, ◌^◌, OnOk, length};
 ghost use Rattle.kernel_copy.specs.Reached.{IsReached};
-ghost use Rattle.rewind_desk.specs.Reach.{has_more};
 ghost use Rattle.session_desk.specs.Along.{BeginWith, event_count, onward};
 
 use crate::edits::make_edits;
 use crate::session::{Session, edits_of, stop_of};
+use branch_tree::Stop;
 use kernel_core::Kernel;
-use market_floor::Opening;
 use market_types::{Memory, Trace};
 use outside::{Ledger, Steps};
-
-// The lesser of two numbers.
-pub(crate) fn lesser(a: u32, b: u32) -> u32
-    ensures { result ≡ min a b }
-{
-    if a < b { a } else { b }
-}
-
-// Whether a kernel has one more event before an event number.
-fn has_more(o: &Opening, stop: u32, kernel: &Kernel) -> bool
-    ensures { result ≡ has_more o.now (At stop) kernel.now }
-{
-    match kernel.end(o) {
-        Some(_) => false,
-        None => kernel.events() < stop,
-    }
-}
+use rewind_desk::has_more;
 
 // Lets a kernel in the state of a branch's parent after so many events, or at the branch's stop, go on in the branch until so
 // many events stand.
@@ -54,7 +36,7 @@ pub(crate) fn go_onward<L: Ledger>(
 {
     let alloc = session.allocator();
     let o = session.course().opening();
-    if has_more(o, stop_of(session, branch), kernel) {
+    if has_more(o, Stop::At(stop_of(session, branch)), kernel) {
         return Ok(());
     }
     make_edits(alloc, o, branch, edits_of(session, branch), kernel, trace)?;

@@ -7,7 +7,7 @@ ghost use Rattle.session_desk.specs.Session.{full_in};
 ghost use Rattle.session_desk.specs.Anchors.{anchor_of, follower_of, shared_count};
 ghost use Rattle.session_desk.specs.Along.{BeginWith, event_count};
 
-use crate::onward::{go_onward, lesser};
+use crate::onward::go_onward;
 use crate::session::{Session, parent_of, stop_of};
 use checkpoint_shelf::ClosedShelf;
 use kernel_copy::Checkpoint;
@@ -56,7 +56,7 @@ pub(crate) fn reach<L: Ledger>(
         return Ok(found.kernel);
     }
     let parent = parent_of(session, branch);
-    let before = lesser(event, stop_of(session, branch));
+    let before = event.min(stop_of(session, branch));
     let mut kernel = reach(session, shelf, parent, before, steps)?;
     let mut trace = Trace::new(session.allocator());
     go_onward(session, branch, event, &mut kernel, &mut trace, steps)?;
@@ -113,7 +113,7 @@ pub(crate) fn recorded<L: Ledger>(
         return Ok(root);
     }
     let parent = parent_of(session, branch);
-    let before = lesser(event, stop_of(session, branch));
+    let before = event.min(stop_of(session, branch));
     let mut kernel = recorded(session, parent, before, trace, steps)?;
     go_onward(session, branch, event, &mut kernel, trace, steps)?;
     Ok(kernel)

@@ -1,9 +1,8 @@
 -- Entries that say acts, and those that don't.
-use Rattle.std.proofs.Common.{◌≡◌, ◌∙◌, ◌<◌, nat_lt, Bool, true, false, not, cond, ℕ, zero, suc, List, [], ◌∷◌, length, get_or, Option, Some, None, All, unwrap_or, refl, sym, ap, arith}
+use Rattle.std.proofs.Common.{◌≡◌, ◌∙◌, ◌<◌, nat_lt, Bool, true, false, not, ℕ, zero, suc, List, [], ◌∷◌, length, get_or, Option, Some, None, All, unwrap_or, refl, sym, ap, arith}
 use Rattle.std.specs.Prelude.{position, is_some}
 use Rattle.std.specs.List.{filter_map, cons_option, position_or_len}
 use Rattle.std.proofs.lemmas.Bool.Decides.{nat_tests}
-use Rattle.std.proofs.lemmas.Option.{same_Some}
 use Rattle.std.proofs.lemmas.List.Sums.{fails_before_first, passes_at_first}
 use Rattle.toml.specs.Data.{Data, Members, no_members, as_table}
 use Rattle.study_file.specs.Keys.{passes}
@@ -13,6 +12,9 @@ use Rattle.study_rules.specs.Entries.{entry_of}
 use Rattle.study_rules.specs.Scope.{Scope}
 use Rattle.session_script.specs.declared.act.Act.{Act}
 use Rattle.session_script.specs.Acts.{act_in, is_act}
+use Rattle.study_rules.proofs.Tests.{not-true}
+use Rattle.study_rules.proofs.Beside.{not-false}
+use Rattle.study_rules.proofs.OpeningScopes.{found-if}
 
 -- an entry that is no table says no act
 entry-says : (scope : Scope) (o : Option Members) → passes (is_act scope) o ≡ is_act scope (unwrap_or o no_members)
@@ -21,14 +23,6 @@ entry-says scope (Some t) = refl
 
 pub says : (scope : Scope) (d : Data) → passes (is_act scope) (as_table d) ≡ is_act scope (entry_of d)
 says scope d = entry-says scope (as_table d)
-
-not-false : (b : Bool) → not b ≡ false → b ≡ true
-not-false true h = refl
-not-false false h = absurd (cc h)
-
-not-true : (b : Bool) → not b ≡ true → b ≡ false
-not-true true h = absurd (cc h)
-not-true false h = refl
 
 pub none-said : (o : Option Act) → is_some o ≡ false → o ≡ None
 none-said None h = refl
@@ -39,11 +33,6 @@ pub each-says : (scope : Scope) (ds : List Data) → first_failing (is_act scope
 each-says scope ds h = λ k d within.
     sym (says scope (get_or ds k d))
     ∙ not-false (passes (is_act scope) (as_table (get_or ds k d))) (position-none (λ (e : Data). not (passes (is_act scope) (as_table e))) ds h k d within)
-
--- the first place that passes a test
-found-if : (b : Bool) (n at : ℕ) → cond b (Some n) None ≡ Some at → (b ≡ true) × (n ≡ at)
-found-if true n at h = (refl, same_Some _ _ h)
-found-if false n at h = absurd (cc h)
 
 pub first-place : {X : Type 0} (p : X → Bool) (xs : List X) (at : ℕ) → position p xs ≡ Some at → (at < length xs) × (position_or_len p xs ≡ at)
 first-place p xs at h =

@@ -22,9 +22,9 @@ use Rattle.session_script.specs.declared.act.Act.{Act}
 use Rattle.session_script.specs.declared.act.Act.TheVariants as act
 use Rattle.session_script.specs.Forms.{script_keys, act_form}
 use Rattle.session_script.specs.Acts.{name_in, new_name_in, event_in, edits_in, fork_in, edit_in, rewind_in, close_in, values_in, act_of_kind, act_in}
-use Rattle.session_script.specs.Script.{act_entries, is_script, forks_by_time}
+use Rattle.session_script.specs.Script.{act_entries, is_script, is_fit, forks_by_time}
 use Rattle.session_script.specs.Fitting.{FitsOpening}
-use Rattle.session_script.specs.Told.{AreSaidBy}
+use Rattle.session_script.specs.Told.{AreSaidBy, IsFirstBad}
 
 -- steps that give a value
 
@@ -119,9 +119,22 @@ all-fit c t acts said = λ k a within.
     let there : k < length (act_entries t) = omega (arith, within, said.count) in
     act-fits c.opening (entry_of (get_or (act_entries t) k no-entry)) (get_or acts k a) (said.each k no-entry a there)
 
+fit-count : (c : CourseTold) (t : Members) → is_fit c t ≡ true → is_in_range 1 64 (length (act_entries t)) ≡ true
+fit-count c t fit =
+    let whole = and_parts (is_script t) (not (forks_by_time c)) fit in
+    (and_parts (has_keys [] script_keys t) (is_in_range 1 64 (length (act_entries t))) whole.0).1
+
 pub how-many : (c : CourseTold) (t : Members) (acts : List Act) → AreSaidBy c t acts → (1 ≤ length acts) × (length acts ≤ 64)
 how-many c t acts said =
-    let whole = and_parts (is_script t) (not (forks_by_time c)) said.whole in
-    let count : is_in_range 1 64 (length (act_entries t)) ≡ true
-    = (and_parts (has_keys [] script_keys t) (is_in_range 1 64 (length (act_entries t))) whole.0).1 in
+    let count = fit-count c t said.whole in
     (grind (arith, nat_tests, count, said.count), grind (arith, nat_tests, count, said.count))
+
+bad-if : (c : CourseTold) (t : Members) (n : ℕ) → IsFirstBad c t n → (fit : Bool) → is_fit c t ≡ fit → n ≤ 64
+bad-if c t n first true fit =
+    let count = fit-count c t fit in
+    let below : n < length (act_entries t) = (first.there fit no-entry).0 in
+    grind (arith, nat_tests, count, below)
+bad-if c t n first false fit = let is : n ≡ 64 = first.whole fit in omega (arith, is)
+
+pub bad-low : (c : CourseTold) (t : Members) (n : ℕ) → IsFirstBad c t n → n ≤ 64
+bad-low c t n first = bad-if c t n first (is_fit c t) refl

@@ -1,4 +1,3 @@
 pub mod Entries
-pub mod Reading
 pub mod Told
 pub mod Fits

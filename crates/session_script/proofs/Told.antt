@@ -1,5 +1,5 @@
 -- What the answer tells of a script.
-use Rattle.std.proofs.Common.{◌≡◌, ◌∙◌, Bool, true, false, ℕ, List, Option, Some, None, Ok, Err, refl, sym, ap, subst, inl, inr, if◌then◌else◌}
+use Rattle.std.proofs.Common.{◌≡◌, ◌≤◌, ◌∙◌, Bool, true, false, ℕ, List, Option, Some, None, Ok, Err, refl, sym, ap, subst, inl, inr, if◌then◌else◌}
 use Rattle.std.specs.Prelude.{Result, IfOk, IfErr, ◌⊎◌}
 use Rattle.std.specs.List.{filter_map}
 use Rattle.toml.specs.Data.{Data, Members}
@@ -48,9 +48,21 @@ pub err-by : {A : Type 0} (r : Result A ScriptError) (x y : Answer) → x ≡ y 
 err-by (Ok a) x y e h = tt
 err-by (Err error) x y e h = elim h [ inl m ↦ inl m | inr said ↦ inr (e ∙ said) ]
 
+-- what each such answer is
+
+pub ok-is : {A : Type 0} (r : Result A ScriptError) (items : A → List Act) (x : Answer) (P : List Act → Type 0)
+    → ((acts : List Act) → x ≡ Ok acts → P acts) → IfOk r (λ a. x ≡ Ok (items a)) → IfOk r (λ a. P (items a))
+ok-is (Ok a) items x P each h = each (items a) h
+ok-is (Err e) items x P each h = tt
+
+pub err-is : {A : Type 0} (r : Result A ScriptError) (x : Answer) → ((n : ℕ) → x ≡ Err (BadAct n) → n ≤ 64)
+    → IfErr r (λ e. (e ≡ Memory) ⊎ (x ≡ Err e)) → IfErr r (λ e. (n : ℕ) → e ≡ BadAct n → n ≤ 64)
+err-is (Ok a) x each h = tt
+err-is (Err e) x each h = λ n is. elim h [ inl m ↦ absurd (cc (sym m ∙ is)) | inr said ↦ each n (said ∙ ap Err is) ]
+
 -- the acts of entries
 
-abbrev with_failing : List Act → Option ℕ → Answer
+abbrev pub with_failing : List Act → Option ℕ → Answer
 with_failing acts o = elim o [ Some at ↦ Err (BadAct at) | None ↦ Ok acts ]
 
 taken-if : (o : Option ℕ) (all acts : List Act) → with_failing all o ≡ Ok acts → (o ≡ None) × (all ≡ acts)

@@ -2,11 +2,10 @@
 use Rattle.std.specs.Prelude.{ℕ, Bool, List, Option, None, Some, is_some, option_map, if◌then◌else◌, codes}
 use Rattle.toml.specs.Data.{Members}
 use Rattle.market_rules.specs.declared.edit.Edit.{Edit}
-use Rattle.branch_tree.specs.Names.{name_of}
+use Rattle.branch_tree.specs.Names.{name_of, is_name}
 use Rattle.study_file.specs.Keys.{has_form}
 use Rattle.study_file.specs.Values.{string_at, list_at}
 use Rattle.study_market.specs.ChangeRules.{is_kind}
-use Rattle.study_rules.specs.BranchRules.{is_name}
 use Rattle.study_rules.specs.Scope.{Scope}
 use Rattle.study_rules.specs.EditRules.{◌>>=◌, natural_in, edit_list_in}
 use Rattle.session_script.specs.Forms.{act_form}

@@ -23,22 +23,26 @@ pub enum Act {
     Undo,
     /// The edits of a branch are replaced.
     Edit {
+        /// The branch's name.
         name: Name,
-        /// At most 16 edits.
+        /// What it changes where it leaves its parent, in order: at most 16 edits.
         edits: Sequence<Edit>,
     },
     /// The state of a branch at an event number is told.
     Rewind {
+        /// The branch's name.
         name: Name,
-        /// At most 9,999,999.
+        /// The event number: at most 9,999,999.
         event: u32,
     },
     /// The end of a branch's full run is told.
     Close {
+        /// The branch's name.
         name: Name,
     },
     /// The value of each probe over a branch's full run is told.
     Values {
+        /// The branch's name.
         name: Name,
     },
 }
@@ -46,12 +50,14 @@ pub enum Act {
 /// Why a script gives no acts.
 #[derive(Clone, Copy, PartialEq, Eq, Debug, Error)]
 pub enum ScriptError {
+    /// Its bytes are not UTF-8, or no TOML document.
     #[error("the script is no TOML table")]
     NotToml,
     /// The first bad act, from 0; or 64, where the script hasn't the one key `act` with 1 to 64 tables, or a branch of the study
     /// leaves its parent at a time.
     #[error("act {0} is refused")]
     BadAct(u32),
+    /// Want of memory.
     #[error("out of memory")]
     Memory,
 }

@@ -1,21 +1,18 @@
 //! The act that a table of a script says.
 
-ghost use Rattle.std.specs.Prelude.{◌≡◌, ◌≤◌, IfOk, IfSome, is_some, option_map};
+ghost use Rattle.std.specs.Prelude.{◌≡◌, IfOk};
 ghost use Rattle.toml.specs.View.{table_view};
-ghost use Rattle.kernel_copy.specs.Courses.{AreEdits};
-ghost use Rattle.study_market.specs.ChangeRules.{is_kind as kind_of};
 ghost use Rattle.study_rules.specs.Scope.{scope_of_opening};
 ghost use Rattle.session_script.specs.Acts.{name_in as name_of, new_name_in, event_in as event_of, edits_in as edits_of, fork_in as fork_of, edit_in as edit_of, rewind_in as rewind_of, close_in as close_of, values_in as values_of, act_of_kind as kind_act_of, act_in as act_of};
-ghost use Rattle.session_script.specs.Fitting.{FitsOpening};
 
 use crate::act::Act;
 use crate::keys::has_act_keys;
-use branch_tree::Name;
+use branch_tree::{Name, is_name};
 use market_rules::Edit;
 use market_types::{Memory, Sequence};
 use std::alloc::Global;
-use study_file::{Table, has_between, list_at, number_at, string_at};
-use study_rules::{Study, is_name, read_edit_list};
+use study_file::{Table, has_between, is_kind, list_at, number_at, string_at};
+use study_rules::{Study, read_edit_list};
 
 // The name of a branch at a key, of 1 to 32 bytes.
 fn name_in(act: &Table, key: &str) -> Option<Name>
@@ -48,8 +45,7 @@ fn event_in(act: &Table, key: &str) -> Option<u32>
 
 // The edits of an act, where they keep the rules of a branch's edits.
 fn edits_in(alloc: Global, study: &Study, act: &Table) -> Result<Option<Sequence<Edit>>, Memory>
-    ensures said { IfOk result (λ found. found ≡ edits_of (scope_of_opening study.now.course.value.opening) (table_view act.now)) }
-    ensures fit { IfOk result (λ found. IfSome found (λ edits. AreEdits study.now.course.value.opening edits)) }
+    ensures { IfOk result (λ found. found ≡ edits_of (scope_of_opening study.now.course.value.opening) (table_view act.now)) }
 {
     match read_edit_list(alloc, study, list_at(act, "edit"))? {
         Some(edits) => Ok(Some(Sequence::new(edits))),
@@ -58,8 +54,7 @@ fn edits_in(alloc: Global, study: &Study, act: &Table) -> Result<Option<Sequence
 }
 
 fn fork_in(alloc: Global, study: &Study, act: &Table) -> Result<Option<Act>, Memory>
-    ensures said { IfOk result (λ found. found ≡ fork_of (scope_of_opening study.now.course.value.opening) (table_view act.now)) }
-    ensures fit { IfOk result (λ found. IfSome found (FitsOpening study.now.course.value.opening)) }
+    ensures { IfOk result (λ found. found ≡ fork_of (scope_of_opening study.now.course.value.opening) (table_view act.now)) }
 {
     let Some(name) = new_name_in(act) else {
         return Ok(None);
@@ -82,8 +77,7 @@ fn fork_in(alloc: Global, study: &Study, act: &Table) -> Result<Option<Act>, Mem
 }
 
 fn edit_in(alloc: Global, study: &Study, act: &Table) -> Result<Option<Act>, Memory>
-    ensures said { IfOk result (λ found. found ≡ edit_of (scope_of_opening study.now.course.value.opening) (table_view act.now)) }
-    ensures fit { IfOk result (λ found. IfSome found (FitsOpening study.now.course.value.opening)) }
+    ensures { IfOk result (λ found. found ≡ edit_of (scope_of_opening study.now.course.value.opening) (table_view act.now)) }
 {
     let Some(name) = name_in(act, "name") else {
         return Ok(None);
@@ -116,17 +110,9 @@ fn values_in(act: &Table) -> Option<Act>
     Some(Act::Values { name })
 }
 
-// Whether the kind of an act is this.
-fn is_kind(act: &Table, word: &str) -> bool
-    ensures { result ≡ kind_of word.now (table_view act.now) }
-{
-    string_at(act, "kind") == word
-}
-
 // The act that a table says which has the keys of its kind.
 fn act_of_kind(alloc: Global, study: &Study, act: &Table) -> Result<Option<Act>, Memory>
-    ensures said { IfOk result (λ found. found ≡ kind_act_of (scope_of_opening study.now.course.value.opening) (table_view act.now)) }
-    ensures fit { IfOk result (λ found. IfSome found (FitsOpening study.now.course.value.opening)) }
+    ensures { IfOk result (λ found. found ≡ kind_act_of (scope_of_opening study.now.course.value.opening) (table_view act.now)) }
 {
     if is_kind(act, "fork") {
         fork_in(alloc, study, act)
@@ -148,8 +134,7 @@ fn act_of_kind(alloc: Global, study: &Study, act: &Table) -> Result<Option<Act>,
 /// The act that a table says beside an accepted study. There is none where it hasn't the keys of its kind with their types and
 /// no other, where an event number is out of its range, a name is none, or the edits break a rule of a branch's edits.
 pub fn act_in(alloc: Global, study: &Study, act: &Table) -> Result<Option<Act>, Memory>
-    ensures said { IfOk result (λ found. found ≡ act_of (scope_of_opening study.now.course.value.opening) (table_view act.now)) }
-    ensures fit { IfOk result (λ found. IfSome found (FitsOpening study.now.course.value.opening)) }
+    ensures { IfOk result (λ found. found ≡ act_of (scope_of_opening study.now.course.value.opening) (table_view act.now)) }
 {
     if has_act_keys(act) {
         act_of_kind(alloc, study, act)

@@ -1,10 +1,7 @@
 //! Reading the script of a session.
 
 ghost use Rattle.std.specs.Prelude.{◌≡◌, ◌≤◌, ◌⊎◌, ℕ, None, Some, Ok, Err, length, IfOk, IfErr, All};
-ghost use Rattle.std.specs.List.{list_any};
 ghost use Rattle.toml.specs.View.{table_view};
-ghost use Rattle.branch_tree.specs.declared.branch.Branch.{Branch};
-ghost use Rattle.branch_tree.specs.Stops.{is_time};
 ghost use Rattle.study_file.specs.Tables.{table_of};
 ghost use Rattle.session_script.specs.Fitting.{FitsOpening};
 ghost use Rattle.session_script.specs.Script.{acts_in as acts_said, forks_by_time as by_time, script_of};
@@ -12,23 +9,20 @@ ghost use Rattle.session_script.specs.Script.{acts_in as acts_said, forks_by_tim
 use crate::act::{Act, ScriptError};
 use crate::keys::{few_entries, is_script};
 use crate::list::acts_of;
-use branch_tree::Branch;
 use std::alloc::Global;
 use study_file::{RawStudy, StudyError, Table, read_tables};
 use study_rules::Study;
-
-// Whether one of these branches leaves its parent at a time.
-fn has_time(branches: &[Branch]) -> bool
-    ensures { result ≡ list_any (λ b. is_time b.stop) branches.now }
-{
-    branches.iter().any(|branch| branch.stop.is_time())
-}
 
 // Whether a branch of a study leaves its parent at a time.
 fn forks_by_time(study: &Study) -> bool
     ensures { result ≡ by_time study.now.course.value }
 {
-    has_time(study.course.plan().branches())
+    study
+        .course
+        .plan()
+        .branches()
+        .iter()
+        .any(|branch| branch.stop.is_time())
 }
 
 // The table that the bytes of a script say.
@@ -47,9 +41,6 @@ fn table(alloc: Global, bytes: &[u8]) -> Result<RawStudy, ScriptError>
 fn acts_in(alloc: Global, study: &Study, script: &Table) -> Result<Vec<Act>, ScriptError>
     ensures acts { IfOk result (λ acts. acts_said study.now.course.value (table_view script.now) ≡ Ok acts.items) }
     ensures refused { IfErr result (λ e. (e ≡ ScriptError.Memory) ⊎ (acts_said study.now.course.value (table_view script.now) ≡ Err e)) }
-    ensures place { IfErr result (λ e. (i : ℕ) → e ≡ ScriptError.BadAct i → i ≤ 64) }
-    ensures fit { IfOk result (λ acts. All (FitsOpening study.now.course.value.opening) acts.items) }
-    ensures few { IfOk result (λ acts. length acts.items ≤ 64) }
 {
     if !is_script(script) || forks_by_time(study) {
         return Err(ScriptError::BadAct(64));

@@ -51,7 +51,7 @@ below false n m h = tt
 pub position-below : {X : Type 0} (p : X → Bool) (xs : List X) → IfSome (position p xs) (λ at. at < length xs)
 position-below p xs = below (nat_lt (position_or_len p xs) (length xs)) (position_or_len p xs) (length xs) refl
 
-weaker : (r : Option ℕ) (n m : ℕ) → n ≤ m → IfSome r (λ at. at < n) → IfSome r (λ at. at < m)
+pub weaker : (r : Option ℕ) (n m : ℕ) → n ≤ m → IfSome r (λ at. at < n) → IfSome r (λ at. at < m)
 weaker None n m le h = tt
 weaker (Some k) n m le h = omega (arith, h, le)
 

@@ -1,4 +1,3 @@
-pub mod Names
 pub mod Lists
 pub mod KeyLists
 pub mod LargeKeys

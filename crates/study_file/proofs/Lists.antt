@@ -1,5 +1,5 @@
 -- Lemmas on the items of an array.
-use Rattle.std.proofs.Common.{◌≡◌, ◌&&◌, Bool, ℕ, suc, List, [], ◌∷◌, map, refl, ap, ◌∙◌, length, ◌==◌, Bor, bytes_eq}
+use Rattle.std.proofs.Common.{◌≡◌, ◌&&◌, Bool, true, false, ℕ, sym, suc, List, [], ◌∷◌, map, refl, ap, ◌∙◌, length, ◌==◌, Bor, bytes_eq}
 use Rattle.std.specs.Prelude.{◌||◌}
 use Rattle.std.specs.List.{list_all, list_any}
 use Rattle.toml.specs.Data.{Data}
@@ -38,9 +38,15 @@ length-now : (names : List (Bor (List ℕ))) → length names ≡ length (map (�
 length-now [] = refl
 length-now (n ∷ names) = ap suc (length-now names)
 
-pub named-now : (names : List (Bor (List ℕ))) (word : List ℕ)
-    → (length names == 0 || list_any (λ (n : Bor (List ℕ)). bytes_eq n.now word) names)
+-- a list of no names, and one of some
+
+pub none-now : (names : List (Bor (List ℕ))) (word : List ℕ) → (length names == 0) ≡ true
+    → true ≡ (length (map (λ (n : Bor (List ℕ)). n.now) names) == 0 || is_named (map (λ (n : Bor (List ℕ)). n.now) names) word)
+none-now names word e =
+    ap (λ b. b || is_named (map (λ (n : Bor (List ℕ)). n.now) names) word) (sym e ∙ ap (λ n. n == 0) (length-now names))
+
+pub some-now : (names : List (Bor (List ℕ))) (word : List ℕ) → (length names == 0) ≡ false
+    → is_named (map (λ (n : Bor (List ℕ)). n.now) names) word
     ≡ (length (map (λ (n : Bor (List ℕ)). n.now) names) == 0 || is_named (map (λ (n : Bor (List ℕ)). n.now) names) word)
-named-now names word =
-    ap (λ b. length names == 0 || b) (listed-now names word)
-    ∙ ap (λ n. n == 0 || is_named (map (λ (n : Bor (List ℕ)). n.now) names) word) (length-now names)
+some-now names word e =
+    ap (λ b. b || is_named (map (λ (n : Bor (List ℕ)). n.now) names) word) (sym e ∙ ap (λ n. n == 0) (length-now names))

@@ -1,5 +1,4 @@
 pub mod Tables
-pub mod Items
 pub mod Keys
 pub mod KeyRules
 pub mod Values

@@ -1,9 +1,9 @@
 -- What the bytes of a study say as a TOML table, and what is found in it.
-use Rattle.std.specs.Prelude.{◌&&◌, ℕ, ℤ, Bool, true, List, Option, None, if◌then◌else◌, option_and_then}
+use Rattle.std.specs.Prelude.{ℕ, ℤ, Bool, List, Option, None, if◌then◌else◌, option_and_then}
 use Rattle.std.specs.Str.{is_utf8}
 use Rattle.std.specs.List.{list_any}
 use Rattle.std.specs.Str.{bytes_eq}
-use Rattle.toml.specs.Data.{as_integer, as_str, as_table, as_array, Members, no_members, member, Items, get_member}
+use Rattle.toml.specs.Data.{as_integer, as_str, as_table, as_array, Members, Items, get_member}
 use Rattle.toml.specs.Parse.{parse_document}
 
 -- the TOML table that the bytes are the text of, if any
@@ -13,11 +13,6 @@ table_of bytes = if is_utf8 bytes then parse_document bytes else None
 -- the key is one of these names
 abbrev pub is_named : List (List ℕ) → List ℕ → Bool
 is_named names key = list_any (λ name. bytes_eq name key) names
-
--- the table has no key but these
-abbrev pub has_only : List (List ℕ) → Members → Bool
-has_only names no_members = true
-has_only names (member key value rest) = is_named names key && has_only names rest
 
 -- the whole number at a key
 abbrev pub integer_at : List ℕ → Members → Option ℤ

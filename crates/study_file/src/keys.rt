@@ -1,6 +1,6 @@
 //! Whether a table has its keys with their types and no other.
 
-ghost use Rattle.std.specs.Prelude.{◌≡◌, ◌&&◌, ◌||◌, not, map, filter, position, length, ◌==◌, string_bytes, is_some, IfSome, ◌<◌};
+ghost use Rattle.std.specs.Prelude.{◌≡◌, ◌==◌, ◌&&◌, not, map, filter, position, length, string_bytes, is_some, IfSome, ◌<◌};
 ghost use Rattle.std.specs.List.{list_all, list_any};
 ghost use Rattle.std.specs.Map.{keys_of};
 ghost use Rattle.std.specs.Str.{bytes_eq};
@@ -17,10 +17,13 @@ use toml::{Table, Value};
 /// The type of the value at a key.
 #[derive(Clone, Copy, PartialEq, Eq, Debug)]
 pub enum Kind {
+    /// A whole number.
     Number,
+    /// A text.
     Text,
     /// A text of lower-case hexadecimal digits.
     HexText,
+    /// A table.
     SubTable,
     /// An array of tables.
     Tables,
@@ -30,12 +33,16 @@ pub enum Kind {
     Pairs,
 }
 
-/// A key that a table may have: with these kinds of table only, or with every kind where none is named.
+/// A key that a table may have.
 #[derive(Clone, Copy)]
 pub struct Key<'a> {
+    /// Its name.
     pub name: &'a str,
+    /// The type of its value.
     pub kind: Kind,
+    /// Whether it has to be there.
     pub needed: bool,
+    /// The kinds of table that have it; every kind, where none is named.
     pub with: &'a [&'a str],
 }
 
@@ -54,13 +61,7 @@ fn is_table(value: &Value) -> bool
 fn each_is_number(array: &Array) -> bool
     ensures { result ≡ list_all (λ v. number (view v)) array.now.items }
 {
-    array.iter().all(|value| is_number(value))
-}
-
-fn each_is_table(array: &Array) -> bool
-    ensures { result ≡ list_all (λ v. is_some (table_in (view v))) array.now.items }
-{
-    array.iter().all(|value| is_table(value))
+    array.iter().all(|item| is_number(item))
 }
 
 fn are_two_numbers(array: &Array) -> bool
@@ -87,23 +88,11 @@ fn is_pair(value: &Value) -> bool
     }
 }
 
-fn each_is_row(array: &Array) -> bool
-    ensures { result ≡ list_all (λ v. array_of number (view v)) array.now.items }
-{
-    array.iter().all(|value| is_row(value))
-}
-
-fn each_is_pair(array: &Array) -> bool
-    ensures { result ≡ list_all (λ v. pair (view v)) array.now.items }
-{
-    array.iter().all(|value| is_pair(value))
-}
-
 fn are_rows(value: &Value) -> bool
     ensures { result ≡ array_of (array_of number) (view value.now) }
 {
     match value.as_array() {
-        Some(items) => each_is_row(items),
+        Some(items) => items.iter().all(|item| is_row(item)),
         None => false,
     }
 }
@@ -112,7 +101,7 @@ fn are_pairs(value: &Value) -> bool
     ensures { result ≡ array_of pair (view value.now) }
 {
     match value.as_array() {
-        Some(items) => each_is_pair(items),
+        Some(items) => items.iter().all(|item| is_pair(item)),
         None => false,
     }
 }
@@ -121,7 +110,7 @@ fn are_tables(value: &Value) -> bool
     ensures { result ≡ array_of (λ x. is_some (table_in x)) (view value.now) }
 {
     match value.as_array() {
-        Some(items) => each_is_table(items),
+        Some(items) => items.iter().all(|item| is_table(item)),
         None => false,
     }
 }
@@ -158,25 +147,11 @@ fn is_of(kind: Kind, value: &Value) -> bool
     }
 }
 
-// Whether a word is one of these.
-fn is_listed(names: &[&str], word: &str) -> bool
-    ensures { result ≡ list_any (λ n. bytes_eq n.now word.now) names.now }
-{
-    names.iter().any(|n| *n == word)
-}
-
-// Whether a word is one of these, or none is given.
-fn admits(names: &[&str], word: &str) -> bool
-    ensures { result ≡ (length names.now == 0 || list_any (λ n. bytes_eq n.now word.now) names.now) }
-{
-    names.is_empty() || is_listed(names, word)
-}
-
 // Whether a key is one of a table of this kind.
 fn belongs(word: &str, key: &Key) -> bool
     ensures { result ≡ belongs_to word.now (rule_of key.now) }
 {
-    admits(key.with, word)
+    key.with.is_empty() || is_word(key.with, word)
 }
 
 // Whether a key is there with its type, or may be left out and is.
@@ -189,7 +164,7 @@ fn key_holds(table: &Table, key: &Key) -> bool
     }
 }
 
-// The place of the first key that is missing or of another type.
+// The place of the first key of a table of this kind that is missing or of another type.
 fn first_unheld(table: &Table, word: &str, keys: &[Key]) -> Option<usize>
     ensures { result ≡ position (λ k. not (holds_in (table_view table.now) (rule_of k))) (filter (λ k. belongs_to word.now (rule_of k)) keys.now) }
 {
@@ -214,7 +189,7 @@ fn has_no_other(table: &Table, word: &str, keys: &[Key]) -> bool
     table.keys().all(|name| knows(word, keys, name.as_str()))
 }
 
-// The place, in the list of the keys of such a table, of the first that is missing or of another type.
+// The place, in the list of the keys of a table of this kind, of the first that is missing or of another type.
 fn place_unheld(table: &Table, word: &str, keys: &[Key]) -> Option<usize>
     ensures place { result ≡ position (λ key. not (holds_in (table_view table.now) key)) (keys_for word.now (map rule_of keys.now)) }
     ensures low { IfSome result (λ at. at < length keys.now) }
@@ -255,11 +230,11 @@ pub fn has_keys(table: &Table, word: &str, keys: &[Key]) -> bool
     broken_key(table, word, keys).is_none()
 }
 
-// Whether a word is one of these.
-fn is_word(words: &[&str], word: &str) -> bool
+/// Whether a word is one of these.
+pub fn is_word(words: &[&str], word: &str) -> bool
     ensures { result ≡ is_named (map (λ w. w.now) words.now) word.now }
 {
-    is_listed(words, word)
+    words.iter().any(|known| *known == word)
 }
 
 /// Whether the kind of a table is known, by the text at one of its keys, and it has the keys of its kind with their types

@@ -12,8 +12,10 @@ use toml::Table;
 /// Why a study's bytes give no table.
 #[derive(Debug, Drop, Error)]
 pub enum StudyError {
+    /// They are not UTF-8, or no TOML document.
     #[error("the study is no TOML table")]
     NotToml,
+    /// Want of memory.
     #[error("out of memory")]
     Memory,
 }
@@ -21,6 +23,7 @@ pub enum StudyError {
 /// A study as it is read.
 #[derive(Drop)]
 pub struct RawStudy {
+    /// The whole document.
     pub table: Table,
 }
 

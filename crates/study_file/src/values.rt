@@ -1,6 +1,7 @@
 //! What the tables of a study say.
 
-ghost use Rattle.std.specs.Prelude.{◌≡◌, pos, map};
+ghost use Rattle.std.specs.Prelude.{◌≡◌, pos, map, codes};
+ghost use Rattle.std.specs.Str.{bytes_eq};
 ghost use Rattle.toml.specs.View.{table_view, view};
 ghost use Rattle.study_file.specs.Values.{number_in as number_of, list_in as items_in, number_or as whole_or, number_at as whole_at, string_at as string_of, list_at as items_at, is_between as between, has_between as between_at, broken_unless as place_unless};
 
@@ -90,4 +91,25 @@ pub fn broken_unless(holds: bool, place: u32) -> Option<u32>
     ensures { result ≡ place_unless holds place }
 {
     if holds { None } else { Some(place) }
+}
+
+/// Whether a number is from the low to the high one, neither of which is negative.
+pub fn is_within(low: u64, high: u64, number: i64) -> bool
+    ensures { result ≡ between (pos low) (pos high) number }
+{
+    is_at_most(high, number) && low <= number as u64
+}
+
+/// Whether the kind of a table, the text at its key `kind`, is this.
+pub fn is_kind(table: &Table, word: &str) -> bool
+    ensures { result ≡ bytes_eq (string_of (codes "kind") (table_view table.now)) word.now }
+{
+    string_at(table, "kind") == word
+}
+
+/// Whether a study is of version 2.
+pub fn is_second_version(table: &Table) -> bool
+    ensures { result ≡ between_at (pos 2) (pos 2) (codes "version") (table_view table.now) }
+{
+    has_between(table, "version", 2, 2)
 }

@@ -32,6 +32,16 @@ held (r ∷ rs) t h =
     let parts : (r.broken t ≡ None) × (first_of_rules rs t ≡ None) = rule-held (r.broken t) r.number (first_of_rules rs t) h in
     (parts.0, held rs t parts.1)
 
+-- the latencies are square, and there are 1 to 16 stocks
+pub square-held : (t : Members) → first_of_rules market_rules t ≡ None → squares_broken t ≡ None
+square-held t h = (held market_rules t h).1.1.1.1.1.1.0
+
+pub counted-held : (t : Members) → first_of_rules stock_rules t ≡ None → stock_count_broken t ≡ None
+counted-held t h = (held stock_rules t h).0
+
+pub dates-held : (t : Members) → first_of_rules change_rules t ≡ None → dates_broken t ≡ None
+dates-held t h = (held change_rules t h).1.0
+
 pub both-none : {A : Type 0} (o p : Option A) → option_or o p ≡ None → (o ≡ None) × (p ≡ None)
 both-none None p h = (refl, h)
 both-none (Some x) p h = absurd (cc h)

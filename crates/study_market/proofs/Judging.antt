@@ -1,87 +1,68 @@
 -- From the parts of the rules to the first broken one.
-use Rattle.std.proofs.Common.{◌≡◌, ℕ, List, [], ◌∷◌, Option, None, Some, Ok, Err, refl, ap, sym, ◌∙◌, IfOk}
-use Rattle.std.specs.Prelude.{Result}
+use Rattle.std.proofs.Common.{◌≡◌, ℕ, List, Option, None, Some, Ok, Err, IfOk, refl, ap, ◌∙◌}
+use Rattle.std.specs.Prelude.{Result, IfErr}
 use Rattle.std.specs.Option.{option_or}
 use Rattle.toml.specs.Data.{Members}
 use Rattle.fundamental_series.specs.declared.rule.SeriesRow.{SeriesRow}
 use Rattle.study_market.specs.declared.early_refusal.Refusal.{Refusal}
-use Rattle.study_market.specs.FirstBroken.{Rule, rule, market_rules, stock_rules, first_of_rules}
-use Rattle.study_market.specs.MarketRules.{top_keys_broken, version_broken, key_broken, day_broken, limits_broken, parts_broken, squares_broken, cells_broken, exchange_broken}
-use Rattle.study_market.specs.StockRules.{stock_count_broken, stock_keys_broken, symbol_broken, repeat_broken, bands_broken, fees_broken, prices_broken, pace_broken, series_broken}
-use Rattle.study_market.specs.declared.refusal.Judged.{Judged}
-use Rattle.study_market.specs.declared.refusal.Judged.TheVariants.{Refused, Accepted}
-use Rattle.study_market.specs.Judged.{AreJudged, IsJudged}
-use Rattle.study_market.specs.FirstOfMarket.{tables_of, late_refusal, series_refusal, early_refusal, last_refusal, first_broken}
+use Rattle.study_market.specs.FirstBroken.{market_rules, stock_rules, first_of_rules}
+use Rattle.study_market.specs.FirstOfMarket.{change_rules, agent_rules, tables_of, late_refusal, series_refusal, first_broken}
 
-both-none : (o p : Option Refusal) → option_or o p ≡ None → (o ≡ None) × (p ≡ None)
-both-none None p h = (refl, h)
-both-none (Some r) p h = absurd (cc h)
+whole : Option Refusal → Option Refusal → Option Refusal → Option Refusal → Option Refusal → Option Refusal
+whole market stocks series changes agents = option_or (option_or market stocks) (option_or series (option_or changes agents))
 
-rule-held : (o : Option ℕ) (n : ℕ) (others : Option Refusal)
-    → ◌≡◌ {A = Option Refusal} (elim o [ None ↦ others | Some place ↦ Some (record { rule = n; place = place }) ]) None
-    → (o ≡ None) × (others ≡ None)
-rule-held None n others h = (refl, h)
-rule-held (Some place) n others h = absurd (cc h)
+-- what is broken first, by what is of each part
+pub by-parts : (t : Members) (text : Option (List ℕ)) (market stocks series changes agents : Option Refusal) → first_of_rules market_rules t ≡ market
+    → first_of_rules stock_rules t ≡ stocks → series_refusal t text ≡ series → first_of_rules change_rules t ≡ changes → first_of_rules agent_rules t ≡ agents
+    → first_broken t text ≡ option_or (option_or market stocks) (option_or series (option_or changes agents))
+unfolding whole
+by-parts t text market stocks series changes agents m s r c a =
+    ap (λ (o : Option Refusal). whole o (first_of_rules stock_rules t) (series_refusal t text) (first_of_rules change_rules t) (first_of_rules agent_rules t)) m
+    ∙ ap (λ (o : Option Refusal). whole market o (series_refusal t text) (first_of_rules change_rules t) (first_of_rules agent_rules t)) s
+    ∙ ap (λ (o : Option Refusal). whole market stocks o (first_of_rules change_rules t) (first_of_rules agent_rules t)) r
+    ∙ ap (λ (o : Option Refusal). whole market stocks series o (first_of_rules agent_rules t)) c
+    ∙ ap (λ (o : Option Refusal). whole market stocks series changes o) a
 
-first-held : (r : Rule) (rs : List Rule) (t : Members) → first_of_rules (r ∷ rs) t ≡ None → (r.broken t ≡ None) × (first_of_rules rs t ≡ None)
-first-held r rs t h = rule-held (r.broken t) r.number (first_of_rules rs t) h
-
--- after the first seven rules of a list
-seven-held : (a b c d e f g : Rule) (rs : List Rule) (t : Members)
-    → first_of_rules (a ∷ (b ∷ (c ∷ (d ∷ (e ∷ (f ∷ (g ∷ rs))))))) t ≡ None → g.broken t ≡ None
-seven-held a b c d e f g rs t h =
-    let h1 = (first-held a (b ∷ (c ∷ (d ∷ (e ∷ (f ∷ (g ∷ rs)))))) t h).1 in
-    let h2 = (first-held b (c ∷ (d ∷ (e ∷ (f ∷ (g ∷ rs))))) t h1).1 in
-    let h3 = (first-held c (d ∷ (e ∷ (f ∷ (g ∷ rs)))) t h2).1 in
-    let h4 = (first-held d (e ∷ (f ∷ (g ∷ rs))) t h3).1 in
-    let h5 = (first-held e (f ∷ (g ∷ rs)) t h4).1 in
-    let h6 = (first-held f (g ∷ rs) t h5).1 in
-    (first-held g rs t h6).0
-
-pub market_held : (t : Members) → early_refusal t ≡ None → squares_broken t ≡ None
-market_held t h =
-    seven-held (rule 1 top_keys_broken) (rule 2 version_broken) (rule 3 key_broken) (rule 4 day_broken) (rule 5 limits_broken)
-    (rule 6 parts_broken) (rule 7 squares_broken) (rule 8 cells_broken ∷ rule 9 exchange_broken ∷ []) t
-    (both-none (first_of_rules market_rules t) (first_of_rules stock_rules t) h).0
-
-pub stocks_held : (t : Members) → early_refusal t ≡ None → stock_count_broken t ≡ None
-stocks_held t h =
-    (first-held (rule 10 stock_count_broken)
-    (rule 11 stock_keys_broken ∷ rule 12 symbol_broken ∷ rule 13 repeat_broken ∷ rule 14 bands_broken ∷ rule 15 fees_broken
-    ∷ rule 16 prices_broken ∷ rule 17 pace_broken ∷ rule 18 series_broken ∷ [])
-    t (both-none (first_of_rules market_rules t) (first_of_rules stock_rules t) h).1).0
-
-pub broken_early : (t : Members) (series : Option (List ℕ)) (r : Refusal) → early_refusal t ≡ Some r → first_broken t series ≡ Some r
-broken_early t series r e = ap (λ (o : Option Refusal). option_or o (option_or (series_refusal t series) (last_refusal t))) e
-
-not-early : (t : Members) (series : Option (List ℕ)) → early_refusal t ≡ None
-    → first_broken t series ≡ option_or (series_refusal t series) (last_refusal t)
-not-early t series e = ap (λ (o : Option Refusal). option_or o (option_or (series_refusal t series) (last_refusal t))) e
-
-of-record : (t : Members) (series : Option (List ℕ)) (n : ℕ) → tables_of t series ≡ Err n
-    → series_refusal t series ≡ Some (record { rule = 19; place = n })
-of-record t series n f = rw (series_refusal, f)
-
-pub record_refused : (t : Members) (series : Option (List ℕ)) (n : ℕ) → early_refusal t ≡ None → tables_of t series ≡ Err n
-    → first_broken t series ≡ Some (record { rule = 19; place = n })
-record_refused t series n e f = not-early t series e ∙ ap (λ (o : Option Refusal). option_or o (last_refusal t)) (of-record t series n f)
-
-of-tables : (t : Members) (series : Option (List ℕ)) (tables : List (List SeriesRow)) → tables_of t series ≡ Ok tables
+pub of-tables : (t : Members) (series : Option (List ℕ)) (tables : List (List SeriesRow)) → tables_of t series ≡ Ok tables
     → series_refusal t series ≡ late_refusal t tables
 of-tables t series tables f = rw (series_refusal, f)
 
--- what is left where the first rules hold and the series file says rows
-after-tables : (t : Members) (series : Option (List ℕ)) (tables : List (List SeriesRow)) → early_refusal t ≡ None → tables_of t series ≡ Ok tables
-    → first_broken t series ≡ option_or (late_refusal t tables) (last_refusal t)
-after-tables t series tables e f =
-    not-early t series e ∙ ap (λ (o : Option Refusal). option_or o (last_refusal t)) (of-tables t series tables f)
+-- the part that breaks a rule first
 
-are-judged : (t : Members) (series : Option (List ℕ)) (tables : List (List SeriesRow)) (j : Judged) → early_refusal t ≡ None
-    → tables_of t series ≡ Ok tables → AreJudged t tables j → IsJudged t series j
-are-judged t series tables (Refused r) e f h = after-tables t series tables e f ∙ h
-are-judged t series tables (Accepted others) e f h = (after-tables t series tables e f ∙ h.0, f ∙ ap Ok (sym h.1))
+pub market_refused : (t : Members) (text : Option (List ℕ)) (r : Refusal) → first_of_rules market_rules t ≡ Some r → first_broken t text ≡ Some r
+market_refused t text r m = by-parts t text (Some r) (first_of_rules stock_rules t) (series_refusal t text) (first_of_rules change_rules t) (first_of_rules agent_rules t) m refl refl refl refl
 
-pub all_judged : {E : Type 0} (t : Members) (series : Option (List ℕ)) (tables : List (List SeriesRow)) (r : Result Judged E) → early_refusal t ≡ None
-    → tables_of t series ≡ Ok tables → IfOk r (λ j. AreJudged t tables j) → IfOk r (λ j. IsJudged t series j)
-all_judged t series tables (Ok j) e f h = are-judged t series tables j e f h
-all_judged t series tables (Err x) e f h = tt
+pub stocks_refused : (t : Members) (text : Option (List ℕ)) (r : Refusal) → first_of_rules market_rules t ≡ None → first_of_rules stock_rules t ≡ Some r
+    → first_broken t text ≡ Some r
+stocks_refused t text r m s = by-parts t text None (Some r) (series_refusal t text) (first_of_rules change_rules t) (first_of_rules agent_rules t) m s refl refl refl
+
+pub series_refused : (t : Members) (text : Option (List ℕ)) (r : Refusal) → first_of_rules market_rules t ≡ None → first_of_rules stock_rules t ≡ None
+    → series_refusal t text ≡ Some r → first_broken t text ≡ Some r
+series_refused t text r m s f = by-parts t text None None (Some r) (first_of_rules change_rules t) (first_of_rules agent_rules t) m s f refl refl
+
+pub late_refused : (t : Members) (text : Option (List ℕ)) (tables : List (List SeriesRow)) (r : Refusal) → first_of_rules market_rules t ≡ None
+    → first_of_rules stock_rules t ≡ None → tables_of t text ≡ Ok tables → late_refusal t tables ≡ Some r → first_broken t text ≡ Some r
+late_refused t text tables r m s f l = series_refused t text r m s (of-tables t text tables f ∙ l)
+
+pub changes_refused : (t : Members) (text : Option (List ℕ)) (tables : List (List SeriesRow)) (r : Refusal) → first_of_rules market_rules t ≡ None
+    → first_of_rules stock_rules t ≡ None → tables_of t text ≡ Ok tables → late_refusal t tables ≡ None → first_of_rules change_rules t ≡ Some r
+    → first_broken t text ≡ Some r
+changes_refused t text tables r m s f l c = by-parts t text None None None (Some r) (first_of_rules agent_rules t) m s (of-tables t text tables f ∙ l) c refl
+
+pub agents_refused : (t : Members) (text : Option (List ℕ)) (tables : List (List SeriesRow)) (r : Refusal) → first_of_rules market_rules t ≡ None
+    → first_of_rules stock_rules t ≡ None → tables_of t text ≡ Ok tables → late_refusal t tables ≡ None → first_of_rules change_rules t ≡ None
+    → first_of_rules agent_rules t ≡ Some r → first_broken t text ≡ Some r
+agents_refused t text tables r m s f l c a = by-parts t text None None None None (Some r) m s (of-tables t text tables f ∙ l) c a
+
+pub none_refused : (t : Members) (text : Option (List ℕ)) (tables : List (List SeriesRow)) → first_of_rules market_rules t ≡ None
+    → first_of_rules stock_rules t ≡ None → tables_of t text ≡ Ok tables → late_refusal t tables ≡ None → first_of_rules change_rules t ≡ None
+    → first_of_rules agent_rules t ≡ None → first_broken t text ≡ None
+none_refused t text tables m s f l c a = by-parts t text None None None None None m s (of-tables t text tables f ∙ l) c a
+
+pub if-ok : {A E : Type 0} (r : Result A E) (P Q : A → Type 0) → ((a : A) → P a → Q a) → IfOk r P → IfOk r Q
+if-ok (Ok a) P Q f h = f a h
+if-ok (Err e) P Q f h = h
+
+pub if-err : {A E : Type 0} (r : Result A E) (P Q : E → Type 0) → ((e : E) → P e → Q e) → IfErr r P → IfErr r Q
+if-err (Ok a) P Q f h = h
+if-err (Err e) P Q f h = f e h

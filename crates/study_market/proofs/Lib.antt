@@ -18,3 +18,6 @@ pub mod LatencyRanges
 pub mod PartDates
 pub mod TraderRanges
 pub mod Openings
+pub mod EntryOrder
+pub mod OneKind
+pub mod Named

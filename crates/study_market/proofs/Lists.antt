@@ -1,10 +1,9 @@
 -- Lists of entries, each of which keeps a rule.
-use Rattle.std.proofs.Common.{◌≡◌, ◌∙◌, ◌<◌, ◌+◌, nat_lt, Bool, true, false, not, ℕ, suc, List, [], ◌∷◌, ◌++◌, length, get_or, map, take, Option, Some, None, All, unwrap_or, refl, sym, ap, subst, inl, inr, arith}
+use Rattle.std.proofs.Common.{◌≡◌, ◌∙◌, ◌<◌, ◌+◌, nat_lt, Bool, true, false, not, ℕ, suc, List, [], ◌∷◌, length, get_or, map, Option, Some, None, All, unwrap_or, refl, sym, ap, subst, inl, inr, arith}
 use Rattle.std.specs.Prelude.{position, ◌||◌, is_some}
 use Rattle.std.specs.List.{list_all, list_any, flat_map, position_or_len, enumerate_from, range_with_len}
-use Rattle.std.proofs.lemmas.Bool.{and_parts, or_parts, cases_Bool, cases_lt, cond-true, cond-false, lt-ltb, le-ltb, not-false, not_from_true, false≢true}
-use Rattle.std.proofs.lemmas.List.{get_or-map, length-map, take_more, map-append, append-nil}
-use Rattle.std.proofs.lemmas.List.Concat.{flat_map-append}
+use Rattle.std.proofs.lemmas.Bool.{and_parts, or_parts, cases_Bool, cases_lt, cond-true, cond-false, lt-ltb, le-ltb, not-false, false≢true}
+use Rattle.std.proofs.lemmas.List.{get_or-map, length-map}
 use Rattle.std.proofs.lemmas.List.Sums.{fails_before_first, passes_at_first}
 use Rattle.std.proofs.lemmas.List.Elements.{All-nil, All-cons, All-append, All-map}
 use Rattle.std.proofs.lemmas.List.FromFn.{length-range_with_len, get_or-range_with_len, get_or-enumerate_from}
@@ -61,42 +60,12 @@ no-place p [] h less = omega (arith, less)
 no-place p (x ∷ xs) h less =
     false≢true (sym (h (position_or_len p (x ∷ xs)) x less) ∙ passes_at_first p (x ∷ xs) x less)
 
-pub value-kept : (test : Members → Bool) (vs : List Value) (i : ℕ) (d : Value) → i < length vs → first_failing test (map view vs) ≡ None
-    → test (entry_of (view (get_or vs i d))) ≡ true
-value-kept test vs i d within h = passing test (as_table (view (get_or vs i d))) (value-passes test vs i d within h)
-
--- what one value more adds
-pub map-more : {A : Type 0} (f : Data → A) (vs : List Value) (i : ℕ) (d : Value) → i < length vs
-    → map f (map view (take (i + 1) vs)) ≡ map f (map view (take i vs)) ++ f (view (get_or vs i d)) ∷ []
-map-more f vs i d within =
-    ap (λ (xs : List Value). map f (map view xs)) (take_more vs i d within)
-    ∙ ap (map f) (map-append view (take i vs) (get_or vs i d ∷ []))
-    ∙ map-append f (map view (take i vs)) (view (get_or vs i d) ∷ [])
-
-pub flat-more : {A : Type 0} (f : Data → List A) (vs : List Value) (i : ℕ) (d : Value) → i < length vs
-    → flat_map f (map view (take (i + 1) vs)) ≡ flat_map f (map view (take i vs)) ++ f (view (get_or vs i d))
-flat-more f vs i d within =
-    ap (λ (xs : List Value). flat_map f (map view xs)) (take_more vs i d within)
-    ∙ ap (flat_map f) (map-append view (take i vs) (get_or vs i d ∷ []))
-    ∙ flat_map-append f (map view (take i vs)) (view (get_or vs i d) ∷ [])
-    ∙ ap (λ ys. flat_map f (map view (take i vs)) ++ ys) (append-nil (f (view (get_or vs i d))))
-
 all-position : {X : Type 0} (p : X → Bool) (xs : List X) → All (λ (x : X). p x ≡ false) xs → position p xs ≡ None
 all-position p xs h =
     elim (cases_lt (position_or_len p xs) (length xs)) [
       | inl less ↦ absurd (no-place p xs h less)
       | inr more ↦ cond-false (nat_lt (position_or_len p xs) (length xs)) (Some (position_or_len p xs)) None (le-ltb (position_or_len p xs) (length xs) more)
     ]
-
-weaker-pass : (strong weak : Members → Bool) → ((t : Members) → strong t ≡ true → weak t ≡ true) → (o : Option Members) → passes strong o ≡ true → passes weak o ≡ true
-weaker-pass strong weak imply None h = absurd (cc h)
-weaker-pass strong weak imply (Some t) h = imply t h
-
--- no entry breaks a weaker rule
-pub still-none : (strong weak : Members → Bool) → ((t : Members) → strong t ≡ true → weak t ≡ true) → (ds : List Data) → first_failing strong ds ≡ None → first_failing weak ds ≡ None
-still-none strong weak imply ds h =
-    all-position (λ (d : Data). not (passes weak (as_table d))) ds
-    (λ k d within. not_from_true (passes weak (as_table (get_or ds k d))) (weaker-pass strong weak imply (as_table (get_or ds k d)) (each-passes strong ds h k d within)))
 
 -- an entry that keeps a rule is a table
 pub is-entry : (test : Members → Bool) (o : Option Members) → passes test o ≡ true → is_some o ≡ true
@@ -136,3 +105,13 @@ all-counted P f n h =
     All-map P f (range_with_len 0 n)
     (λ k d within. let few : k < n = omega (arith, within, length-range_with_len 0 n) in
     subst (λ (i : ℕ). P (f i)) (sym (get_or-range_with_len 0 n k d few)) (h (0 + k) (omega (arith, few))))
+
+-- a place is found where some item passes
+pub position-any : {X : Type 0} (p : X → Bool) (xs : List X) → is_some (position p xs) ≡ list_any p xs
+position-any p xs =
+    elim (cases_Bool (list_any p xs)) [
+      | inl e ↦
+          ap is_some (cond-true (nat_lt (position_or_len p xs) (length xs)) (Some (position_or_len p xs)) None (lt-ltb (position_or_len p xs) (length xs) (any-found p xs e)))
+          ∙ sym e
+      | inr e ↦ ap is_some (all-position p xs (any-fails p xs e)) ∙ sym e
+    ]

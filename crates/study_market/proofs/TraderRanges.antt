@@ -4,13 +4,11 @@ use Rattle.std.specs.Prelude.{◌||◌, int_le, int_lt, option_and_then}
 use Rattle.std.specs.List.{flat_map, range_with_len}
 use Rattle.std.proofs.lemmas.Bool.{and_parts, and_from, leb-true, le-leb, ltb-true, lt-ltb}
 use Rattle.std.proofs.lemmas.Bool.Decides.{nat_tests}
-use Rattle.std.proofs.lemmas.List.{length-map, length-append, get_or-map, append_assoc}
+use Rattle.std.proofs.lemmas.List.{length-map, length-append, append_assoc}
 use Rattle.std.proofs.lemmas.List.Elements.{All-nil, All-cons, All-weaker}
 use Rattle.std.proofs.lemmas.List.FromFn.{length-map-range_with_len, map-range_with_len_more}
 use Rattle.std.proofs.lemmas.Nat.{mul-le}
 use Rattle.std.proofs.lemmas.Option.{same_Some}
-use Rattle.toml.specs.View.{view}
-use Rattle.toml.specs.declared.value.Value.{Value as TomlValue}
 use Rattle.toml.specs.Data.{Data, Members, no_members, as_table, as_integer, get_member}
 use Rattle.agent_shell.specs.Parameters.{IsSize, IsKind}
 use Rattle.agent_shell.specs.declared.setting.Kind.{Kind}
@@ -18,18 +16,17 @@ use Rattle.agent_shell.specs.declared.setting.Kind.TheVariants.{Watcher, Noise}
 use Rattle.agent_shell.specs.declared.setting.TraderSetting.{TraderSetting}
 use Rattle.fundamental_series.specs.declared.rule.SeriesRow.{SeriesRow}
 use Rattle.market_floor.specs.Opening.{IsTraderOf}
-use Rattle.study_file.specs.Values.{number_at, number_or, is_between, has_between, first_failing}
-use Rattle.study_market.specs.MarketRules.{size_of, bases, start_of, is_group, squares_broken}
+use Rattle.study_file.specs.Values.{number_at, number_or, string_at, is_between, has_between}
+use Rattle.study_market.specs.MarketRules.{size_of, bases, start_of, is_group}
 use Rattle.study_market.specs.StockRules.{symbols}
 use Rattle.study_market.specs.ChangeRules.{is_kind, names_stock}
 use Rattle.study_market.specs.AgentRules.{agents, count_found, count_in, left_after, first_too_many, counts_broken, count_of, first_of, has_timing, timing_broken, agent_stock_broken, has_size, has_distance, has_guess, has_spans, has_levels, has_own, own_broken}
-use Rattle.study_market.specs.Entries.{entry_of, natural_at}
+use Rattle.study_market.specs.Entries.{entry_of, natural_at, place_of}
 use Rattle.study_market.specs.Market.{numbers_in}
 use Rattle.study_market.specs.Traders.{value_kind_of, momentum_kind_of, maker_kind_of, kind_of, trader_of, traders_in, traders_of, size_of as shares_of}
 use Rattle.study_market.specs.Opening.{opening_of}
-use Rattle.study_market.proofs.Lists.{each-kept, all-flat, all-counted, still-none}
+use Rattle.study_market.proofs.Lists.{each-kept, all-flat, all-counted}
 use Rattle.study_market.proofs.Numbers.{Within, natural-between, group-below, at-least, below-other}
-use Rattle.study_market.proofs.LatencyRanges.{groups}
 use Rattle.study_market.proofs.PartDates.{known-stock}
 use Rattle.study_market.proofs.SeriesRanges.{implied}
 
@@ -209,7 +206,7 @@ is-timed size start t h =
       last = leb-true (first_of (count_of t - 1) t) 86399999999999 seven.1;
     }
 
-before-last : (f s n count last : ℕ) → n < count → f + (count - 1) * s ≤ last → f + n * s ≤ last
+pub before-last : (f s n count last : ℕ) → n < count → f + (count - 1) * s ≤ last → f + n * s ≤ last
 before-last f s n count last less h = let rows : n * s ≤ (count - 1) * s = mul-le n s (count - 1) s (omega (arith, less)) (omega arith) in omega (arith, rows, h)
 
 is-trader : (t entry : Members) (tables : List (List SeriesRow)) (n : ℕ) → has_timing (size_of t) (start_of t) entry ≡ true → has_own entry ≡ true
@@ -232,13 +229,6 @@ are-traders t tables timing named own =
     (λ n less. is-trader t (entry_of (get_or (agents t) k d)) tables n (each-kept (has_timing (size_of t) (start_of t)) (agents t) timing k d within)
     (each-kept has_own (agents t) own k d within) (each-kept (names_stock (symbols t)) (agents t) named k d within) less))
 
--- for what the code asks
-
-pub value-counts : (vs : List TomlValue) (i : ℕ) (d : TomlValue) → i < length vs → first_too_many 511 0 (map view vs) ≡ None → count_of (entry_of (view (get_or vs i d))) ≤ 511
-value-counts vs i d within h =
-    subst (λ (e : Data). count_of (entry_of e) ≤ 511) (get_or-map view vs i d (view d) within)
-    ((are-counted [] 511 0 (map view vs) h).each i (view d) (omega (arith, within, length-map vs view)))
-
 group-within : (size : ℕ) (z : ℤ) → size ≤ 32 → (int_le (pos 0) z && int_lt z (pos size)) ≡ true → (int_le (pos 0) z && int_lt z (pos 32)) ≡ true
 group-within size (pos n) few h =
     let parts : (nat_le 0 n ≡ true) × (nat_lt n size ≡ true) = and_parts (nat_le 0 n) (nat_lt n size) h in
@@ -250,7 +240,7 @@ from-zero start (pos n) h = le-leb 0 n (omega arith)
 from-zero start (negsuc n) h = absurd (cc h)
 
 -- an entry is timed for a market of 32 groups that opens at 0, where it is for one of fewer groups that opens later
-loosely : (size start : ℕ) (t : Members) → size ≤ 32 → has_timing size start t ≡ true → has_timing 32 0 t ≡ true
+pub loosely : (size start : ℕ) (t : Members) → size ≤ 32 → has_timing size start t ≡ true → has_timing 32 0 t ≡ true
 loosely size start t few h =
     let first : Bool = int_le (pos start) (number_at (codes "first") t) in
     let spread : Bool = has_between (pos 0) (pos 3600000000000) (codes "spread") t in
@@ -273,13 +263,15 @@ loosely size start t few h =
     (and_from (is_group 32 t && zero-on && spread) delay
     (and_from (is_group 32 t && zero-on) spread (and_from (is_group 32 t) zero-on group low) three.1) four.1) five.1) six.1) seven.1
 
-pub loosely-timed : (t : Members) (ds : List Data) → ds ≡ agents t → squares_broken t ≡ None → timing_broken t ≡ None → first_failing (has_timing 32 0) ds ≡ None
-loosely-timed t ds e square timing =
-    ap (first_failing (has_timing 32 0)) e
-    ∙ still-none (has_timing (size_of t) (start_of t)) (has_timing 32 0) (λ x h. loosely (size_of t) (start_of t) x (groups t square).0.not_above h) (agents t) timing
+pub one-trader-more : (old : List TraderSetting) (f : ℕ → TraderSetting) (n : ℕ)
+    → old ++ map f (range_with_len 0 (n + 1)) ≡ (old ++ map f (range_with_len 0 n)) ++ f n ∷ []
+one-trader-more old f n =
+    ap (λ ys. old ++ ys) (map-range_with_len_more f 0 n n (omega arith))
+    ∙ sym (append_assoc old (map f (range_with_len 0 n)) (f n ∷ []))
 
-pub one-trader-more : (old : List TraderSetting) (known : List (List ℕ)) (t : Members) (n : ℕ)
-    → old ++ map (trader_of known t) (range_with_len 0 (n + 1)) ≡ (old ++ map (trader_of known t) (range_with_len 0 n)) ++ trader_of known t n ∷ []
-one-trader-more old known t n =
-    ap (λ ys. old ++ ys) (map-range_with_len_more (trader_of known t) 0 n n (omega arith))
-    ∙ sym (append_assoc old (map (trader_of known t) (range_with_len 0 n)) (trader_of known t n ∷ []))
+-- traders of this kind and for this stock
+pub same-traders : (known : List (List ℕ)) (t : Members) (kind : Kind) (stock : ℕ) → kind ≡ kind_of t → stock ≡ place_of known (string_at (codes "stock") t)
+    → map (λ (n : ℕ). record (trader_of [] t n) { kind = kind; stock = stock }) (range_with_len 0 (count_of t)) ≡ traders_in known t
+same-traders known t kind stock e f =
+    ap (λ (k : Kind). map (λ (n : ℕ). record (trader_of [] t n) { kind = k; stock = stock }) (range_with_len 0 (count_of t))) e
+    ∙ ap (λ (s : ℕ). map (λ (n : ℕ). record (trader_of [] t n) { kind = kind_of t; stock = s }) (range_with_len 0 (count_of t))) f

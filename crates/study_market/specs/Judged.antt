@@ -1,17 +1,20 @@
--- What is told of a study: its first broken rule, or that no rule is broken and the rows of each stock.
-use Rattle.std.specs.Prelude.{◌≡◌, ℕ, List, Option, None, Some, Ok}
-use Rattle.std.specs.Option.{option_or}
+-- What is read of a study that breaks no rule up to those of its agents.
+use Rattle.std.specs.Prelude.{◌≡◌, ℕ, List, Option, None, Ok}
 use Rattle.toml.specs.Data.{Members}
 use Rattle.fundamental_series.specs.declared.rule.SeriesRow.{SeriesRow}
-use Rattle.study_market.specs.declared.refusal.Judged.{Judged}
-use Rattle.study_market.specs.declared.refusal.Judged.TheVariants.{Refused, Accepted}
-use Rattle.study_market.specs.FirstOfMarket.{first_broken, tables_of, late_refusal, last_refusal}
+use Rattle.market_floor.specs.declared.opening.Opening.{Opening}
+use Rattle.study_market.specs.FirstOfMarket.{first_broken, tables_of}
+use Rattle.study_market.specs.Opening.{opening_of, IsAccepted}
 
-abbrev pub IsJudged : Members → Option (List ℕ) → Judged → Type 0
-IsJudged t series (Refused refusal) = first_broken t series ≡ Some refusal
-IsJudged t series (Accepted tables) = (first_broken t series ≡ None) × (tables_of t series ≡ Ok tables)
+-- no rule is broken, the series file says these rows of each stock, and a run starts from this
+pub record IsRead (t : Members) (series : Option (List ℕ)) (opening : Opening) : Type 0 where
+  pub tables : List (List SeriesRow)
+  pub accepted : first_broken t series ≡ None
+  pub rows : tables_of t series ≡ Ok tables
+  pub said : opening ≡ opening_of t tables
 
--- the same, where no rule before those of the series file is broken, and it says these rows
-abbrev pub AreJudged : Members → List (List SeriesRow) → Judged → Type 0
-AreJudged t tables (Refused refusal) = option_or (late_refusal t tables) (last_refusal t) ≡ Some refusal
-AreJudged t tables (Accepted others) = (option_or (late_refusal t tables) (last_refusal t) ≡ None) × (others ≡ tables)
+-- a run of an accepted study starts from this
+pub record IsOpened (t : Members) (opening : Opening) : Type 0 where
+  pub tables : List (List SeriesRow)
+  pub accepted : IsAccepted t tables
+  pub said : opening ≡ opening_of t tables

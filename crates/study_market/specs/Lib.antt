@@ -3,6 +3,7 @@ pub mod MarketRules
 pub mod StockRules
 pub mod FirstBroken
 pub mod Trial
+pub mod EntryTests
 pub mod Worked
 pub mod Records
 pub mod Rows

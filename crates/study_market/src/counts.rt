@@ -1,18 +1,10 @@
 //! The rule of how many traders there are.
 
-ghost use Rattle.std.specs.Prelude.{◌≡◌, ◌≤◌, ◌<◌, ◌+◌, map, length, None, IfSome};
-ghost use Rattle.toml.specs.View.{table_view, view};
-ghost use Rattle.study_market.specs.AgentRules.{agents as agents_of, count_in as count_found_in, left_after as left_after_of, first_too_many as too_many_in, counts_broken as rule_25};
+ghost use Rattle.std.specs.Prelude.{◌≡◌, ◌==◌, ◌≤◌, ◌<◌, ◌+◌, map, length, Some, IfSome, if◌then◌else◌};
+ghost use Rattle.toml.specs.View.{view};
+ghost use Rattle.study_market.specs.AgentRules.{count_in as count_found_in, left_after as left_after_of, first_too_many as too_many_in};
 
-use crate::dates::is_within;
-use study_file::{Table, Value, list_at, member};
-
-/// The entries of the agents.
-pub fn agents(table: &Table) -> &[Value]
-    ensures { map view result.now ≡ agents_of (table_view table.now) }
-{
-    list_at(table, "agent")
-}
+use study_file::{Value, is_within, member};
 
 // The count of an entry: 1 where it is left out, none where it is no number.
 fn count_in(entry: &Value) -> Option<i64>
@@ -58,22 +50,12 @@ fn first_too_many(left: u32, place: u32, entries: &[Value]) -> Option<u32>
     }
 }
 
-/// The first entry at which there are too many traders or whose count is none; the first place where there is no entry.
-pub fn counts_broken(table: &Table) -> Option<u32>
-    ensures { result ≡ rule_25 (table_view table.now) }
+/// The first entry at which there are more than 511 traders or whose count is none; the first place where there is no entry.
+pub fn counts_broken(entries: &[Value]) -> Option<u32>
+    ensures { result ≡ (if length (map view entries.now) == 0 then Some 0 else too_many_in 511 0 (map view entries.now)) }
 {
-    let entries = agents(table);
     if entries.is_empty() {
         return Some(0);
     }
     first_too_many(511, 0, entries)
-}
-
-/// The entries of the agents, of which there are at most 511.
-pub fn few_agents(table: &Table) -> &[Value]
-    requires { rule_25 (table_view table.now) ≡ None }
-    ensures agents { map view result.now ≡ agents_of (table_view table.now) }
-    ensures few { length result.now ≤ 511 }
-{
-    agents(table)
 }

@@ -1,93 +1,114 @@
-//! Which rule a study breaks first, as far as the stocks.
+//! Which rule a study breaks first: the one that is told, and those of the market.
 
-ghost use Rattle.std.specs.Prelude.{◌≡◌, IfOk};
+ghost use Rattle.std.specs.Prelude.{◌≡◌, None, Some, IfOk, IfErr};
 ghost use Rattle.toml.specs.View.{table_view};
-ghost use Rattle.study_market.specs.FirstBroken.{first_of_rules, market_rules, stock_rules};
+ghost use Rattle.study_market.specs.declared.early_refusal.Refusal.{Refusal};
+ghost use Rattle.study_market.specs.EntryTests.{earlier as earlier_of, broken_at};
+ghost use Rattle.study_market.specs.FirstBroken.{first_of_rules, market_rules};
 
-use crate::bands::bands_broken;
 use crate::market_table::{
     cells_broken, day_broken, exchange_broken, key_broken, limits_broken, parts_broken,
     squares_broken, top_keys_broken, version_broken,
 };
-use crate::stock::{
-    fees_broken, pace_broken, prices_broken, repeat_broken, series_broken, stock_count_broken,
-    stock_keys_broken, symbol_broken,
-};
 use market_types::Memory;
-use std::alloc::Global;
 use study_file::Table;
+use thiserror::Error;
 
 /// A broken rule and the least place at which it is broken.
 #[derive(Clone, Copy, PartialEq, Eq, Debug)]
 pub struct Refusal {
+    /// The number of the rule, from 1.
     pub rule: u32,
+    /// Which of the things that the rule speaks of breaks it: a key, an entry, a record, a number of a row.
     pub place: u32,
 }
 
-/// The first broken one of the rules of the top table, of the exchange and of the latencies.
-pub fn market_refusal(table: &Table) -> Option<Refusal>
-    ensures { result ≡ first_of_rules market_rules (table_view table.now) }
+/// The earlier of two broken rules: that of the lower number, or the first of two of one number.
+pub(crate) fn earlier(first: Option<Refusal>, later: Option<Refusal>) -> Option<Refusal>
+    ensures { result ≡ earlier_of first later }
 {
-    if let Some(place) = top_keys_broken(table) {
-        return Some(Refusal { rule: 1, place });
+    match (first, later) {
+        (Some(first), Some(later)) => {
+            if later.rule < first.rule {
+                Some(later)
+            } else {
+                Some(first)
+            }
+        }
+        (Some(first), None) => Some(first),
+        (None, later) => later,
     }
-    if let Some(place) = version_broken(table) {
-        return Some(Refusal { rule: 2, place });
+}
+
+/// Why a part of a study isn't read.
+#[derive(Clone, Copy, PartialEq, Eq, Debug, Error)]
+pub enum ReadError {
+    /// The first broken rule, with the least place at which it is broken.
+    #[error("the study is refused")]
+    Refused(Refusal),
+    /// Want of memory.
+    #[error("out of memory")]
+    Memory,
+}
+
+impl From<Memory> for ReadError {
+    ghost use Rattle.study_market.specs.declared.early_refusal.ReadError.TheVariants as error;
+
+    ghost from_gives = { λ _ e. e ≡ error.Memory };
+
+    fn from(_refused: Memory) -> ReadError {
+        ReadError::Memory
     }
-    if let Some(place) = key_broken(table) {
-        return Some(Refusal { rule: 3, place });
-    }
-    if let Some(place) = day_broken(table) {
-        return Some(Refusal { rule: 4, place });
-    }
-    if let Some(place) = limits_broken(table) {
-        return Some(Refusal { rule: 5, place });
-    }
-    if let Some(place) = parts_broken(table) {
-        return Some(Refusal { rule: 6, place });
-    }
-    if let Some(place) = squares_broken(table) {
-        return Some(Refusal { rule: 7, place });
-    }
-    if let Some(place) = cells_broken(table) {
-        return Some(Refusal { rule: 8, place });
-    }
-    match exchange_broken(table) {
-        Some(place) => Some(Refusal { rule: 9, place }),
+}
+
+/// A rule, where it is broken at a place.
+pub(crate) fn broken(rule: u32, place: Option<u32>) -> Option<Refusal>
+    ensures { result ≡ broken_at rule place }
+{
+    match place {
+        Some(place) => Some(Refusal { rule, place }),
         None => None,
     }
 }
 
-/// The first broken one of the rules of the stocks.
-pub fn stock_refusal(alloc: Global, table: &Table) -> Result<Option<Refusal>, Memory>
-    ensures { IfOk result (λ refusal. refusal ≡ first_of_rules stock_rules (table_view table.now)) }
+/// Goes on where nothing broken was found.
+pub(crate) fn keep(found: Option<Refusal>) -> Result<(), ReadError>
+    ensures kept { IfOk result (λ _. found ≡ None) }
+    ensures refused { IfErr result (λ e. (r : Refusal) → e ≡ ReadError.Refused r → found ≡ Some r) }
 {
-    if let Some(place) = stock_count_broken(table) {
-        return Ok(Some(Refusal { rule: 10, place }));
+    match found {
+        Some(refusal) => Err(ReadError::Refused(refusal)),
+        None => Ok(()),
     }
-    if let Some(place) = stock_keys_broken(table) {
-        return Ok(Some(Refusal { rule: 11, place }));
+}
+
+/// Goes on where a rule isn't broken.
+pub(crate) fn unbroken(rule: u32, place: Option<u32>) -> Result<(), ReadError>
+    ensures kept { IfOk result (λ _. place ≡ None) }
+    ensures refused { IfErr result (λ e. (r : Refusal) → e ≡ ReadError.Refused r → broken_at rule place ≡ Some r) }
+{
+    match place {
+        Some(place) => Err(ReadError::Refused(Refusal { rule, place })),
+        None => Ok(()),
     }
-    if let Some(place) = symbol_broken(table) {
-        return Ok(Some(Refusal { rule: 12, place }));
-    }
-    if let Some(place) = repeat_broken(table) {
-        return Ok(Some(Refusal { rule: 13, place }));
-    }
-    if let Some(place) = bands_broken(alloc, table)? {
-        return Ok(Some(Refusal { rule: 14, place }));
-    }
-    if let Some(place) = fees_broken(table) {
-        return Ok(Some(Refusal { rule: 15, place }));
-    }
-    if let Some(place) = prices_broken(table) {
-        return Ok(Some(Refusal { rule: 16, place }));
-    }
-    if let Some(place) = pace_broken(table) {
-        return Ok(Some(Refusal { rule: 17, place }));
-    }
-    match series_broken(table) {
-        Some(place) => Ok(Some(Refusal { rule: 18, place })),
-        None => Ok(None),
-    }
+}
+
+/// Goes on where none of the rules of the top table, of the exchange and of the latencies is broken.
+///
+/// # Errors
+/// The first broken one of these rules.
+#[tactic(auto, using(crate::proofs::EntryOrder::after_kept, crate::proofs::EntryOrder::at_broken))]
+pub(crate) fn keep_market_rules(table: &Table) -> Result<(), ReadError>
+    ensures kept { IfOk result (λ _. first_of_rules market_rules (table_view table.now) ≡ None) }
+    ensures refused { IfErr result (λ e. (r : Refusal) → e ≡ ReadError.Refused r → first_of_rules market_rules (table_view table.now) ≡ Some r) }
+{
+    unbroken(1, top_keys_broken(table))?;
+    unbroken(2, version_broken(table))?;
+    unbroken(3, key_broken(table))?;
+    unbroken(4, day_broken(table))?;
+    unbroken(5, limits_broken(table))?;
+    unbroken(6, parts_broken(table))?;
+    unbroken(7, squares_broken(table))?;
+    unbroken(8, cells_broken(table))?;
+    unbroken(9, exchange_broken(table))
 }

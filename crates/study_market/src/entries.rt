@@ -1,26 +1,16 @@
-//! Entries as tables, and what they say as plain numbers.
+//! What entries say as plain numbers.
 
-ghost use Rattle.std.specs.Prelude.{◌≡◌, ◌≤◌, ◌<◌, map, length, position, true, is_some, IfSome};
+ghost use Rattle.std.specs.Prelude.{◌≡◌, ◌≤◌, ◌<◌, pos, map, length, position, is_some, IfSome};
 ghost use Rattle.std.specs.Str.{bytes_eq};
-ghost use Rattle.toml.specs.Data.{as_table};
 ghost use Rattle.toml.specs.View.{table_view, view};
+ghost use Rattle.study_file.specs.Tables.{is_named};
+ghost use Rattle.study_file.specs.Values.{has_between};
 ghost use Rattle.study_market.specs.StockRules.{symbol_in};
-ghost use Rattle.study_market.specs.Entries.{entry_of, natural_at as natural_of, place_of};
+ghost use Rattle.study_market.specs.Entries.{natural_at as natural_of, place_of};
 
-use crate::stock_symbol;
+use crate::stock::stock_symbol;
 use market_types::StockNo;
-use study_file::{Table, Value, number_at};
-
-/// The table of an entry, which is one.
-pub fn entry(value: &Value) -> &Table
-    requires { is_some (as_table (view value.now)) ≡ true }
-    ensures { table_view result.now ≡ entry_of (view value.now) }
-{
-    match value.as_table() {
-        Some(table) => table,
-        None => unreachable!(),
-    }
-}
+use study_file::{Table, Value, is_within, number_at};
 
 /// The number at a key, which isn't negative; 0 where there is none.
 pub fn natural_at(table: &Table, key: &str) -> u64
@@ -29,7 +19,21 @@ pub fn natural_at(table: &Table, key: &str) -> u64
     number_at(table, key).unsigned_abs()
 }
 
-// The place of the stock of a symbol.
+/// The number at a key, where it is from the low to the high one.
+pub fn natural_between(table: &Table, key: &str, low: u64, high: u64) -> Option<u64>
+    ensures kept { is_some result ≡ has_between (pos low) (pos high) key.now (table_view table.now) }
+    ensures said { IfSome result (λ number. number ≡ natural_of key.now (table_view table.now)) }
+    ensures high { IfSome result (λ number. number ≤ high) }
+{
+    let number = number_at(table, key);
+    if is_within(low, high, number) {
+        Some(number.unsigned_abs())
+    } else {
+        None
+    }
+}
+
+// The place of the stock of a symbol, in the list of the entries.
 fn position_of(stocks: &[Value], symbol: &str) -> Option<usize>
     ensures { result ≡ position (λ v. bytes_eq (symbol_in (view v)) symbol.now) stocks.now }
 {
@@ -38,21 +42,14 @@ fn position_of(stocks: &[Value], symbol: &str) -> Option<usize>
         .position(|stock| stock_symbol(stock) == symbol)
 }
 
-// The same, which is a place of the list.
-fn place_in(stocks: &[Value], symbol: &str) -> Option<usize>
-    ensures place { result ≡ position (λ name. bytes_eq name symbol.now) (map symbol_in (map view stocks.now)) }
-    ensures within { IfSome result (λ at. at < length stocks.now) }
-{
-    position_of(stocks, symbol)
-}
-
-/// The number of the stock of a symbol, of at most 16 stocks; 0 where none has it.
-pub fn stock_number(stocks: &[Value], symbol: &str) -> StockNo
+/// The number of the stock of a symbol, of at most 16 stocks.
+pub fn stock_named(stocks: &[Value], symbol: &str) -> Option<StockNo>
     requires { length stocks.now ≤ 16 }
-    ensures { result ≡ place_of (map symbol_in (map view stocks.now)) symbol.now }
+    ensures kept { is_some result ≡ is_named (map symbol_in (map view stocks.now)) symbol.now }
+    ensures said { IfSome result (λ at. at ≡ place_of (map symbol_in (map view stocks.now)) symbol.now) }
 {
-    match place_in(stocks, symbol) {
-        Some(at) => at as StockNo,
-        None => 0,
+    match position_of(stocks, symbol) {
+        Some(at) => Some(at as StockNo),
+        None => None,
     }
 }

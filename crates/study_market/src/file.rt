@@ -9,7 +9,7 @@ ghost use Rattle.study_market.specs.Rows.{after_record, at_end, read_rows};
 
 use crate::row::{is_header, read_row};
 use crate::tables::SeriesTables;
-use csv::{ByteRecord, ErrorKind, Reader, ReaderBuilder};
+use csv::{ByteRecord, Reader, ReaderBuilder};
 use market_types::Memory;
 use std::alloc::Global;
 use study_file::Value;
@@ -18,9 +18,10 @@ use thiserror::Error;
 /// Why a series file gives no rows.
 #[derive(Debug, Drop, Error)]
 pub enum SeriesError {
-    /// The number of the first record that is refused, from 0.
+    /// The number of the first record that is refused, from 0, the header's.
     #[error("record {0} is refused")]
     Refused(u32),
+    /// Want of memory.
     #[error("out of memory")]
     Memory,
 }
@@ -36,11 +37,8 @@ fn next_record(reader: &mut Reader<&[u8]>, line: &mut ByteRecord) -> Result<bool
 {
     match reader.read_byte_record(line) {
         Ok(found) => Ok(found),
-        Err(error) => match error.kind() {
-            // Reading a slice never fails, but csv's contract rules out no failure of its source.
-            ErrorKind::OutOfMemory | ErrorKind::Io(_) => Err(Memory),
-            _ => unreachable!(),
-        },
+        // Records may have any length, and reading a slice never fails.
+        Err(_) => Err(Memory),
     }
 }
 
@@ -96,7 +94,8 @@ pub fn read_series(
     let Ok(mut tables) = SeriesTables::empty(alloc, stocks.len()) else {
         return Err(SeriesError::Memory);
     };
-    for number in 0..1_000_002 {
+    let mut number = 0;
+    'records: loop {
         let Ok(found) = next_record(&mut reader, &mut line) else {
             return Err(SeriesError::Memory);
         };
@@ -109,6 +108,6 @@ pub fn read_series(
         if !taken {
             return Err(SeriesError::Refused(number));
         }
+        number += 1;
     }
-    unreachable!()
 }

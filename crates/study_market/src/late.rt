@@ -1,13 +1,13 @@
 //! Stocks by rows without a value at the start.
 
-ghost use Rattle.std.specs.Prelude.{◌≡◌, ◌≤◌, ◌<◌, ◌&&◌, ℕ, nat_le, map, length, position, IfSome};
+ghost use Rattle.std.specs.Prelude.{◌≡◌, ◌≤◌, ◌&&◌, ℕ, nat_le, map, length, position};
 ghost use Rattle.std.specs.List.{list_any, enumerate_from};
 ghost use Rattle.toml.specs.View.{view};
 ghost use Rattle.study_market.specs.StockRules.{is_by_rows as by_rows};
 ghost use Rattle.study_market.specs.Rows.{rows_of};
 ghost use Rattle.study_market.specs.Late.{is_late as late_at, first_late};
 
-use crate::is_by_rows;
+use crate::stock::is_by_rows;
 use crate::tables::SeriesTables;
 use fundamental_series::SeriesRow;
 use market_types::Time;
@@ -35,21 +35,13 @@ fn late_place(start: Time, stocks: &[Value], tables: &SeriesTables) -> Option<us
         && is_late(start, tables.rows(at)))
 }
 
-// The same, which is a place of the list.
-fn place_late(start: Time, stocks: &[Value], tables: &SeriesTables) -> Option<usize>
-    ensures place { result ≡ first_late start (map view stocks.now) tables.now }
-    ensures within { IfSome result (λ at. at < length stocks.now) }
-{
-    late_place(start, stocks, tables)
-}
-
 /// The place of the first of at most 16 stocks that goes by rows and has no row at the start or earlier, in nanoseconds past
 /// midnight.
 pub fn late_stock(start: Time, stocks: &[Value], tables: &SeriesTables) -> Option<u32>
     requires few { length stocks.now ≤ 16 }
     ensures { result ≡ first_late start (map view stocks.now) tables.now }
 {
-    match place_late(start, stocks, tables) {
+    match late_place(start, stocks, tables) {
         Some(at) => Some(at as u32),
         None => None,
     }

@@ -6,7 +6,7 @@ ghost use Rattle.study_file.specs.Values.{number_in as number_of, list_in as ite
 ghost use Rattle.study_market.specs.MarketRules.{squares_broken as rule_7, cells_broken as rule_8, cell_outside};
 ghost use Rattle.study_market.specs.Market.{numbers_in, latencies_of};
 
-use crate::{bases, jitters};
+use crate::market_table::{bases, jitters};
 use latency_model::Groups;
 use market_types::{Memory, Time};
 use std::alloc::{AllocError, Global};

@@ -1,12 +1,12 @@
 //! The rules of the top table, of the exchange and of the latencies.
 
-ghost use Rattle.std.specs.Prelude.{◌≡◌, ◌&&◌, ◌==◌, ◌≤◌, pos, map, length, codes, [], ◌∷◌, None, true, nat_le};
+ghost use Rattle.std.specs.Prelude.{◌≡◌, ◌&&◌, ◌==◌, map, length, [], None};
 ghost use Rattle.std.specs.List.{list_all};
 ghost use Rattle.toml.specs.View.{table_view, view};
 ghost use Rattle.study_file.specs.Keys.{has_keys as keys_in};
 ghost use Rattle.study_market.specs.Forms.{exchange_keys, latency_keys};
 ghost use Rattle.study_file.specs.Values.{list_in as items_in};
-ghost use Rattle.study_market.specs.MarketRules.{top_keys_broken as rule_1, version_broken as rule_2, is_key as key_text, key_broken as rule_3, day_broken as rule_4, limits_broken as rule_5, exchange_of, latency_of, parts_broken as rule_6, bases as bases_of, jitters as jitters_of, is_square as square, squares_broken as rule_7, cell_outside as cell_in, cells_broken as rule_8, is_group as group_of, size_of, is_exchange as exchange_in, exchange_broken as rule_9, span_of};
+ghost use Rattle.study_market.specs.MarketRules.{top_keys_broken as rule_1, version_broken as rule_2, is_key as key_text, key_broken as rule_3, day_broken as rule_4, limits_broken as rule_5, exchange_of, latency_of, parts_broken as rule_6, bases as bases_of, jitters as jitters_of, is_square as square, squares_broken as rule_7, cells_broken as rule_8, is_group as group_of, size_of, is_exchange as exchange_in, exchange_broken as rule_9, span_of};
 
 use crate::cells::cell_outside;
 use study_file::{
@@ -192,41 +192,12 @@ pub fn is_group(size: u32, table: &Table) -> bool
     0 <= group && group < i64::from(size)
 }
 
-// The rows of the base latencies, where they are square.
-fn square_bases(table: &Table) -> &[Value]
-    requires { rule_7 (table_view table.now) ≡ None }
-    ensures rows { map view result.now ≡ bases_of (table_view table.now) }
-    ensures few { length result.now ≤ 32 }
-    ensures narrow { list_all (λ v. nat_le (length (items_in (view v))) 32) result.now ≡ true }
-{
-    bases(table)
-}
-
-// The rows of the jitters, where they are square.
-fn square_jitters(table: &Table) -> &[Value]
-    requires { rule_7 (table_view table.now) ≡ None }
-    ensures rows { map view result.now ≡ jitters_of (table_view table.now) }
-    ensures few { length result.now ≤ 32 }
-    ensures narrow { list_all (λ v. nat_le (length (items_in (view v))) 32) result.now ≡ true }
-{
-    jitters(table)
-}
-
-// How many groups there are, where the latencies are square.
-fn few_groups(table: &Table) -> usize
-    requires { rule_7 (table_view table.now) ≡ None }
-    ensures number { result ≡ size_of (table_view table.now) }
-    ensures few { result ≤ 32 }
-{
-    group_count(table)
-}
-
 /// How many groups there are, where the latencies are square.
 pub fn group_number(table: &Table) -> u32
     requires { rule_7 (table_view table.now) ≡ None }
     ensures { result ≡ size_of (table_view table.now) }
 {
-    few_groups(table) as u32
+    group_count(table) as u32
 }
 
 /// The least place at which a base latency or a jitter is out of its range.
@@ -234,26 +205,10 @@ pub fn cells_broken(table: &Table) -> Option<u32>
     requires { rule_7 (table_view table.now) ≡ None }
     ensures { result ≡ rule_8 (table_view table.now) }
 {
-    if let Some(place) = bases_broken(table) {
-        return Some(place);
+    match cell_outside(3_600_000_000_000, 0, bases(table)) {
+        Some(place) => Some(place),
+        None => cell_outside(4_294_967_295, 1024, jitters(table)),
     }
-    jitters_broken(table)
-}
-
-fn bases_broken(table: &Table) -> Option<u32>
-    requires { rule_7 (table_view table.now) ≡ None }
-    ensures { result ≡ cell_in (pos 3600000000000) 0 (bases_of (table_view table.now)) }
-{
-    let rows = square_bases(table);
-    cell_outside(3_600_000_000_000, 0, rows)
-}
-
-fn jitters_broken(table: &Table) -> Option<u32>
-    requires { rule_7 (table_view table.now) ≡ None }
-    ensures { result ≡ cell_in (pos 4294967295) 1024 (jitters_of (table_view table.now)) }
-{
-    let rows = square_jitters(table);
-    cell_outside(4_294_967_295, 1024, rows)
 }
 
 fn is_exchange(size: u32, table: &Table) -> bool

@@ -1,101 +1,40 @@
-//! The first broken rule of a study, as far as its agents.
+//! Reading a study as far as its agents: what a run of it starts from, or its first broken rule.
 
-ghost use Rattle.std.specs.Prelude.{◌≡◌, None, Some, ℕ, map, option_map, IfOk, IfErr, Ok, Err};
+ghost use Rattle.std.specs.Prelude.{◌≡◌, None, Some, option_map, IfOk, IfErr, Ok};
 ghost use Rattle.toml.specs.View.{table_view};
-ghost use Rattle.study_market.specs.MarketRules.{squares_broken as rule_7};
+ghost use Rattle.market_floor.specs.Opening.{IsOpening};
+ghost use Rattle.study_market.specs.declared.early_refusal.Refusal.{Refusal};
 ghost use Rattle.study_market.specs.StockRules.{stock_count_broken as rule_10};
-ghost use Rattle.study_market.specs.FirstBroken.{first_of_rules};
-ghost use Rattle.study_market.specs.Judged.{AreJudged, IsJudged};
-ghost use Rattle.study_market.specs.FirstOfMarket.{change_rules, agent_rules, tables_of, early_refusal as early_rules, late_refusal as late_rule, last_refusal as last_rules};
+ghost use Rattle.study_market.specs.FirstOfMarket.{tables_of, late_refusal as late_rule, series_refusal, first_broken};
+ghost use Rattle.study_market.specs.Judged.{IsRead};
 
-use crate::agents::{agent_keys_broken, agent_stock_broken, own_broken, timing_broken};
-use crate::changes::{change_keys_broken, change_rules_broken, change_stock_broken};
-use crate::counts::counts_broken;
-use crate::dates::{dates_broken, start};
-use crate::{
-    Refusal, SeriesError, SeriesTables, few_stocks, late_stock, market_refusal, read_series,
-    stock_refusal, stocks,
-};
+use crate::change_parts::read_changes;
+use crate::early_refusal::{ReadError, Refusal, broken, keep, keep_market_rules};
+use crate::file::{SeriesError, read_series};
+use crate::late::late_stock;
+use crate::market_parts::start;
+use crate::parts::opening;
+use crate::stock::{few_stocks, stocks};
+use crate::stock_parts::read_stocks;
+use crate::tables::SeriesTables;
+use crate::traders::read_traders;
+use market_floor::Opening;
 use market_types::Memory;
 use std::alloc::Global;
 use study_file::Table;
 
-// The first broken one of the rules of the changes.
-fn change_refusal(alloc: Global, table: &Table) -> Result<Option<Refusal>, Memory>
-    ensures { IfOk result (λ refusal. refusal ≡ first_of_rules change_rules (table_view table.now)) }
-{
-    if let Some(place) = change_keys_broken(table) {
-        return Ok(Some(Refusal { rule: 21, place }));
-    }
-    if let Some(place) = dates_broken(table) {
-        return Ok(Some(Refusal { rule: 22, place }));
-    }
-    if let Some(place) = change_stock_broken(table) {
-        return Ok(Some(Refusal { rule: 23, place }));
-    }
-    match change_rules_broken(alloc, table)? {
-        Some(place) => Ok(Some(Refusal { rule: 24, place })),
-        None => Ok(None),
-    }
-}
-
-// The first broken one of the rules of the agents.
-fn agent_refusal(table: &Table) -> Option<Refusal>
-    requires { rule_7 (table_view table.now) ≡ None }
-    ensures { result ≡ first_of_rules agent_rules (table_view table.now) }
-{
-    if let Some(place) = counts_broken(table) {
-        return Some(Refusal { rule: 25, place });
-    }
-    if let Some(place) = agent_keys_broken(table) {
-        return Some(Refusal { rule: 26, place });
-    }
-    if let Some(place) = timing_broken(table) {
-        return Some(Refusal { rule: 27, place });
-    }
-    if let Some(place) = agent_stock_broken(table) {
-        return Some(Refusal { rule: 28, place });
-    }
-    match own_broken(table) {
-        Some(place) => Some(Refusal { rule: 29, place }),
-        None => None,
-    }
-}
-
-/// What the rules up to those of the agents say of a study.
-#[derive(Drop)]
-pub enum Judged {
-    /// The first broken rule.
-    Refused(Refusal),
-    /// None of these rules is broken; the rows of each stock.
-    Accepted(SeriesTables),
-}
-
-// The first broken one of the rules before those of the series file.
-fn early_refusal(alloc: Global, table: &Table) -> Result<Option<Refusal>, Memory>
-    ensures { IfOk result (λ refusal. refusal ≡ early_rules (table_view table.now)) }
-{
-    match market_refusal(table) {
-        Some(refusal) => Ok(Some(refusal)),
-        None => stock_refusal(alloc, table),
-    }
-}
-
 // The rows of each stock.
-fn read_rows(
-    alloc: Global,
-    table: &Table,
-    series: Option<&[u8]>,
-) -> Result<SeriesTables, SeriesError>
+fn read_rows(alloc: Global, table: &Table, series: Option<&[u8]>) -> Result<SeriesTables, ReadError>
     ensures rows { IfOk result (λ tables. tables_of (table_view table.now) (option_map (λ text. text.now) series.entry) ≡ Ok tables) }
-    ensures refused { IfErr result (λ e. (number : ℕ) → e ≡ SeriesError.Refused number → tables_of (table_view table.now) (option_map (λ text. text.now) series.entry) ≡ Err number) }
+    ensures refused { IfErr result (λ e. (r : Refusal) → e ≡ ReadError.Refused r → series_refusal (table_view table.now) (option_map (λ text. text.now) series.entry) ≡ Some r) }
 {
-    match series {
-        Some(text) => read_series(alloc, stocks(table), text),
-        None => match SeriesTables::empty(alloc, stocks(table).len()) {
-            Ok(tables) => Ok(tables),
-            Err(Memory) => Err(SeriesError::Memory),
-        },
+    let Some(text) = series else {
+        return Ok(SeriesTables::empty(alloc, stocks(table).len())?);
+    };
+    match read_series(alloc, stocks(table), text) {
+        Ok(tables) => Ok(tables),
+        Err(SeriesError::Refused(place)) => Err(ReadError::Refused(Refusal { rule: 19, place })),
+        Err(SeriesError::Memory) => Err(ReadError::Memory),
     }
 }
 
@@ -104,58 +43,29 @@ fn late_refusal(table: &Table, tables: &SeriesTables) -> Option<Refusal>
     requires { rule_10 (table_view table.now) ≡ None }
     ensures { result ≡ late_rule (table_view table.now) tables.now }
 {
-    match late_stock(start(table), few_stocks(table), tables) {
-        Some(place) => Some(Refusal { rule: 20, place }),
-        None => None,
-    }
+    broken(20, late_stock(start(table), few_stocks(table), tables))
 }
 
-// The first broken one of the rules after those of the series file.
-fn last_refusal(alloc: Global, table: &Table) -> Result<Option<Refusal>, Memory>
-    requires { rule_7 (table_view table.now) ≡ None }
-    ensures { IfOk result (λ refusal. refusal ≡ last_rules (table_view table.now)) }
+/// What a run of a study starts from, by the study's table and the text of its series file, where it names one. The rules of
+/// branches are not asked for.
+///
+/// # Errors
+/// The first broken rule up to those of the agents; or want of memory.
+#[tactic(auto, using(crate::proofs::Judging::market_refused, crate::proofs::Judging::stocks_refused, crate::proofs::Judging::series_refused, crate::proofs::Judging::late_refused, crate::proofs::Judging::changes_refused, crate::proofs::Judging::agents_refused))]
+pub fn read_opening(
+    alloc: Global,
+    table: &Table,
+    series: Option<&[u8]>,
+) -> Result<Opening, ReadError>
+    ensures read { IfOk result (λ opening. IsRead (table_view table.now) (option_map (λ text. text.now) series.entry) opening) }
+    ensures fits { IfOk result (λ opening. IsOpening opening) }
+    ensures refused { IfErr result (λ e. (r : Refusal) → e ≡ ReadError.Refused r → first_broken (table_view table.now) (option_map (λ text. text.now) series.entry) ≡ Some r) }
 {
-    match change_refusal(alloc, table)? {
-        Some(refusal) => Ok(Some(refusal)),
-        None => Ok(agent_refusal(table)),
-    }
-}
-
-// What the rules after those of the series file say, and whether a stock by rows has no row at the start.
-fn judge_tables(alloc: Global, table: &Table, tables: SeriesTables) -> Result<Judged, Memory>
-    requires { early_rules (table_view table.now) ≡ None }
-    ensures { IfOk result (λ judged. AreJudged (table_view table.now) tables judged) }
-{
-    if let Some(refusal) = late_refusal(table, &tables) {
-        return Ok(Judged::Refused(refusal));
-    }
-    match last_refusal(alloc, table)? {
-        Some(refusal) => Ok(Judged::Refused(refusal)),
-        None => Ok(Judged::Accepted(tables)),
-    }
-}
-
-// What the rules of the series file and those after them say.
-#[tactic(auto, using(crate::proofs::Judging::all_judged, crate::proofs::Judging::record_refused))]
-fn judge_series(alloc: Global, table: &Table, series: Option<&[u8]>) -> Result<Judged, Memory>
-    requires { early_rules (table_view table.now) ≡ None }
-    ensures { IfOk result (λ judged. IsJudged (table_view table.now) (option_map (λ text. text.now) series.entry) judged) }
-{
-    match read_rows(alloc, table, series) {
-        Ok(tables) => judge_tables(alloc, table, tables),
-        Err(SeriesError::Refused(place)) => Ok(Judged::Refused(Refusal { rule: 19, place })),
-        Err(SeriesError::Memory) => Err(Memory),
-    }
-}
-
-/// The first broken rule of a study's table up to those of the agents, with the text of its series file where it names one, or
-/// the rows of each stock. The rules of branches are not among these.
-#[tactic(auto, using(crate::proofs::Judging::broken_early))]
-pub fn judge(alloc: Global, table: &Table, series: Option<&[u8]>) -> Result<Judged, Memory>
-    ensures { IfOk result (λ judged. IsJudged (table_view table.now) (option_map (λ text. text.now) series.entry) judged) }
-{
-    match early_refusal(alloc, table)? {
-        Some(refusal) => Ok(Judged::Refused(refusal)),
-        None => judge_series(alloc, table, series),
-    }
+    keep_market_rules(table)?;
+    let stocks = read_stocks(alloc, table)?;
+    let rows = read_rows(alloc, table, series)?;
+    keep(late_refusal(table, &rows))?;
+    let dated = read_changes(alloc, table)?;
+    let traders = read_traders(alloc, table)?;
+    Ok(opening(alloc, table, &rows, stocks, dated, traders)?)
 }

@@ -7,7 +7,7 @@ ghost use Rattle.toml.specs.View.{view};
 ghost use Rattle.csv.specs.Records.{fields_of};
 ghost use Rattle.study_market.specs.Records.{is_header as header, is_digits as digits, number_after as number_from, number_of as whole_of, is_time as time_in, is_value as value_in, is_stock_of as stock_in, field_of, timed_row, row_of as row_said, row_in};
 
-use crate::{is_by_rows, stock_symbol};
+use crate::stock::{is_by_rows, stock_symbol};
 use csv::ByteRecord;
 use fundamental_series::SeriesRow;
 use market_types::Time;
@@ -16,6 +16,7 @@ use study_file::Value;
 /// A row of a series file: the place of its stock in the study, and the stock's value from a time on.
 #[derive(Clone, Copy, PartialEq, Eq, Debug)]
 pub struct FileRow {
+    /// The place of the stock, from 0.
     pub stock: usize,
     pub row: SeriesRow,
 }

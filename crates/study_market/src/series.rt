@@ -2,9 +2,11 @@
 
 ghost use Rattle.std.specs.Prelude.{◌≡◌, ◌≤◌, ℕ, map, length, None, true, false, IfOk, codes};
 ghost use Rattle.std.specs.List.{enumerate_from};
+ghost use Rattle.toml.specs.Data.{as_table};
 ghost use Rattle.toml.specs.View.{table_view, view};
 ghost use Rattle.fundamental_series.specs.Made.{by_rule};
 ghost use Rattle.fundamental_series.specs.Ranges.{AreRows};
+ghost use Rattle.study_file.specs.Keys.{passes};
 ghost use Rattle.study_file.specs.Values.{first_failing};
 ghost use Rattle.study_market.specs.MarketRules.{span_of, key_broken as rule_3};
 ghost use Rattle.study_market.specs.StockRules.{stocks as stocks_of, has_prices, has_pace, goes_by as by_word, stock_count_broken as rule_10, prices_broken as rule_16, pace_broken as rule_17};
@@ -13,9 +15,10 @@ ghost use Rattle.study_market.specs.Entries.{entry_of};
 ghost use Rattle.study_market.specs.Market.{key_of};
 ghost use Rattle.study_market.specs.Stocks.{rule_made_of, series_in, series_of, HaveRows};
 
-use crate::entries::{entry, natural_at};
+use crate::entries::natural_at;
 use crate::market_parts::{close, key, start};
-use crate::{SeriesTables, few_stocks, goes_by};
+use crate::stock::{few_stocks, goes_by};
+use crate::tables::SeriesTables;
 use fundamental_series::{Series, SeriesRule, series_by_rule, series_from_rows};
 use market_types::{Memory, Sequence, StockNo};
 use std::alloc::Global;
@@ -67,8 +70,29 @@ fn stock_series(
     }
 }
 
-// The values of each of at most 16 stocks, in order.
+// The values of an entry's stock.
 fn entry_series(
+    alloc: Global,
+    table: &Table,
+    key: &[u8; 32],
+    tables: &SeriesTables,
+    number: StockNo,
+    entry: &Value,
+) -> Result<Series, Memory>
+    requires key { key.now ≡ key_of (table_view table.now) }
+    requires prices { passes has_prices (as_table (view entry.now)) ≡ true }
+    requires pace { passes (has_pace (span_of (table_view table.now))) (as_table (view entry.now)) ≡ true }
+    requires rows { by_word (codes "rule") (entry_of (view entry.now)) ≡ false → AreRows (rows_of tables.now number) }
+    ensures { IfOk result (λ s. s ≡ series_in (table_view table.now) tables.now number (entry_of (view entry.now))) }
+{
+    match entry.as_table() {
+        Some(stock) => stock_series(alloc, table, key, tables, number, stock),
+        None => series_from_rows(alloc, tables.rows(usize::from(number))),
+    }
+}
+
+// The values of each of at most 16 stocks, in order.
+fn series_list(
     alloc: Global,
     table: &Table,
     key: &[u8; 32],
@@ -84,8 +108,14 @@ fn entry_series(
 {
     let mut list = Vec::new(alloc);
     for number in 0..values.len() {
-        let stock = entry(&values[number]);
-        let series = stock_series(alloc, table, key, tables, number as StockNo, stock)?;
+        let series = entry_series(
+            alloc,
+            table,
+            key,
+            tables,
+            number as StockNo,
+            &values[number],
+        )?;
         list.push(series)?;
     }
     Ok(list)
@@ -105,6 +135,6 @@ pub fn all_series(
     ensures { IfOk result (λ s. s ≡ series_of (table_view table.now) tables.now) }
 {
     let key = key(table);
-    let list = entry_series(alloc, table, &key, tables, few_stocks(table))?;
+    let list = series_list(alloc, table, &key, tables, few_stocks(table))?;
     Ok(Sequence::new(list))
 }

@@ -1,46 +1,50 @@
 //! The traders.
 
-ghost use Rattle.std.specs.Prelude.{◌≡◌, ◌≤◌, ◌++◌, map, length, None, true, IfOk, OnOk};
-ghost use Rattle.std.specs.List.{flat_map};
-ghost use Rattle.toml.specs.Data.{as_table};
+ghost use Rattle.std.specs.Prelude.{◌≡◌, ◌<◌, ◌≤◌, ◌++◌, ℕ, [], map, length, None, Some, true, IfOk, IfErr, OnOk};
+ghost use Rattle.std.specs.List.{range_with_len};
 ghost use Rattle.toml.specs.View.{table_view, view};
-ghost use Rattle.study_file.specs.Keys.{passes};
-ghost use Rattle.study_file.specs.Values.{first_failing};
+ghost use Rattle.study_market.specs.declared.early_refusal.Refusal.{Refusal};
 ghost use Rattle.study_market.specs.MarketRules.{squares_broken as rule_7};
 ghost use Rattle.study_market.specs.StockRules.{symbol_in, stock_count_broken as rule_10};
-ghost use Rattle.study_market.specs.AgentRules.{agents as agents_of, count_of, first_of, has_timing, has_own, first_too_many, counts_broken as rule_25, timing_broken as rule_27, own_broken as rule_29};
-ghost use Rattle.study_market.specs.Entries.{entry_of};
+ghost use Rattle.study_market.specs.AgentRules.{count_of, first_of, has_timing as timing_in};
+ghost use Rattle.study_market.specs.EntryTests.{failed_test, agent_tests};
+ghost use Rattle.study_market.specs.FirstBroken.{first_of_rules};
+ghost use Rattle.study_market.specs.FirstOfMarket.{agent_rules};
 ghost use Rattle.study_market.specs.Traders.{trader_of, traders_in, traders_of};
 
-use crate::entries::{natural_at, stock_number};
-use crate::few_stocks;
-use crate::kind::kind;
-use agent_shell::TraderSetting;
-use market_types::{Memory, Sequence, Time};
+use crate::agents::{count_in, has_agent_keys, has_timing};
+use crate::counts::counts_broken;
+use crate::early_refusal::{ReadError, unbroken};
+use crate::entries::{natural_at, stock_named};
+use crate::kind::read_kind;
+use crate::market_parts::start;
+use crate::market_table::group_number;
+use crate::reading::{EntryReading, read_entries};
+use crate::stock::few_stocks;
+use agent_shell::{Kind, TraderSetting};
+use market_types::{Memory, StockNo, Time};
 use std::alloc::{AllocError, Global};
-use study_file::{Table, Value, list_at, number_at, number_or, string_at};
+use study_file::{Table, Value, list_at, number_at, string_at};
 
-// When the trader of a number, from 0 to 511, wakes first.
+// When the trader of a number, from 0, wakes first.
 fn first_wakeup(agent: &Table, number: u64) -> Time
-    requires number { number ≤ 511 }
-    requires timing { has_timing 32 0 (table_view agent.now) ≡ true }
+    requires number { number < count_of (table_view agent.now) }
+    requires timing { timing_in 32 0 (table_view agent.now) ≡ true }
     ensures { result ≡ first_of number (table_view agent.now) }
 {
     natural_at(agent, "first") + number * natural_at(agent, "spread")
 }
 
-// The trader of a number, from 0 to 511, that an entry says, of one of at most 16 stocks.
-fn trader(stocks: &[Value], agent: &Table, number: u64) -> TraderSetting
-    requires few { length stocks.now ≤ 16 }
-    requires number { number ≤ 511 }
-    requires timing { has_timing 32 0 (table_view agent.now) ≡ true }
-    requires own { has_own (table_view agent.now) ≡ true }
-    ensures { result ≡ trader_of (map symbol_in (map view stocks.now)) (table_view agent.now) number }
+// The trader of a number, from 0, that an entry says, of this kind and for this stock.
+fn trader(agent: &Table, kind: Kind, stock: StockNo, number: u64) -> TraderSetting
+    requires number { number < count_of (table_view agent.now) }
+    requires timing { timing_in 32 0 (table_view agent.now) ≡ true }
+    ensures { result ≡ record (trader_of [] (table_view agent.now) number) { kind = kind; stock = stock } }
 {
     TraderSetting {
-        kind: kind(agent),
+        kind,
         group: natural_at(agent, "group") as u8,
-        stock: stock_number(stocks, string_at(agent, "stock")),
+        stock,
         first: first_wakeup(agent, number),
         every: natural_at(agent, "every"),
         wobble: natural_at(agent, "wobble") as u32,
@@ -49,85 +53,105 @@ fn trader(stocks: &[Value], agent: &Table, number: u64) -> TraderSetting
     }
 }
 
-// How many traders an entry makes.
-fn count_in(agent: &Table) -> u64
-    ensures { result ≡ count_of (table_view agent.now) }
-{
-    number_or(agent, "count", 1).unsigned_abs()
-}
-
 // Puts as many traders as an entry counts behind those before them.
 fn push_traders(
-    stocks: &[Value],
     agent: &Table,
+    kind: Kind,
+    stock: StockNo,
     traders: &mut Vec<TraderSetting>,
 ) -> Result<(), AllocError>
-    requires few { length stocks.now ≤ 16 }
-    requires count { count_of (table_view agent.now) ≤ 511 }
-    requires timing { has_timing 32 0 (table_view agent.now) ≡ true }
-    requires own { has_own (table_view agent.now) ≡ true }
-    ensures { OnOk result (traders.new.items ≡ traders.old.items ++ traders_in (map symbol_in (map view stocks.now)) (table_view agent.now)) }
+    requires timing { timing_in 32 0 (table_view agent.now) ≡ true }
+    ensures { OnOk result (traders.new.items ≡ traders.old.items ++ map (λ (n : ℕ). record (trader_of [] (table_view agent.now) n) { kind = kind; stock = stock }) (range_with_len 0 (count_of (table_view agent.now)))) }
 {
     let count = count_in(agent);
     for number in 0..count {
-        traders.push(trader(stocks, agent, number))?;
+        traders.push(trader(agent, kind, stock, number))?;
     }
     Ok(())
 }
 
-// The same of an entry of the list.
-fn push_entry(
-    stocks: &[Value],
-    value: &Value,
+// Agents beside these stocks, so many latency groups and a market that opens at a time.
+#[derive(Drop)]
+struct AgentReading<'a> {
+    stocks: &'a [Value],
+    groups: u32,
+    start: Time,
+    ghost few: { length stocks.now ≤ 16 },
+    ghost square: { groups ≤ 32 },
+}
+
+// Puts the traders that an agent makes behind those before them, or tells the number of the first rule that it breaks.
+fn read_agent(
+    reading: &AgentReading<'_>,
+    agent: &Table,
     traders: &mut Vec<TraderSetting>,
-) -> Result<(), AllocError>
-    requires few { length stocks.now ≤ 16 }
-    requires count { count_of (entry_of (view value.now)) ≤ 511 }
-    requires timing { passes (has_timing 32 0) (as_table (view value.now)) ≡ true }
-    requires own { passes has_own (as_table (view value.now)) ≡ true }
-    ensures { OnOk result (traders.new.items ≡ traders.old.items ++ traders_in (map symbol_in (map view stocks.now)) (entry_of (view value.now))) }
+) -> Result<Option<u32>, Memory>
+    ensures broken { IfOk result (λ rule. rule ≡ failed_test (agent_tests reading.now.groups reading.now.start (map symbol_in (map view reading.now.stocks.now))) (Some (table_view agent.now))) }
+    ensures said { IfOk result (λ rule. rule ≡ None → traders.new.items ≡ traders.old.items ++ traders_in (map symbol_in (map view reading.now.stocks.now)) (table_view agent.now)) }
 {
-    match value.as_table() {
-        Some(agent) => push_traders(stocks, agent, traders),
-        None => unreachable!(),
+    if !has_agent_keys(agent) {
+        return Ok(Some(26));
     }
-}
-
-// The traders of all entries in order.
-fn entry_traders(
-    alloc: Global,
-    stocks: &[Value],
-    values: &[Value],
-) -> Result<Vec<TraderSetting>, AllocError>
-    requires few { length stocks.now ≤ 16 }
-    requires counts { first_too_many 511 0 (map view values.now) ≡ None }
-    requires timing { first_failing (has_timing 32 0) (map view values.now) ≡ None }
-    requires own { first_failing has_own (map view values.now) ≡ None }
-    ensures { IfOk result (λ v. v.items ≡ flat_map (λ d. traders_in (map symbol_in (map view stocks.now)) (entry_of d)) (map view values.now)) }
-{
-    let mut traders = Vec::new(alloc);
-    for value in values {
-        push_entry(stocks, value, &mut traders)?;
+    if !has_timing(reading.groups, reading.start, agent) {
+        return Ok(Some(27));
     }
-    Ok(traders)
+    let Some(stock) = stock_named(reading.stocks, string_at(agent, "stock")) else {
+        return Ok(Some(28));
+    };
+    let Some(kind) = read_kind(agent) else {
+        return Ok(Some(29));
+    };
+    push_traders(agent, kind, stock, traders)?;
+    Ok(None)
 }
 
-// The entries of the agents.
-fn agents(table: &Table) -> &[Value]
-    ensures { map view result.now ≡ agents_of (table_view table.now) }
-{
-    list_at(table, "agent")
+impl<'a> EntryReading for AgentReading<'a> {
+    type Item = TraderSetting;
+
+    ghost use Rattle.std.specs.Prelude.{map, refl};
+    ghost use Rattle.toml.specs.View.{view};
+    ghost use Rattle.study_market.specs.StockRules.{symbol_in};
+    ghost use Rattle.study_market.specs.EntryTests.{agent_tests};
+    ghost use Rattle.study_market.specs.Entries.{entry_of};
+    ghost use Rattle.study_market.specs.Traders.{traders_in};
+
+    ghost tests = { λ reading. agent_tests reading.groups reading.start (map symbol_in (map view reading.stocks.now)) };
+
+    ghost items_of = { λ reading d. traders_in (map symbol_in (map view reading.stocks.now)) (entry_of d) };
+
+    fn read(
+        &self,
+        _alloc: Global,
+        entry: &Value,
+        list: &mut Vec<TraderSetting>,
+    ) -> Result<Option<u32>, Memory> {
+        match entry.as_table() {
+            Some(agent) => read_agent(self, agent, list),
+            None => Ok(Some(26)),
+        }
+    }
+
+    ghost rising = { λ _. refl };
 }
 
-/// The traders of a study, whose agents keep their rules.
-pub fn all_traders(alloc: Global, table: &Table) -> Result<Sequence<TraderSetting>, Memory>
+/// The traders of a study of 1 to 16 stocks whose latencies are square.
+///
+/// # Errors
+/// The first broken rule of the agents; or want of memory.
+#[tactic(auto, using(crate::proofs::EntryOrder::after_kept, crate::proofs::EntryOrder::at_broken))]
+pub fn read_traders(alloc: Global, table: &Table) -> Result<Vec<TraderSetting>, ReadError>
     requires square { rule_7 (table_view table.now) ≡ None }
-    requires few { rule_10 (table_view table.now) ≡ None }
-    requires counts { rule_25 (table_view table.now) ≡ None }
-    requires timing { rule_27 (table_view table.now) ≡ None }
-    requires own { rule_29 (table_view table.now) ≡ None }
-    ensures { IfOk result (λ s. s ≡ traders_of (table_view table.now)) }
+    requires stocks { rule_10 (table_view table.now) ≡ None }
+    ensures kept { IfOk result (λ _. first_of_rules agent_rules (table_view table.now) ≡ None) }
+    ensures said { IfOk result (λ traders. traders.items ≡ traders_of (table_view table.now)) }
+    ensures refused { IfErr result (λ e. (r : Refusal) → e ≡ ReadError.Refused r → first_of_rules agent_rules (table_view table.now) ≡ Some r) }
 {
-    let traders = entry_traders(alloc, few_stocks(table), agents(table))?;
-    Ok(Sequence::new(traders))
+    let entries = list_at(table, "agent");
+    unbroken(25, counts_broken(entries))?;
+    let reading = AgentReading {
+        stocks: few_stocks(table),
+        groups: group_number(table),
+        start: start(table),
+    };
+    read_entries(alloc, &reading, entries)
 }

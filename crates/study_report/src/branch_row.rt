@@ -3,7 +3,7 @@
 ghost use Rattle.std.specs.Prelude.{◌≡◌, ◌<◌, IfOk, length, map};
 ghost use Rattle.branch_tree.specs.Plan.{parent_at};
 ghost use Rattle.kernel_core.specs.Step.{end_of};
-ghost use Rattle.trace_bundle.specs.Ran.{IsListedRunOf};
+ghost use Rattle.trace_bundle.specs.Ran.{IsListedRunOf, IsRunOf};
 ghost use Rattle.study_report.specs.Tables.{column, difference, ending_of, lettered, parent_name, row_of, run_of};
 
 use crate::TableRow;
@@ -16,10 +16,10 @@ use market_types::{End, Memory, Sequence};
 use probe_desk::{Probe, restart_all, values, watch_packed};
 use std::alloc::Global;
 use trace_bundle::laws::listed_runs_are_runs;
-use trace_bundle::{Ran, stop_written};
+use trace_bundle::{RunOutcomes, closing_of_branch, stop_written};
 
 // What each probe says of the full run of a branch, which it sees in order from its opening on.
-fn columns<W: Ran>(
+fn columns<W: RunOutcomes>(
     alloc: Global,
     course: &Course,
     ran: &W,
@@ -62,7 +62,7 @@ fn left_name(course: &Course, branch: u16) -> Option<Name>
 }
 
 // Where the full run of a branch first differs from its parent's.
-fn first_difference<W: Ran>(
+fn difference_from_parent<W: RunOutcomes>(
     alloc: Global,
     course: &Course,
     ran: &W,
@@ -94,14 +94,13 @@ fn ending(letter: u8) -> End
 }
 
 // How many events the full run of a branch has, and what ended it.
-fn ended<W: Ran>(course: &Course, ran: &W, branch: u16) -> (u32, End)
+fn ended<W: RunOutcomes>(course: &Course, ran: &W, branch: u16) -> (u32, End)
     requires branch { branch < length course.now.plan.branches }
-    requires ran { IsListedRunOf course.now (W.count ran.now) (W.kept_of ran.now) (W.closing_of ran.now) }
+    requires ran { IsRunOf course.now (W.count ran.now) (W.kept_of ran.now) (W.closing_of ran.now) }
     ensures events { result.0 ≡ (run_of course.now branch).state.events }
     ensures end { result.1 ≡ ending_of (end_of course.now.opening (run_of course.now branch).state) }
 {
-    let _ = course.opening();
-    let closing = ran.closing(course.last_segment(branch));
+    let closing = closing_of_branch(course, ran, branch);
     (closing.counts.events, ending(closing.counts.end))
 }
 
@@ -109,7 +108,7 @@ fn ended<W: Ran>(course: &Course, ran: &W, branch: u16) -> (u32, End)
 ///
 /// # Errors
 /// Want of memory alone.
-pub fn row<W: Ran>(
+pub fn row<W: RunOutcomes>(
     alloc: Global,
     course: &Course,
     ran: &W,
@@ -122,10 +121,10 @@ pub fn row<W: Ran>(
     ensures meanings { map (λ p. meaning p) probes.new ≡ map (λ p. meaning p) probes.old }
     ensures titles { map (λ p. title p) probes.new ≡ map (λ p. title p) probes.old }
 {
-    let difference = first_difference(alloc, course, ran, branch)?;
+    let difference = difference_from_parent(alloc, course, ran, branch)?;
     let values = columns(alloc, course, ran, branch, probes)?;
-    let (events, end) = ended(course, ran, branch);
     listed_runs_are_runs();
+    let (events, end) = ended(course, ran, branch);
     let stop = stop_written(course, ran, branch);
     let b = &course.plan().branches()[usize::from(branch)];
     Ok(TableRow {

@@ -65,7 +65,7 @@ fn compared<'a>(
     }
 }
 
-// The same after entries in order.
+// What is left to compare after entries in order, or the number of the first record that differs.
 fn all_compared<'a>(
     entries: &[Entry],
     others: &'a [Entry],

@@ -12,7 +12,6 @@ use market_types::{End, Memory};
 use probe_desk::Probe;
 use std::alloc::Global;
 
-// Appends a field.
 fn add(line: &mut ByteRecord, field: &[u8]) -> Result<(), Memory>
     requires { partial_of line.old ≡ [] }
     ensures fields { OnOk result (fields_of line.new ≡ fields_of line.old ++ field.now ∷ []) }
@@ -22,7 +21,6 @@ fn add(line: &mut ByteRecord, field: &[u8]) -> Result<(), Memory>
     Ok(())
 }
 
-// Appends a number.
 fn add_number(line: &mut ByteRecord, alloc: Global, number: u32) -> Result<(), Memory>
     requires { partial_of line.old ≡ [] }
     ensures fields { OnOk result (fields_of line.new ≡ fields_of line.old ++ decimal number ∷ []) }
@@ -57,7 +55,6 @@ fn column_heads(alloc: Global) -> Result<ByteRecord, Memory>
     Ok(line)
 }
 
-// Appends the names of probes.
 fn add_names(line: &mut ByteRecord, probes: &[Box<dyn Probe>]) -> Result<(), Memory>
     requires { partial_of line.old ≡ [] }
     ensures { OnOk result (fields_of line.new ≡ fields_of line.old ++ map (λ p. title p) probes.now) }

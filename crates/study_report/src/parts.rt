@@ -11,10 +11,10 @@ use kernel_copy::Course;
 use market_types::Memory;
 use packed_entries::Packed;
 use std::alloc::Global;
-use trace_bundle::{Ran, trace_of_segment};
+use trace_bundle::{RunOutcomes, trace_of_segment};
 
 // The entries of the segments from the root's first to this one, each of which goes on from the one before.
-fn parts_to<'a, W: Ran>(
+fn parts_to<'a, W: RunOutcomes>(
     alloc: Global,
     course: &Course,
     ran: &'a W,
@@ -40,7 +40,7 @@ fn parts_to<'a, W: Ran>(
 }
 
 /// The entries of the segments that a branch's full run goes along, in order.
-pub fn parts_of<'a, W: Ran>(
+pub fn parts_of<'a, W: RunOutcomes>(
     alloc: Global,
     course: &Course,
     ran: &'a W,
@@ -50,7 +50,7 @@ pub fn parts_of<'a, W: Ran>(
     requires ran { IsListedRunOf course.now (W.count ran.now) (W.kept_of ran.now) (W.closing_of ran.now) }
     ensures { IfOk result (λ v. flat_map (λ t. t.now.list) v.items ≡ (run_of course.now branch).entries) }
 {
-    let _ = course.opening();
+    course.is_course();
     let last = course.last_segment(branch);
     parts_to(alloc, course, ran, last)
 }

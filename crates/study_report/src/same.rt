@@ -6,14 +6,12 @@ ghost use Rattle.study_report.specs.Same.{same_body, same_feeds, same_event};
 
 use market_types::{Body, Feed, Record};
 
-// Whether two bodies are the same.
 fn same_body(a: &Body, b: &Body) -> bool
     ensures { result ≡ same_body a.now b.now }
 {
     *a == *b
 }
 
-// Whether two feeds are the same.
 fn same_feeds(a: &[Feed], b: &[Feed]) -> bool
     ensures { result ≡ same_feeds a.now b.now }
 {

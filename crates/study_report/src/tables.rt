@@ -10,10 +10,10 @@ use kernel_copy::Course;
 use market_types::Memory;
 use probe_desk::Probe;
 use std::alloc::Global;
-use trace_bundle::Ran;
+use trace_bundle::RunOutcomes;
 
 // The rows of all branches in order.
-fn rows<W: Ran>(
+fn rows<W: RunOutcomes>(
     alloc: Global,
     course: &Course,
     ran: &W,
@@ -42,7 +42,7 @@ fn rows<W: Ran>(
 ///
 /// # Errors
 /// Want of memory alone.
-pub fn study_table<W: Ran>(
+pub fn study_table<W: RunOutcomes>(
     alloc: Global,
     course: &Course,
     ran: &W,

@@ -1,6 +1,6 @@
 //! What the definitions give on small examples.
 
-ghost use Rattle.std.specs.Prelude.{◌≡◌, ◌∷◌, [], ◌++◌, codes, pos, negsuc, None};
+ghost use Rattle.std.specs.Prelude.{◌≡◌, ◌∷◌, [], ◌++◌, codes, negsuc, None};
 ghost use Rattle.market_types.specs.declared.entry.End.TheVariants.{Quiet, EventLimit, QueueFull};
 ghost use Rattle.study_report.specs.Difference.{first_difference_of};
 ghost use Rattle.study_report.specs.Table.{table_of, end_text};

@@ -15,7 +15,6 @@ use market_types::Memory;
 use probe_desk::Probe;
 use std::alloc::Global;
 
-// Appends a line.
 fn put_line(writer: &mut Writer<Vec<u8>>, line: &ByteRecord) -> Result<(), Memory>
     requires setup { writer_setup writer.old ≡ default_writer }
     requires fields { fields_written writer.old ≡ 0 }

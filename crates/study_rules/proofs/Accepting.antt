@@ -1,5 +1,5 @@
 -- From what the rules say of a study to the study that it says.
-use Rattle.std.proofs.Common.{◌≡◌, ◌∙◌, ℕ, List, [], Option, None, Some, Ok, Err, IfOk, refl, ap}
+use Rattle.std.proofs.Common.{◌≡◌, ◌∙◌, ℕ, List, [], Option, None, Some, Ok, Err, refl, ap}
 use Rattle.std.specs.Prelude.{Result, IfErr}
 use Rattle.std.specs.Option.{option_or}
 use Rattle.std.specs.Result.{result_unwrap_or}
@@ -47,10 +47,6 @@ pub branches_refused : (t : Members) (series : Option (List ℕ)) (r : Refusal) 
 unfolding study_of
 branches_refused t series r e b =
     refused-if (first_refusal t series) (told_of t (result_unwrap_or (tables_of t series) [])) r (second-told (first_broken t series) (first_of_rules branch_rules t) r e b)
-
-pub if-ok : {A E : Type 0} (r : Result A E) (P Q : A → Type 0) → ((a : A) → P a → Q a) → IfOk r P → IfOk r Q
-if-ok (Ok a) P Q f h = f a h
-if-ok (Err e) P Q f h = h
 
 pub if-err : {A E : Type 0} (r : Result A E) (P Q : E → Type 0) → ((e : E) → P e → Q e) → IfErr r P → IfErr r Q
 if-err (Ok a) P Q f h = h

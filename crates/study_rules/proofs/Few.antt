@@ -73,9 +73,9 @@ left-of (Some n) d left rest e h =
     let room : unsigned_abs n + rest ≤ left = left-if (is_between (pos 1) (pos left) n) n left rest refl h in
     omega (arith, same, room)
 
-more-kinds : (d : Data) (ds : List Data)
+pub kinds-count : (d : Data) (ds : List Data)
     → length (kinds_of (d ∷ ds)) ≡ count_of (entry_of d) + length (kinds_of ds)
-more-kinds d ds =
+kinds-count d ds =
     length-append (replicate (count_of (entry_of d)) (string_at (codes "kind") (entry_of d))) (kinds_of ds)
     ∙ ap (λ n. n + length (kinds_of ds)) (length-replicate (count_of (entry_of d)) (string_at (codes "kind") (entry_of d)))
 
@@ -87,7 +87,7 @@ kinds-step None left place d ds e more h = absurd (cc h)
 kinds-step (Some rest) left place d ds e more h =
     let fewer : length (kinds_of ds) ≤ rest = more rest h in
     let room : count_of (entry_of d) + rest ≤ left = left-of (count_in d) d left rest refl e in
-    omega (arith, fewer, room, more-kinds d ds)
+    omega (arith, fewer, room, kinds-count d ds)
 
 kinds-from : (left place : ℕ) (ds : List Data) → first_too_many left place ds ≡ None → length (kinds_of ds) ≤ left
 kinds-from left place [] h = omega arith
@@ -99,6 +99,3 @@ kinds-if false ds h = kinds-from 511 0 ds h
 
 pub few-kinds : (t : Members) → counts_broken t ≡ None → length (kinds_of (agents t)) ≤ 511
 few-kinds t h = kinds-if (length (agents t) == 0) (agents t) h
-
-pub kinds-count : (d : Data) (ds : List Data) → length (kinds_of (d ∷ ds)) ≡ count_of (entry_of d) + length (kinds_of ds)
-kinds-count = more-kinds

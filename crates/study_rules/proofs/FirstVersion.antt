@@ -21,8 +21,9 @@ use Rattle.study_rules.specs.BranchRules.{has_times, has_branch_keys, is_branch,
 use Rattle.study_rules.specs.Scope.{Scope, scope_of}
 use Rattle.study_rules.specs.Branches.{root_branch, stop_from, branch_of, branches_of}
 use Rattle.study_rules.proofs.Beside.{not-false}
-use Rattle.study_rules.proofs.Tests.{or-false, or-true}
+use Rattle.study_rules.proofs.Tests.{or-true}
 use Rattle.study_rules.proofs.Texts.{same-bytes}
+use Rattle.branch_tree.proofs.TreeLemmas.{neither as or-false}
 
 -- a table with no key but those of a branch of version 1 has no time
 

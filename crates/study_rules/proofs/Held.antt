@@ -1,6 +1,5 @@
 -- Where no rule is broken, none of their parts is.
-use Rattle.std.proofs.Common.{◌≡◌, ◌≤◌, ◌++◌, ℕ, ℤ, pos, negsuc, List, [], ◌∷◌, Option, None, Some, refl, ap, sym, ◌∙◌, arith, true, unsigned_abs, nat_le, is_none, codes}
-use Rattle.std.specs.Prelude.{Bool}
+use Rattle.std.proofs.Common.{◌≡◌, ◌≤◌, ◌++◌, ℕ, ℤ, pos, negsuc, List, [], ◌∷◌, Option, None, Some, refl, ap, sym, ◌∙◌, arith, true, unsigned_abs, nat_le, codes}
 use Rattle.std.specs.Option.{option_or}
 use Rattle.std.proofs.lemmas.Bool.{and_parts}
 use Rattle.std.proofs.lemmas.Bool.Decides.{nat_tests}
@@ -9,10 +8,10 @@ use Rattle.study_file.specs.Values.{broken_unless, has_between, is_between, numb
 use Rattle.study_market.specs.declared.early_refusal.Refusal.{Refusal}
 use Rattle.study_market.specs.FirstBroken.{Rule, rule, first_of_rules}
 use Rattle.study_market.specs.MarketRules.{limits_broken}
-use Rattle.study_market.proofs.Squares.{none-unless}
 use Rattle.study_rules.specs.BranchRules.{branch_keys_broken, names_broken, parents_broken, stops_broken, edit_keys_broken, work_broken, events_of}
 use Rattle.study_rules.specs.EditRules.{edits_broken}
 use Rattle.study_rules.specs.FirstBroken.{branch_rules, shape_rules}
+use Rattle.study_market.proofs.Held.{held-unless}
 
 rule-held : (o : Option ℕ) (n : ℕ) (others : Option Refusal)
     → ◌≡◌ {A = Option Refusal} (elim o [ None ↦ others | Some place ↦ Some (record { rule = n; place = place }) ]) None
@@ -110,9 +109,6 @@ all-kept t h e f =
     later t h
     ∙ rule-kept (edits_broken t) 35 (first_of_rules (rule 36 work_broken ∷ []) t) e
     ∙ rule-kept (work_broken t) 36 None f
-
-pub held-unless : (b : Bool) (place : ℕ) → broken_unless b place ≡ None → b ≡ true
-held-unless b place h = sym (none-unless b place) ∙ ap is_none h
 
 both-none : (o p : Option ℕ) → option_or o p ≡ None → (o ≡ None) × (p ≡ None)
 both-none None p h = (refl, h)

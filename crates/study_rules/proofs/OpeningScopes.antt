@@ -98,7 +98,7 @@ word-of-item (x ∷ xs) (suc n) s h e = word-of-item xs n s (omega (arith, h)) e
 
 -- the bytes before the first space
 
-found-if : (b : Bool) (n at : ℕ) → cond b (Some n) None ≡ Some at → (b ≡ true) × (n ≡ at)
+pub found-if : (b : Bool) (n at : ℕ) → cond b (Some n) None ≡ Some at → (b ≡ true) × (n ≡ at)
 found-if true n at h = (refl, same_Some _ _ h)
 found-if false n at h = absurd (cc h)
 

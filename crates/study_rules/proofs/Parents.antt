@@ -7,15 +7,17 @@ use Rattle.std.proofs.lemmas.Bool.Decides.{nat_tests}
 use Rattle.std.proofs.lemmas.Iterator.Adapters.{position_from-zero}
 use Rattle.toml.specs.Data.{Data}
 use Rattle.branch_tree.specs.Tree.{late_from}
+use Rattle.branch_tree.specs.Names.{is_name}
 use Rattle.study_file.specs.Tables.{is_named}
 use Rattle.study_file.proofs.KeyLists.{any-map}
 use Rattle.study_rules.specs.Entries.{name_in, parent_in}
-use Rattle.study_rules.specs.BranchRules.{names_of, is_name, has_new_name, has_parent, place_named}
+use Rattle.study_rules.specs.BranchRules.{names_of, has_new_name, has_parent, place_named}
 use Rattle.study_rules.specs.Scope.{Scope}
 use Rattle.study_rules.specs.Branches.{number_named, branch_of}
 use Rattle.study_rules.proofs.Beside.{AllBeside, Each, none-if, append-one, length-one}
-use Rattle.study_rules.proofs.Tests.{if-pass, or-false, or-true, not-true}
+use Rattle.study_rules.proofs.Tests.{if-pass, or-true, not-true}
 use Rattle.study_rules.proofs.Texts.{same-bytes, other-bytes}
+use Rattle.branch_tree.proofs.TreeLemmas.{neither as or-false}
 
 -- names
 

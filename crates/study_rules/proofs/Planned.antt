@@ -16,7 +16,8 @@ use Rattle.study_rules.specs.Scope.{Scope, scope_of}
 use Rattle.study_rules.specs.Branches.{root_branch, branch_of, branches_of}
 use Rattle.study_rules.proofs.Beside.{AllBeside, all-beside}
 use Rattle.study_rules.proofs.Few.{few-branches}
-use Rattle.study_rules.proofs.Held.{AreHeld, held-unless}
+use Rattle.study_market.proofs.Held.{held-unless}
+use Rattle.study_rules.proofs.Held.{AreHeld}
 use Rattle.study_rules.proofs.StopKinds.{mixed-none}
 use Rattle.study_rules.proofs.Parents.{new-name, not-root, late-none, each-known}
 use Rattle.study_rules.proofs.StopRanges.{each-stop, out-none, root-in-range}

@@ -17,59 +17,60 @@ use Rattle.study_market.specs.Trial.{failing_from}
 use Rattle.study_rules.specs.Entries.{entry_of, branch_entries, edits_in}
 use Rattle.study_rules.specs.BranchRules.{first_edit, forms_broken}
 use Rattle.study_rules.specs.Scope.{Scope, scope_of}
-use Rattle.study_rules.specs.EditRules.{edit_in, is_edit, edits_broken}
+use Rattle.study_rules.specs.EditRules.{is_edit, edits_broken}
 use Rattle.study_rules.specs.Branches.{root_branch, branch_of, branches_of, IsHeaded}
 use Rattle.study_rules.proofs.Beside.{append-one}
 use Rattle.study_rules.proofs.Walks.{few-edits}
 
-abbrev said_by : Scope → List Data → List Edit
-said_by scope ds = filter_map (λ d. edit_in scope (entry_of d)) ds
+-- entries by what a function says of their tables
 
--- an entry is an edit where it says one
+said-if : {X : Type 0} (f : Members → Option X) (o : Option Members) → f no_members ≡ None
+    → passes (λ m. is_some (f m)) o ≡ is_some (f (unwrap_or o no_members))
+said-if f None empty = sym (ap is_some empty)
+said-if f (Some m) empty = refl
 
-said-if : (scope : Scope) (o : Option Members) → passes (is_edit scope) o ≡ is_some (edit_in scope (unwrap_or o no_members))
-said-if scope None = refl
-said-if scope (Some m) = refl
+here : {X : Type 0} (f : Members → Option X) (place : ℕ) (vs : List Value) (v : Value) (rest : List Value) (o : Option X) → f no_members ≡ None
+    → vs ≡ v ∷ rest → o ≡ f (entry_of (view v))
+    → failing_from (λ m. is_some (f m)) place (map view vs)
+    ≡ cond (not (is_some o)) (Some place) (failing_from (λ m. is_some (f m)) (place + 1) (map view rest))
+here f place vs v rest o empty same is =
+    ap (λ xs. failing_from (λ m. is_some (f m)) place (map view xs)) same
+    ∙ ap (λ (b : Bool). cond (not b) (Some place) (failing_from (λ m. is_some (f m)) (place + 1) (map view rest)))
+    (said-if f (as_table (view v)) empty ∙ ap is_some (sym is))
 
-here : (scope : Scope) (place : ℕ) (vs : List Value) (v : Value) (rest : List Value) (o : Option Edit) → vs ≡ v ∷ rest → o ≡ edit_in scope (entry_of (view v))
-    → failing_from (is_edit scope) place (map view vs)
-    ≡ cond (not (is_some o)) (Some place) (failing_from (is_edit scope) (place + 1) (map view rest))
-here scope place vs v rest o same is =
-    ap (λ xs. failing_from (is_edit scope) place (map view xs)) same
-    ∙ ap (λ (b : Bool). cond (not b) (Some place) (failing_from (is_edit scope) (place + 1) (map view rest)))
-    (said-if scope (as_table (view v)) ∙ ap is_some (sym is))
+-- the first entry says nothing
+pub entry-broken : {X : Type 0} (f : Members → Option X) (place : ℕ) (vs : List Value) (v : Value) (rest : List Value) → f no_members ≡ None
+    → vs ≡ v ∷ rest → None ≡ f (entry_of (view v)) → Some place ≡ failing_from (λ m. is_some (f m)) place (map view vs)
+entry-broken f place vs v rest empty same is = sym (here f place vs v rest None empty same is)
 
-pub edit-broken : (scope : Scope) (place : ℕ) (vs : List Value) (v : Value) (rest : List Value) → vs ≡ v ∷ rest → None ≡ edit_in scope (entry_of (view v))
-    → Some place ≡ failing_from (is_edit scope) place (map view vs)
-edit-broken scope place vs v rest same is = sym (here scope place vs v rest None same is)
+-- it says something
+pub entry-kept : {E X : Type 0} (f : Members → Option X) (place : ℕ) (vs : List Value) (v : Value) (rest : List Value) (x : X) (r : Result (Option ℕ) E)
+    → f no_members ≡ None → vs ≡ v ∷ rest → Some x ≡ f (entry_of (view v))
+    → IfOk r (λ found. found ≡ failing_from (λ m. is_some (f m)) (place + 1) (map view rest))
+    → IfOk r (λ found. found ≡ failing_from (λ m. is_some (f m)) place (map view vs))
+entry-kept f place vs v rest x (Ok found) empty same is more = more ∙ sym (here f place vs v rest (Some x) empty same is)
+entry-kept f place vs v rest x (Err e) empty same is more = tt
 
-pub edit-kept : {E : Type 0} (scope : Scope) (place : ℕ) (vs : List Value) (v : Value) (rest : List Value) (e : Edit) (r : Result (Option ℕ) E)
-    → vs ≡ v ∷ rest → Some e ≡ edit_in scope (entry_of (view v))
-    → IfOk r (λ found. found ≡ failing_from (is_edit scope) (place + 1) (map view rest))
-    → IfOk r (λ found. found ≡ failing_from (is_edit scope) place (map view vs))
-edit-kept scope place vs v rest e (Ok found) same is more = more ∙ sym (here scope place vs v rest (Some e) same is)
-edit-kept scope place vs v rest e (Err x) same is more = tt
+entries-here : {X : Type 0} (f : Members → Option X) (vs : List Value) (v : Value) (rest : List Value) (x : X) → vs ≡ v ∷ rest → Some x ≡ f (entry_of (view v))
+    → x ∷ filter_map (λ d. f (entry_of d)) (map view rest) ≡ filter_map (λ d. f (entry_of d)) (map view vs)
+entries-here f vs v rest x same is =
+    ap (λ o. cons_option o (filter_map (λ d. f (entry_of d)) (map view rest))) is
+    ∙ sym (ap (λ us. filter_map (λ d. f (entry_of d)) (map view us)) same)
 
-edits-here : (scope : Scope) (vs : List Value) (v : Value) (rest : List Value) (e : Edit) → vs ≡ v ∷ rest → Some e ≡ edit_in scope (entry_of (view v))
-    → e ∷ said_by scope (map view rest) ≡ said_by scope (map view vs)
-edits-here scope vs v rest e same is =
-    ap (λ (o : Option Edit). cons_option o (said_by scope (map view rest))) is
-    ∙ sym (ap (λ xs. said_by scope (map view xs)) same)
-
-pub edits-said : {E : Type 0} (scope : Scope) (vs : List Value) (v : Value) (rest : List Value) (e : Edit) (old mid new : List Edit) (r : Result (Option ℕ) E)
-    → vs ≡ v ∷ rest → Some e ≡ edit_in scope (entry_of (view v)) → mid ≡ old ++ e ∷ []
-    → IfOk r (λ found. found ≡ None → new ≡ mid ++ filter_map (λ d. edit_in scope (entry_of d)) (map view rest))
-    → IfOk r (λ found. found ≡ None → new ≡ old ++ filter_map (λ d. edit_in scope (entry_of d)) (map view vs))
-edits-said scope vs v rest e old mid new (Ok found) same is grown more =
+pub entries-said : {E X : Type 0} (f : Members → Option X) (vs : List Value) (v : Value) (rest : List Value) (x : X) (old mid new : List X) (r : Result (Option ℕ) E)
+    → vs ≡ v ∷ rest → Some x ≡ f (entry_of (view v)) → mid ≡ old ++ x ∷ []
+    → IfOk r (λ found. found ≡ None → new ≡ mid ++ filter_map (λ d. f (entry_of d)) (map view rest))
+    → IfOk r (λ found. found ≡ None → new ≡ old ++ filter_map (λ d. f (entry_of d)) (map view vs))
+entries-said f vs v rest x old mid new (Ok found) same is grown more =
     λ none. more none
-    ∙ ap (λ es. es ++ said_by scope (map view rest)) grown
-    ∙ append-one old e (said_by scope (map view rest))
-    ∙ ap (λ es. old ++ es) (edits-here scope vs v rest e same is)
-edits-said scope vs v rest e old mid new (Err x) same is grown more = tt
+    ∙ ap (λ xs. xs ++ filter_map (λ d. f (entry_of d)) (map view rest)) grown
+    ∙ append-one old x (filter_map (λ d. f (entry_of d)) (map view rest))
+    ∙ ap (λ xs. old ++ xs) (entries-here f vs v rest x same is)
+entries-said f vs v rest x old mid new (Err e) same is grown more = tt
 
 -- a pass over all entries starts at their first
-pub from_start : (scope : Scope) (ds : List Data) → first_failing (is_edit scope) ds ≡ failing_from (is_edit scope) 0 ds
-from_start scope ds = position_from-zero (λ (d : Data). not (passes (is_edit scope) (as_table d))) ds
+pub from_start : {X : Type 0} (f : Members → Option X) (ds : List Data) → first_failing (λ m. is_some (f m)) ds ≡ failing_from (λ m. is_some (f m)) 0 ds
+from_start f ds = position_from-zero (λ (d : Data). not (passes (λ m. is_some (f m)) (as_table d))) ds
 
 -- branches
 

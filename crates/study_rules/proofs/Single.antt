@@ -4,9 +4,10 @@ use Rattle.std.specs.Prelude.{not, Result, IfOk}
 use Rattle.std.proofs.lemmas.Bool.{and_parts}
 use Rattle.std.proofs.lemmas.List.Elements.{All-nil, All-cons}
 use Rattle.toml.specs.Data.{Data, Members}
+use Rattle.branch_tree.specs.Names.{is_name}
 use Rattle.study_file.specs.Tables.{is_named}
 use Rattle.study_rules.specs.Entries.{branch_entries, name_in}
-use Rattle.study_rules.specs.BranchRules.{is_name, names_of, has_new_name, is_stop, has_stop, events_of}
+use Rattle.study_rules.specs.BranchRules.{names_of, has_new_name, is_stop, has_stop, events_of}
 use Rattle.study_rules.specs.Branches.{IsHeaded}
 use Rattle.study_rules.proofs.Beside.{AllBeside, Each, all-beside}
 use Rattle.study_rules.proofs.Held.{AreShaped}

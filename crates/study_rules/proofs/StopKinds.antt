@@ -18,7 +18,8 @@ use Rattle.study_rules.specs.Branches.{number_named, stop_from, branch_of}
 use Rattle.study_rules.proofs.Beside.{AllBeside, Each}
 use Rattle.study_rules.proofs.Parents.{name_at, IsKnown}
 use Rattle.study_rules.proofs.StopRanges.{stop-kind}
-use Rattle.study_rules.proofs.Tests.{if-fail, or-false, not-true}
+use Rattle.study_rules.proofs.Tests.{if-fail, not-true}
+use Rattle.branch_tree.proofs.TreeLemmas.{neither as or-false}
 
 -- branches of one number have one name
 

@@ -10,10 +10,6 @@ pub if-fail : {X : Type 0} (b : Bool) (x y : X) → b ≡ false → (if b then x
 if-fail true x y h = absurd (cc h)
 if-fail false x y h = refl
 
-pub or-false : (b c : Bool) → (b || c) ≡ false → (b ≡ false) × (c ≡ false)
-or-false true c h = absurd (cc h)
-or-false false c h = (refl, h)
-
 pub or-true : (b c : Bool) → (b || c) ≡ true → (b ≡ true) ⊎ (c ≡ true)
 or-true true c h = inl refl
 or-true false c h = inr h

@@ -1,19 +1,16 @@
 -- Lemmas on walks over branches and their edits.
-use Rattle.std.proofs.Common.{◌≡◌, ◌≤◌, ◌<◌, ◌+◌, ℕ, zero, suc, get_or, Bool, true, false, List, [], ◌∷◌, map, length, Option, None, Some, IfSome, refl, ap, sym, ◌∙◌, arith, nat_le, if◌then◌else◌}
-use Rattle.std.specs.Prelude.{Result, Ok, Err, IfOk, not, option_map, slice_index_or}
+use Rattle.std.proofs.Common.{◌≡◌, ◌≤◌, ◌<◌, ◌+◌, ℕ, zero, suc, get_or, Bool, true, false, List, [], ◌∷◌, map, length, Option, None, Some, refl, ap, sym, ◌∙◌, arith, nat_le, if◌then◌else◌}
+use Rattle.std.specs.Prelude.{Result, Ok, Err, IfOk, option_map, slice_index_or}
 use Rattle.std.specs.Option.{option_or}
 use Rattle.std.proofs.lemmas.Bool.Decides.{nat_tests}
-use Rattle.toml.specs.Data.{Data, as_table}
+use Rattle.toml.specs.Data.{Data}
 use Rattle.toml.specs.View.{view}
 use Rattle.toml.specs.declared.value.Value.{Value}
-use Rattle.study_file.specs.Keys.{has_form, passes}
+use Rattle.study_file.specs.Keys.{has_form}
 use Rattle.study_file.specs.Values.{first_failing}
-use Rattle.study_file.proofs.KeyLists.{position-found}
 use Rattle.study_rules.specs.Forms.{edit_form}
 use Rattle.study_rules.specs.Entries.{edits_in}
 use Rattle.study_rules.specs.BranchRules.{first_edit, forms_broken}
-use Rattle.study_rules.specs.Scope.{Scope}
-use Rattle.study_rules.specs.EditRules.{is_edit}
 
 pub edit-here : (broken : List Data → Option ℕ) (place : ℕ) (branches : List Value) (v : Value) (rest : List Value) (es : List Data) (at : ℕ)
     → branches ≡ v ∷ rest → es ≡ edits_in (view v) → Some at ≡ broken es → Some (place + at) ≡ first_edit broken place (map view branches)
@@ -59,10 +56,6 @@ many-if false n o e h = refl
 
 pub many-forms : (es : List Data) → 16 < length es → forms_broken es ≡ Some 0
 many-forms es h = many-if (nat_le (length es) 16) (length es) (first_failing (has_form edit_form) es) refl h
-
-pub below-few : (r : Option ℕ) (n most : ℕ) → n ≤ most → IfSome r (λ at. at < n) → IfSome r (λ at. at < most)
-below-few None n most le h = tt
-below-few (Some k) n most le h = omega (arith, h, le)
 
 -- what is read of the entry at a place
 pub read-here : {X : Type 0} (read : Data → X) (default : X) (vs : List Value) (i : ℕ) (v : Value) (z : X) → i < length vs → v ≡ get_or vs i v

@@ -6,6 +6,7 @@ use Rattle.toml.specs.Data.{Members}
 use Rattle.fundamental_series.specs.declared.rule.SeriesRow.{SeriesRow}
 use Rattle.branch_tree.specs.Plan.{Plan}
 use Rattle.kernel_copy.specs.Courses.{CourseTold}
+use Rattle.market_floor.specs.declared.opening.Opening.{Opening}
 use Rattle.study_market.specs.declared.early_refusal.Refusal.{Refusal}
 use Rattle.study_market.specs.FirstBroken.{first_of_rules}
 use Rattle.study_market.specs.FirstOfMarket.{first_broken, tables_of}
@@ -39,6 +40,10 @@ course_of t tables = record { opening = opening_of t tables; plan = plan_of t }
 
 abbrev pub told_of : Members → List (List SeriesRow) → StudyTold
 told_of t tables = record { course = course_of t tables; stride = stride_of t }
+
+-- what a study says whose runs start from this
+abbrev pub told_with : Members → Opening → StudyTold
+told_with t opening = record { course = record { opening = opening; plan = plan_of t }; stride = stride_of t }
 
 -- the study that a table says with the text of its series file, where it names one; or the first broken rule
 unfoldable pub study_of : Members → Option (List ℕ) → Result StudyTold Refusal

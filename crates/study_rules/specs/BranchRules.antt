@@ -2,10 +2,10 @@
 -- it holds. The place is the branch's, counted from 0 after the root; of an edit it is 16 times the branch's and the edit's.
 use Rattle.std.specs.Prelude.{ℕ, ◌+◌, ◌*◌, ◌==◌, nat_le, unsigned_abs, ℤ, pos, int_le, Bool, ◌&&◌, ◌||◌, not, true, false, List, [], ◌∷◌, Option, None, Some, option_map, if◌then◌else◌, length, map, take, position, slice_index_or, codes}
 use Rattle.std.specs.Option.{option_or}
-use Rattle.std.specs.Int.{is_in_range}
-use Rattle.std.specs.List.{list_all, list_any, enumerate_from}
+use Rattle.std.specs.List.{list_any, enumerate_from}
 use Rattle.std.specs.Str.{bytes_eq}
 use Rattle.toml.specs.Data.{Data, Members, as_table}
+use Rattle.branch_tree.specs.Names.{is_name}
 use Rattle.study_file.specs.Tables.{is_named}
 use Rattle.study_file.specs.Keys.{passes, has_keys, has_form}
 use Rattle.study_file.specs.Values.{number_at, is_between, has_between, first_failing, broken_unless}
@@ -37,17 +37,11 @@ first_no_branch times place (d ∷ ds) =
 abbrev pub branch_keys_broken : Members → Option ℕ
 branch_keys_broken t = first_no_branch (has_times t) 0 (branch_entries t)
 
--- name i has 1 to 32 bytes of a to z, 0 to 9, `_`, `-`, isn't `root` and differs from those before
-abbrev pub is_name_byte : ℕ → Bool
-is_name_byte c = is_in_range 97 122 c || is_in_range 48 57 c || c == 95 || c == 45
-
-abbrev pub is_name : List ℕ → Bool
-is_name text = is_in_range 1 32 (length text) && list_all is_name_byte text
-
 -- the names of the root and of these branches
 abbrev pub names_of : List Data → List (List ℕ)
 names_of ds = codes "root" ∷ map name_in ds
 
+-- name i has 1 to 32 bytes of a to z, 0 to 9, `_`, `-`, isn't `root` and differs from those before
 abbrev pub has_new_name : List Data → Data → Bool
 has_new_name before d = is_name (name_in d) && not (is_named (names_of before) (name_in d))
 

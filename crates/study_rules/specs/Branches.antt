@@ -6,8 +6,9 @@ use Rattle.branch_tree.specs.declared.branch.Branch.{Branch}
 use Rattle.branch_tree.specs.declared.stop.Stop.{Stop}
 use Rattle.branch_tree.specs.declared.stop.Stop.TheVariants.{At, When}
 use Rattle.study_rules.specs.Entries.{entry_of, branch_entries, name_in, parent_in, is_timed, stop_in, edits_in}
+use Rattle.branch_tree.specs.Names.{is_name}
 use Rattle.study_file.specs.Values.{is_between}
-use Rattle.study_rules.specs.BranchRules.{place_named, is_name}
+use Rattle.study_rules.specs.BranchRules.{place_named}
 use Rattle.study_rules.specs.Scope.{Scope, scope_of}
 use Rattle.study_rules.specs.EditRules.{edit_in}
 

@@ -5,20 +5,21 @@ ghost use Rattle.toml.specs.View.{table_view};
 ghost use Rattle.study_market.specs.declared.early_refusal.Refusal.{Refusal};
 ghost use Rattle.study_market.specs.FirstBroken.{first_of_rules};
 ghost use Rattle.study_rules.specs.FirstBroken.{branch_rules};
-ghost use Rattle.study_market.specs.Opening.{IsAccepted};
+ghost use Rattle.study_market.specs.Judged.{IsOpened};
 ghost use Rattle.branch_tree.specs.Tree.{IsRooted, plan_refusal};
 ghost use Rattle.study_rules.specs.Branches.{branches_of};
-ghost use Rattle.study_rules.specs.Accepted.{course_of, told_of, study_of, study_told};
+ghost use Rattle.study_rules.specs.Accepted.{plan_of, told_with, study_of, study_told};
 
 use crate::branches;
 use crate::study::{AcceptError, Study};
 use branch_tree::{Branch, BranchPlan, PlanError, plan};
 use kernel_copy::Course;
+use market_floor::Opening;
 use market_types::Memory;
 use std::alloc::Global;
 use std::sync::Arc;
 use study_file::{RawStudy, Table};
-use study_market::{Judged, Refusal, SeriesTables, group_number, judge, opening, stride};
+use study_market::{ReadError, Refusal, group_number, read_opening, stride};
 
 // The tree of branches that make one.
 fn branch_plan(alloc: Global, branches: Vec<Branch>, limit: u32) -> Result<BranchPlan, Memory>
@@ -37,15 +38,14 @@ fn branch_plan(alloc: Global, branches: Vec<Branch>, limit: u32) -> Result<Branc
 fn accepted_course(
     alloc: Global,
     table: &Table,
-    rows: &SeriesTables,
+    opening: Opening,
     branches: Vec<Branch>,
 ) -> Result<Course, Memory>
-    requires accepted { IsAccepted (table_view table.now) rows.now }
+    requires accepted { IsOpened (table_view table.now) opening }
     requires branches { first_of_rules branch_rules (table_view table.now) ≡ None }
     requires said { branches.items ≡ branches_of (table_view table.now) }
-    ensures { IfOk result (λ c. c ≡ course_of (table_view table.now) rows.now) }
+    ensures { IfOk result (λ c. c ≡ record { opening = opening; plan = plan_of (table_view table.now) }) }
 {
-    let opening = opening(alloc, table, rows)?;
     let plan = branch_plan(alloc, branches, opening.limit)?;
     Ok(Course::new(opening, plan))
 }
@@ -54,15 +54,15 @@ fn accepted_course(
 fn accepted_study(
     alloc: Global,
     table: &Table,
-    rows: &SeriesTables,
+    opening: Opening,
     branches: Vec<Branch>,
 ) -> Result<Study, Memory>
-    requires accepted { IsAccepted (table_view table.now) rows.now }
+    requires accepted { IsOpened (table_view table.now) opening }
     requires branches { first_of_rules branch_rules (table_view table.now) ≡ None }
     requires said { branches.items ≡ branches_of (table_view table.now) }
-    ensures { IfOk result (λ s. study_told s ≡ told_of (table_view table.now) rows.now) }
+    ensures { IfOk result (λ s. study_told s ≡ told_with (table_view table.now) opening) }
 {
-    let course = accepted_course(alloc, table, rows, branches)?;
+    let course = accepted_course(alloc, table, opening, branches)?;
     match Arc::new(alloc, course) {
         Ok(course) => Ok(Study {
             course,
@@ -74,13 +74,13 @@ fn accepted_study(
 }
 
 // What the rules of branches say of a study that breaks none of those before them, or the study.
-fn accept_branches(alloc: Global, table: &Table, rows: &SeriesTables) -> Result<Study, AcceptError>
-    requires { IsAccepted (table_view table.now) rows.now }
-    ensures accepted { IfOk result (λ s. (first_of_rules branch_rules (table_view table.now) ≡ None) × (study_told s ≡ told_of (table_view table.now) rows.now)) }
+fn accept_branches(alloc: Global, table: &Table, opening: Opening) -> Result<Study, AcceptError>
+    requires { IsOpened (table_view table.now) opening }
+    ensures accepted { IfOk result (λ s. (first_of_rules branch_rules (table_view table.now) ≡ None) × (study_told s ≡ told_with (table_view table.now) opening)) }
     ensures refused { IfErr result (λ e. (r : Refusal) → e ≡ AcceptError.Refused r → first_of_rules branch_rules (table_view table.now) ≡ Some r) }
 {
     let branches = branches(alloc, table)?;
-    match accepted_study(alloc, table, rows, branches) {
+    match accepted_study(alloc, table, opening, branches) {
         Ok(study) => Ok(study),
         Err(Memory) => Err(AcceptError::Memory),
     }
@@ -94,9 +94,9 @@ pub fn accept(alloc: Global, raw: &RawStudy, series: Option<&[u8]>) -> Result<St
     ensures accepted { IfOk result (λ s. study_of (table_view raw.now.table) (option_map (λ text. text.now) series.entry) ≡ Ok (study_told s)) }
     ensures refused { IfErr result (λ e. (r : Refusal) → e ≡ AcceptError.Refused r → study_of (table_view raw.now.table) (option_map (λ text. text.now) series.entry) ≡ Err r) }
 {
-    match judge(alloc, &raw.table, series) {
-        Ok(Judged::Accepted(rows)) => accept_branches(alloc, &raw.table, &rows),
-        Ok(Judged::Refused(refusal)) => Err(AcceptError::Refused(refusal)),
-        Err(Memory) => Err(AcceptError::Memory),
+    match read_opening(alloc, &raw.table, series) {
+        Ok(opening) => accept_branches(alloc, &raw.table, opening),
+        Err(ReadError::Refused(refusal)) => Err(AcceptError::Refused(refusal)),
+        Err(ReadError::Memory) => Err(AcceptError::Memory),
     }
 }

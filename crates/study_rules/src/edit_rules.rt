@@ -1,30 +1,17 @@
 //! Edits as a study's entries say them, and the rule that each is one.
 
-ghost use Rattle.std.specs.Prelude.{◌≡◌, ◌≤◌, true, map, option_map, pos, IfOk, IfSome};
-ghost use Rattle.std.specs.List.{list_any};
-ghost use Rattle.std.specs.Str.{bytes_eq};
-ghost use Rattle.toml.specs.View.{table_view, view};
-ghost use Rattle.study_file.specs.Tables.{is_named};
-ghost use Rattle.study_file.specs.Values.{number_at as number_of, is_between as between};
-ghost use Rattle.study_market.specs.StockRules.{band_in, are_bands, is_fee};
-ghost use Rattle.study_market.specs.ChangeRules.{is_kind as kind_of};
+ghost use Rattle.std.specs.Prelude.{◌≡◌, ◌≤◌, true, option_map, IfOk, IfSome};
+ghost use Rattle.toml.specs.View.{table_view};
 ghost use Rattle.study_rules.specs.EditRules.{natural_in as natural_of, stock_in as stock_of, trader_in as trader_of, group_in as group_of, tick_in as tick_of, fee_in as fee_of, latency_in as latency_of, common_param as common_of, order_param as ordering_of, maker_param as making_of, param_named as param_of, has_param as param_belongs, is_param_value as param_value, agent_in as agent_of, silence_in as silence_of, order_in as order_of, message_in as message_of, inject_in as inject_of, series_in as series_of, edit_in as edit_of};
 
 use crate::scope::Scope;
 use hex::FromHexError;
-use market_rules::{Edit, FeeTable, Param, RuleError, TickTable};
+use market_rules::{Edit, Param};
 use market_types::{AgentNo, Inbound, Memory, StockNo};
 use ouch_codec::decode_in;
 use std::alloc::Global;
-use study_file::{Table, Value, has_between, is_at_most, list_at, number_at, string_at};
-use study_market::{has_bands, has_fees, read_bands};
-
-// Whether a number is from the low to the high one.
-fn is_within(low: u64, high: u64, number: i64) -> bool
-    ensures { result ≡ between (pos low) (pos high) number }
-{
-    is_at_most(high, number) && low <= number as u64
-}
+use study_file::{Table, has_between, is_kind, is_within, is_word, number_at, string_at};
+use study_market::{read_fees, read_ticks};
 
 // The number at a key, where it is from a low to a high one.
 fn natural_in(edit: &Table, key: &str, low: u64, high: u64) -> Option<u64>
@@ -69,55 +56,24 @@ fn group_in(groups: u32, edit: &Table, key: &str) -> Option<u8>
     }
 }
 
-// The tick table that bands are.
-fn read_table(alloc: Global, bands: &[Value]) -> Result<TickTable, Memory>
-    requires { are_bands (map view bands.now) ≡ true }
-    ensures { IfOk result (λ table. table ≡ map band_in (map view bands.now)) }
-{
-    let bands = read_bands(alloc, bands)?;
-    match TickTable::new(alloc, bands.as_slice()) {
-        Ok(table) => Ok(table),
-        Err(RuleError::Memory) => Err(Memory),
-        Err(_) => unreachable!(),
-    }
-}
-
 fn tick_in(alloc: Global, scope: &Scope<'_>, edit: &Table) -> Result<Option<Edit>, Memory>
     ensures { IfOk result (λ e. e ≡ tick_of scope.now (table_view edit.now)) }
 {
     let Some(stock) = stock_in(scope, edit) else {
         return Ok(None);
     };
-    if !has_bands(alloc, edit)? {
-        return Ok(None);
+    match read_ticks(alloc, edit)? {
+        Some(table) => Ok(Some(Edit::Tick { stock, table })),
+        None => Ok(None),
     }
-    let table = read_table(alloc, list_at(edit, "bands"))?;
-    Ok(Some(Edit::Tick { stock, table }))
-}
-
-// A fee of an edit, in its range.
-fn fee_at(edit: &Table, key: &str) -> i32
-    requires { is_fee (number_of key.now (table_view edit.now)) ≡ true }
-    ensures { result ≡ number_of key.now (table_view edit.now) }
-{
-    number_at(edit, key) as i32
 }
 
 fn fee_in(scope: &Scope<'_>, edit: &Table) -> Option<Edit>
     ensures { result ≡ fee_of scope.now (table_view edit.now) }
 {
     let stock = stock_in(scope, edit)?;
-    if has_fees(edit) {
-        Some(Edit::Fee {
-            stock,
-            fees: FeeTable {
-                add: fee_at(edit, "add"),
-                take: fee_at(edit, "take"),
-            },
-        })
-    } else {
-        None
-    }
+    let fees = read_fees(edit)?;
+    Some(Edit::Fee { stock, fees })
 }
 
 fn halt_in(scope: &Scope<'_>, edit: &Table) -> Option<Edit>
@@ -208,19 +164,6 @@ fn param_named(name: &str) -> Option<Param>
         Some(param) => Some(param),
         None => maker_param(name),
     }
-}
-
-fn is_listed(words: &[&str], word: &str) -> bool
-    ensures { result ≡ list_any (λ known. bytes_eq known.now word.now) words.now }
-{
-    words.iter().any(|known| *known == word)
-}
-
-// Whether a word is one of these.
-fn is_word(words: &[&str], word: &str) -> bool
-    ensures { result ≡ is_named (map (λ known. known.now) words.now) word.now }
-{
-    is_listed(words, word)
 }
 
 // Whether a parameter belongs to a trader's kind.
@@ -327,13 +270,6 @@ fn series_in(scope: &Scope<'_>, edit: &Table) -> Option<Edit>
     } else {
         None
     }
-}
-
-// Whether the kind of an edit is this.
-fn is_kind(edit: &Table, word: &str) -> bool
-    ensures { result ≡ kind_of word.now (table_view edit.now) }
-{
-    string_at(edit, "kind") == word
 }
 
 /// The edit that an entry says. There is none where its stock, trader or groups don't exist, a number is out of its range, a

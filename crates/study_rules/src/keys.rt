@@ -5,20 +5,13 @@ ghost use Rattle.toml.specs.View.{table_view, view};
 ghost use Rattle.study_file.specs.Keys.{has_keys as keys_in, has_form as form_in};
 ghost use Rattle.study_rules.specs.Forms.{branch_keys, edit_form};
 ghost use Rattle.study_rules.specs.Entries.{branch_entries as entries_of};
-ghost use Rattle.study_rules.specs.BranchRules.{has_times as times_in, most_branches as most_of, has_branch_keys as branch_keys_in, is_branch as branch_in, first_no_branch as no_branch_from, branch_keys_broken as rule_30, edit_keys_broken as rule_34, forms_broken as forms_of, first_edit};
+ghost use Rattle.study_rules.specs.BranchRules.{most_branches as most_of, has_branch_keys as branch_keys_in, is_branch as branch_in, first_no_branch as no_branch_from, branch_keys_broken as rule_30, edit_keys_broken as rule_34, forms_broken as forms_of, first_edit};
 
 use crate::entries::{branch_edits, branch_entries};
 use study_file::{
-    EntryRule, Kind, Table, Value, first_failing, has_between, has_form, has_keys, needed, own,
-    spare,
+    EntryRule, Kind, Table, Value, first_failing, has_form, has_keys, is_second_version, needed,
+    own, spare,
 };
-
-// Whether a study is of version 2, in which branches may leave their parents at times.
-fn has_times(table: &Table) -> bool
-    ensures { result ≡ times_in (table_view table.now) }
-{
-    has_between(table, "version", 2, 2)
-}
 
 // Whether a branch whose stop stands at this key has its keys with their types and no other.
 fn has_keys_with(branch: &Table, stop: &str) -> bool
@@ -83,7 +76,7 @@ fn first_no_branch(times: bool, place: u32, values: &[Value]) -> Option<u32>
 pub fn branch_keys_broken(table: &Table) -> Option<u32>
     ensures { result ≡ rule_30 (table_view table.now) }
 {
-    first_no_branch(has_times(table), 0, branch_entries(table))
+    first_no_branch(is_second_version(table), 0, branch_entries(table))
 }
 
 /// The entries of the branches, of which there are at most 255.
@@ -155,7 +148,7 @@ pub fn forms_broken(edits: &[Value]) -> Option<u32>
     }
 }
 
-// The same over branches, the edits of the first of which stand from a place on.
+// The first edit of these branches that hasn't its keys, where the edits of the first branch stand from a place on.
 fn first_form_broken(place: u32, branches: &[Value]) -> Option<u32>
     requires room { place + 16 * length branches.now ≤ 4096 }
     ensures { result ≡ first_edit forms_of place (map view branches.now) }

@@ -2,6 +2,7 @@
 #![tactic(auto)]
 
 mod acceptance;
+mod beside_rule;
 mod edit_list;
 mod edit_rules;
 mod entries;
@@ -18,6 +19,5 @@ pub mod worked;
 pub use acceptance::accept;
 pub use edit_list::read_edit_list;
 pub use made::branches;
-pub use names::is_name;
 pub use study::{AcceptError, Study};
 pub use study_market::Refusal;

@@ -4,6 +4,7 @@ ghost use Rattle.std.specs.Prelude.{◌≡◌, ◌≤◌, ◌<◌, ◌+◌, ◌*
 ghost use Rattle.std.specs.List.{filter_map};
 ghost use Rattle.toml.specs.View.{table_view, view};
 ghost use Rattle.branch_tree.specs.declared.branch.Branch.{Branch};
+ghost use Rattle.branch_tree.specs.Names.{is_name as name_text};
 ghost use Rattle.branch_tree.specs.Tree.{IsRooted, plan_refusal};
 ghost use Rattle.agent_shell.specs.declared.setting.Kind.{Kind};
 ghost use Rattle.study_file.specs.Values.{is_between, first_failing};
@@ -14,7 +15,7 @@ ghost use Rattle.study_market.specs.FirstBroken.{first_of_rules};
 ghost use Rattle.study_market.specs.Trial.{failing_from};
 ghost use Rattle.study_market.specs.AgentRules.{agents, counts_broken as rule_25};
 ghost use Rattle.study_rules.specs.Entries.{entry_of, name_in, is_timed as timed_in, stop_in, edits_in};
-ghost use Rattle.study_rules.specs.BranchRules.{is_name as name_text, events_of, first_edit, forms_broken as forms_of};
+ghost use Rattle.study_rules.specs.BranchRules.{events_of, first_edit, forms_broken as forms_of};
 ghost use Rattle.study_rules.specs.EditRules.{edit_in as edit_of, is_edit, edits_broken as rule_35};
 ghost use Rattle.study_rules.specs.FirstBroken.{branch_rules, shape_rules};
 ghost use Rattle.study_rules.specs.Branches.{root_branch, number_named as number_of, stop_of, branch_of, branches_of, IsHeaded};
@@ -25,7 +26,7 @@ use crate::edit_rules::edit_in;
 use crate::entries::{branch_edits, branch_name, branch_stop, is_timed, parent_name};
 use crate::keys::few_branches;
 use crate::names::place_named;
-use crate::refusal::shape_refusal;
+use crate::refusal::hold_shape;
 use crate::scope::{Scope, study_scope};
 use crate::stops::work_broken;
 use crate::study::AcceptError;
@@ -228,7 +229,7 @@ fn judged_branches(alloc: Global, table: &Table) -> Result<Vec<Branch>, AcceptEr
     ensures value { IfOk result (λ list. list.items ≡ branches_of (table_view table.now)) }
     ensures refused { IfErr result (λ e. (r : Refusal) → e ≡ AcceptError.Refused r → first_of_rules branch_rules (table_view table.now) ≡ Some r) }
 {
-    if let Some(refusal) = shape_refusal(table) {
+    if let Err(refusal) = hold_shape(table) {
         return Err(AcceptError::Refused(refusal));
     }
     match read_branches(alloc, table) {

@@ -1,6 +1,6 @@
 //! Which rule of its branches a study breaks first, as far as the keys of their edits.
 
-ghost use Rattle.std.specs.Prelude.{◌≡◌};
+ghost use Rattle.std.specs.Prelude.{◌≡◌, None, Some, OnOk, IfErr};
 ghost use Rattle.toml.specs.View.{table_view};
 ghost use Rattle.study_market.specs.FirstBroken.{first_of_rules};
 ghost use Rattle.study_rules.specs.FirstBroken.{shape_rules};
@@ -11,24 +11,28 @@ use crate::stops::stops_broken;
 use study_file::Table;
 use study_market::Refusal;
 
-/// The first broken one of the rules of the branches before that of what their edits say.
-pub fn shape_refusal(table: &Table) -> Option<Refusal>
-    ensures { result ≡ first_of_rules shape_rules (table_view table.now) }
+// The rule of this number, where it is broken at a place.
+fn hold(rule: u32, broken: Option<u32>) -> Result<(), Refusal>
+    ensures held { OnOk result (broken ≡ None) }
+    ensures refused { IfErr result (λ r. (r ≡ record { rule = rule; place = r.place }) × (broken ≡ Some r.place)) }
 {
-    if let Some(place) = branch_keys_broken(table) {
-        return Some(Refusal { rule: 30, place });
+    match broken {
+        Some(place) => Err(Refusal { rule, place }),
+        None => Ok(()),
     }
-    if let Some(place) = names_broken(table) {
-        return Some(Refusal { rule: 31, place });
-    }
-    if let Some(place) = parents_broken(table) {
-        return Some(Refusal { rule: 32, place });
-    }
-    if let Some(place) = stops_broken(table) {
-        return Some(Refusal { rule: 33, place });
-    }
-    match edit_keys_broken(table) {
-        Some(place) => Some(Refusal { rule: 34, place }),
-        None => None,
-    }
+}
+
+/// Whether the rules of the branches hold before that of what their edits say.
+///
+/// # Errors
+/// The first broken one of them.
+pub fn hold_shape(table: &Table) -> Result<(), Refusal>
+    ensures held { OnOk result (first_of_rules shape_rules (table_view table.now) ≡ None) }
+    ensures refused { IfErr result (λ r. first_of_rules shape_rules (table_view table.now) ≡ Some r) }
+{
+    hold(30, branch_keys_broken(table))?;
+    hold(31, names_broken(table))?;
+    hold(32, parents_broken(table))?;
+    hold(33, stops_broken(table))?;
+    hold(34, edit_keys_broken(table))
 }

@@ -7,7 +7,7 @@ ghost use Rattle.toml.specs.View.{table_view, view};
 ghost use Rattle.study_file.specs.Values.{string_at as text_of};
 ghost use Rattle.study_market.specs.MarketRules.{squares_broken as rule_7};
 ghost use Rattle.study_market.specs.StockRules.{symbol_in, stock_count_broken as rule_10};
-ghost use Rattle.study_market.specs.AgentRules.{agents as agents_of, count_of, counts_broken as rule_25};
+ghost use Rattle.study_market.specs.AgentRules.{count_of, counts_broken as rule_25};
 ghost use Rattle.study_rules.specs.Entries.{entry_of};
 ghost use Rattle.study_rules.specs.Fitting.{word_of};
 ghost use Rattle.study_rules.specs.Scope.{kinds_of, kinds_in, written_symbol, scope_of, scope_of_opening};
@@ -59,13 +59,6 @@ impl<'a> Model for Scope<'a> {
     ghost invariant = { λ s. IsSmall (record { stocks = symbols_among s.stocks; kinds = kinds_among s.traders; groups = s.groups }) };
 }
 
-// The entries of the agents.
-fn agents(table: &Table) -> &[Value]
-    ensures { map view result.now ≡ agents_of (table_view table.now) }
-{
-    list_at(table, "agent")
-}
-
 /// What a study's edits may speak of.
 pub fn study_scope(table: &Table) -> Scope<'_>
     requires square { rule_7 (table_view table.now) ≡ None }
@@ -75,7 +68,7 @@ pub fn study_scope(table: &Table) -> Scope<'_>
 {
     Scope {
         stocks: Stocks::Entries(few_stocks(table)),
-        traders: Traders::Agents(agents(table)),
+        traders: Traders::Agents(list_at(table, "agent")),
         groups: group_number(table),
     }
 }
@@ -163,21 +156,14 @@ fn word_at(settings: &[TraderSetting], number: u64) -> &'static str
     }
 }
 
-// The place of the stock of a symbol.
-fn place_of(stocks: &[Value], symbol: &str) -> Option<usize>
-    ensures { result ≡ position (λ v. bytes_eq (symbol_in (view v)) symbol.now) stocks.now }
-{
-    stocks
-        .iter()
-        .position(|stock| stock_symbol(stock) == symbol)
-}
-
-// The same, which is a place of the list.
+// The place of the stock of a symbol, by the entries of the stocks.
 fn stock_place(stocks: &[Value], symbol: &str) -> Option<usize>
     ensures place { result ≡ position (λ name. bytes_eq name symbol.now) (map symbol_in (map view stocks.now)) }
     ensures within { IfSome result (λ at. at < length (map symbol_in (map view stocks.now))) }
 {
-    place_of(stocks, symbol)
+    stocks
+        .iter()
+        .position(|stock| stock_symbol(stock) == symbol)
 }
 
 // The place of the first space.
@@ -205,18 +191,11 @@ fn is_called(stock: &StockRules, symbol: &str) -> bool
 }
 
 // The place of the stock of a symbol, by the rules that stocks open with.
-fn place_called(stocks: &[StockRules], symbol: &str) -> Option<usize>
-    ensures { result ≡ position (λ r. bytes_eq (written_symbol r) symbol.now) stocks.now }
-{
-    stocks.iter().position(|stock| is_called(stock, symbol))
-}
-
-// The same, which is a place of the list.
 fn rules_place(stocks: &[StockRules], symbol: &str) -> Option<usize>
     ensures place { result ≡ position (λ name. bytes_eq name symbol.now) (map written_symbol stocks.now) }
     ensures within { IfSome result (λ at. at < length (map written_symbol stocks.now)) }
 {
-    place_called(stocks, symbol)
+    stocks.iter().position(|stock| is_called(stock, symbol))
 }
 
 // The place of the stock of a symbol, wherever the stocks stand.

@@ -1,11 +1,10 @@
 //! The rules of where branches leave their parents, and of how many events all have.
 
-ghost use Rattle.std.specs.Prelude.{◌≡◌, ◌≤◌, ◌<◌, ℕ, not, false, map, take, length, pos, position, slice_index_or, None, IfSome};
-ghost use Rattle.std.specs.List.{list_any, enumerate_from};
+ghost use Rattle.std.specs.Prelude.{◌≡◌, map, take, None};
 ghost use Rattle.toml.specs.View.{table_view, view};
-ghost use Rattle.study_rules.specs.Entries.{is_timed as timed_in, stop_in};
-ghost use Rattle.study_rules.specs.BranchRules.{events_of, is_stop as stop_of, timed_named as named_timed, stop_named as named_stop, is_alike as alike, is_from_parent as from_parent, is_unlike as unlike, has_kind as kind_among, has_stop as stop_among, first_failing_beside as failing_beside, branch_keys_broken as rule_30, stops_broken as rule_33, work_broken as rule_36};
+ghost use Rattle.study_rules.specs.BranchRules.{events_of, is_stop as stop_of, timed_named as named_timed, stop_named as named_stop, is_alike as alike, is_from_parent as from_parent, is_unlike as unlike, has_kind as kind_among, branch_keys_broken as rule_30, stops_broken as rule_33, work_broken as rule_36};
 
+use crate::beside_rule::{BesideRule, first_beside};
 use crate::entries::{branch_stop, is_timed, parent_name};
 use crate::keys::few_branches;
 use crate::names::place_named;
@@ -30,28 +29,12 @@ fn is_stop(table: &Table, branch: &Value) -> bool
     }
 }
 
-// Whether the branch at a place leaves its parent at a time.
-fn timed_at(branches: &[Value], at: usize) -> bool
-    requires { at < length branches.now }
-    ensures { result ≡ slice_index_or (map timed_in (map view branches.now)) at false }
-{
-    is_timed(&branches[at])
-}
-
-// The time or the event number at which the branch at a place leaves its parent.
-fn stop_at(branches: &[Value], at: usize) -> i64
-    requires { at < length branches.now }
-    ensures { result ≡ slice_index_or (map stop_in (map view branches.now)) at (pos 0) }
-{
-    branch_stop(&branches[at])
-}
-
 // Whether the branch of a name leaves its parent at a time; the root doesn't.
 fn timed_named(branches: &[Value], name: &str) -> bool
     ensures { result ≡ named_timed (map view branches.now) name.now }
 {
     match place_named(branches, name) {
-        Some(at) => timed_at(branches, at),
+        Some(at) => is_timed(&branches[at]),
         None => false,
     }
 }
@@ -61,7 +44,7 @@ fn stop_named(branches: &[Value], name: &str) -> i64
     ensures { result ≡ named_stop (map view branches.now) name.now }
 {
     match place_named(branches, name) {
-        Some(at) => stop_at(branches, at),
+        Some(at) => branch_stop(&branches[at]),
         None => 0,
     }
 }
@@ -89,57 +72,35 @@ fn is_unlike(branch: &Value, other: &Value) -> bool
     parent_name(other) == parent_name(branch) && !is_alike(is_timed(other), is_timed(branch))
 }
 
-// Whether one of the first so many branches leaves the parent of a branch at a stop of another kind.
-fn is_mixed(branches: &[Value], count: usize, branch: &Value) -> bool
-    ensures { result ≡ list_any (λ v. unlike (view branch.now) (view v)) (take count branches.now) }
+// Whether none of the first so many branches leaves the parent of a branch at a stop of another kind.
+fn has_kind(branches: &[Value], count: usize, branch: &Value) -> bool
+    ensures { result ≡ kind_among (map view (take count branches.now)) (view branch.now) }
 {
-    branches
+    !branches
         .iter()
         .take(count)
         .any(|other| is_unlike(branch, other))
 }
 
-// Whether none of the first so many branches does.
-fn has_kind(branches: &[Value], count: usize, branch: &Value) -> bool
-    ensures { result ≡ kind_among (map view (take count branches.now)) (view branch.now) }
-{
-    !is_mixed(branches, count, branch)
+// A branch has a stop that a run can have, no lower than the parent's of the same kind, and of the kind of those of the branches
+// before it that have its parent.
+#[derive(Clone, Copy)]
+struct HasStop<'a> {
+    table: &'a Table,
+    branches: &'a [Value],
 }
 
-// Whether a branch has a stop that a run can have, no lower than the parent's of the same kind, and of the kind of those of
-// the first so many branches that have its parent.
-fn has_stop(table: &Table, branches: &[Value], count: usize, branch: &Value) -> bool
-    ensures { result ≡ stop_among (table_view table.now) (map view branches.now) (map view (take count branches.now)) (view branch.now) }
-{
-    is_stop(table, branch) && is_from_parent(branches, branch) && has_kind(branches, count, branch)
-}
+impl<'a> BesideRule for HasStop<'a> {
+    ghost use Rattle.std.specs.Prelude.{map};
+    ghost use Rattle.toml.specs.View.{table_view, view};
+    ghost use Rattle.study_rules.specs.BranchRules.{has_stop};
 
-// The place of the first branch that hasn't, beside those before it.
-fn place_of_stop(table: &Table, branches: &[Value]) -> Option<usize>
-    ensures { result ≡ position (λ (p : ℕ × _). not (stop_among (table_view table.now) (map view branches.now) (map view (take p.0 branches.now)) (view p.1))) (enumerate_from 0 branches.now) }
-{
-    branches
-        .iter()
-        .enumerate()
-        .position(|(at, branch)| !has_stop(table, branches, at, branch))
-}
+    ghost kept_by = { λ rule. has_stop (table_view rule.table.now) (map view rule.branches.now) };
 
-// The same, which is a place of the list.
-fn stop_place(table: &Table, branches: &[Value]) -> Option<usize>
-    ensures place { result ≡ failing_beside (stop_among (table_view table.now) (map view branches.now)) (map view branches.now) }
-    ensures within { IfSome result (λ at. at < length branches.now) }
-{
-    place_of_stop(table, branches)
-}
-
-// The first of at most 255 branches that hasn't.
-fn first_bad_stop(table: &Table, branches: &[Value]) -> Option<u32>
-    requires { length branches.now ≤ 255 }
-    ensures { result ≡ failing_beside (stop_among (table_view table.now) (map view branches.now)) (map view branches.now) }
-{
-    match stop_place(table, branches) {
-        Some(at) => Some(at as u32),
-        None => None,
+    fn is_kept(&self, branches: &[Value], count: usize, branch: &Value) -> bool {
+        is_stop(self.table, branch)
+            && is_from_parent(self.branches, branch)
+            && has_kind(branches, count, branch)
     }
 }
 
@@ -150,7 +111,8 @@ pub fn stops_broken(table: &Table) -> Option<u32>
     requires { rule_30 (table_view table.now) ≡ None }
     ensures { result ≡ rule_33 (table_view table.now) }
 {
-    first_bad_stop(table, few_branches(table))
+    let branches = few_branches(table);
+    first_beside(&HasStop { table, branches }, branches)
 }
 
 /// Whether the branches with the root have more than 4,000,000 events.

@@ -5,4 +5,4 @@ mod choice;
 mod taker;
 pub mod worked;
 
-pub use taker::Taker;
+pub use taker::take;

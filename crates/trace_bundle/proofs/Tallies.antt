@@ -1,51 +1,51 @@
--- Tallies of a bundle's parts, one behind another.
-use Rattle.std.proofs.Common.{◌≡◌, ℕ, ◌+◌, ◌*◌, ◌^◌, ◌≤◌, List, ◌++◌, length, arith, length-append, Result, Ok, Err}
-use Rattle.std.specs.List.{sum}
-use Rattle.std.specs.Result.{IfOk}
-use Rattle.std.proofs.lemmas.List.Sums.{sum_by-append}
-use Rattle.plain_lists.specs.declared.memory.Memory.{Memory}
-use Rattle.bundle_frames.specs.Frames.{end_frame}
-use Rattle.kernel_copy.specs.Courses.{CourseTold}
-use Rattle.trace_bundle.specs.Bundle.{header_of, traces_of}
+-- Tallies of segments' own entries, and of a bundle.
+use Rattle.std.proofs.Common.{◌≡◌, ℕ, ◌+◌, ◌^◌, ◌≤◌, inl, inr, List, [], ◌∷◌, ◌++◌, length, get_or, sym, subst, arith}
+use Rattle.std.proofs.lemmas.Bool.{cases_lt}
+use Rattle.std.proofs.lemmas.List.{get_or_append_left, get_or_push, length_push}
+use Rattle.std.proofs.lemmas.Nat.{mul-le}
+use Rattle.branch_tree.specs.Segments.{segments_in}
+use Rattle.branch_tree.proofs.CutLemmas.{count-few}
+use Rattle.branch_tree.proofs.PartLemmas.{length-before}
+use Rattle.kernel_copy.specs.Courses.{CourseTold, IsCourse}
+use Rattle.kernel_copy.proofs.Trees.{course-few}
+use Rattle.trace_bundle.specs.Bundle.{bundle_of}
 use Rattle.trace_bundle.specs.Report.{bundle_size, byte_sum}
-use Rattle.trace_bundle.specs.Tallied.{IsTallyOf}
+use Rattle.trace_bundle.specs.Tallied.{AreOwn, AreTalliesOf, IsOwnTally, IsTallyOf, IsWith, no_tally, own_frames, parts_of_bundle}
 use Rattle.trace_bundle.specs.declared.tally.Tally.{Tally}
 
--- one part more
-pub part-more : (t u : Tally) (before bytes : List ℕ) (parts : ℕ) → u.count ≡ t.count + length bytes → u.total ≡ t.total + sum bytes
-    → length bytes ≤ 2 ^ 64 → u.total ≤ 255 * u.count → IsTallyOf t before parts → IsTallyOf u (before ++ bytes) (parts + 1)
-part-more t u before bytes parts count total short small is = record {
-  count = omega (arith, count, is.count, length-append before bytes);
-  total = omega (arith, total, is.total, sum_by-append (λ (b : ℕ). b) before bytes);
-  few = omega (arith, count, is.few, short);
-  small = small;
+-- one segment more
+pub tallies-more : (c : CourseTold) (n : ℕ) (ts : List Tally) (t : Tally) → AreTalliesOf c n ts → IsTallyOf t (own_frames c n) 1 → AreTalliesOf c (n + 1) (ts ++ t ∷ [])
+tallies-more c n ts t are is = record {
+  all = omega (arith, length_push ts t, are.all);
+  each = λ s l. elim (cases_lt s n) [
+    | inl less ↦ subst (λ (u : Tally). IsTallyOf u (own_frames c s) 1) (sym (get_or_append_left ts (t ∷ []) no_tally s (omega (arith, less, are.all)))) (are.each s less)
+    | inr more ↦
+        let same : n ≡ s = omega (arith, l, more) in
+        subst (λ (k : ℕ). IsTallyOf (get_or (ts ++ t ∷ []) k no_tally) (own_frames c k) 1) same
+        (subst (λ (u : Tally). IsTallyOf u (own_frames c n) 1) (sym (get_or_push ts t no_tally n are.all)) is)
+  ];
 }
 
--- parts of two tallies, one behind another
-pub tallies-joined : (t u v : Tally) (before after : List ℕ) (parts more : ℕ) → v.count ≡ t.count + u.count → v.total ≡ t.total + u.total
-    → IsTallyOf t before parts → IsTallyOf u after more → IsTallyOf v (before ++ after) (parts + more)
-tallies-joined t u v before after parts more count total is also = record {
-  count = omega (arith, count, is.count, also.count, length-append before after);
-  total = omega (arith, total, is.total, also.total, sum_by-append (λ (b : ℕ). b) before after);
-  few = omega (arith, count, is.few, also.few);
-  small = omega (arith, count, total, is.small, also.small);
-}
+-- the tallies of all segments stand for them
+pub tallies-own : (c : CourseTold) (ts : List Tally) → AreTalliesOf c (length (segments_in c.plan)) ts → AreOwn (λ s bytes. IsOwnTally ts s bytes) c
+tallies-own c ts are = λ s l. record { there = omega (arith, l, are.all); tally = are.each s l }
 
--- bytes in so many parts or fewer
-pub parts-more : (t : Tally) (bytes : List ℕ) (parts most : ℕ) → parts ≤ most → IsTallyOf t bytes parts → IsTallyOf t bytes most
-parts-more t bytes parts most less is = record { count = is.count; total = is.total; few = omega (arith, less, is.few); small = is.small }
+-- a bundle has few parts
+parts-few : (c : CourseTold) → IsCourse c → parts_of_bundle c ≤ 2 ^ 30
+parts-few c course =
+    let bs = c.plan.branches in
+    let segments : length (segments_in c.plan) ≤ 65792 =
+    omega (arith, length-before bs c.plan.limit (length bs), count-few bs (length bs) (course-few c course), course-few c course) in
+    omega (arith, mul-le (length bs) (length (segments_in c.plan) + 2) 256 65794 (omega (arith, course-few c course)) (omega (arith, segments)))
 
 -- the tally of all parts
-pub bundle-count : (c : CourseTold) (parts : ℕ) (r : Result Tally Memory) (t : Tally)
-    → IfOk r (λ (u : Tally). (before : List ℕ) (n : ℕ) → IsTallyOf t before n → IsTallyOf u (before ++ end_frame (length c.plan.branches)) (n + 1))
-    → IsTallyOf t (header_of c ++ traces_of c (length c.plan.branches)) parts → IfOk r (λ (u : Tally). u.count ≡ bundle_size c)
-unfolding bundle_size
-bundle-count c parts (Ok u) t more is = (more (header_of c ++ traces_of c (length c.plan.branches)) parts is).count
-bundle-count c parts (Err e) t more is = tt
+pub bundle-tally : (c : CourseTold) (t u : Tally) → IsCourse c → IsTallyOf t [] 0 → IsWith t u (bundle_of c) (parts_of_bundle c) → IsTallyOf u (bundle_of c) (0 + parts_of_bundle c)
+bundle-tally c t u course is with = with.behind [] 0 (omega (arith, parts-few c course)) is
 
-pub bundle-total : (c : CourseTold) (parts : ℕ) (r : Result Tally Memory) (t : Tally)
-    → IfOk r (λ (u : Tally). (before : List ℕ) (n : ℕ) → IsTallyOf t before n → IsTallyOf u (before ++ end_frame (length c.plan.branches)) (n + 1))
-    → IsTallyOf t (header_of c ++ traces_of c (length c.plan.branches)) parts → IfOk r (λ (u : Tally). u.total ≡ byte_sum c)
+pub bundle-count : (c : CourseTold) (t u : Tally) → IsCourse c → IsTallyOf t [] 0 → IsWith t u (bundle_of c) (parts_of_bundle c) → u.count ≡ bundle_size c
+unfolding bundle_size
+bundle-count c t u course is with = (bundle-tally c t u course is with).count
+
+pub bundle-total : (c : CourseTold) (t u : Tally) → IsCourse c → IsTallyOf t [] 0 → IsWith t u (bundle_of c) (parts_of_bundle c) → u.total ≡ byte_sum c
 unfolding byte_sum
-bundle-total c parts (Ok u) t more is = (more (header_of c ++ traces_of c (length c.plan.branches)) parts is).total
-bundle-total c parts (Err e) t more is = tt
+bundle-total c t u course is with = (bundle-tally c t u course is with).total

@@ -5,3 +5,4 @@ pub mod Outcomes
 pub mod Worked
 pub mod Tallied
 pub mod Report
+pub mod Carrying

@@ -9,7 +9,6 @@ use bundle_frames::Written;
 use market_floor::Opening;
 use market_types::{Feed, Memory, StockNo, Symbol, Time, What};
 
-// A system event.
 pub(crate) fn system_event(time: Time, code: u8) -> Feed
     ensures { result ≡ system_event_of time code }
 {
@@ -21,7 +20,6 @@ pub(crate) fn system_event(time: Time, code: u8) -> Feed
     }
 }
 
-// The directory of the stock of a number.
 fn directory(time: Time, k: StockNo, stock: Symbol) -> Feed
     requires { k < 65535 }
     ensures { result ≡ directory_of time k stock }
@@ -67,7 +65,6 @@ fn trading(time: Time, k: StockNo, stock: Symbol) -> Feed
     }
 }
 
-// Appends the directories of all stocks.
 fn put_directories(out: &mut Vec<u8>, o: &Opening) -> Result<(), Memory>
     requires { IsOpening o.now }
     ensures { OnOk result (out.new.items ≡ out.old.items ++ feed_frames (directories o.now (length o.now.stocks))) }
@@ -91,7 +88,6 @@ fn put_tradings(out: &mut Vec<u8>, o: &Opening) -> Result<(), Memory>
     Ok(())
 }
 
-// Appends the feed of the opening.
 pub(crate) fn put_opening(out: &mut Vec<u8>, o: &Opening) -> Result<(), Memory>
     requires { IsOpening o.now }
     ensures { OnOk result (out.new.items ≡ out.old.items ++ feed_frames (opening_feed o.now)) }

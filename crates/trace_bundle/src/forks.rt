@@ -6,7 +6,7 @@ ghost use Rattle.kernel_copy.specs.Segmentwise.{parent_end};
 ghost use Rattle.trace_bundle.specs.Bundle.{stop_written as stop_of};
 ghost use Rattle.trace_bundle.specs.Ran.{IsRunOf};
 
-use crate::Ran;
+use crate::RunOutcomes;
 use branch_tree::Stop;
 use kernel_copy::Course;
 
@@ -21,7 +21,7 @@ fn origin(course: &Course, branch: u16) -> Option<u32>
 }
 
 // How many events the state has in which a branch leaves its parent.
-fn events_before<W: Ran>(course: &Course, ran: &W, branch: u16) -> u32
+fn events_before<W: RunOutcomes>(course: &Course, ran: &W, branch: u16) -> u32
     requires branch { branch < length course.now.plan.branches }
     requires ran { IsRunOf course.now (W.count ran.now) (W.kept_of ran.now) (W.closing_of ran.now) }
     ensures { result ≡ (parent_end course.now.opening course.now.plan (origin_of course.now.plan.branches branch)).state.events }
@@ -34,7 +34,7 @@ fn events_before<W: Ran>(course: &Course, ran: &W, branch: u16) -> u32
 
 /// The stop of a branch as a bundle and a table tell it: the event number at which it leaves its parent; where it leaves at a
 /// time, the number of events by which that time was reached.
-pub fn stop_written<W: Ran>(course: &Course, ran: &W, branch: u16) -> u32
+pub fn stop_written<W: RunOutcomes>(course: &Course, ran: &W, branch: u16) -> u32
     requires branch { branch < length course.now.plan.branches }
     requires ran { IsRunOf course.now (W.count ran.now) (W.kept_of ran.now) (W.closing_of ran.now) }
     ensures { result ≡ stop_of course.now branch }

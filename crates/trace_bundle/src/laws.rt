@@ -12,7 +12,7 @@ ghost use Rattle.kernel_copy.specs.declared.run.Outcome.{Outcome};
 ghost use Rattle.trace_bundle.specs.Outcomes.{all_told, outcome_at};
 ghost use Rattle.trace_bundle.specs.Ran.{IsListedRunOf, IsRunOf};
 
-/// The outcomes of all segments in order of number, as `run_segments` gives them, are a run of the course, whatever was kept;
+/// The outcomes of all segments in order of number, as workers give them, are a run of the course, whatever was kept;
 /// where the entries were, it is one that holds them themselves.
 pub fn outcomes_are_a_run()
     ensures run { (c : CourseTold) (keep : Keep) (xs : List Outcome) → map outcome_told xs ≡ outcomes_before c keep (length (segments_in c.plan)) →

@@ -2,10 +2,10 @@
 #![tactic(auto)]
 
 mod bundle;
-mod events;
+mod carrier;
+mod ends;
 mod feed;
 mod forks;
-mod large_bundle;
 pub mod large_worked;
 pub mod laws;
 mod lines;
@@ -13,12 +13,18 @@ mod listed;
 mod outcomes;
 mod ran;
 mod segment_tallies;
+mod send;
 mod tally;
+mod to_bytes;
 pub mod worked;
 
-pub use bundle::{ending_bytes, opening_bytes, put_branch_head, write_branch, write_header};
+pub use bundle::{put_branch_head, write_header};
+pub use carrier::Carrier;
+pub use ends::{closing_of_branch, events_of_branch};
 pub use forks::stop_written;
 pub use lines::big_lines;
 pub use listed::trace_of_segment;
-pub use ran::Ran;
+pub use ran::RunOutcomes;
+pub use send::{send_bundle, send_end};
 pub use tally::Tally;
+pub use to_bytes::{ToBytes, write_branch};

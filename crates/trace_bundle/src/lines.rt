@@ -3,15 +3,29 @@
 ghost use Rattle.std.specs.Prelude.{◌≡◌, IfOk, string_bytes};
 ghost use Rattle.kernel_copy.specs.Segmentwise as segmentwise;
 ghost use Rattle.trace_bundle.specs.Ran.{IsRunOf};
-ghost use Rattle.trace_bundle.specs.Report.{big_lines_of, six_lines};
+ghost use Rattle.trace_bundle.specs.Report.{big_lines_of, bundle_size, byte_sum, six_lines};
 
-use crate::Ran;
-use crate::events::events_of_all;
-use crate::large_bundle::tally_of_bundle;
+use crate::ends::events_of_all;
+use crate::ran::RunOutcomes;
+use crate::segment_tallies::segment_tallies;
+use crate::send::send_bundle;
 use crate::tally::Tally;
 use kernel_copy::Course;
 use plain_lists::Memory;
 use std::alloc::{AllocError, Global};
+
+// The tally of a study's bundle, which is never held whole.
+fn tally_of_bundle<W: RunOutcomes>(alloc: Global, course: &Course, ran: &W) -> Result<Tally, Memory>
+    requires { IsRunOf course.now (W.count ran.now) (W.kept_of ran.now) (W.closing_of ran.now) }
+    ensures count { IfOk result (λ t. t.count ≡ bundle_size course.now) }
+    ensures total { IfOk result (λ t. t.total ≡ byte_sum course.now) }
+{
+    course.is_course();
+    let segments = segment_tallies(alloc, course, ran)?;
+    let mut tally = Tally::new();
+    send_bundle(alloc, course, ran, &segments, &mut tally)?;
+    Ok(tally)
+}
 
 // The lines of these numbers.
 fn six_lines(
@@ -36,7 +50,7 @@ fn six_lines(
 ///
 /// # Errors
 /// Want of memory alone.
-pub fn big_lines<W: Ran>(
+pub fn big_lines<W: RunOutcomes>(
     alloc: Global,
     study: usize,
     course: &Course,

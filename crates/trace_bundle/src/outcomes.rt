@@ -1,10 +1,10 @@
 //! The outcomes of segments in order of number.
 
-use crate::ran::Ran;
+use crate::ran::RunOutcomes;
 use bundle_frames::Closing;
 use kernel_copy::{Kept, Outcome};
 
-impl Ran for Vec<Outcome> {
+impl RunOutcomes for Vec<Outcome> {
     ghost use Rattle.std.specs.Prelude.{length};
     ghost use Rattle.trace_bundle.specs.Outcomes.{all_told, outcome_at};
 

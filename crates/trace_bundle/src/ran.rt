@@ -8,7 +8,7 @@ use bundle_frames::Closing;
 use kernel_copy::Kept;
 
 /// What a run of a course's segments gave, by the number of the segment.
-pub trait Ran {
+pub trait RunOutcomes {
     /// How many segments it holds.
     ghost count: { Self → ℕ };
 

@@ -3,7 +3,8 @@
 ghost use Rattle.std.specs.Prelude.{◌≡◌, ◌+◌, ◌*◌, ◌^◌, ◌≤◌, ◌++◌, [], ℕ, List, length, sum};
 ghost use Rattle.trace_bundle.specs.Tallied.{IsTallyOf};
 
-/// How many bytes there are, and their sum. Both are kept in 128 bits, in which no bytes that a memory holds overflow them.
+/// How many bytes there are, and their sum. Each is kept in 128 bits and stands still at their last value, which no bytes that a
+/// memory holds reach.
 #[derive(Clone, Copy, PartialEq, Eq, Debug)]
 pub struct Tally {
     /// How many.
@@ -25,7 +26,6 @@ fn part_total(bytes: &[u8]) -> u16
     total
 }
 
-// The sum of bytes.
 fn total(bytes: &[u8]) -> u128
     ensures value { result ≡ sum bytes.now }
     ensures small { result ≤ 255 * length bytes.now }
@@ -47,27 +47,21 @@ impl Tally {
 
     /// The tally with these bytes behind those before.
     pub fn with(self, bytes: &[u8]) -> Tally
-        requires room { self.count ≤ 2 ^ 96 }
-        requires small { self.total ≤ 255 * self.count }
-        ensures { (before : List ℕ) (parts : ℕ) → IsTallyOf self before parts → IsTallyOf result (before ++ bytes.now) (parts + 1) }
+        ensures { (before : List ℕ) (parts : ℕ) → self.count ≤ 2 ^ 96 → IsTallyOf self before parts → IsTallyOf result (before ++ bytes.now) (parts + 1) }
     {
         Tally {
-            count: self.count + bytes.len() as u128,
-            total: self.total + total(bytes),
+            count: self.count.saturating_add(bytes.len() as u128),
+            total: self.total.saturating_add(total(bytes)),
         }
     }
 
     /// The tally of these bytes with those of another tally behind them.
     pub fn followed_by(self, next: Tally) -> Tally
-        requires room { self.count ≤ 2 ^ 96 }
-        requires small { self.total ≤ 255 * self.count }
-        requires next_room { next.count ≤ 2 ^ 96 }
-        requires next_small { next.total ≤ 255 * next.count }
-        ensures { (before after : List ℕ) (parts more : ℕ) → IsTallyOf self before parts → IsTallyOf next after more → IsTallyOf result (before ++ after) (parts + more) }
+        ensures { (before after : List ℕ) (parts more : ℕ) → self.count ≤ 2 ^ 96 → next.count ≤ 2 ^ 96 → IsTallyOf self before parts → IsTallyOf next after more → IsTallyOf result (before ++ after) (parts + more) }
     {
         Tally {
-            count: self.count + next.count,
-            total: self.total + next.total,
+            count: self.count.saturating_add(next.count),
+            total: self.total.saturating_add(next.total),
         }
     }
 }

@@ -3,6 +3,7 @@
 ghost use Rattle.std.specs.Prelude.{◌≡◌, []};
 
 use super::pop_some;
+use crate::facts::{equal, holds};
 use branch_deques::{Lane, Memory, Room, open_lanes};
 use std::alloc::Global;
 use std::marker::Brand;
@@ -130,11 +131,11 @@ fn two_threads_take_each_once(rt: HostRuntime) -> Result<(), Fail> {
         let Some((popped, taken)) = share_thousand(&rt, rt.alloc(), pops)? else {
             return Err(Fail::from("no lanes"));
         };
-        assert!(rt; pops || popped.is_empty(), "round {round}");
-        assert!(rt; popped.is_sorted() && taken.is_sorted(), "round {round}");
+        holds(&rt, pops || popped.is_empty());
+        holds(&rt, popped.is_sorted() && taken.is_sorted());
         let both = together(popped.as_slice(), taken.as_slice(), rt.alloc())?;
-        assert_eq!(rt; both.len(), 1000, "round {round}");
-        assert!(rt; both.iter().copied().eq(0..1000), "round {round}");
+        equal(&rt, both.len(), 1000);
+        holds(&rt, both.iter().copied().eq(0..1000));
     }
     Ok(())
 }

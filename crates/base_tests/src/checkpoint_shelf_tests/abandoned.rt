@@ -6,6 +6,7 @@ ghost use Rattle.shelf_core.specs.Views.{times};
 
 use super::Item;
 use super::seats::{claimed, fill, fork_plan, two_new};
+use crate::facts::{equal, holds};
 use checkpoint_shelf::{Found, Key, PlaceWord, Progress, Shelf, ShelfSeat};
 use plain_lists::Memory;
 use std::alloc::Global;
@@ -58,7 +59,7 @@ fn an_abandoned_turn_leaves_the_place_free(rt: HostRuntime) -> Result<(), Fail> 
         done: 1,
         stopped: true,
     };
-    assert!(rt; first && free && again);
-    assert_eq!(rt; progress, expected);
+    holds(&rt, first && free && again);
+    equal(&rt, progress, expected);
     Ok(())
 }

@@ -6,6 +6,7 @@ ghost use Rattle.shelf_core.specs.Views.{new_view};
 
 use super::Item;
 use super::seats::{claimed, fill, fork_plan, two_new, value_of};
+use crate::facts::equal;
 use checkpoint_shelf::{Key, Shelf, ShelfSeat};
 use plain_lists::Memory;
 use std::alloc::Global;
@@ -63,7 +64,7 @@ fn closed_fork(alloc: Global, with_value: bool) -> Result<(bool, bool), Memory> 
 
 #[test]
 fn a_closed_shelf_has_what_was_published(rt: HostRuntime) -> Result<(), Fail> {
-    assert_eq!(rt; closed_fork(rt.alloc(), true)?, (true, true));
-    assert_eq!(rt; closed_fork(rt.alloc(), false)?, (true, false));
+    equal(&rt, closed_fork(rt.alloc(), true)?, (true, true));
+    equal(&rt, closed_fork(rt.alloc(), false)?, (true, false));
     Ok(())
 }

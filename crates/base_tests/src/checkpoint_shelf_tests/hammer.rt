@@ -7,7 +7,8 @@ ghost use Rattle.checkpoint_shelf.specs.Plans.{PlanFits};
 
 use super::Item;
 use super::seats::{claimed, fill, two_new, value_of};
-use checkpoint_shelf::{Found, Kept, Key, Progress, Shelf, ShelfPlan, ShelfSeat};
+use crate::facts::{equal, holds};
+use checkpoint_shelf::{Found, Key, Progress, Shelf, ShelfPlan, ShelfSeat, Shelved};
 use plain_lists::{Memory, Sequence};
 use std::alloc::Global;
 use std::sync::Wait;
@@ -336,31 +337,15 @@ fn two_threads_share_a_shelf(rt: HostRuntime) -> Result<(), Fail> {
             progress,
             there,
         } = told;
-        assert_eq!(rt; first.segments ^ second.segments, u64::MAX, "round {round}");
-        assert_eq!(rt; first.given.wrapping_add(second.given), 10, "round {round}");
-        assert!(rt; first.right && second.right, "round {round}");
-        assert_eq!(rt; progress, all, "round {round}");
+        equal(&rt, first.segments ^ second.segments, u64::MAX);
+        equal(&rt, first.given.wrapping_add(second.given), 10);
+        holds(&rt, first.right && second.right);
+        equal(&rt, progress, all);
         // each fork has its value, and each place of the grid that of one of its keys
-        assert_eq!(rt;
-            there & (1 << 5 | 1 << 37),
-            1 << 5 | 1 << 37,
-            "round {round}"
-        );
-        assert_eq!(rt;
-            (there & (1 | 1 << 24 | 1 << 48)).count_ones(),
-            1,
-            "round {round}"
-        );
-        assert_eq!(rt;
-            (there & (1 << 8 | 1 << 32 | 1 << 56)).count_ones(),
-            1,
-            "round {round}"
-        );
-        assert_eq!(rt;
-            (there & (1 << 16 | 1 << 40)).count_ones(),
-            1,
-            "round {round}"
-        );
+        equal(&rt, there & (1 << 5 | 1 << 37), 1 << 5 | 1 << 37);
+        equal(&rt, (there & (1 | 1 << 24 | 1 << 48)).count_ones(), 1);
+        equal(&rt, (there & (1 << 8 | 1 << 32 | 1 << 56)).count_ones(), 1);
+        equal(&rt, (there & (1 << 16 | 1 << 40)).count_ones(), 1);
     }
     Ok(())
 }

@@ -8,18 +8,19 @@ ghost use Rattle.shelf_core.specs.Views.{has_turn, times};
 ghost use Rattle.checkpoint_shelf.specs.Seats.{NewFrom};
 ghost use Rattle.branch_workers.specs.Runs.{IsShelfOf};
 
-use super::market::course;
 use super::{begins_with_an_edit, entries_of};
+use crate::facts::equal;
+use crate::small_course::three_branches as course;
 use branch_tree::Stop;
-use branch_workers::{open_shelf, run_segment};
+use branch_workers::{Shift, open_shelf, run_segment};
 use checkpoint_shelf::{Begun, Found, Key, PlaceWord, Shelf, ShelfSeat, Turn};
 use kernel_copy::laws::segments_have_few_events;
 use kernel_copy::{Checkpoint, Course, Keep, Outcome};
 use market_types::Memory;
 use outside::{Counted, OpenGate, Steps};
 use std::alloc::Global;
+use std::process::Abort;
 use std::sync::{Arc, Wait};
-use std::test::Fail;
 
 // The two seats of a new shelf, in order of number.
 fn two_new(
@@ -58,19 +59,15 @@ fn claim_and_run<R: Wait>(
     }
     segments_have_few_events(course);
     let mut steps: Steps<Counted> = Steps::new();
-    let ran = run_segment(
-        rt,
+    let shift = Shift {
         alloc,
         course,
         shelf,
-        seat,
-        5,
-        Keep::Entries,
-        0,
-        segment,
-        &OpenGate,
-        &mut steps,
-    );
+        stride: 5,
+        keep: Keep::Entries,
+        gate: &OpenGate,
+    };
+    let ran = run_segment(rt, &shift, seat, 0, segment, &mut steps);
     let outcome = ran.ok();
     (outcome, steps.close())
 }
@@ -103,23 +100,30 @@ fn two_seats<R: Wait>(rt: &R, alloc: Global, course: &Arc<Course>) -> Result<Opt
     }))
 }
 
+// How many entries an outcome has, of which the first is an edit.
+fn edited_entries(alloc: Global, outcome: &Outcome) -> Option<usize> {
+    let entries = entries_of(outcome)?;
+    match begins_with_an_edit(alloc, entries) {
+        Ok(true) => Some(entries.len()),
+        _ => None,
+    }
+}
+
 #[test]
-fn a_child_by_a_seat_without_the_parents_state(rt: HostRuntime) -> Result<(), Fail> {
-    let course = course(rt.alloc(), Stop::At(2))?;
-    let Some(told) = two_seats(&rt, rt.alloc(), &course)? else {
-        return Err(Fail::from("no seats"));
+fn a_child_by_a_seat_without_the_parents_state(rt: HostRuntime) {
+    let alloc = rt.alloc();
+    let Ok(course) = course(alloc, Stop::At(2)) else {
+        panic!(rt; "out of memory");
+    };
+    let Ok(Some(told)) = two_seats(&rt, alloc, &course) else {
+        panic!(rt; "no seats");
     };
     let (Some(first), Some(child)) = (told.first, told.child) else {
-        return Err(Fail::from("a segment was claimed, or there was no memory"));
+        panic!(rt; "a segment was claimed, or there was no memory");
     };
-    let Some(entries) = entries_of(&child) else {
-        return Err(Fail::from("no entries"));
-    };
-    assert_eq!(rt; (first.events, told.first_ticks), (2, 2));
-    assert_eq!(rt; (child.events, told.child_ticks, entries.len()), (6, 4, 5));
-    let is_edited = begins_with_an_edit(rt.alloc(), entries)?;
-    assert!(rt; is_edited);
-    Ok(())
+    equal(&rt, (first.events, told.first_ticks), (2, 2));
+    equal(&rt, (child.events, told.child_ticks), (6, 4));
+    equal(&rt, edited_entries(alloc, &child), Some(5));
 }
 
 // The word at which `begin` of a key gave a seat no turn; a turn is spent with no value.
@@ -198,19 +202,15 @@ fn claim_meet_and_run<R: Wait>(
     let word = refusal(shelf, seat, key);
     segments_have_few_events(course);
     let mut steps: Steps<Counted> = Steps::new();
-    let ran = run_segment(
-        rt,
+    let shift = Shift {
         alloc,
         course,
         shelf,
-        seat,
-        5,
-        Keep::Entries,
-        1,
-        key.segment,
-        &OpenGate,
-        &mut steps,
-    );
+        stride: 5,
+        keep: Keep::Entries,
+        gate: &OpenGate,
+    };
+    let ran = run_segment(rt, &shift, seat, 1, key.segment, &mut steps);
     let outcome = ran.ok();
     Some(Met {
         word,
@@ -266,10 +266,23 @@ fn beside_a_turn<R: Wait>(
     Ok(met.map(|met| (met, after)))
 }
 
+// What the seat tells that found the place taken.
+fn is_met(rt: &impl Abort, alloc: Global, met: &Met) {
+    equal(rt, met.word, Some(PlaceWord::Writing(0)));
+    let Some(outcome) = &met.outcome else {
+        panic!(rt; "no memory");
+    };
+    equal(rt, (outcome.segment, outcome.events, met.ticks), (2, 6, 4));
+    equal(rt, edited_entries(alloc, outcome), Some(5));
+}
+
 // A seat finds the place of its own key taken: its run goes on without a copy there, and tells what it tells.
 #[test]
-fn a_run_beside_anothers_turn(rt: HostRuntime) -> Result<(), Fail> {
-    let course = course(rt.alloc(), Stop::At(2))?;
+fn a_run_beside_anothers_turn(rt: HostRuntime) {
+    let alloc = rt.alloc();
+    let Ok(course) = course(alloc, Stop::At(2)) else {
+        panic!(rt; "out of memory");
+    };
     let first = Key {
         segment: 1,
         event: 5,
@@ -278,27 +291,9 @@ fn a_run_beside_anothers_turn(rt: HostRuntime) -> Result<(), Fail> {
         segment: 2,
         event: 5,
     };
-    let Some((met, after)) = beside_a_turn(&rt, rt.alloc(), &course, first, second)? else {
-        return Err(Fail::from("no seats, or no turn"));
+    let Ok(Some((met, after))) = beside_a_turn(&rt, alloc, &course, first, second) else {
+        panic!(rt; "no seats, or no turn");
     };
-    let Met {
-        word,
-        outcome,
-        ticks,
-    } = met;
-    let Some(outcome) = outcome else {
-        return Err(Fail::from("no memory"));
-    };
-    let Some(entries) = entries_of(&outcome) else {
-        return Err(Fail::from("no entries"));
-    };
-    assert_eq!(rt; word, Some(PlaceWord::Writing(0)));
-    assert_eq!(rt;
-        (outcome.segment, outcome.events, ticks, entries.len()),
-        (2, 6, 4, 5)
-    );
-    let is_edited = begins_with_an_edit(rt.alloc(), entries)?;
-    assert!(rt; is_edited);
-    assert_eq!(rt; after, Some(PlaceWord::Free));
-    Ok(())
+    is_met(&rt, alloc, &met);
+    equal(&rt, after, Some(PlaceWord::Free));
 }

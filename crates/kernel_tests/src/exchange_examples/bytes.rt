@@ -1,6 +1,7 @@
 //! Orders, replies and feed byte by byte.
 
 use super::{numbered, opened, opened_for, sent};
+use crate::facts::{equal, holds};
 use exchange_agent::Handled;
 use itch_codec::encode_feed;
 use market_types::{AgentNo, Body, Enter, Inbound, Side};
@@ -49,19 +50,19 @@ fn an_order_is_answered_byte_by_byte(rt: HostRuntime) {
         panic!(rt; "not an order");
     };
     let out = sent(&rt, alloc, &mut exchange, 2000, 1, inbound);
-    assert!(rt; is_answered(&out, 1, &ACCEPTED));
-    assert!(rt; is_fed(&out, 0, &ADDED));
-    assert_eq!(rt; (out.len(), out.feed.len(), out.fee), (1, 1, 0));
+    holds(&rt, is_answered(&out, 1, &ACCEPTED));
+    holds(&rt, is_fed(&out, 0, &ADDED));
+    equal(&rt, (out.len(), out.feed.len(), out.fee), (1, 1, 0));
     let more = numbered(2, Side::Buy, 1_000_000, 100_000);
     let out = sent(&rt, alloc, &mut exchange, 2000, 1, Inbound::Enter(more));
-    assert!(rt; is_answered(&out, 1, &REJECTED));
-    assert_eq!(rt; (out.len(), out.feed.len(), out.fee), (1, 0, 0));
+    holds(&rt, is_answered(&out, 1, &REJECTED));
+    equal(&rt, (out.len(), out.feed.len(), out.fee), (1, 0, 0));
 }
 
 #[test]
 fn an_order_is_spelled_byte_by_byte(rt: HostRuntime) {
     let first: Enter = numbered(1, Side::Buy, 999_999, 100_000);
-    assert_eq!(rt; encode_enter(&first).as_slice(), ENTER.as_slice());
+    holds(&rt, encode_enter(&first).as_slice() == ENTER.as_slice());
 }
 
 // What a sweep of three resting orders feeds at 3000 nanoseconds: three executions, and the rest of the sweep.
@@ -85,9 +86,9 @@ fn a_sweep_is_fed_byte_by_byte(rt: HostRuntime) {
     sent(&rt, alloc, &mut exchange, 3000, 3, third);
     let out = sent(&rt, alloc, &mut exchange, 3000, 1, sweep);
     for (i, bytes) in SWEPT.into_iter().enumerate() {
-        assert!(rt; is_fed(&out, i, bytes), "feed {i}");
+        holds(&rt, is_fed(&out, i, bytes));
     }
-    assert_eq!(rt; (out.len(), out.feed.len(), out.fee), (7, 4, 6000));
+    equal(&rt, (out.len(), out.feed.len(), out.fee), (7, 4, 6000));
 }
 
 // What is fed at 3000 nanoseconds where an order meets a shown order, and then a hidden one of the same price.
@@ -107,12 +108,12 @@ fn a_hidden_order_is_fed_without_its_name(rt: HostRuntime) {
     let shown = Inbound::Enter(numbered(1, Side::Sell, 100, 100_000));
     let buy = Inbound::Enter(numbered(1, Side::Buy, 150, 100_000));
     let out = sent(&rt, alloc, &mut exchange, 3000, 2, Inbound::Enter(hidden));
-    assert_eq!(rt; (out.len(), out.feed.len()), (1, 0));
+    equal(&rt, (out.len(), out.feed.len()), (1, 0));
     let out = sent(&rt, alloc, &mut exchange, 3000, 3, shown);
-    assert_eq!(rt; (out.len(), out.feed.len()), (1, 1));
+    equal(&rt, (out.len(), out.feed.len()), (1, 1));
     let out = sent(&rt, alloc, &mut exchange, 3000, 1, buy);
     for (i, bytes) in OF_BOTH.into_iter().enumerate() {
-        assert!(rt; is_fed(&out, i, bytes), "feed {i}");
+        holds(&rt, is_fed(&out, i, bytes));
     }
-    assert_eq!(rt; (out.len(), out.feed.len()), (5, 2));
+    equal(&rt, (out.len(), out.feed.len()), (5, 2));
 }

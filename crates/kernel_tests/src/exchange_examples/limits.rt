@@ -3,6 +3,7 @@
 ghost use Rattle.std.specs.Prelude.{◌≡◌, ◌≤◌, length};
 
 use super::{ABM, numbered, opened, sent};
+use crate::facts::equal;
 use exchange_agent::{Exchange, Handled};
 use market_types::{Body, Cancel, Enter, Inbound, Reply, Side, Symbol};
 use std::alloc::Global;
@@ -40,7 +41,7 @@ fn fill(
             ..like
         };
         let out = sent(rt, alloc, exchange, 3000, 1, Inbound::Enter(e));
-        assert_eq!(rt; answer(&out), expected, "order {n}");
+        equal(rt, answer(&out), expected);
     }
 }
 
@@ -50,27 +51,28 @@ fn no_more_orders_rest_than_16384(rt: HostRuntime) {
     let mut exchange = opened(&rt, alloc);
     let like = numbered(0, Side::Buy, 1, 100_000);
     fill(&rt, alloc, &mut exchange, 16_384, like, b'A');
-    assert_eq!(rt; exchange.stock(0).live, 16_384);
+    equal(&rt, exchange.stock(0).live, 16_384);
     // one more is rejected, also where it would trade with another, and its token is remembered
     let more = numbered(16_384, Side::Sell, 1, 100_000);
     let out = sent(&rt, alloc, &mut exchange, 3000, 2, Inbound::Enter(more));
-    assert_eq!(rt;
+    equal(
+        &rt,
         (answer(&out), out.feed.len(), exchange.stock(0).live),
-        (b'O', 0, 16_384)
+        (b'O', 0, 16_384),
     );
     let out = sent(&rt, alloc, &mut exchange, 3000, 2, Inbound::Enter(more));
-    assert_eq!(rt; (out.len(), exchange.counts().enters), (0, 1));
+    equal(&rt, (out.len(), exchange.counts().enters), (0, 1));
     // once one is canceled there is room for one
     let cancel = Cancel {
         token: like.token,
         shares: 0,
     };
     sent(&rt, alloc, &mut exchange, 3000, 1, Inbound::Cancel(cancel));
-    assert_eq!(rt; exchange.stock(0).live, 16_383);
+    equal(&rt, exchange.stock(0).live, 16_383);
     let next = numbered(16_385, Side::Buy, 1, 100_000);
     let out = sent(&rt, alloc, &mut exchange, 3000, 2, Inbound::Enter(next));
-    assert_eq!(rt; (answer(&out), exchange.stock(0).live), (b'A', 16_384));
-    assert_eq!(rt; exchange.counts().orders, 16_385);
+    equal(&rt, (answer(&out), exchange.stock(0).live), (b'A', 16_384));
+    equal(&rt, exchange.counts().orders, 16_385);
 }
 
 #[test]
@@ -85,9 +87,9 @@ fn no_more_tokens_are_remembered_than_131072(rt: HostRuntime) {
     // a new token is rejected and not remembered, so it is rejected again
     let next = numbered(131_072, Side::Buy, 1, 100_000);
     let out = sent(&rt, alloc, &mut exchange, 3000, 1, Inbound::Enter(next));
-    assert_eq!(rt; (answer(&out), out.feed.len()), (b'O', 0));
+    equal(&rt, (answer(&out), out.feed.len()), (b'O', 0));
     let out = sent(&rt, alloc, &mut exchange, 3000, 1, Inbound::Enter(next));
-    assert_eq!(rt; (answer(&out), out.feed.len()), (b'O', 0));
+    equal(&rt, (answer(&out), out.feed.len()), (b'O', 0));
     // one that is remembered is ignored
     let out = sent(
         &rt,
@@ -97,6 +99,10 @@ fn no_more_tokens_are_remembered_than_131072(rt: HostRuntime) {
         1,
         Inbound::Enter(Enter { stock: ABM, ..like }),
     );
-    assert_eq!(rt; (out.len(), exchange.counts().enters), (0, 1));
-    assert_eq!(rt; (exchange.counts().orders, exchange.stock(0).live), (0, 0));
+    equal(&rt, (out.len(), exchange.counts().enters), (0, 1));
+    equal(
+        &rt,
+        (exchange.counts().orders, exchange.stock(0).live),
+        (0, 0),
+    );
 }

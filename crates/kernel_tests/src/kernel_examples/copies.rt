@@ -6,6 +6,7 @@ ghost use Rattle.market_floor.specs.Opening.{IsOpening};
 ghost use Rattle.kernel_core.specs.Step.{Fits};
 
 use super::{branch, latency, market, run, shifted};
+use crate::facts::holds;
 use agent_shell::Kind;
 use kernel_core::{Kernel, Opening};
 use market_rules::Edit;
@@ -186,7 +187,7 @@ fn a_copy_goes_on_as_its_kernel_does(rt: HostRuntime) -> Result<(), Fail> {
     let alloc = rt.alloc();
     let o = crowd(alloc)?;
     let (a, b) = both(alloc, &o)?;
-    assert!(rt; a.end == Some(End::Closed) && a.kernel.events() > 1000);
-    assert!(rt; b.end == a.end && are_alike(alloc, &a, &b)?);
+    holds(&rt, a.end == Some(End::Closed) && a.kernel.events() > 1000);
+    holds(&rt, b.end == a.end && are_alike(alloc, &a, &b)?);
     Ok(())
 }

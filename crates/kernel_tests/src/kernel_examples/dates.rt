@@ -5,6 +5,7 @@ ghost use Rattle.market_floor.specs.Opening.{IsOpening};
 ghost use Rattle.kernel_core.specs.EditsWorked.{later_ticks};
 
 use super::{branch, five_cents, market, order};
+use crate::facts::holds;
 use agent_shell::Kind;
 use kernel_core::Opening;
 use market_rules::{Change, Dated, DatedList};
@@ -60,6 +61,6 @@ fn dated_ticks_hold_from_their_nanosecond_on(rt: HostRuntime) -> Result<(), Fail
     branch(alloc, &o, &orders, 100, &mut trace)?;
     let answers = trace.as_slice().iter().filter_map(answer_of);
     let hoped = [(b'A', 1499), (b'X', 1500)];
-    assert!(rt; answers.eq(hoped.iter().copied()));
+    holds(&rt, answers.eq(hoped.iter().copied()));
     Ok(())
 }

@@ -3,6 +3,7 @@
 ghost use Rattle.kernel_core.specs.Step.{Fits};
 
 use super::market;
+use crate::facts::holds;
 use agent_shell::Kind;
 use kernel_core::{Kernel, Opening, Stepped};
 use market_types::{End, Memory, Trace};
@@ -35,7 +36,13 @@ fn a_step_is_one_event_and_one_tick(rt: HostRuntime) -> Result<(), Fail> {
     let first = stepped(alloc, &o, &mut kernel, &mut trace)?;
     let second = stepped(alloc, &o, &mut kernel, &mut trace)?;
     let third = stepped(alloc, &o, &mut kernel, &mut trace)?;
-    assert!(rt; first == (Stepped::Event(1), 1) && second == (Stepped::Event(2), 1));
-    assert!(rt; third == (Stepped::Ended(End::Closed), 0) && trace.len() == 2);
+    holds(
+        &rt,
+        first == (Stepped::Event(1), 1) && second == (Stepped::Event(2), 1),
+    );
+    holds(
+        &rt,
+        third == (Stepped::Ended(End::Closed), 0) && trace.len() == 2,
+    );
     Ok(())
 }

@@ -1,7 +1,7 @@
 use Rattle.std.proofs.Common.{◌≡◌, option_map, refl, rules, vec_items}
 use Rattle.study_rules.specs.Accepted.{study_told}
-use Rattle.abides_run.specs.declared.request.Task.TheVariants.{Run, Check, Table, Lines, Rewind, Cross, Session}
-use Rattle.abides_run.specs.Output.{bundled, compared, counted, described}
+use Rattle.command_words.specs.declared.asked.Task.TheVariants.{Run, Check, Table, Rewind, Cross, Session}
+use Rattle.abides_run.specs.Output.{bundled, compared, counted}
 use Rattle.abides_run.proofs.Performing.{cross_finishes, rewind_finishes, session_finishes, task_finishes}
 use Rattle.abides_run.proofs.perform.perform_task.Goals as goal
 
@@ -25,13 +25,6 @@ returns-in-Table g c =
     let is : f.task ≡ Table = search rules in
     task_finishes _ f.task Table (option_map vec_items f.further) (compared (study_told f.study)) (study_told f.study) (g.O.Sink.faults c.args.out.now) (g.O.Sink.faults c.table_study-status.new.out) c.args.steps.now c.table_study-status.new.steps (g.O.Sink.taken c.args.out.now) (g.O.Sink.taken c.table_study-status.new.out) c.table_study-status.result c.nameless-in-Table.result.status _
     is c.nameless-in-Table.ensures refl c.table_study-status.ensures
-
-pub returns-in-Lines : goal.returns-in-Lines
-returns-in-Lines g c =
-    let f = c.args.found.now in
-    let is : f.task ≡ Lines c.in-Lines.bytes = search rules in
-    task_finishes _ f.task (Lines c.in-Lines.bytes) (option_map vec_items f.further) (described c.in-Lines.bytes (study_told f.study)) (study_told f.study) (g.O.Sink.faults c.args.out.now) (g.O.Sink.faults c.tell_study-status.new.out) c.args.steps.now c.tell_study-status.new.steps (g.O.Sink.taken c.args.out.now) (g.O.Sink.taken c.tell_study-status.new.out) c.tell_study-status.result c.nameless-in-Lines.result.status _
-    is c.nameless-in-Lines.ensures refl c.tell_study-status.ensures
 
 pub returns-in-Rewind : goal.returns-in-Rewind
 returns-in-Rewind g c =

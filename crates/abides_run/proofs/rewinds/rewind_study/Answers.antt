@@ -7,7 +7,7 @@ use Rattle.rewind_desk.specs.Targets.{aimed_at}
 use Rattle.study_rules.specs.Accepted.{study_told}
 use Rattle.abides_run.specs.Rewinds.{argument_at}
 use Rattle.abides_run.specs.Verdict.{verdict_on_aimed, verdict_on_found}
-use Rattle.abides_run.specs.declared.request.Task.TheVariants.{Rewind}
+use Rattle.command_words.specs.declared.asked.Task.TheVariants.{Rewind}
 use Rattle.abides_run.proofs.Aiming.{unnamed-below, word-among}
 use Rattle.abides_run.proofs.Finishing.{branchless-finishes}
 use Rattle.abides_run.proofs.rewinds.rewind_study.Goals as goal

@@ -1,4 +1,4 @@
-use Rattle.branch_tests.specs.Worked.{AreBranches}
+use Rattle.branch_workers.specs.Example.{AreBranches}
 use Rattle.branch_tests.proofs.branch_examples.deep.Given as goal
 
 abbrev pub invariant-loop-k : goal.invariant-loop-k

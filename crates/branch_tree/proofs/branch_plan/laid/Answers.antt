@@ -7,7 +7,3 @@ use Rattle.branch_tree.proofs.branch_plan.laid.Goals as goal
 pub all_segments-requires-clause-tree : goal.all_segments-requires-clause-tree
 all_segments-requires-clause-tree c =
     subst (λ (xs : List Branch). IsTree xs c.args.limit) (sym c.as_slice.ensures.value) (tree_from c.args.branches.items c.args.limit c.requires.rooted c.requires.accepted)
-
-pub all_paths-requires-clause-tree : goal.all_paths-requires-clause-tree
-all_paths-requires-clause-tree c =
-    subst (λ (xs : List Branch). IsTree xs c.args.limit) (sym c.as_slice-2.ensures.value) (tree_from c.args.branches.items c.args.limit c.requires.rooted c.requires.accepted)

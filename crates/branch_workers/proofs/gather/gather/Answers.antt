@@ -8,7 +8,7 @@ join-requires g c =
     let inv = c.loop-workers.invariant in
     let is = first_split c.loop-workers.workers.items c.remove-worker.new.self.items c.remove-worker.result (omega arith) c.remove-worker.ensures.value c.remove-worker.ensures.items in
     let part = first_of_all c.loop-workers.workers.items c.remove-worker.new.self.items c.remove-worker.result is (λ w. w.steps < 2 ^ 52) inv.each in
-    let small = inv.small in let s = c.requires.steps in let long = ap (λ ws. length ws) is in omega arith
+    let small = inv.small in let none = c.new-steps.ensures in let long = ap (λ ws. length ws) is in omega arith
 
 pub loop-workers-preserved : goal.loop-workers-preserved
 loop-workers-preserved g c =
@@ -27,7 +27,7 @@ loop-workers-preserved g c =
       outcome_room = omega (arith, c.push_reserved-in-loop-workers.ensures.len, c.push_reserved-in-loop-workers.ensures.capacity);
       each = rest_of_all ws rest x is (λ w. w.steps < 2 ^ 52) inv.each;
       few = omega arith;
-      steps = ap (λ (n : ℕ). n + sum_by (λ w. w.steps) rest) c.join.ensures ∙ counted_in ws rest x is (λ w. w.steps) c.loop-workers.steps (c.args.steps.now + sum_by (λ w. w.steps) c.args.workers.items) inv.steps;
+      steps = ap (λ (n : ℕ). n + sum_by (λ w. w.steps) rest) c.join.ensures ∙ counted_in ws rest x is (λ w. w.steps) c.loop-workers.steps _ inv.steps;
       small = omega arith;
       finished = finished_more ws rest x is (λ w. w.finished) c.loop-workers.back.finished c.args.workers.items inv.finished;
     }

@@ -25,7 +25,7 @@ before_next m stride = let same : m + 1 - 1 ≡ m = omega arith in ap (λ (n : �
 
 pub overflow_add-first : goal.overflow_add-first
 overflow_add-first g c =
-    let k : CourseTold = c.args.course.now.value in
+    let k : CourseTold = c.args.shift.now.course.now.value in
     let s = c.args.segment in
     let course : IsCourse k = subst IsCourse c.deref.ensures c.segment-g.ensures.course in
     let start = c.start_number-start.ensures
@@ -33,12 +33,12 @@ overflow_add-first g c =
     let low = grid_from k s course c.requires.segment in
     let before = begins_within k s course c.requires.segment in
     let limit = course.opening.limit in
-    let quotient = div-le_self c.max-after.result c.args.stride in
+    let quotient = div-le_self c.max-after.result c.args.shift.now.stride in
     omega (arith, c.max-after.ensures, c.events-from.ensures, c.requires.begins)
 
 pub overflow_mul-event : goal.overflow_mul-event
 overflow_mul-event g c =
-    let k : CourseTold = c.args.course.now.value in
+    let k : CourseTold = c.args.shift.now.course.now.value in
     let s = c.args.segment in
     let course : IsCourse k = subst IsCourse c.deref.ensures c.segment-g.ensures.course in
     let most = ap (λ (o : Opening). o.limit) c.opening.ensures.value ∙ ap (λ (x : CourseTold). x.opening.limit) c.deref-2.ensures in
@@ -46,17 +46,17 @@ overflow_mul-event g c =
     ∙ ap (λ (m : ℕ). stop_number m c.segment-g.result.stop) most
     ∙ ap (λ (x : Segment). stop_number k.opening.limit x.stop) (c.segment-g.ensures.value ∙ ap (λ (x : CourseTold). segment_at x.plan s) c.deref.ensures) in
     let to = grid_to k s course c.requires.segment in
-    let below = times_below c.args.stride c.stop_number-stop.result c.loop-factor.factor c.requires.stride
+    let below = times_below c.args.shift.now.stride c.stop_number-stop.result c.loop-factor.factor c.requires.shelf.some
     (subst (λ (q : ℕ). c.loop-factor.factor < q) c.div_ceil-past.ensures c.loop-factor-test.true) in
     let limit = course.opening.limit in
     omega arith
 
 pub loop-factor-init : goal.loop-factor-init
 loop-factor-init g c =
-    let k : CourseTold = c.args.course.now.value in
+    let k : CourseTold = c.args.shift.now.course.now.value in
     let s = c.args.segment in
     let a = c.max-after.result in
-    let stride = c.args.stride in
+    let stride = c.args.shift.now.stride in
     let course : IsCourse k = subst IsCourse c.deref.ensures c.segment-g.ensures.course in
     let start = c.start_number-start.ensures
     ∙ ap (λ (x : Segment). start_number x.start) (c.segment-g.ensures.value ∙ ap (λ (x : CourseTold). segment_at x.plan s) c.deref.ensures) in
@@ -67,7 +67,7 @@ loop-factor-init g c =
     let greatest : a ≡ max c.start_number-start.result c.events-from.result = omega (arith, c.max-after.ensures) in
     let either = either_max c.start_number-start.result c.events-from.result a greatest in
     let over : c.events-from.result ≤ a = omega arith in
-    let above = first_above stride a c.requires.stride in
+    let above = first_above stride a c.requires.shelf.some in
     let most = div-mul-le_self a stride in
     let next = before_next (a / stride) stride in
     let lowest : (a ≤ start_number (segment_at k.plan s).start) ⊎ (a ≤ from_count k.opening k.plan (segment_at k.plan s)) = elim either [
@@ -80,16 +80,16 @@ loop-factor-init g c =
       turns = c.requires.turns;
       begins = omega arith;
       within = omega arith;
-      underway = goes_later k c.args.keep s 0 ((a / stride + 1 - 1) * stride) (ran_told c.args.ran.now) (omega arith) c.requires.underway;
+      underway = goes_later k c.args.shift.now.keep s 0 ((a / stride + 1 - 1) * stride) (ran_told c.args.ran.now) (omega arith) c.requires.underway;
       ticks = refl;
       grows = omega arith;
-      known = knows_none k c.args.shelf.now.plan stride s ((a / stride + 1) * stride) c.args.seat.now.view c.requires.shelf.grid a lowest
+      known = knows_none k c.args.shift.now.shelf.now.plan stride s ((a / stride + 1) * stride) c.args.seat.now.view c.requires.shelf.grid a lowest
           (λ e more less. between stride (a / stride) e (omega arith) less);
     }
 
 pub pass-requires-clause-within : goal.pass-requires-clause-within
 pass-requires-clause-within g c =
-    let k : CourseTold = c.args.course.now.value in
+    let k : CourseTold = c.args.shift.now.course.now.value in
     let s = c.args.segment in
     let course : IsCourse k = subst IsCourse c.deref.ensures c.segment-g.ensures.course in
     let most = ap (λ (o : Opening). o.limit) c.opening.ensures.value ∙ ap (λ (x : CourseTold). x.opening.limit) c.deref-2.ensures in
@@ -97,23 +97,23 @@ pass-requires-clause-within g c =
     ∙ ap (λ (m : ℕ). stop_number m c.segment-g.result.stop) most
     ∙ ap (λ (x : Segment). stop_number k.opening.limit x.stop) (c.segment-g.ensures.value ∙ ap (λ (x : CourseTold). segment_at x.plan s) c.deref.ensures) in
     let to = grid_to k s course c.requires.segment in
-    let below = times_below c.args.stride c.stop_number-stop.result c.loop-factor.factor c.requires.stride
+    let below = times_below c.args.shift.now.stride c.stop_number-stop.result c.loop-factor.factor c.requires.shelf.some
     (subst (λ (q : ℕ). c.loop-factor.factor < q) c.div_ceil-past.ensures c.loop-factor-test.true) in
     omega arith
 
 pub pass-requires-clause-underway : goal.pass-requires-clause-underway
 pass-requires-clause-underway g c =
     let n = c.loop-factor.factor in
-    let stride = c.args.stride in
+    let stride = c.args.shift.now.stride in
     let less : n - 1 ≤ n = omega arith in
-    goes_later c.args.course.now.value c.args.keep c.args.segment ((n - 1) * stride) (n * stride) (ran_told c.loop-factor.ran) (mul-le-mul_right stride less) c.loop-factor.invariant.underway
+    goes_later c.args.shift.now.course.now.value c.args.shift.now.keep c.args.segment ((n - 1) * stride) (n * stride) (ran_told c.loop-factor.ran) (mul-le-mul_right stride less) c.loop-factor.invariant.underway
 
 pub loop-factor-preserved : goal.loop-factor-preserved
 loop-factor-preserved g c =
-    let k : CourseTold = c.args.course.now.value in
+    let k : CourseTold = c.args.shift.now.course.now.value in
     let s = c.args.segment in
     let n = c.loop-factor.factor in
-    let stride = c.args.stride in
+    let stride = c.args.shift.now.stride in
     let v = c.loop-factor.invariant in
     let course : IsCourse k = subst IsCourse c.deref.ensures c.segment-g.ensures.course in
     let most = ap (λ (o : Opening). o.limit) c.opening.ensures.value ∙ ap (λ (x : CourseTold). x.opening.limit) c.deref-2.ensures in
@@ -121,7 +121,7 @@ loop-factor-preserved g c =
     ∙ ap (λ (m : ℕ). stop_number m c.segment-g.result.stop) most
     ∙ ap (λ (x : Segment). stop_number k.opening.limit x.stop) (c.segment-g.ensures.value ∙ ap (λ (x : CourseTold). segment_at x.plan s) c.deref.ensures) in
     let to = grid_to k s course c.requires.segment in
-    let below = times_below stride c.stop_number-stop.result n c.requires.stride (subst (λ (q : ℕ). n < q) c.div_ceil-past.ensures c.loop-factor-test.true) in
+    let below = times_below stride c.stop_number-stop.result n c.requires.shelf.some (subst (λ (q : ℕ). n < q) c.div_ceil-past.ensures c.loop-factor-test.true) in
     let next = once_more n stride in
     let here = before_next n stride in
     let stays = c.pass.ensures.stays in
@@ -137,54 +137,54 @@ loop-factor-preserved g c =
       turns = c.pass.ensures.turns;
       begins = omega (arith, v.begins);
       within = omega arith;
-      underway = subst (λ (m : ℕ). IsUnderway k c.args.keep s m (ran_told c.pass.new.ran)) (sym here) c.in_ok-on.ensures.underway;
+      underway = subst (λ (m : ℕ). IsUnderway k c.args.shift.now.keep s m (ran_told c.pass.new.ran)) (sym here) c.in_ok-on.ensures.underway;
       ticks = omega (arith, v.ticks, c.pass.ensures.ticks);
       grows = omega (arith, v.grows, c.pass.ensures.grows);
-      known = knows_more k c.args.shelf.now.plan stride s (n * stride) c.loop-factor.seat.view c.requires.shelf.grid ((n + 1) * stride) c.pass.new.seat.view
+      known = knows_more k c.args.shift.now.shelf.now.plan stride s (n * stride) c.loop-factor.seat.view c.requires.shelf.grid ((n + 1) * stride) c.pass.new.seat.view
           (λ e more less. between stride n e more less) v.known stays.known c.in_ok-on.ensures.known;
     }
 
 pub returns-then-not-on-clause-underway : goal.returns-then-not-on-clause-underway
 returns-then-not-on-clause-underway g c =
-    let k : CourseTold = c.args.course.now.value in
+    let k : CourseTold = c.args.shift.now.course.now.value in
     let s = c.args.segment in
     let n = c.loop-factor.factor in
-    let stride = c.args.stride in
+    let stride = c.args.shift.now.stride in
     let course : IsCourse k = subst IsCourse c.deref.ensures c.segment-g.ensures.course in
     let most = ap (λ (o : Opening). o.limit) c.opening.ensures.value ∙ ap (λ (x : CourseTold). x.opening.limit) c.deref-2.ensures in
     let stop = c.stop_number-stop.ensures
     ∙ ap (λ (m : ℕ). stop_number m c.segment-g.result.stop) most
     ∙ ap (λ (x : Segment). stop_number k.opening.limit x.stop) (c.segment-g.ensures.value ∙ ap (λ (x : CourseTold). segment_at x.plan s) c.deref.ensures) in
     let to = grid_to k s course c.requires.segment in
-    let below = times_below stride c.stop_number-stop.result n c.requires.stride (subst (λ (q : ℕ). n < q) c.div_ceil-past.ensures c.loop-factor-test.true) in
-    goes_later k c.args.keep s (n * stride) k.opening.limit (ran_told c.pass.new.ran) (omega arith) c.in_ok-on.ensures.underway
+    let below = times_below stride c.stop_number-stop.result n c.requires.shelf.some (subst (λ (q : ℕ). n < q) c.div_ceil-past.ensures c.loop-factor-test.true) in
+    goes_later k c.args.shift.now.keep s (n * stride) k.opening.limit (ran_told c.pass.new.ran) (omega arith) c.in_ok-on.ensures.underway
 
 pub returns-then-not-on-clause-known : goal.returns-then-not-on-clause-known
 returns-then-not-on-clause-known g c =
-    let k : CourseTold = c.args.course.now.value in
+    let k : CourseTold = c.args.shift.now.course.now.value in
     let n = c.loop-factor.factor in
     let v = c.loop-factor.invariant in
-    knows_ended k c.args.shelf.now.plan c.args.stride c.args.segment (n * c.args.stride) c.loop-factor.seat.view c.requires.shelf.grid c.pass.new.seat.view
+    knows_ended k c.args.shift.now.shelf.now.plan c.args.shift.now.stride c.args.segment (n * c.args.shift.now.stride) c.loop-factor.seat.view c.requires.shelf.grid c.pass.new.seat.view
     v.begins v.known c.pass.ensures.stays.known (c.in_ok-on.ensures.ended c.if-not-on.true)
 
 pub returns-clause-underway : goal.returns-clause-underway
 returns-clause-underway g c =
-    let k : CourseTold = c.args.course.now.value in
+    let k : CourseTold = c.args.shift.now.course.now.value in
     let n = c.loop-factor.factor in
     let v = c.loop-factor.invariant in
-    goes_later k c.args.keep c.args.segment ((n - 1) * c.args.stride) k.opening.limit (ran_told c.loop-factor.ran) v.within v.underway
+    goes_later k c.args.shift.now.keep c.args.segment ((n - 1) * c.args.shift.now.stride) k.opening.limit (ran_told c.loop-factor.ran) v.within v.underway
 
 pub returns-clause-known : goal.returns-clause-known
 returns-clause-known g c =
-    let k : CourseTold = c.args.course.now.value in
+    let k : CourseTold = c.args.shift.now.course.now.value in
     let s = c.args.segment in
     let n = c.loop-factor.factor in
-    let stride = c.args.stride in
+    let stride = c.args.shift.now.stride in
     let course : IsCourse k = subst IsCourse c.deref.ensures c.segment-g.ensures.course in
     let most = ap (λ (o : Opening). o.limit) c.opening.ensures.value ∙ ap (λ (x : CourseTold). x.opening.limit) c.deref-2.ensures in
     let stop = c.stop_number-stop.ensures
     ∙ ap (λ (m : ℕ). stop_number m c.segment-g.result.stop) most
     ∙ ap (λ (x : Segment). stop_number k.opening.limit x.stop) (c.segment-g.ensures.value ∙ ap (λ (x : CourseTold). segment_at x.plan s) c.deref.ensures) in
     let plan = ap (λ (m : ℕ). stop_number m (segment_at k.plan s).stop) course.limit in
-    let past = times_past stride c.stop_number-stop.result n c.requires.stride (subst (λ (q : ℕ). q ≤ n) c.div_ceil-past.ensures c.loop-factor-test.false) in
-    knows_all k c.args.shelf.now.plan stride s (n * stride) c.loop-factor.seat.view c.requires.shelf.grid (omega arith) c.loop-factor.invariant.known
+    let past = times_past stride c.stop_number-stop.result n c.requires.shelf.some (subst (λ (q : ℕ). q ≤ n) c.div_ceil-past.ensures c.loop-factor-test.false) in
+    knows_all k c.args.shift.now.shelf.now.plan stride s (n * stride) c.loop-factor.seat.view c.requires.shelf.grid (omega arith) c.loop-factor.invariant.known

@@ -12,10 +12,10 @@ invariant-loop-factor g l = record {
   same : l.seat.shelf ≡ l.initial.seat.shelf;
   stays : Stays l.initial.seat.view l.seat.view;
   turns : l.seat.view.turns ≡ [];
-  begins : from_count l.course.value.opening l.course.value.plan (segment_at l.course.value.plan l.segment) < l.factor * l.stride;
-  within : (l.factor - 1) * l.stride ≤ l.course.value.opening.limit;
-  underway : IsUnderway l.course.value l.keep l.segment ((l.factor - 1) * l.stride) (ran_told l.ran);
+  begins : from_count l.shift.course.now.value.opening l.shift.course.now.value.plan (segment_at l.shift.course.now.value.plan l.segment) < l.factor * l.shift.stride;
+  within : (l.factor - 1) * l.shift.stride ≤ l.shift.course.now.value.opening.limit;
+  underway : IsUnderway l.shift.course.now.value l.shift.keep l.segment ((l.factor - 1) * l.shift.stride) (ran_told l.ran);
   ticks : l.steps + l.initial.ran.kernel.events ≡ l.initial.steps + l.ran.kernel.events;
   grows : l.initial.ran.kernel.events ≤ l.ran.kernel.events;
-  known : KnowsBefore l.course.value l.shelf.plan l.segment (l.factor * l.stride) l.seat.view;
+  known : KnowsBefore l.shift.course.now.value l.shift.shelf.now.plan l.segment (l.factor * l.shift.stride) l.seat.view;
 }

@@ -1,4 +1,5 @@
 use Rattle.std.proofs.Common.{◌≡◌, IfOk, ap, ◌∙◌, subst}
+use Rattle.branch_tree.specs.Segments.{segment_at}
 use Rattle.kernel_core.specs.State.{State}
 use Rattle.kernel_copy.specs.Courses.{CourseTold, CheckpointTold, state_at}
 use Rattle.branch_workers.proofs.Ends.{key_is, has_place, end_state_of}
@@ -6,14 +7,18 @@ use Rattle.branch_workers.proofs.segment.end_of.Goals as goal
 
 pub wait_for-requires-clause-place : goal.wait_for-requires-clause-place
 wait_for-requires-clause-place g c =
-    let k : CourseTold = c.args.course.now in
-    (has_place k c.args.shelf.now c.args.segment (record { segment = c.args.segment; event = c.number_of_end-event.result }) c.requires.shelf c.requires.segment c.requires.unfinished
-    (key_is k c.args.segment c.number_of_end-event.result c.segment-stop.result c.segment-stop.ensures.value c.number_of_end-event.ensures)).0
+    let k : CourseTold = c.args.shift.now.course.now.value in
+    let s = c.args.segment in
+    let is = c.segment-stop.ensures.value ∙ ap (λ (x : CourseTold). segment_at x.plan s) c.deref.ensures in
+    (has_place k c.args.shift.now.stride c.args.shift.now.shelf.now s (record { segment = s; event = c.number_of_end-event.result }) c.requires.shelf c.requires.segment c.requires.unfinished
+    (key_is k s c.number_of_end-event.result c.segment-stop.result is c.number_of_end-event.ensures)).0
 
 pub returns-clause-state : goal.returns-clause-state
 returns-clause-state g c =
-    let k : CourseTold = c.args.course.now in
+    let k : CourseTold = c.args.shift.now.course.now.value in
+    let s = c.args.segment in
     let f = c.in_ok-end.ensures.found in
-    let key = key_is k c.args.segment c.number_of_end-event.result c.segment-stop.result c.segment-stop.ensures.value c.number_of_end-event.ensures in
-    let state = end_state_of k c.args.segment c.in_ok-end.end.value (f.0 ∙ key) (f.1 ∙ c.requires.shelf.0) in
-    subst (λ (y : State). IfOk c.resume.result (λ (z : State). z ≡ y)) (ap (λ (t : CheckpointTold). state_at t.course t.key) c.deref.ensures ∙ state) c.resume.ensures.state
+    let is = c.segment-stop.ensures.value ∙ ap (λ (x : CourseTold). segment_at x.plan s) c.deref.ensures in
+    let key = key_is k s c.number_of_end-event.result c.segment-stop.result is c.number_of_end-event.ensures in
+    let state = end_state_of k s c.in_ok-end.end.value (f.0 ∙ key) (f.1 ∙ c.requires.shelf.course) in
+    subst (λ (y : State). IfOk c.resume.result (λ (z : State). z ≡ y)) (ap (λ (t : CheckpointTold). state_at t.course t.key) c.deref-2.ensures ∙ state) c.resume.ensures.state

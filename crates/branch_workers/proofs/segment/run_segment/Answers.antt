@@ -1,23 +1,23 @@
-use Rattle.std.proofs.Common.{Result, Ok, Err, OnErr, ap, ◌∙◌}
+use Rattle.std.proofs.Common.{Result, Ok, Err, OnErr, ap, ◌∙◌, subst}
 use Rattle.market_floor.specs.declared.opening.Opening.{Opening}
 use Rattle.kernel_copy.specs.Closing.{closing_at}
-use Rattle.kernel_copy.specs.Courses.{CourseTold}
+use Rattle.kernel_copy.specs.Courses.{CourseTold, IsCourse}
 use Rattle.kernel_copy.specs.Ran.{RanTold, ran_told}
 use Rattle.kernel_copy.proofs.Adding.{outcome-is, ran-ends}
 use Rattle.branch_workers.proofs.segment.run_segment.Goals as goal
 
-pub put_end-requires-clause-state : goal.put_end-requires-clause-state
-put_end-requires-clause-state g c =
+pub shelve_end-requires-clause-state : goal.shelve_end-requires-clause-state
+shelve_end-requires-clause-state g c =
     let x : RanTold = ran_told c.in_ok-ran.ran in
-    ran-ends c.args.course.now.value c.args.keep c.args.segment x c.advance-made.ensures.course c.requires.segment c.in_ok-ran.ensures.ran
+    ran-ends c.args.shift.now.course.now.value c.args.shift.now.keep c.args.segment x (subst IsCourse c.deref.ensures c.is_course.ensures) c.requires.segment c.in_ok-ran.ensures.ran
 
 pub returns-clause-outcome : goal.returns-clause-outcome
 returns-clause-outcome g c =
-    let k : CourseTold = c.args.course.now.value in
+    let k : CourseTold = c.args.shift.now.course.now.value in
     let x : RanTold = ran_told c.in_ok-ran.ran in
-    let opening = c.opening.ensures.value ∙ ap (λ (x : CourseTold). x.opening) c.deref.ensures in
+    let opening = c.opening.ensures.value ∙ ap (λ (x : CourseTold). x.opening) c.deref-2.ensures in
     let tells = c.in_ok-outcome.ensures in
-    outcome-is k c.args.keep c.args.segment x _ _ _ _ c.advance-made.ensures.course c.requires.segment c.in_ok-ran.ensures.ran tells.segment tells.kept tells.events
+    outcome-is k c.args.shift.now.keep c.args.segment x _ _ _ _ (subst IsCourse c.deref.ensures c.is_course.ensures) c.requires.segment c.in_ok-ran.ensures.ran tells.segment tells.kept tells.events
     (tells.closing ∙ ap (λ (o : Opening). closing_at o c.in_ok-ran.ran.kernel) opening)
 
 -- what holds in any case holds of an `Err`
@@ -25,5 +25,5 @@ any-err : {X E A : Type 0} (r : Result X E) → A → OnErr r A
 any-err (Ok x) a = tt
 any-err (Err e) a = a
 
-pub returns-in_err-put_end-clause-uncounted : goal.returns-in_err-put_end-clause-uncounted
-returns-in_err-put_end-clause-uncounted g c = any-err c.from_residual-in_err-put_end.result (c.put_end.ensures.stays.counts ∙ c.advance-made.ensures.stays.counts)
+pub returns-in_err-shelve_end-clause-uncounted : goal.returns-in_err-shelve_end-clause-uncounted
+returns-in_err-shelve_end-clause-uncounted g c = any-err c.from_residual-in_err-shelve_end.result (c.shelve_end.ensures.stays.counts ∙ c.advance-made.ensures.stays.counts)

@@ -10,7 +10,7 @@ use Rattle.branch_workers.proofs.worker.ends.Goals as goal
 pub returns-then-progress-count-clause-work : goal.returns-then-progress-count-clause-work
 returns-then-progress-count-clause-work g c =
     let w = c.args.worker.now in
-    stays_at_work c.args.course.now.value c.args.keep c.args.shelf.now w.number w.seat w.steps w.outcomes.items w.lane.own.view.pushed c.requires.work c.progress-progress.new.seat c.progress-progress.ensures.same c.progress-progress.ensures.kept.0 c.progress-progress.ensures.kept.1
+    stays_at_work c.args.shift.now.course.now.value c.args.shift.now.keep c.args.shift.now.shelf.now w.number w.seat w.steps w.outcomes.items w.lane.own.view.pushed c.requires.work c.progress-progress.new.seat c.progress-progress.ensures.same c.progress-progress.ensures.kept.0 c.progress-progress.ensures.kept.1
 
 pub returns-then-progress-count-clause-done : goal.returns-then-progress-count-clause-done
 returns-then-progress-count-clause-done g c = λ _.
@@ -21,7 +21,7 @@ returns-then-progress-count-clause-done g c = λ _.
 pub returns-clause-work : goal.returns-clause-work
 returns-clause-work g c =
     let w = c.args.worker.now in
-    stays_at_work c.args.course.now.value c.args.keep c.args.shelf.now w.number w.seat w.steps w.outcomes.items w.lane.own.view.pushed c.requires.work c.progress-progress.new.seat c.progress-progress.ensures.same c.progress-progress.ensures.kept.0 c.progress-progress.ensures.kept.1
+    stays_at_work c.args.shift.now.course.now.value c.args.shift.now.keep c.args.shift.now.shelf.now w.number w.seat w.steps w.outcomes.items w.lane.own.view.pushed c.requires.work c.progress-progress.new.seat c.progress-progress.ensures.same c.progress-progress.ensures.kept.0 c.progress-progress.ensures.kept.1
 
 pub returns-clause-stopped : goal.returns-clause-stopped
 returns-clause-stopped g c = λ told _. ap (λ (v : SeatView). v.stopped) c.progress-progress.ensures.seen.is ∙ told

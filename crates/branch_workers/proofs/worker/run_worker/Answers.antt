@@ -6,12 +6,12 @@ use Rattle.branch_workers.proofs.worker.run_worker.Goals as goal
 pub try_segment-requires-clause-work : goal.try_segment-requires-clause-work
 try_segment-requires-clause-work g c =
     let w = c.loop.worker in
-    subst (λ (ps : List ℕ). IsAtWork c.args.course.now.value c.args.keep c.args.shelf.now w.number w.seat w.steps w.outcomes.items ps) (sym c.next_segment.ensures.pushed) c.loop.invariant.work
+    subst (λ (ps : List ℕ). IsAtWork c.args.shift.now.course.now.value c.args.shift.now.keep c.args.shift.now.shelf.now w.number w.seat w.steps w.outcomes.items ps) (sym c.next_segment.ensures.pushed) c.loop.invariant.work
 
 pub ends-requires-clause-work : goal.ends-requires-clause-work
 ends-requires-clause-work g c =
     let w = c.loop.worker in
-    subst (λ (ps : List ℕ). IsAtWork c.args.course.now.value c.args.keep c.args.shelf.now w.number w.seat w.steps w.outcomes.items ps) (sym c.next_segment.ensures.pushed) c.loop.invariant.work
+    subst (λ (ps : List ℕ). IsAtWork c.args.shift.now.course.now.value c.args.shift.now.keep c.args.shift.now.shelf.now w.number w.seat w.steps w.outcomes.items ps) (sym c.next_segment.ensures.pushed) c.loop.invariant.work
 
 pub returns-then-not-try_segment-clause-finished : goal.returns-then-not-try_segment-clause-finished
 returns-then-not-try_segment-clause-finished g c = λ e. absurd (true≢false (sym e ∙ c.try_segment.ensures.finished ∙ c.loop.invariant.finished))
@@ -22,12 +22,12 @@ returns-then-not-try_segment-clause-counted g c = λ e. absurd (true≢false (sy
 pub returns-then-ends-clause-ended : goal.returns-then-ends-clause-ended
 returns-then-ends-clause-ended g c =
     let w = c.ends.new.worker in
-    ends_here c.args.course.now.value c.args.keep c.args.shelf.now w.number w.seat w.steps w.outcomes.items w.lane.own.view.pushed c.ends.ensures.work
+    ends_here c.args.shift.now.course.now.value c.args.shift.now.keep c.args.shift.now.shelf.now w.number w.seat w.steps w.outcomes.items w.lane.own.view.pushed c.ends.ensures.work
 
 pub returns-then-ends-clause-finished : goal.returns-then-ends-clause-finished
 returns-then-ends-clause-finished g c = λ e.
     let w = c.ends.new.worker in
-    finishes_here c.args.course.now.value c.args.keep c.args.shelf.now w.number w.seat w.steps w.outcomes.items w.lane.own.view.pushed c.ends.ensures.work (c.ends.ensures.done e)
+    finishes_here c.args.shift.now.course.now.value c.args.shift.now.keep c.args.shift.now.shelf.now w.number w.seat w.steps w.outcomes.items w.lane.own.view.pushed c.ends.ensures.work (c.ends.ensures.done e)
 
 pub returns-then-ends-clause-counted : goal.returns-then-ends-clause-counted
 returns-then-ends-clause-counted g c = λ e. c.ends.ensures.work.counted

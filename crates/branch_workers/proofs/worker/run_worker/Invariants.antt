@@ -8,5 +8,5 @@ invariant-loop g l = record {
   fin : (goal.iterator-loop g).is_finite l.iterator';
   number : l.worker.number ≡ l.initial.worker.number;
   finished : l.worker.finished ≡ false;
-  work : IsAtWork l.course.value l.keep l.shelf l.worker.number l.worker.seat l.worker.steps l.worker.outcomes.items l.worker.lane.own.view.pushed;
+  work : IsAtWork l.shift.course.now.value l.shift.keep l.shift.shelf.now l.worker.number l.worker.seat l.worker.steps l.worker.outcomes.items l.worker.lane.own.view.pushed;
 }

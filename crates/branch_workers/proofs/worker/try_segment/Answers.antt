@@ -19,7 +19,7 @@ run_segment-requires-clause-turns g c = ap (λ (v : SeatView). v.turns) (c.claim
 
 pub run_segment-requires-clause-count : goal.run_segment-requires-clause-count
 run_segment-requires-clause-count g c =
-    let k : CourseTold = c.args.course.now.value in
+    let k : CourseTold = c.args.shift.now.course.now.value in
     let h = c.requires.work in
     let f = claims_few k c.args.worker.now.seat.view.claims h.course h.claims in
     let own = own-bound k c.args.segment h.course (omega (arith, c.requires.segment, c.requires.room)) in
@@ -32,7 +32,7 @@ push_children-requires-clause-segment g c =
 
 pub push_children-requires-clause-few : goal.push_children-requires-clause-few
 push_children-requires-clause-few g c =
-    let k : CourseTold = c.args.course.now.value in
+    let k : CourseTold = c.args.shift.now.course.now.value in
     let w = c.args.worker.now in
     let h = c.requires.work in
     let e = ap (λ (x : CourseTold). length (children_of x.plan c.args.segment)) c.deref.ensures in
@@ -41,7 +41,7 @@ push_children-requires-clause-few g c =
 
 pub push_children-requires-clause-below : goal.push_children-requires-clause-below
 push_children-requires-clause-below g c =
-    let k : CourseTold = c.args.course.now.value in
+    let k : CourseTold = c.args.shift.now.course.now.value in
     subst (λ (x : CourseTold). All (λ n. n < g.B.Room.room) (children_of x.plan c.args.segment)) (sym c.deref.ensures)
     (subst (λ (m : ℕ). All (λ n. n < m) (children_of k.plan c.args.segment)) (sym c.requires.room) (are_below k.plan c.args.segment))
 
@@ -49,39 +49,39 @@ pub returns-then-not-claim-clause-work : goal.returns-then-not-claim-clause-work
 returns-then-not-claim-clause-work g c = λ _.
     let w = c.args.worker.now in
     let kept = c.claim.ensures.kept c.if-not-claim.true in
-    stays_at_work c.args.course.now.value c.args.keep c.args.shelf.now w.number w.seat w.steps w.outcomes.items w.lane.own.view.pushed c.requires.work c.claim.new.seat c.claim.ensures.same kept.0 kept.1
+    stays_at_work c.args.shift.now.course.now.value c.args.shift.now.keep c.args.shift.now.shelf.now w.number w.seat w.steps w.outcomes.items w.lane.own.view.pushed c.requires.work c.claim.new.seat c.claim.ensures.same kept.0 kept.1
 
 pub returns-in_default-clause-ended : goal.returns-in_default-clause-ended
 returns-in_default-clause-ended g c = λ _.
-    let k : CourseTold = c.args.course.now.value in
+    let k : CourseTold = c.args.shift.now.course.now.value in
     let w = c.args.worker.now in
     let claimed = c.claim.ensures.claimed c.if-not-claim.false in
     let at = c.run_segment.ensures.same ∙ c.claim.ensures.same in
-    let e = fails k c.args.keep c.args.shelf.now w.number w.seat w.steps w.outcomes.items w.lane.own.view.pushed c.requires.work c.args.segment (omega (arith, c.requires.segment, c.requires.room)) claimed.1 c.claim.new.seat.view claimed.0
+    let e = fails k c.args.shift.now.keep c.args.shift.now.shelf.now w.number w.seat w.steps w.outcomes.items w.lane.own.view.pushed c.requires.work c.args.segment (omega (arith, c.requires.segment, c.requires.room)) claimed.1 c.claim.new.seat.view claimed.0
     c.run_segment.new.seat at c.run_segment.ensures.remains c.run_segment.ensures.turns c.run_segment.new.steps c.run_segment.ensures.most in
-    stops_ended k c.args.shelf.now w.number c.run_segment.new.seat c.run_segment.new.steps e c.stop_others.new.seat c.stop_others.ensures.same c.stop_others.ensures.stopped
+    stops_ended k c.args.shift.now.shelf.now w.number c.run_segment.new.seat c.run_segment.new.steps e c.stop_others.new.seat c.stop_others.ensures.same c.stop_others.ensures.stopped
 
 pub returns-in_default-add-clause-ended : goal.returns-in_default-add-clause-ended
 returns-in_default-add-clause-ended g c = λ _.
-    let k : CourseTold = c.args.course.now.value in
+    let k : CourseTold = c.args.shift.now.course.now.value in
     let w = c.args.worker.now in
     let claimed = c.claim.ensures.claimed c.if-not-claim.false in
     let at = c.run_segment.ensures.same ∙ c.claim.ensures.same in
-    let e = fails k c.args.keep c.args.shelf.now w.number w.seat w.steps w.outcomes.items w.lane.own.view.pushed c.requires.work c.args.segment (omega (arith, c.requires.segment, c.requires.room)) claimed.1 c.claim.new.seat.view claimed.0
+    let e = fails k c.args.shift.now.keep c.args.shift.now.shelf.now w.number w.seat w.steps w.outcomes.items w.lane.own.view.pushed c.requires.work c.args.segment (omega (arith, c.requires.segment, c.requires.room)) claimed.1 c.claim.new.seat.view claimed.0
     c.run_segment.new.seat at c.run_segment.ensures.remains c.run_segment.ensures.turns c.run_segment.new.steps c.run_segment.ensures.most in
-    stops_ended k c.args.shelf.now w.number c.run_segment.new.seat c.run_segment.new.steps e c.stop_others-in_default-add.new.seat c.stop_others-in_default-add.ensures.same c.stop_others-in_default-add.ensures.stopped
+    stops_ended k c.args.shift.now.shelf.now w.number c.run_segment.new.seat c.run_segment.new.steps e c.stop_others-in_default-add.new.seat c.stop_others-in_default-add.ensures.same c.stop_others-in_default-add.ensures.stopped
 
 pub returns-clause-work : goal.returns-clause-work
 returns-clause-work g c = λ _.
-    let k : CourseTold = c.args.course.now.value in
+    let k : CourseTold = c.args.shift.now.course.now.value in
     let w = c.args.worker.now in
     let claimed = c.claim.ensures.claimed c.if-not-claim.false in
     let at = c.run_segment.ensures.same ∙ c.claim.ensures.same in
     let r = c.in-Ok.ensures in
-    let s = ran k c.args.keep c.args.shelf.now w.number w.seat w.steps w.outcomes.items w.lane.own.view.pushed c.requires.work c.args.segment (omega (arith, c.requires.segment, c.requires.room)) claimed.1 c.claim.new.seat.view claimed.0
+    let s = ran k c.args.shift.now.keep c.args.shift.now.shelf.now w.number w.seat w.steps w.outcomes.items w.lane.own.view.pushed c.requires.work c.args.segment (omega (arith, c.requires.segment, c.requires.room)) claimed.1 c.claim.new.seat.view claimed.0
     c.run_segment.new.seat at c.run_segment.ensures.remains c.run_segment.ensures.turns r.counted r.states c.in-Ok.outcome r.outcome c.run_segment.new.steps r.rose in
-    subst (λ (os : List Outcome). IsAtWork k c.args.keep c.args.shelf.now w.number c.run_segment.new.seat c.run_segment.new.steps os c.push_children.new.lane.own.view.pushed) (sym c.in-Ok-add.ensures)
-    (subst (λ (ps : List ℕ). IsAtWork k c.args.keep c.args.shelf.now w.number c.run_segment.new.seat c.run_segment.new.steps (w.outcomes.items ++ c.in-Ok.outcome ∷ []) ps)
+    subst (λ (os : List Outcome). IsAtWork k c.args.shift.now.keep c.args.shift.now.shelf.now w.number c.run_segment.new.seat c.run_segment.new.steps os c.push_children.new.lane.own.view.pushed) (sym c.in-Ok-add.ensures)
+    (subst (λ (ps : List ℕ). IsAtWork k c.args.shift.now.keep c.args.shift.now.shelf.now w.number c.run_segment.new.seat c.run_segment.new.steps (w.outcomes.items ++ c.in-Ok.outcome ∷ []) ps)
     (sym (c.push_children.ensures ∙ ap (λ (x : CourseTold). w.lane.own.view.pushed ++ children_of x.plan c.args.segment) c.deref.ensures)) s)
 
 pub returns-in_default-clause-stopped : goal.returns-in_default-clause-stopped

@@ -57,8 +57,8 @@ returns-clause-lent g c = let all = c.compare_exchange-found.ensures.2 c.args.ta
     let same : x.0 ≡ c.in-Some.value = some_same _ _ (sym is ∙ c.in-Some.is) in
     let e = c.exchange-held.ensures.3 in
     let aim = c.requires.aim in (
-      subst (λ a. g.C.Kept.key_of (arc_value a) ≡ c.args.key) same (x.1 ∙ aim),
-      subst (λ a. g.C.Kept.course_of (arc_value a) ≡ c.args.table.now.key.course.value) same x.2,
+      subst (λ a. g.C.Shelved.key_of (arc_value a) ≡ c.args.key) same (x.1 ∙ aim),
+      subst (λ a. g.C.Shelved.course_of (arc_value a) ≡ c.args.table.now.key.course.value) same x.2,
       e ∙ (λ j. (x.3 j, (c.args.place, None) ∷ rest (x.4 j))) ∙ ap (λ y. (seeing c.args.seat.now.me.0 (with_loan (Some c.args.table.now.key.plan) c.args.place y c.args.seat.now.me.0.seen), (c.args.place, None) ∷ c.args.seat.now.me.1)) aim,
       subst (λ w. Makes c.args.table.now.key.plan (λ n. Lend n c.args.key) c.args.seat.now.me.0.seen w) (sym (ap (λ m. m.0.seen) e))
           (subst (λ y. Makes c.args.table.now.key.plan (λ n. Lend n y) c.args.seat.now.me.0.seen c.compare_exchange-found.new.seat.me.0.seen) aim x.5),

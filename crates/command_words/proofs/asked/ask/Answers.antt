@@ -5,6 +5,6 @@ use Rattle.command_words.specs.Ranges.{IsInRange}
 use Rattle.command_words.proofs.InRange.{line_is_in_range}
 use Rattle.command_words.proofs.asked.ask.Goals as goal
 
-pub returns-in-Ok-Some-clause-in_range : goal.returns-in-Ok-Some-clause-in_range
-returns-in-Ok-Some-clause-in_range c =
-    IfOk-weaker c.asked_in.result _ (λ asked. IfSome asked IsInRange) (line_is_in_range (parts_seen c.in-Ok-Some.line)) c.asked_in.ensures
+pub returns-in-Some-clause-in_range : goal.returns-in-Some-clause-in_range
+returns-in-Some-clause-in_range c =
+    IfOk-weaker c.asked_in.result _ (λ asked. IfSome asked IsInRange) (line_is_in_range (parts_seen c.in-Some.line)) c.asked_in.ensures

@@ -1,4 +1,4 @@
-use Rattle.std.proofs.Common.{◌≡◌, ◌∙◌, sym}
+use Rattle.std.proofs.Common.{◌∙◌, sym}
 use Rattle.command_words.specs.Line.{parts_seen}
 use Rattle.command_words.proofs.Names.{no_places, no_workers}
 use Rattle.command_words.proofs.asked.asked_in.Goals as goal

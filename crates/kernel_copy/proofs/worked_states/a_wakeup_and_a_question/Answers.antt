@@ -1,5 +1,5 @@
 use Rattle.std.proofs.Common.{refl}
-use Rattle.kernel_copy.specs.States.{waiting_frame}
+use Rattle.bundle_frames.specs.Frames.{waiting_frame}
 use Rattle.kernel_copy.proofs.worked_states.a_wakeup_and_a_question.Goals as goal
 
 pub returns : goal.returns

@@ -6,9 +6,8 @@ use Rattle.market_floor.specs.declared.opening.Opening.{Opening}
 use Rattle.market_floor.specs.OpeningWorked.{market, watcher}
 use Rattle.kernel_core.specs.Until.{advanced}
 use Rattle.kernel_core.specs.Worked.{full_run}
-use Rattle.bundle_frames.specs.Frames.{closing_frames}
+use Rattle.bundle_frames.specs.Frames.{closing_frames, waiting_frame, waiting_frames}
 use Rattle.kernel_copy.specs.Closing.{closing_at}
-use Rattle.kernel_copy.specs.States.{waiting_frame, waiting_frames}
 use Rattle.kernel_copy.proofs.worked_states.the_empty_run.Goals as goal
 
 pub returns : goal.returns

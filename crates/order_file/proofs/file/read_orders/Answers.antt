@@ -14,9 +14,9 @@ use Rattle.order_file.proofs.OneByOne.{low-taken, nothing-before, refused, same-
 use Rattle.study_market.proofs.Whole.{split, whole}
 use Rattle.order_file.proofs.file.read_orders.Goals as goal
 
-pub loop-number-init : goal.loop-number-init
+pub records-init : goal.records-init
 unfolding Reached
-loop-number-init c =
+records-init c =
     let from = c.from_reader-reader.ensures in
     let trim = from.trim ∙ ap builder_trim c.flexible.ensures ∙ ap builder_trim c.has_headers.ensures ∙ c.new.ensures.trim in
     let named = from.has_headers ∙ ap builder_names_headers c.flexible.ensures ∙ ap builder_names_headers c.has_headers.ensures in
@@ -35,17 +35,17 @@ loop-number-init c =
       λ rest. sym (ap (λ (os : List Interest). before os (orders_from c.args.traders 0 rest)) none ∙ nothing-before (orders_from c.args.traders 0 rest)),
     )
 
-pub loop-number-preserved : goal.loop-number-preserved
-loop-number-preserved c =
-    let (low, trim, flexible, ready, config, y, source, done, reached, none) = c.loop-number.invariant in
+pub records-preserved : goal.records-preserved
+records-preserved c =
+    let (low, trim, flexible, ready, config, y, source, done, reached, none) = c.records.invariant in
     let rem : Bor (List ℕ) → Option (List ℕ) = λ s. Some s.now in
     let fields = fields_of c.next_record.new.line in
-    let read = subst (λ (found : Bool). ReadRecord rem c.loop-number.reader c.next_record.new.reader found fields) c.if-not-found.false c.in-Ok.ensures.reads in
-    let more = rows-more rem c.loop-number.reader c.next_record.new.reader fields default_config st.StartRecord (strip_bom c.args.text.now) y done config source reached read in
-    let orders : List Interest = c.loop-number.orders.items in
-    let step : option_map (λ xs. orders ++ xs) (said_by c.args.traders c.loop-number.number fields) ≡ Some c.take_record.new.orders.items
+    let read = subst (λ (found : Bool). ReadRecord rem c.records.reader c.next_record.new.reader found fields) c.if-not-found.false c.in-Ok.ensures.reads in
+    let more = rows-more rem c.records.reader c.next_record.new.reader fields default_config st.StartRecord (strip_bom c.args.text.now) y done config source reached read in
+    let orders : List Interest = c.records.orders.items in
+    let step : option_map (λ xs. orders ++ xs) (said_by c.args.traders c.records.number fields) ≡ Some c.take_record.new.orders.items
     = c.in-Ok-take_record.ensures ∙ ap (λ (b : Bool). if b then Some c.take_record.new.orders.items else None) c.if-not-taken.false in (
-      low-taken c.args.traders c.loop-number.number orders c.take_record.new.orders.items fields step,
+      low-taken c.args.traders c.records.number orders c.take_record.new.orders.items fields step,
       read.3 ∙ trim,
       c.in-Ok.ensures.flexible,
       inl c.in-Ok.ensures.ready,
@@ -55,18 +55,18 @@ loop-number-preserved c =
       done ++ fields ∷ [],
       more.2,
       λ rest. ap (orders_from c.args.traders 0) (append_assoc done (fields ∷ []) rest) ∙ none (fields ∷ rest)
-          ∙ taken c.args.traders c.loop-number.number orders c.take_record.new.orders.items fields rest step,
+          ∙ taken c.args.traders c.records.number orders c.take_record.new.orders.items fields rest step,
     )
 
 pub returns-then-not-found : goal.returns-then-not-found
 returns-then-not-found c =
-    let (low, trim, flexible, ready, config, y, source, done, reached, none) = c.loop-number.invariant in
+    let (low, trim, flexible, ready, config, y, source, done, reached, none) = c.records.invariant in
     let rem : Bor (List ℕ) → Option (List ℕ) = λ s. Some s.now in
     let fields = fields_of c.next_record.new.line in
-    let read = subst (λ (found : Bool). ReadRecord rem c.loop-number.reader c.next_record.new.reader found fields) c.if-not-found.true c.in-Ok.ensures.reads in
-    let all : done ≡ records_of c.args.text.now = whole default_config (strip_bom c.args.text.now) y c.loop-number.reader.state done reached
-    (rows-end rem c.loop-number.reader c.next_record.new.reader fields default_config y config source read) in
-    let same : orders_of c.args.traders c.args.text.now ≡ before c.loop-number.orders.items (at_end c.loop-number.number)
+    let read = subst (λ (found : Bool). ReadRecord rem c.records.reader c.next_record.new.reader found fields) c.if-not-found.true c.in-Ok.ensures.reads in
+    let all : done ≡ records_of c.args.text.now = whole default_config (strip_bom c.args.text.now) y c.records.reader.state done reached
+    (rows-end rem c.records.reader c.next_record.new.reader fields default_config y config source read) in
+    let same : orders_of c.args.traders c.args.text.now ≡ before c.records.orders.items (at_end c.records.number)
     = ap (orders_from c.args.traders 0) (sym all ∙ sym (append-nil done)) ∙ none [] in
     let orders : IfOk c.finished.result (λ v. orders_of c.args.traders c.args.text.now ≡ Ok v.items)
     = IfOk-weaker c.finished.result _ _ (λ v h. same ∙ h) c.finished.ensures.orders in record {
@@ -77,16 +77,16 @@ returns-then-not-found c =
 
 pub returns-then-not-taken-clause-refused : goal.returns-then-not-taken-clause-refused
 returns-then-not-taken-clause-refused c n e =
-    let (low, trim, flexible, ready, config, y, source, done, reached, none) = c.loop-number.invariant in
+    let (low, trim, flexible, ready, config, y, source, done, reached, none) = c.records.invariant in
     let rem : Bor (List ℕ) → Option (List ℕ) = λ s. Some s.now in
     let fields = fields_of c.next_record.new.line in
-    let read = subst (λ (found : Bool). ReadRecord rem c.loop-number.reader c.next_record.new.reader found fields) c.if-not-found.false c.in-Ok.ensures.reads in
-    let more = rows-more rem c.loop-number.reader c.next_record.new.reader fields default_config st.StartRecord (strip_bom c.args.text.now) y done config source reached read in
-    let orders : List Interest = c.loop-number.orders.items in
-    let stop : option_map (λ xs. orders ++ xs) (said_by c.args.traders c.loop-number.number fields) ≡ None
+    let read = subst (λ (found : Bool). ReadRecord rem c.records.reader c.next_record.new.reader found fields) c.if-not-found.false c.in-Ok.ensures.reads in
+    let more = rows-more rem c.records.reader c.next_record.new.reader fields default_config st.StartRecord (strip_bom c.args.text.now) y done config source reached read in
+    let orders : List Interest = c.records.orders.items in
+    let stop : option_map (λ xs. orders ++ xs) (said_by c.args.traders c.records.number fields) ≡ None
     = c.in-Ok-take_record.ensures ∙ ap (λ (b : Bool). if b then Some c.take_record.new.orders.items else None) c.if-not-taken.true in
     let parts = split default_config (strip_bom c.args.text.now) more.0 c.next_record.new.reader.state (done ++ fields ∷ []) more.2 in
     let after = records_from default_config parts.0 c.next_record.new.reader.state more.0 in
     ap (orders_from c.args.traders 0) (parts.3 ∙ append_assoc done (fields ∷ []) after) ∙ none (fields ∷ after)
-    ∙ refused c.args.traders c.loop-number.number orders fields after stop
-    ∙ ap Err (same-refusal c.loop-number.number n e)
+    ∙ refused c.args.traders c.records.number orders fields after stop
+    ∙ ap Err (same-refusal c.records.number n e)

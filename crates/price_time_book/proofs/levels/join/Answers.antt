@@ -7,7 +7,7 @@ use Rattle.price_time_book.proofs.levels.join.Goals as goal
 pub join_queue-requires-clause-indexed : goal.join_queue-requires-clause-indexed
 join_queue-requires-clause-indexed c =
     let x = c.args.order in
-    indexed_as (shown_of x.side) (queue_of x) c.args.orders.now.items c.args.nexts.now.items c.args.shown.now.items (sym (queue_is x x.side true refl c.if-order.true)) c.requires.shown
+    indexed_as (shown_of x.side) (queue_of x) c.args.orders.now.items c.args.nexts.now.items c.args.half.now.shown.items (sym (queue_is x x.side true refl c.if-order.true)) c.requires.shown
 
 pub returns-then-order-clause-shown : goal.returns-then-order-clause-shown
 returns-then-order-clause-shown c =
@@ -17,7 +17,7 @@ returns-then-order-clause-shown c =
 pub returns-then-order-clause-hidden : goal.returns-then-order-clause-hidden
 returns-then-order-clause-hidden c =
     let x = c.args.order in
-    c.join_queue.ensures.others (hidden_of x.side) c.args.hidden.now.items (λ e. hidden_apart x.side x.side (e ∙ queue_is x x.side true refl c.if-order.true)) c.requires.hidden
+    c.join_queue.ensures.others (hidden_of x.side) c.args.half.now.hidden.items (λ e. hidden_apart x.side x.side (e ∙ queue_is x x.side true refl c.if-order.true)) c.requires.hidden
 
 pub returns-then-order-clause-others : goal.returns-then-order-clause-others
 returns-then-order-clause-others c = λ t ms n v. c.join_queue.ensures.others t ms (λ e. n (ap (λ (r : Queue). r.side) e)) v
@@ -25,7 +25,7 @@ returns-then-order-clause-others c = λ t ms n v. c.join_queue.ensures.others t 
 pub join_queue-requires-2-clause-indexed : goal.join_queue-requires-2-clause-indexed
 join_queue-requires-2-clause-indexed c =
     let x = c.args.order in
-    indexed_as (hidden_of x.side) (queue_of x) c.args.orders.now.items c.args.nexts.now.items c.args.hidden.now.items (sym (queue_is x x.side false refl c.if-order.false)) c.requires.hidden
+    indexed_as (hidden_of x.side) (queue_of x) c.args.orders.now.items c.args.nexts.now.items c.args.half.now.hidden.items (sym (queue_is x x.side false refl c.if-order.false)) c.requires.hidden
 
 pub returns-clause-hidden : goal.returns-clause-hidden
 returns-clause-hidden c =
@@ -35,7 +35,7 @@ returns-clause-hidden c =
 pub returns-clause-shown : goal.returns-clause-shown
 returns-clause-shown c =
     let x = c.args.order in
-    c.join_queue-2.ensures.others (shown_of x.side) c.args.shown.now.items (λ e. shown_apart x.side x.side (e ∙ queue_is x x.side false refl c.if-order.false)) c.requires.shown
+    c.join_queue-2.ensures.others (shown_of x.side) c.args.half.now.shown.items (λ e. shown_apart x.side x.side (e ∙ queue_is x x.side false refl c.if-order.false)) c.requires.shown
 
 pub returns-clause-others : goal.returns-clause-others
 returns-clause-others c = λ t ms n v. c.join_queue-2.ensures.others t ms (λ e. n (ap (λ (r : Queue). r.side) e)) v

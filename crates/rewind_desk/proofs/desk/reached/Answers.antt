@@ -14,7 +14,7 @@ use Rattle.rewind_desk.proofs.desk.reached.Goals as goal
 
 pub reach-requires-clause-within : goal.reach-requires-clause-within
 reach-requires-clause-within g c =
-    omega (arith, ap (λ (o : Opening). o.limit) c.opening.ensures.value, c.lesser-most.ensures)
+    omega (arith, ap (λ (o : Opening). o.limit) c.opening.ensures.value, c.min-most.ensures)
 
 pub reach-requires-clause-held : goal.reach-requires-clause-held
 reach-requires-clause-held g c =
@@ -28,7 +28,7 @@ reach-requires-clause-held g c =
     let limit = ap (λ (o : Opening). o.limit) c.opening.ensures.value in
     let most : (segment_end k.opening k.plan (segment_at k.plan s)).state.events ≤ k.opening.limit =
     subst (λ (x : ℕ). (segment_end k.opening k.plan (segment_at k.plan x)).state.events ≤ k.opening.limit) (sym last) (last-within k b course c.requires.branch) in
-    let same : min c.args.event k.opening.limit ≡ c.lesser-most.result = omega (arith, limit, c.lesser-most.ensures) in
+    let same : min c.args.event k.opening.limit ≡ c.min-most.result = omega (arith, limit, c.min-most.ensures) in
     subst (λ (x : ℕ). IfSome near (IsHeld c.args.shelf.now x)) same
     (held-at c.args.shelf.now k s c.args.event k.opening.limit near c.requires.shelf course c.last_segment-last.ensures.exists most nearest.held
     (chain-of c.args.shelf.now k s near c.requires.shelf nearest.chain))
@@ -40,17 +40,17 @@ reach-requires-clause-chain g c =
 pub reach-requires-clause-count : goal.reach-requires-clause-count
 reach-requires-clause-count g c =
     let best = best-is c.args.shelf.now c.args.course.now c.args.branch c.args.event c.last_segment-last.result _ c.requires.shelf c.last_segment-last.ensures.last c.nearest_to-near.ensures.most in
-    omega (arith, best, c.requires.count, c.lesser-most.ensures)
+    omega (arith, best, c.requires.count, c.min-most.ensures)
 
 pub returns-in_err-arrival-clause-most : goal.returns-in_err-arrival-clause-most
 returns-in_err-arrival-clause-most g c =
     let best = best-is c.args.shelf.now c.args.course.now c.args.branch c.args.event c.last_segment-last.result _ c.requires.shelf c.last_segment-last.ensures.last c.nearest_to-near.ensures.most in
-    omega (arith, best, c.reach.ensures.most, c.lesser-most.ensures)
+    omega (arith, best, c.reach.ensures.most, c.min-most.ensures)
 
 pub returns-clause-most : goal.returns-clause-most
 returns-clause-most g c =
     let best = best-is c.args.shelf.now c.args.course.now c.args.branch c.args.event c.last_segment-last.result _ c.requires.shelf c.last_segment-last.ensures.last c.nearest_to-near.ensures.most in
-    omega (arith, best, c.reach.ensures.most, c.lesser-most.ensures)
+    omega (arith, best, c.reach.ensures.most, c.min-most.ensures)
 
 pub returns-clause-from : goal.returns-clause-from
 returns-clause-from g c =
@@ -64,39 +64,39 @@ pub returns-clause-whole : goal.returns-clause-whole
 returns-clause-whole g c =
     let k : CourseTold = c.args.course.now in
     let limit = ap (λ (o : Opening). o.limit) c.opening.ensures.value in
-    (arrived k c.args.branch c.args.event c.lesser-most.result c.in_ok-arrival.arrival.kernel c.in_ok-arrival.arrival.has_more c.opening.ensures.course c.requires.branch (omega (arith, limit, c.lesser-most.ensures))
-    (subst (λ (s : ℕ). IsAt k s c.lesser-most.result c.in_ok-arrival.arrival.kernel c.in_ok-arrival.arrival.has_more) c.last_segment-last.ensures.last c.in_ok-arrival.ensures.at)).whole
+    (arrived k c.args.branch c.args.event c.min-most.result c.in_ok-arrival.arrival.kernel c.in_ok-arrival.arrival.has_more c.opening.ensures.course c.requires.branch (omega (arith, limit, c.min-most.ensures))
+    (subst (λ (s : ℕ). IsAt k s c.min-most.result c.in_ok-arrival.arrival.kernel c.in_ok-arrival.arrival.has_more) c.last_segment-last.ensures.last c.in_ok-arrival.ensures.at)).whole
 
 pub returns-clause-state : goal.returns-clause-state
 returns-clause-state g c =
     let k : CourseTold = c.args.course.now in
     let limit = ap (λ (o : Opening). o.limit) c.opening.ensures.value in
-    (arrived k c.args.branch c.args.event c.lesser-most.result c.in_ok-arrival.arrival.kernel c.in_ok-arrival.arrival.has_more c.opening.ensures.course c.requires.branch (omega (arith, limit, c.lesser-most.ensures))
-    (subst (λ (s : ℕ). IsAt k s c.lesser-most.result c.in_ok-arrival.arrival.kernel c.in_ok-arrival.arrival.has_more) c.last_segment-last.ensures.last c.in_ok-arrival.ensures.at)).state
+    (arrived k c.args.branch c.args.event c.min-most.result c.in_ok-arrival.arrival.kernel c.in_ok-arrival.arrival.has_more c.opening.ensures.course c.requires.branch (omega (arith, limit, c.min-most.ensures))
+    (subst (λ (s : ℕ). IsAt k s c.min-most.result c.in_ok-arrival.arrival.kernel c.in_ok-arrival.arrival.has_more) c.last_segment-last.ensures.last c.in_ok-arrival.ensures.at)).state
 
 pub returns-clause-along : goal.returns-clause-along
 returns-clause-along g c few =
     let k : CourseTold = c.args.course.now in
     let b = c.args.branch in
     let limit = ap (λ (o : Opening). o.limit) c.opening.ensures.value in
-    let same : c.lesser-most.result ≡ c.args.event = omega (arith, limit, c.lesser-most.ensures, few) in
-    at-last k b c.lesser-most.result c.in_ok-arrival.arrival.kernel c.in_ok-arrival.arrival.has_more c.opening.ensures.course c.requires.branch (omega (arith, same, few))
-    (subst (λ (s : ℕ). IsAt k s c.lesser-most.result c.in_ok-arrival.arrival.kernel c.in_ok-arrival.arrival.has_more) c.last_segment-last.ensures.last c.in_ok-arrival.ensures.at)
+    let same : c.min-most.result ≡ c.args.event = omega (arith, limit, c.min-most.ensures, few) in
+    at-last k b c.min-most.result c.in_ok-arrival.arrival.kernel c.in_ok-arrival.arrival.has_more c.opening.ensures.course c.requires.branch (omega (arith, same, few))
+    (subst (λ (s : ℕ). IsAt k s c.min-most.result c.in_ok-arrival.arrival.kernel c.in_ok-arrival.arrival.has_more) c.last_segment-last.ensures.last c.in_ok-arrival.ensures.at)
     ∙ ap (λ (x : ℕ). (full k.opening k.plan b x).state) same
 
 pub returns-clause-exists : goal.returns-clause-exists
 returns-clause-exists g c =
     let k : CourseTold = c.args.course.now in
     let limit = ap (λ (o : Opening). o.limit) c.opening.ensures.value in
-    (arrived k c.args.branch c.args.event c.lesser-most.result c.in_ok-arrival.arrival.kernel c.in_ok-arrival.arrival.has_more c.opening.ensures.course c.requires.branch (omega (arith, limit, c.lesser-most.ensures))
-    (subst (λ (s : ℕ). IsAt k s c.lesser-most.result c.in_ok-arrival.arrival.kernel c.in_ok-arrival.arrival.has_more) c.last_segment-last.ensures.last c.in_ok-arrival.ensures.at)).exists
+    (arrived k c.args.branch c.args.event c.min-most.result c.in_ok-arrival.arrival.kernel c.in_ok-arrival.arrival.has_more c.opening.ensures.course c.requires.branch (omega (arith, limit, c.min-most.ensures))
+    (subst (λ (s : ℕ). IsAt k s c.min-most.result c.in_ok-arrival.arrival.kernel c.in_ok-arrival.arrival.has_more) c.last_segment-last.ensures.last c.in_ok-arrival.ensures.at)).exists
 
 pub returns-clause-within : goal.returns-clause-within
 returns-clause-within g c =
     let k : CourseTold = c.args.course.now in
     let limit = ap (λ (o : Opening). o.limit) c.opening.ensures.value in
-    (arrived k c.args.branch c.args.event c.lesser-most.result c.in_ok-arrival.arrival.kernel c.in_ok-arrival.arrival.has_more c.opening.ensures.course c.requires.branch (omega (arith, limit, c.lesser-most.ensures))
-    (subst (λ (s : ℕ). IsAt k s c.lesser-most.result c.in_ok-arrival.arrival.kernel c.in_ok-arrival.arrival.has_more) c.last_segment-last.ensures.last c.in_ok-arrival.ensures.at)).within
+    (arrived k c.args.branch c.args.event c.min-most.result c.in_ok-arrival.arrival.kernel c.in_ok-arrival.arrival.has_more c.opening.ensures.course c.requires.branch (omega (arith, limit, c.min-most.ensures))
+    (subst (λ (s : ℕ). IsAt k s c.min-most.result c.in_ok-arrival.arrival.kernel c.in_ok-arrival.arrival.has_more) c.last_segment-last.ensures.last c.in_ok-arrival.ensures.at)).within
 
 pub returns-in_err-arrival-clause-keys : goal.returns-in_err-arrival-clause-keys
 returns-in_err-arrival-clause-keys g c = c.nearest_to-near.ensures.of

@@ -26,7 +26,7 @@ returns-clause-fits c =
     let kept = c.deref.result.now in
     let told = c.in-Some.ensures.some in
     let key : IsKeyOf k n.key = subst (λ (x : CourseTold). IsKeyOf x n.key) c.requires.shelf c.requires.near.key in
-    let course = c.opening.ensures.course in
+    let course = c.is_course.ensures in
     let kernel : c.in_ok-kernel.kernel ≡ state_at k n.key =
     c.in_ok-kernel.ensures.state
     ∙ ap (λ (x : CourseTold). state_at x kept.key) (ap (λ x. x.course) c.deref.ensures ∙ told.2 ∙ c.requires.shelf)
@@ -46,7 +46,7 @@ returns-clause-on c =
     c.in_ok-kernel.ensures.state
     ∙ ap (λ (x : CourseTold). state_at x kept.key) (ap (λ x. x.course) c.deref.ensures ∙ told.2 ∙ c.requires.shelf)
     ∙ ap (λ (x : Key). state_at k x) (ap (λ x. x.key) c.deref.ensures ∙ told.1) in
-    subst (λ (s : State). RunsOn k n.key.segment s) (sym kernel) (from-key k n.key c.opening.ensures.course key)
+    subst (λ (s : State). RunsOn k n.key.segment s) (sym kernel) (from-key k n.key c.is_course.ensures key)
 
 pub returns-clause-events : goal.returns-clause-events
 returns-clause-events c =

@@ -68,7 +68,7 @@ reach-requires g t c κs within =
     let b = c.args.branch in
     let f = is-further s b c.parent_of-parent.ensures.session c.requires.exists (sym c.is_kept.ensures ∙ c.if-is_kept.false) in
     let earlier : c.parent_of-parent.result < b = c.parent_of-parent.ensures.earlier f.later in
-    (omega (arith, earlier, c.decreases), (within, (omega (arith, earlier, c.requires.exists), (c.requires.shelf, (omega (arith, c.lesser-before.ensures, c.requires.within), omega (arith, c.lesser-before.ensures, c.requires.count))))))
+    (omega (arith, earlier, c.decreases), (within, (omega (arith, earlier, c.requires.exists), (c.requires.shelf, (omega (arith, c.min-before.ensures, c.requires.within), omega (arith, c.min-before.ensures, c.requires.count))))))
 
 pub go_onward-requires-clause-reached : goal.go_onward-requires-clause-reached
 go_onward-requires-clause-reached g t c =
@@ -78,7 +78,7 @@ go_onward-requires-clause-reached g t c =
     let f = is-further s b h c.requires.exists (sym c.is_kept.ensures ∙ c.if-is_kept.false) in
     let earlier : c.parent_of-parent.result < b = c.parent_of-parent.ensures.earlier f.later in
     subst (λ (k : State). IsReached s.course.opening 4080 k) (sym c.in_ok-kernel.ensures.state)
-    (c.courses_stay_in_range.ensures.states (standing s) c.parent_of-parent.result c.lesser-before.result h.tree (omega (arith, earlier, c.requires.exists)))
+    (c.courses_stay_in_range.ensures.states (standing s) c.parent_of-parent.result c.min-before.result h.tree (omega (arith, earlier, c.requires.exists)))
 
 pub returns-clause-state : goal.returns-clause-state
 returns-clause-state g t c =
@@ -88,7 +88,7 @@ returns-clause-state g t c =
     let f = is-further s b h c.requires.exists (sym c.is_kept.ensures ∙ c.if-is_kept.false) in
     let first : Run = record { state = c.in_ok-kernel.kernel; entries = c.new-trace.result.list } in
     ap (λ (r : Run). r.state) c.in_ok-go_onward.ensures.ran
-    ∙ reach-onward s b c.args.event c.stop_of.result c.parent_of-parent.result c.lesser-before.result first h f.later c.requires.exists c.stop_of.ensures c.requires.within c.parent_of-parent.ensures.value c.lesser-before.ensures
+    ∙ reach-onward s b c.args.event c.stop_of.result c.parent_of-parent.result c.min-before.result first h f.later c.requires.exists c.stop_of.ensures c.requires.within c.parent_of-parent.ensures.value c.min-before.ensures
     c.in_ok-kernel.ensures.state
 
 pub returns-clause-ticks : goal.returns-clause-ticks
@@ -97,7 +97,7 @@ returns-clause-ticks g t c =
     let b = c.args.branch in
     let f = is-further s b c.parent_of-parent.ensures.session c.requires.exists (sym c.is_kept.ensures ∙ c.if-is_kept.false) in
     let is = sym (ap (λ (x : Stop). number_of x) c.stop_of.ensures) in
-    let same = ticks-onward c.args.shelf.now s b c.args.event c.stop_of.result c.parent_of-parent.result c.lesser-before.result f is c.parent_of-parent.ensures.value c.lesser-before.ensures in
+    let same = ticks-onward c.args.shelf.now s b c.args.event c.stop_of.result c.parent_of-parent.result c.min-before.result f is c.parent_of-parent.ensures.value c.min-before.ensures in
     omega (arith, same, c.in_ok-kernel.ensures.ticks, c.go_onward.ensures.ticks)
 
 pub returns-clause-nearest : goal.returns-clause-nearest
@@ -106,5 +106,5 @@ returns-clause-nearest g t c =
     let b = c.args.branch in
     let f = is-further s b c.parent_of-parent.ensures.session c.requires.exists (sym c.is_kept.ensures ∙ c.if-is_kept.false) in
     let is = sym (ap (λ (x : Stop). number_of x) c.stop_of.ensures) in
-    near-onward c.args.shelf.now s b c.args.event c.stop_of.result c.parent_of-parent.result c.lesser-before.result c.in_ok-kernel.kernel.events c.go_onward.new.kernel.events f is c.parent_of-parent.ensures.value c.lesser-before.ensures
+    near-onward c.args.shelf.now s b c.args.event c.stop_of.result c.parent_of-parent.result c.min-before.result c.in_ok-kernel.kernel.events c.go_onward.new.kernel.events f is c.parent_of-parent.ensures.value c.min-before.ensures
     c.in_ok-kernel.ensures.early c.go_onward.ensures.grows c.go_onward.ensures.within c.in_ok-kernel.ensures.nearest

@@ -12,7 +12,7 @@ pub recorded-requires : goal.recorded-requires
 recorded-requires g t c κs within =
     let pos : 0 < c.args.branch = omega (arith, c.if-branch-eq0.false) in
     let earlier = c.parent_of-parent.ensures.earlier pos in
-    (omega (arith, earlier, c.decreases), (within, (omega (arith, earlier, c.requires.exists), (omega (arith, c.lesser-before.ensures, c.requires.within), omega (arith, c.lesser-before.ensures, c.requires.count)))))
+    (omega (arith, earlier, c.decreases), (within, (omega (arith, earlier, c.requires.exists), (omega (arith, c.min-before.ensures, c.requires.within), omega (arith, c.min-before.ensures, c.requires.count)))))
 
 pub returns-in_err-kernel-clause-part : goal.returns-in_err-kernel-clause-part
 returns-in_err-kernel-clause-part g t c =
@@ -20,10 +20,10 @@ returns-in_err-kernel-clause-part g t c =
     let b = c.args.branch in
     let e = c.args.event in
     let q = c.parent_of-parent.result in
-    let m = c.lesser-before.result in
+    let m = c.min-before.result in
     let pre = c.args.trace.now.list in
     let pos : 0 < b = omega (arith, c.if-branch-eq0.false) in
-    let on = entries-onward s b e c.stop_of.result q m c.parent_of-parent.ensures.session pos c.requires.exists c.stop_of.ensures c.requires.within c.parent_of-parent.ensures.value c.lesser-before.ensures in
+    let on = entries-onward s b e c.stop_of.result q m c.parent_of-parent.ensures.session pos c.requires.exists c.stop_of.ensures c.requires.within c.parent_of-parent.ensures.value c.min-before.ensures in
     begin-on c.recorded.new.trace.list (pre ++ (full_in s q m).entries) (pre ++ (full_in s b e).entries) c.recorded.ensures.part (begin-front pre (full_in s q m).entries (full_in s b e).entries on)
 
 pub go_onward-requires-clause-reached : goal.go_onward-requires-clause-reached
@@ -33,7 +33,7 @@ go_onward-requires-clause-reached g t c =
     let pos : 0 < c.args.branch = omega (arith, c.if-branch-eq0.false) in
     let earlier = c.parent_of-parent.ensures.earlier pos in
     subst (λ (k : State). IsReached s.course.opening 4080 k) (sym (ap (λ (r : Run). r.state) c.in_ok-kernel.ensures.ran))
-    (c.courses_stay_in_range.ensures.states (standing s) c.parent_of-parent.result c.lesser-before.result h.tree (omega (arith, earlier, c.requires.exists)))
+    (c.courses_stay_in_range.ensures.states (standing s) c.parent_of-parent.result c.min-before.result h.tree (omega (arith, earlier, c.requires.exists)))
 
 pub returns-in_err-go_onward-clause-part : goal.returns-in_err-go_onward-clause-part
 returns-in_err-go_onward-clause-part g t c =
@@ -42,8 +42,8 @@ returns-in_err-go_onward-clause-part g t c =
     let pre = c.args.trace.now.list in
     let pos : 0 < b = omega (arith, c.if-branch-eq0.false) in
     let first : Run = record { state = c.in_ok-kernel.kernel; entries = c.recorded.new.trace.list } in
-    let whole = record-onward s b c.args.event c.stop_of.result c.parent_of-parent.result c.lesser-before.result pre first c.parent_of-parent.ensures.session pos c.requires.exists c.stop_of.ensures c.requires.within
-    c.parent_of-parent.ensures.value c.lesser-before.ensures c.in_ok-kernel.ensures.ran in
+    let whole = record-onward s b c.args.event c.stop_of.result c.parent_of-parent.result c.min-before.result pre first c.parent_of-parent.ensures.session pos c.requires.exists c.stop_of.ensures c.requires.within
+    c.parent_of-parent.ensures.value c.min-before.ensures c.in_ok-kernel.ensures.ran in
     subst (λ (r : Run). BeginWith r.entries c.go_onward.new.trace.list) whole c.go_onward.ensures.part
 
 pub returns-clause-part : goal.returns-clause-part
@@ -53,8 +53,8 @@ returns-clause-part g t c =
     let pre = c.args.trace.now.list in
     let pos : 0 < b = omega (arith, c.if-branch-eq0.false) in
     let first : Run = record { state = c.in_ok-kernel.kernel; entries = c.recorded.new.trace.list } in
-    let whole = record-onward s b c.args.event c.stop_of.result c.parent_of-parent.result c.lesser-before.result pre first c.parent_of-parent.ensures.session pos c.requires.exists c.stop_of.ensures c.requires.within
-    c.parent_of-parent.ensures.value c.lesser-before.ensures c.in_ok-kernel.ensures.ran in
+    let whole = record-onward s b c.args.event c.stop_of.result c.parent_of-parent.result c.min-before.result pre first c.parent_of-parent.ensures.session pos c.requires.exists c.stop_of.ensures c.requires.within
+    c.parent_of-parent.ensures.value c.min-before.ensures c.in_ok-kernel.ensures.ran in
     subst (λ (r : Run). BeginWith r.entries c.go_onward.new.trace.list) whole c.go_onward.ensures.part
 
 pub returns-clause-ran : goal.returns-clause-ran
@@ -65,8 +65,8 @@ returns-clause-ran g t c =
     let pos : 0 < b = omega (arith, c.if-branch-eq0.false) in
     let first : Run = record { state = c.in_ok-kernel.kernel; entries = c.recorded.new.trace.list } in
     c.in_ok-go_onward.ensures.ran
-    ∙ record-onward s b c.args.event c.stop_of.result c.parent_of-parent.result c.lesser-before.result pre first c.parent_of-parent.ensures.session pos c.requires.exists c.stop_of.ensures c.requires.within
-    c.parent_of-parent.ensures.value c.lesser-before.ensures c.in_ok-kernel.ensures.ran
+    ∙ record-onward s b c.args.event c.stop_of.result c.parent_of-parent.result c.min-before.result pre first c.parent_of-parent.ensures.session pos c.requires.exists c.stop_of.ensures c.requires.within
+    c.parent_of-parent.ensures.value c.min-before.ensures c.in_ok-kernel.ensures.ran
 
 pub returns-in_err-go_onward-clause-kept : goal.returns-in_err-go_onward-clause-kept
 returns-in_err-go_onward-clause-kept g t c = begin-on c.args.trace.now.list c.recorded.new.trace.list c.go_onward.new.trace.list c.recorded.ensures.kept c.go_onward.ensures.kept

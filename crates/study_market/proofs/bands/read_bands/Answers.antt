@@ -1,10 +1,21 @@
-use Rattle.std.proofs.Common.{◌≡◌, true, get_or, subst, rules}
+use Rattle.std.proofs.Common.{◌≡◌, ◌∙◌, List, true, get_or, length, subst, sym, ap, rules}
+use Rattle.std.specs.Int.{is_in_range}
+use Rattle.std.specs.List.{list_all}
+use Rattle.std.proofs.lemmas.List.{take_all}
 use Rattle.toml.specs.View.{view}
+use Rattle.toml.specs.declared.value.Value.{Value}
 use Rattle.study_market.specs.StockRules.{is_band}
-use Rattle.study_market.proofs.EachBand.{each-band}
+use Rattle.study_market.proofs.EachBand.{no-band, all-bands}
 use Rattle.study_market.proofs.bands.read_bands.Goals as goal
 
-pub read_band-requires : goal.read_band-requires
-read_band-requires c =
+pub returns-in-None-clause-kept : goal.returns-in-None-clause-kept
+returns-in-None-clause-kept c =
     let here : get_or c.args.values.now c.loop-value.value-index c.value-item.result ≡ c.value-item.result = search rules in
-    subst (λ v. is_band (view v) ≡ true) here (each-band c.args.values.now c.loop-value.value-index c.value-item.result c.loop-value-test.true c.requires)
+    no-band c.args.values.now c.loop-value.value-index c.value-item.result c.loop-value-test.true (ap (λ (v : Value). is_band (view v)) here ∙ sym c.in-None.ensures.kept)
+
+pub returns-clause-kept : goal.returns-clause-kept
+returns-clause-kept c =
+    let all : list_all (λ (v : Value). is_band (view v)) c.args.values.now ≡ true
+    = subst (λ (xs : List Value). list_all (λ (v : Value). is_band (view v)) xs ≡ true) (take_all c.loop-value.value-index c.args.values.now c.loop-value-test.false) c.loop-value.invariant.kept in
+    let range : is_in_range 1 16 (length c.args.values.now) ≡ true = search rules in
+    all-bands c.args.values.now range all

@@ -13,9 +13,9 @@ use Rattle.study_market.proofs.OneByOne.{taken, low-taken, refused, same_refusal
 use Rattle.study_market.proofs.Whole.{split, whole}
 use Rattle.study_market.proofs.file.read_series.Goals as goal
 
-pub loop-number-init : goal.loop-number-init
+pub records-init : goal.records-init
 unfolding Reached
-loop-number-init c =
+records-init c =
     let from = c.from_reader-reader.ensures in
     let trim = from.trim ∙ ap builder_trim c.flexible.ensures ∙ ap builder_trim c.has_headers.ensures ∙ c.new.ensures.trim in
     let named = from.has_headers ∙ ap builder_names_headers c.flexible.ensures ∙ ap builder_names_headers c.has_headers.ensures in
@@ -35,17 +35,17 @@ loop-number-init c =
       λ rest. ap (λ t. rows_from (map view c.args.stocks.now) 0 t rest) (no-rows c.args.stocks.now ∙ sym tables),
     )
 
-pub loop-number-preserved : goal.loop-number-preserved
-loop-number-preserved c =
-    let (low, trim, flexible, ready, config, y, source, done, reached, lengths, none) = c.loop-number.invariant in
+pub records-preserved : goal.records-preserved
+records-preserved c =
+    let (low, trim, flexible, ready, config, y, source, done, reached, lengths, none) = c.records.invariant in
     let rem : Bor (List ℕ) → Option (List ℕ) = λ s. Some s.now in
     let fields = fields_of c.next_record.new.line in
-    let read = subst (λ (found : Bool). ReadRecord rem c.loop-number.reader c.next_record.new.reader found fields) c.if-not-found.false c.in-Ok-next_record.ensures.reads in
-    let more = rows-more rem c.loop-number.reader c.next_record.new.reader fields default_config st.StartRecord (strip_bom c.args.text.now) y done config source reached read in
+    let read = subst (λ (found : Bool). ReadRecord rem c.records.reader c.next_record.new.reader found fields) c.if-not-found.false c.in-Ok-next_record.ensures.reads in
+    let more = rows-more rem c.records.reader c.next_record.new.reader fields default_config st.StartRecord (strip_bom c.args.text.now) y done config source reached read in
     let stocks = map view c.args.stocks.now in
-    let step : after_record stocks c.loop-number.number c.loop-number.tables fields ≡ Some c.take_record.new.tables
+    let step : after_record stocks c.records.number c.records.tables fields ≡ Some c.take_record.new.tables
     = c.in-Ok-take_record.ensures.taken ∙ ap (λ (b : Bool). if b then Some c.take_record.new.tables else None) c.if-not-taken.false in (
-      low-taken stocks c.loop-number.number c.loop-number.tables c.take_record.new.tables fields step,
+      low-taken stocks c.records.number c.records.tables c.take_record.new.tables fields step,
       read.3 ∙ trim,
       c.in-Ok-next_record.ensures.flexible,
       inl c.in-Ok-next_record.ensures.ready,
@@ -56,47 +56,47 @@ loop-number-preserved c =
       more.2,
       c.take_record.ensures.length ∙ lengths,
       λ rest. ap (rows_from stocks 0 (no_rows stocks)) (append_assoc done (fields ∷ []) rest) ∙ none (fields ∷ rest)
-          ∙ taken stocks c.loop-number.number c.loop-number.tables c.take_record.new.tables fields rest step,
+          ∙ taken stocks c.records.number c.records.tables c.take_record.new.tables fields rest step,
     )
 
 pub returns-then-not-found-clause-rows : goal.returns-then-not-found-clause-rows
 returns-then-not-found-clause-rows c =
-    let (low, trim, flexible, ready, config, y, source, done, reached, lengths, none) = c.loop-number.invariant in
+    let (low, trim, flexible, ready, config, y, source, done, reached, lengths, none) = c.records.invariant in
     let rem : Bor (List ℕ) → Option (List ℕ) = λ s. Some s.now in
     let fields = fields_of c.next_record.new.line in
-    let read = subst (λ (found : Bool). ReadRecord rem c.loop-number.reader c.next_record.new.reader found fields) c.if-not-found.true c.in-Ok-next_record.ensures.reads in
-    let all : done ≡ records_of c.args.text.now = whole default_config (strip_bom c.args.text.now) y c.loop-number.reader.state done reached
-    (rows-end rem c.loop-number.reader c.next_record.new.reader fields default_config y config source read) in
+    let read = subst (λ (found : Bool). ReadRecord rem c.records.reader c.next_record.new.reader found fields) c.if-not-found.true c.in-Ok-next_record.ensures.reads in
+    let all : done ≡ records_of c.args.text.now = whole default_config (strip_bom c.args.text.now) y c.records.reader.state done reached
+    (rows-end rem c.records.reader c.next_record.new.reader fields default_config y config source read) in
     let stocks = map view c.args.stocks.now in
-    let same : read_rows stocks c.args.text.now ≡ at_end c.loop-number.number c.loop-number.tables
+    let same : read_rows stocks c.args.text.now ≡ at_end c.records.number c.records.tables
     = ap (rows_from stocks 0 (no_rows stocks)) (sym all ∙ sym (append-nil done)) ∙ none [] in
     subst (λ (r : Result (List (List SeriesRow)) ℕ). IfOk c.finished.result (λ (t : List (List SeriesRow)). r ≡ Ok t)) (sym same) c.finished.ensures.rows
 
 pub returns-then-not-found-clause-refused : goal.returns-then-not-found-clause-refused
 returns-then-not-found-clause-refused c =
-    let (low, trim, flexible, ready, config, y, source, done, reached, lengths, none) = c.loop-number.invariant in
+    let (low, trim, flexible, ready, config, y, source, done, reached, lengths, none) = c.records.invariant in
     let rem : Bor (List ℕ) → Option (List ℕ) = λ s. Some s.now in
     let fields = fields_of c.next_record.new.line in
-    let read = subst (λ (found : Bool). ReadRecord rem c.loop-number.reader c.next_record.new.reader found fields) c.if-not-found.true c.in-Ok-next_record.ensures.reads in
-    let all : done ≡ records_of c.args.text.now = whole default_config (strip_bom c.args.text.now) y c.loop-number.reader.state done reached
-    (rows-end rem c.loop-number.reader c.next_record.new.reader fields default_config y config source read) in
+    let read = subst (λ (found : Bool). ReadRecord rem c.records.reader c.next_record.new.reader found fields) c.if-not-found.true c.in-Ok-next_record.ensures.reads in
+    let all : done ≡ records_of c.args.text.now = whole default_config (strip_bom c.args.text.now) y c.records.reader.state done reached
+    (rows-end rem c.records.reader c.next_record.new.reader fields default_config y config source read) in
     let stocks = map view c.args.stocks.now in
-    let same : read_rows stocks c.args.text.now ≡ at_end c.loop-number.number c.loop-number.tables
+    let same : read_rows stocks c.args.text.now ≡ at_end c.records.number c.records.tables
     = ap (rows_from stocks 0 (no_rows stocks)) (sym all ∙ sym (append-nil done)) ∙ none [] in
     subst (λ (r : Result (List (List SeriesRow)) ℕ). IfErr c.finished.result (λ (e : SeriesError). (n : ℕ) → e ≡ Refused n → r ≡ Err n)) (sym same) c.finished.ensures.refused
 
 pub returns-then-not-taken-clause-refused : goal.returns-then-not-taken-clause-refused
 returns-then-not-taken-clause-refused c n e =
-    let (low, trim, flexible, ready, config, y, source, done, reached, lengths, none) = c.loop-number.invariant in
+    let (low, trim, flexible, ready, config, y, source, done, reached, lengths, none) = c.records.invariant in
     let rem : Bor (List ℕ) → Option (List ℕ) = λ s. Some s.now in
     let fields = fields_of c.next_record.new.line in
-    let read = subst (λ (found : Bool). ReadRecord rem c.loop-number.reader c.next_record.new.reader found fields) c.if-not-found.false c.in-Ok-next_record.ensures.reads in
-    let more = rows-more rem c.loop-number.reader c.next_record.new.reader fields default_config st.StartRecord (strip_bom c.args.text.now) y done config source reached read in
+    let read = subst (λ (found : Bool). ReadRecord rem c.records.reader c.next_record.new.reader found fields) c.if-not-found.false c.in-Ok-next_record.ensures.reads in
+    let more = rows-more rem c.records.reader c.next_record.new.reader fields default_config st.StartRecord (strip_bom c.args.text.now) y done config source reached read in
     let stocks = map view c.args.stocks.now in
-    let stop : after_record stocks c.loop-number.number c.loop-number.tables fields ≡ None
+    let stop : after_record stocks c.records.number c.records.tables fields ≡ None
     = c.in-Ok-take_record.ensures.taken ∙ ap (λ (b : Bool). if b then Some c.take_record.new.tables else None) c.if-not-taken.true in
     let parts = split default_config (strip_bom c.args.text.now) more.0 c.next_record.new.reader.state (done ++ fields ∷ []) more.2 in
     let after = records_from default_config parts.0 c.next_record.new.reader.state more.0 in
     ap (rows_from stocks 0 (no_rows stocks)) (parts.3 ∙ append_assoc done (fields ∷ []) after) ∙ none (fields ∷ after)
-    ∙ refused stocks c.loop-number.number c.loop-number.tables fields after stop
-    ∙ ap Err (same_refusal c.loop-number.number n e)
+    ∙ refused stocks c.records.number c.records.tables fields after stop
+    ∙ ap Err (same_refusal c.records.number n e)

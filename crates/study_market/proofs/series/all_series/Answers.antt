@@ -9,8 +9,8 @@ use Rattle.study_market.specs.Entries.{entry_of}
 use Rattle.study_market.specs.Stocks.{HaveRows, series_in}
 use Rattle.study_market.proofs.series.all_series.Goals as goal
 
-pub entry_series-requires : goal.entry_series-requires
-entry_series-requires c = record {
+pub series_list-requires : goal.series_list-requires
+series_list-requires c = record {
   few = c.few_stocks.ensures.few;
   key = c.key-key.ensures;
   prices = ap (first_failing has_prices) c.few_stocks.ensures.stocks ∙ c.requires.prices;

@@ -1,19 +1,27 @@
-use Rattle.std.proofs.Common.{◌≤◌, ◌*◌, arith}
-use Rattle.std.proofs.lemmas.Nat.{mul-le}
+use Rattle.std.proofs.Common.{◌≤◌, ◌+◌, ◌*◌, ℕ, sym, subst, codes, arith}
 use Rattle.toml.specs.View.{table_view}
-use Rattle.study_market.proofs.TraderRanges.{IsTimed, is-timed}
+use Rattle.study_market.specs.AgentRules.{count_of}
+use Rattle.study_market.specs.Entries.{natural_at}
+use Rattle.study_market.proofs.TraderRanges.{IsTimed, is-timed, before-last}
 use Rattle.study_market.proofs.traders.first_wakeup.Goals as goal
 
 pub overflow_mul-result : goal.overflow_mul-result
 overflow_mul-result c =
-    let timed : IsTimed 32 0 (table_view c.args.agent.now) = is-timed 32 0 (table_view c.args.agent.now) c.requires.timing in
-    let product : c.args.number * c.natural_at-2.result ≤ 511 * 3600000000000
-    = mul-le c.args.number c.natural_at-2.result 511 3600000000000 c.requires.number (omega (arith, timed.spread, c.natural_at-2.ensures)) in
+    let t = table_view c.args.agent.now in
+    let timed : IsTimed 32 0 t = is-timed 32 0 t c.requires.timing in
+    let sum : natural_at (codes "first") t + c.args.number * natural_at (codes "spread") t ≤ 86399999999999
+    = before-last (natural_at (codes "first") t) (natural_at (codes "spread") t) c.args.number (count_of t) 86399999999999 c.requires.number timed.last in
+    let product : c.args.number * c.natural_at-2.result ≤ 86399999999999
+    = subst (λ (s : ℕ). c.args.number * s ≤ 86399999999999) (sym c.natural_at-2.ensures) (omega (arith, sum)) in
     omega (arith, product)
 
 pub overflow_add-result : goal.overflow_add-result
 overflow_add-result c =
-    let timed : IsTimed 32 0 (table_view c.args.agent.now) = is-timed 32 0 (table_view c.args.agent.now) c.requires.timing in
-    let product : c.args.number * c.natural_at-2.result ≤ 511 * 3600000000000
-    = mul-le c.args.number c.natural_at-2.result 511 3600000000000 c.requires.number (omega (arith, timed.spread, c.natural_at-2.ensures)) in
-    omega (arith, product, timed.last, c.natural_at.ensures)
+    let t = table_view c.args.agent.now in
+    let timed : IsTimed 32 0 t = is-timed 32 0 t c.requires.timing in
+    let sum : natural_at (codes "first") t + c.args.number * natural_at (codes "spread") t ≤ 86399999999999
+    = before-last (natural_at (codes "first") t) (natural_at (codes "spread") t) c.args.number (count_of t) 86399999999999 c.requires.number timed.last in
+    let total : c.natural_at.result + c.args.number * c.natural_at-2.result ≤ 86399999999999
+    = subst (λ (f : ℕ). f + c.args.number * c.natural_at-2.result ≤ 86399999999999) (sym c.natural_at.ensures)
+    (subst (λ (s : ℕ). natural_at (codes "first") t + c.args.number * s ≤ 86399999999999) (sym c.natural_at-2.ensures) sum) in
+    omega (arith, total)

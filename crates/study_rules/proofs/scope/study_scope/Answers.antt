@@ -4,5 +4,5 @@ use Rattle.study_rules.proofs.scope.study_scope.Goals as goal
 
 pub invariant_of-result : goal.invariant_of-result
 invariant_of-result c =
-    small_scope (table_view c.args.table.now) c.few_stocks.result.now c.agents.result.now c.group_number.result c.few_stocks.ensures.few
-    c.agents.ensures c.requires.traders c.group_number.ensures c.requires.square
+    small_scope (table_view c.args.table.now) c.few_stocks.result.now c.list_at.result.now c.group_number.result c.few_stocks.ensures.few
+    c.list_at.ensures c.requires.traders c.group_number.ensures c.requires.square

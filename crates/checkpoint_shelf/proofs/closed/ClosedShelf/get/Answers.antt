@@ -30,8 +30,8 @@ returns-in-Some-get-clause-some g c = let key = c.args.key in let of = ap (λ p.
     let v = ready_value _ _ _ _ _ _ c.self.invariant.3 key c.in-Some.place (c.in-Some.place + 1) c.word.result c.get.result.now of (omega arith) c.word.ensures ready c.get.ensures in
     let same = some_same _ _ (sym v.1 ∙ c.in-Some-get.is) in (
       ap (λ s. is_ready key (word_at s.system key)) (sym c.self.view_is) ∙ ap (is_ready key) at ∙ ready,
-      subst (λ a. g.C.Kept.key_of (arc_value a) ≡ key) same v.2,
-      subst (λ a. g.C.Kept.course_of (arc_value a) ≡ c.args.self.now.course) same (v.3 ∙ ap (λ s. s.course) c.self.view_is),
+      subst (λ a. g.C.Shelved.key_of (arc_value a) ≡ key) same v.2,
+      subst (λ a. g.C.Shelved.course_of (arc_value a) ≡ c.args.self.now.course) same (v.3 ∙ ap (λ s. s.course) c.self.view_is),
     )
 
 pub returns-in-None-clause-none : goal.returns-in-None-clause-none

@@ -3,7 +3,7 @@ use Rattle.std.specs.Prelude.{false, ◌==◌}
 use Rattle.exchange_agent.specs.Changes.{turned}
 use Rattle.exchange_agent.specs.Sound.{IsSoundStock}
 use Rattle.exchange_agent.specs.State.{State, Stock, stock_at, with_stock}
-use Rattle.exchange_agent.specs.View.{state_of, stock_of}
+use Rattle.exchange_agent.specs.View.{state_of, stock_of, trading_letter}
 use Rattle.exchange_agent.proofs.States.{at-stock, set-stock, sound-stock, sound_set}
 use Rattle.exchange_agent.proofs.exchange.Exchange.turn.Goals as goal
 
@@ -24,8 +24,9 @@ returns-clause-state c =
     let s = c.args.self.now in
     let k = c.args.stock in
     let r = c.index_mut-listing.result.now in
+    let letter = trading_letter c.args.trading in
     let view : s ≡ state_of i.stocks.items i.cash.items i.pairs.keys i.counts i.hidden = search rules in
     let at : stock_at s k ≡ stock_of r = at-stock i.stocks.items i.cash.items i.pairs.keys i.counts i.hidden s c.from.result k r view c.from.ensures c.requires (search rules) in
-    let test : ((stock_at s k).trading == c.args.letter) ≡ false = ap (λ (x : Stock). x.trading == c.args.letter) at ∙ search rules in
-    set-stock i.stocks.items i.cash.items i.pairs.keys i.counts i.hidden s c.from.result k _ _ view c.from.ensures (ap (λ (x : Stock). record x { trading = c.args.letter }) (sym at))
-    ∙ sym (turned-state s c.args.time k c.args.letter test)
+    let test : ((stock_at s k).trading == letter) ≡ false = ap (λ (x : Stock). x.trading == letter) at ∙ search rules in
+    set-stock i.stocks.items i.cash.items i.pairs.keys i.counts i.hidden s c.from.result k _ _ view c.from.ensures (ap (λ (x : Stock). record x { trading = letter }) (sym at))
+    ∙ sym (turned-state s c.args.time k letter test)

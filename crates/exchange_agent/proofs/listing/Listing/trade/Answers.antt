@@ -2,7 +2,6 @@ use Rattle.std.proofs.Common.{◌≡◌, ◌≤◌, ◌<◌, ◌+◌, ◌-◌, �
 use Rattle.market_types.specs.declared.order.Side.{Side}
 use Rattle.price_time_book.specs.declared.resting.Resting.{Resting}
 use Rattle.price_time_book.specs.Matched.{matched}
-use Rattle.price_time_book.specs.Next.{crossing_of}
 use Rattle.price_time_book.specs.Orders.{order_of}
 use Rattle.exchange_agent.specs.Enter.{remainder}
 use Rattle.exchange_agent.specs.Settle.{Way, all_settled}
@@ -12,22 +11,10 @@ use Rattle.exchange_agent.proofs.Ways.{small-remainder, small-shares}
 use Rattle.exchange_agent.proofs.listing.Listing.trade.Goals as goal
 
 pub cross-left-requires-clause-room : goal.cross-left-requires-clause-room
-cross-left-requires-clause-room c =
-    let book = c.args.self.now.book.list in
-    let t = c.args.taking.now in
-    let e = c.args.e.now in
-    let few : length (matched book t.side e.price e.shares).fills ≤ 0 + crossing_of t.side e.price book = c.fills_add_up.ensures.crossing t.side e.price (record { fills = []; book = book; shares = e.shares }) in
-    let same : crossing_of t.side e.price book ≡ crossing_of e.side e.price book = ap (λ (s : Side). crossing_of s e.price book) c.requires.same_side in
-    omega (arith, few, same, c.requires.room)
+cross-left-requires-clause-room c = omega (arith, c.requires.room)
 
 pub cross-left-requires-clause-feed_room : goal.cross-left-requires-clause-feed_room
-cross-left-requires-clause-feed_room c =
-    let book = c.args.self.now.book.list in
-    let t = c.args.taking.now in
-    let e = c.args.e.now in
-    let few : length (matched book t.side e.price e.shares).fills ≤ 0 + crossing_of t.side e.price book = c.fills_add_up.ensures.crossing t.side e.price (record { fills = []; book = book; shares = e.shares }) in
-    let same : crossing_of t.side e.price book ≡ crossing_of e.side e.price book = ap (λ (s : Side). crossing_of s e.price book) c.requires.same_side in
-    omega (arith, few, same, c.requires.feed_room)
+cross-left-requires-clause-feed_room c = omega (arith, c.requires.feed_room)
 
 pub leave-requires-clause-later : goal.leave-requires-clause-later
 leave-requires-clause-later c =
@@ -55,22 +42,10 @@ leave-requires-clause-some_orders c =
     omega (arith, same, fewer, c.requires.some_orders)
 
 pub leave-requires-clause-room : goal.leave-requires-clause-room
-leave-requires-clause-room c =
-    let book = c.args.self.now.book.list in
-    let t = c.args.taking.now in
-    let e = c.args.e.now in
-    let few : length (matched book t.side e.price e.shares).fills ≤ 0 + crossing_of t.side e.price book = c.fills_add_up.ensures.crossing t.side e.price (record { fills = []; book = book; shares = e.shares }) in
-    let same : crossing_of t.side e.price book ≡ crossing_of e.side e.price book = ap (λ (s : Side). crossing_of s e.price book) c.requires.same_side in
-    omega (arith, few, same, c.requires.room, c.cross-left.ensures.room)
+leave-requires-clause-room c = omega (arith, c.requires.room, c.cross-left.ensures.room)
 
 pub leave-requires-clause-feed_room : goal.leave-requires-clause-feed_room
-leave-requires-clause-feed_room c =
-    let book = c.args.self.now.book.list in
-    let t = c.args.taking.now in
-    let e = c.args.e.now in
-    let few : length (matched book t.side e.price e.shares).fills ≤ 0 + crossing_of t.side e.price book = c.fills_add_up.ensures.crossing t.side e.price (record { fills = []; book = book; shares = e.shares }) in
-    let same : crossing_of t.side e.price book ≡ crossing_of e.side e.price book = ap (λ (s : Side). crossing_of s e.price book) c.requires.same_side in
-    omega (arith, few, same, c.requires.feed_room, c.cross-left.ensures.feed_room)
+leave-requires-clause-feed_room c = omega (arith, c.requires.feed_room, c.cross-left.ensures.feed_room)
 
 pub returns-clause-way : goal.returns-clause-way
 returns-clause-way c =

@@ -19,23 +19,23 @@ pub join-requires-clause-shown_small : goal.join-requires-clause-shown_small
 join-requires-clause-shown_small c =
     let k = c.self.inside in
     let few : length (open_orders k.orders.items) < 4294967296 = subst (λ (r : Room Resting). length r.list < 4294967296) (sym c.self.view_is) c.requires.few in
-    levels_fit (shown_of Buy) k.orders.items k.nexts.items k.buys.items c.self.invariant.buys c.self.invariant.small few
+    levels_fit (shown_of Buy) k.orders.items k.nexts.items k.buys.shown.items c.self.invariant.buys c.self.invariant.small few
 
 pub join-requires-clause-shown : goal.join-requires-clause-shown
 join-requires-clause-shown c =
     let k = c.self.inside in
-    subst (λ (s : Side). IsIndexed (shown_of s) k.orders.items k.nexts.items k.buys.items) (sym c.in-Buy.is) c.self.invariant.buys
+    subst (λ (s : Side). IsIndexed (shown_of s) k.orders.items k.nexts.items k.buys.shown.items) (sym c.in-Buy.is) c.self.invariant.buys
 
 pub join-requires-clause-hidden_small : goal.join-requires-clause-hidden_small
 join-requires-clause-hidden_small c =
     let k = c.self.inside in
     let few : length (open_orders k.orders.items) < 4294967296 = subst (λ (r : Room Resting). length r.list < 4294967296) (sym c.self.view_is) c.requires.few in
-    levels_fit (hidden_of Buy) k.orders.items k.nexts.items k.hidden_buys.items c.self.invariant.hidden_buys c.self.invariant.small few
+    levels_fit (hidden_of Buy) k.orders.items k.nexts.items k.buys.hidden.items c.self.invariant.hidden_buys c.self.invariant.small few
 
 pub join-requires-clause-hidden : goal.join-requires-clause-hidden
 join-requires-clause-hidden c =
     let k = c.self.inside in
-    subst (λ (s : Side). IsIndexed (hidden_of s) k.orders.items k.nexts.items k.hidden_buys.items) (sym c.in-Buy.is) c.self.invariant.hidden_buys
+    subst (λ (s : Side). IsIndexed (hidden_of s) k.orders.items k.nexts.items k.buys.hidden.items) (sym c.in-Buy.is) c.self.invariant.hidden_buys
 
 pub invariant_of-self : goal.invariant_of-self
 invariant_of-self c =
@@ -54,14 +54,14 @@ invariant_of-self c =
       hidden_sells_room = search rules;
       references_room = search rules;
       tokens_room = search rules;
-      buy_count = ap (λ n. n + 1) c.self.invariant.buy_count ∙ sym (depth-push_on Buy (open_orders k.orders.items) order c.in-Buy.is) ∙ ap (depth_of Buy) (sym list);
+      buy_count = ap (λ n. n + 1) (c.join.ensures.count ∙ c.self.invariant.buy_count) ∙ sym (depth-push_on Buy (open_orders k.orders.items) order c.in-Buy.is) ∙ ap (depth_of Buy) (sym list);
       sell_count = c.self.invariant.sell_count ∙ sym (depth-push_off Sell (open_orders k.orders.items) order (λ q. others_buy order.side c.in-Buy.is (sym q))) ∙ ap (depth_of Sell) (sym list);
       references = subst (λ (w : List Resting). IsByReference w c.enter_reference.new.entries.items) (sym c.join.ensures.orders) (c.enter_reference.ensures.indexed k.orders.items (search rules) c.self.invariant.references later);
       tokens = subst (λ (w : List Resting). IsByToken w c.enter_token.new.entries.items) (sym c.join.ensures.orders) (c.enter_token.ensures.indexed k.orders.items (search rules) c.self.invariant.tokens fresh);
-      buys = subst (λ (s : Side). IsIndexed (shown_of s) c.join.new.orders.items c.join.new.nexts.items c.join.new.shown.items) c.in-Buy.is c.join.ensures.shown;
-      hidden_buys = subst (λ (s : Side). IsIndexed (hidden_of s) c.join.new.orders.items c.join.new.nexts.items c.join.new.hidden.items) c.in-Buy.is c.join.ensures.hidden;
-      sells = c.join.ensures.others (shown_of Sell) k.sells.items (others_buy order.side c.in-Buy.is) c.self.invariant.sells;
-      hidden_sells = c.join.ensures.others (hidden_of Sell) k.hidden_sells.items (others_buy order.side c.in-Buy.is) c.self.invariant.hidden_sells;
+      buys = subst (λ (s : Side). IsIndexed (shown_of s) c.join.new.orders.items c.join.new.nexts.items c.join.new.half.shown.items) c.in-Buy.is c.join.ensures.shown;
+      hidden_buys = subst (λ (s : Side). IsIndexed (hidden_of s) c.join.new.orders.items c.join.new.nexts.items c.join.new.half.hidden.items) c.in-Buy.is c.join.ensures.hidden;
+      sells = c.join.ensures.others (shown_of Sell) k.sells.shown.items (others_buy order.side c.in-Buy.is) c.self.invariant.sells;
+      hidden_sells = c.join.ensures.others (hidden_of Sell) k.sells.hidden.items (others_buy order.side c.in-Buy.is) c.self.invariant.hidden_sells;
       orderly = subst IsOrderly (sym list) (orderly-push (open_orders k.orders.items) order c.self.invariant.orderly c.requires.shares c.requires.intended few later);
       small = subst IsSmall (sym list) (each-push (λ (o : Resting). o.left ≤ 4294967295) (open_orders k.orders.items) order c.self.invariant.small c.fits.ensures);
     }
@@ -74,23 +74,23 @@ pub join-requires-in-Sell-clause-shown_small : goal.join-requires-in-Sell-clause
 join-requires-in-Sell-clause-shown_small c =
     let k = c.self.inside in
     let few : length (open_orders k.orders.items) < 4294967296 = subst (λ (r : Room Resting). length r.list < 4294967296) (sym c.self.view_is) c.requires.few in
-    levels_fit (shown_of Sell) k.orders.items k.nexts.items k.sells.items c.self.invariant.sells c.self.invariant.small few
+    levels_fit (shown_of Sell) k.orders.items k.nexts.items k.sells.shown.items c.self.invariant.sells c.self.invariant.small few
 
 pub join-requires-in-Sell-clause-shown : goal.join-requires-in-Sell-clause-shown
 join-requires-in-Sell-clause-shown c =
     let k = c.self.inside in
-    subst (λ (s : Side). IsIndexed (shown_of s) k.orders.items k.nexts.items k.sells.items) (sym c.in-Sell.is) c.self.invariant.sells
+    subst (λ (s : Side). IsIndexed (shown_of s) k.orders.items k.nexts.items k.sells.shown.items) (sym c.in-Sell.is) c.self.invariant.sells
 
 pub join-requires-in-Sell-clause-hidden_small : goal.join-requires-in-Sell-clause-hidden_small
 join-requires-in-Sell-clause-hidden_small c =
     let k = c.self.inside in
     let few : length (open_orders k.orders.items) < 4294967296 = subst (λ (r : Room Resting). length r.list < 4294967296) (sym c.self.view_is) c.requires.few in
-    levels_fit (hidden_of Sell) k.orders.items k.nexts.items k.hidden_sells.items c.self.invariant.hidden_sells c.self.invariant.small few
+    levels_fit (hidden_of Sell) k.orders.items k.nexts.items k.sells.hidden.items c.self.invariant.hidden_sells c.self.invariant.small few
 
 pub join-requires-in-Sell-clause-hidden : goal.join-requires-in-Sell-clause-hidden
 join-requires-in-Sell-clause-hidden c =
     let k = c.self.inside in
-    subst (λ (s : Side). IsIndexed (hidden_of s) k.orders.items k.nexts.items k.hidden_sells.items) (sym c.in-Sell.is) c.self.invariant.hidden_sells
+    subst (λ (s : Side). IsIndexed (hidden_of s) k.orders.items k.nexts.items k.sells.hidden.items) (sym c.in-Sell.is) c.self.invariant.hidden_sells
 
 pub invariant_of-self-in-Sell : goal.invariant_of-self-in-Sell
 invariant_of-self-in-Sell c =
@@ -109,14 +109,14 @@ invariant_of-self-in-Sell c =
       hidden_sells_room = search rules;
       references_room = search rules;
       tokens_room = search rules;
-      sell_count = ap (λ n. n + 1) c.self.invariant.sell_count ∙ sym (depth-push_on Sell (open_orders k.orders.items) order c.in-Sell.is) ∙ ap (depth_of Sell) (sym list);
+      sell_count = ap (λ n. n + 1) (c.join-in-Sell.ensures.count ∙ c.self.invariant.sell_count) ∙ sym (depth-push_on Sell (open_orders k.orders.items) order c.in-Sell.is) ∙ ap (depth_of Sell) (sym list);
       buy_count = c.self.invariant.buy_count ∙ sym (depth-push_off Buy (open_orders k.orders.items) order (λ q. others_sell order.side c.in-Sell.is (sym q))) ∙ ap (depth_of Buy) (sym list);
       references = subst (λ (w : List Resting). IsByReference w c.enter_reference.new.entries.items) (sym c.join-in-Sell.ensures.orders) (c.enter_reference.ensures.indexed k.orders.items (search rules) c.self.invariant.references later);
       tokens = subst (λ (w : List Resting). IsByToken w c.enter_token.new.entries.items) (sym c.join-in-Sell.ensures.orders) (c.enter_token.ensures.indexed k.orders.items (search rules) c.self.invariant.tokens fresh);
-      sells = subst (λ (s : Side). IsIndexed (shown_of s) c.join-in-Sell.new.orders.items c.join-in-Sell.new.nexts.items c.join-in-Sell.new.shown.items) c.in-Sell.is c.join-in-Sell.ensures.shown;
-      hidden_sells = subst (λ (s : Side). IsIndexed (hidden_of s) c.join-in-Sell.new.orders.items c.join-in-Sell.new.nexts.items c.join-in-Sell.new.hidden.items) c.in-Sell.is c.join-in-Sell.ensures.hidden;
-      buys = c.join-in-Sell.ensures.others (shown_of Buy) k.buys.items (others_sell order.side c.in-Sell.is) c.self.invariant.buys;
-      hidden_buys = c.join-in-Sell.ensures.others (hidden_of Buy) k.hidden_buys.items (others_sell order.side c.in-Sell.is) c.self.invariant.hidden_buys;
+      sells = subst (λ (s : Side). IsIndexed (shown_of s) c.join-in-Sell.new.orders.items c.join-in-Sell.new.nexts.items c.join-in-Sell.new.half.shown.items) c.in-Sell.is c.join-in-Sell.ensures.shown;
+      hidden_sells = subst (λ (s : Side). IsIndexed (hidden_of s) c.join-in-Sell.new.orders.items c.join-in-Sell.new.nexts.items c.join-in-Sell.new.half.hidden.items) c.in-Sell.is c.join-in-Sell.ensures.hidden;
+      buys = c.join-in-Sell.ensures.others (shown_of Buy) k.buys.shown.items (others_sell order.side c.in-Sell.is) c.self.invariant.buys;
+      hidden_buys = c.join-in-Sell.ensures.others (hidden_of Buy) k.buys.hidden.items (others_sell order.side c.in-Sell.is) c.self.invariant.hidden_buys;
       orderly = subst IsOrderly (sym list) (orderly-push (open_orders k.orders.items) order c.self.invariant.orderly c.requires.shares c.requires.intended few later);
       small = subst IsSmall (sym list) (each-push (λ (o : Resting). o.left ≤ 4294967295) (open_orders k.orders.items) order c.self.invariant.small c.fits.ensures);
     }

@@ -1,0 +1,43 @@
+use Rattle.std.proofs.Common.{◌≡◌, List, Some, None, length, sym, ap, ◌∙◌, arith}
+use Rattle.branch_tree.specs.declared.segment.Segment.{Segment}
+use Rattle.branch_tree.specs.Segments.{segments_in, segment_at}
+use Rattle.market_types.specs.Told.{EntryTold}
+use Rattle.market_floor.specs.declared.opening.Opening.{Opening}
+use Rattle.kernel_core.specs.State.{State}
+use Rattle.kernel_core.specs.Open.{opened}
+use Rattle.kernel_core.specs.Until.{Run}
+use Rattle.kernel_copy.specs.Segmentwise.{started_from}
+use Rattle.kernel_copy.specs.Courses.{CourseTold}
+use Rattle.branch_workers.specs.Runs.{run_at_start}
+use Rattle.kernel_copy.proofs.Walks.{started-first, started-goes}
+use Rattle.branch_workers.proofs.segment.kernel_at_start.Goals as goal
+
+pub end_of-requires-clause-segment : goal.end_of-requires-clause-segment
+end_of-requires-clause-segment g c = omega (arith, (c.segment-g.ensures.parent c.in-Some.parent c.in-Some.is).earlier)
+
+pub go_on-requires-clause-segment : goal.go_on-requires-clause-segment
+go_on-requires-clause-segment g c =
+    let same = ap (λ (x : CourseTold). length (segments_in x.plan)) c.deref-course.ensures in
+    omega (arith, (c.segment-g.ensures.parent c.in-Some.parent c.in-Some.is).earlier, c.requires.segment)
+
+pub returns-in_ok-kernel-in-None-clause-state : goal.returns-in_ok-kernel-in-None-clause-state
+returns-in_ok-kernel-in-None-clause-state g c =
+    let k : CourseTold = c.deref-course.result.now in
+    let x = segment_at k.plan c.args.segment in
+    let none : x.parent ≡ None = sym (ap (λ (y : Segment). y.parent) c.segment-g.ensures.value) ∙ c.in-None.is in
+    let state : c.in_ok-kernel-in-None.kernel ≡ opened k.opening = c.in_ok-kernel-in-None.ensures.opened ∙ ap (λ (o : Opening). opened o) c.opening.ensures.value in
+    ap (λ (s : State). let r : Run = record { state = s; entries = c.args.trace.now.list } in r) state
+    ∙ ap (λ (es : List EntryTold). let r : Run = record { state = opened k.opening; entries = es } in r) c.requires.empty
+    ∙ sym (started-first k.opening k.plan x none)
+    ∙ ap (λ (y : CourseTold). run_at_start y c.args.segment) c.deref-course.ensures
+
+pub returns-in_ok-go_on-in-Some-clause-state : goal.returns-in_ok-go_on-in-Some-clause-state
+returns-in_ok-go_on-in-Some-clause-state g c =
+    let k : CourseTold = c.deref-course.result.now in
+    let x = segment_at k.plan c.args.segment in
+    let q = c.in-Some.parent in
+    let some : x.parent ≡ Some q = sym (ap (λ (y : Segment). y.parent) c.segment-g.ensures.value) ∙ c.in-Some.is in
+    c.in_ok-go_on-in-Some.ensures.state
+    ∙ ap (λ (y : Segment). started_from k.opening k.plan y.branch (Some q)) c.segment-g.ensures.value
+    ∙ sym (started-goes k.opening k.plan x q some)
+    ∙ ap (λ (y : CourseTold). run_at_start y c.args.segment) c.deref-course.ensures

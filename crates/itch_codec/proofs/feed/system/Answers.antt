@@ -1,0 +1,15 @@
+use Rattle.std.proofs.Common.{drop, refl}
+use Rattle.wire_fields.specs.Values.{number}
+use Rattle.wire_fields.specs.Wire.{spelling}
+use Rattle.wire_fields.proofs.Pushed.{IsBegun, pushed, finished}
+use Rattle.market_types.specs.declared.feed.What.TheVariants as what
+use Rattle.itch_codec.specs.Messages.{what_wire}
+use Rattle.itch_codec.proofs.feed.system.Goals as goal
+
+pub returns-clause-spelling : goal.returns-clause-spelling
+returns-clause-spelling c =
+    let a = c.args in
+    let w = what_wire (number a.m.now.locate) (number a.m.now.tracking) (number a.m.now.time) (what.System a.code) in
+    let begun : IsBegun (drop 3 w.kinds) (drop 3 w.values) (spelling w) c.started-bytes.result = record { whole = rw c.started-bytes.ensures.bytes refl } in
+    let is1 = pushed _ _ _ _ _ _ _ _ begun c.push.ensures.bytes refl in
+    finished _ _ is1
