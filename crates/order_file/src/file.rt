@@ -1,17 +1,16 @@
 //! Reading a file of orders.
 
-ghost use Rattle.std.specs.Prelude.{◌≡◌, ◌++◌, None, Some, Ok, Err, ℕ, true, if◌then◌else◌, IfOk, IfErr, OnOk, option_map};
-ghost use Rattle.csv.specs.Reading.{ReadRecord, Ready, is_flexible, reader_trim, took_first};
+ghost use Rattle.std.specs.Prelude.{◌≡◌, ◌++◌, None, Some, Ok, Err, ℕ, if◌then◌else◌, IfOk, IfErr, option_map};
 ghost use Rattle.csv.specs.Records.{fields_of};
-ghost use Rattle.csv.specs.declared.reader.Trim.TheVariants as trim;
 ghost use Rattle.order_file.specs.Filed.{AreFiled};
 ghost use Rattle.order_file.specs.Orders.{at_end, before, orders_of, said_by};
 
 use crate::fields::{is_header, read_order};
-use csv::{ByteRecord, ErrorKind, Reader, ReaderBuilder};
+use csv::{ByteRecord, ReaderBuilder};
 use market_types::Memory;
 use reopen_cross::Interest;
 use std::alloc::Global;
+use study_market::next_record;
 use thiserror::Error;
 
 /// Why a file gives no orders.
@@ -22,25 +21,6 @@ pub enum OrdersError {
     Refused(u32),
     #[error("out of memory")]
     Memory,
-}
-
-// Reads the next record, of any length, into the line; whether there was one.
-fn next_record(reader: &mut Reader<&[u8]>, line: &mut ByteRecord) -> Result<bool, Memory>
-    requires flexible { is_flexible reader.old ≡ true }
-    requires untrimmed { reader_trim reader.old ≡ trim.None }
-    requires ready { Ready reader.old }
-    ensures reads { IfOk result (λ found. ReadRecord (λ s. Some s.now) reader.old reader.new found (fields_of line.new)) }
-    ensures ready { OnOk result (took_first reader.new ≡ true) }
-    ensures flexible { OnOk result (is_flexible reader.new ≡ true) }
-{
-    match reader.read_byte_record(line) {
-        Ok(found) => Ok(found),
-        Err(error) => match error.kind() {
-            // Reading a slice never fails, but csv's contract rules out no failure of its source.
-            ErrorKind::OutOfMemory | ErrorKind::Io(_) => Err(Memory),
-            _ => unreachable!(),
-        },
-    }
 }
 
 // Puts what the record of a number says behind the orders, if it isn't refused; whether it is taken.

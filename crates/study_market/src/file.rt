@@ -1,15 +1,14 @@
 //! Reading a series file.
 
-ghost use Rattle.std.specs.Prelude.{◌≡◌, ◌≤◌, None, Some, Ok, Err, ℕ, true, if◌then◌else◌, length, map, IfOk, IfErr, OnOk};
+ghost use Rattle.std.specs.Prelude.{◌≡◌, ◌≤◌, None, Some, Ok, Err, ℕ, if◌then◌else◌, length, map, IfOk, IfErr};
 ghost use Rattle.toml.specs.View.{view};
-ghost use Rattle.csv.specs.Reading.{ReadRecord, Ready, is_flexible, reader_trim, took_first};
 ghost use Rattle.csv.specs.Records.{fields_of};
-ghost use Rattle.csv.specs.declared.reader.Trim.TheVariants as trim;
 ghost use Rattle.study_market.specs.Rows.{after_record, at_end, read_rows};
 
+use crate::records::next_record;
 use crate::row::{is_header, read_row};
 use crate::tables::SeriesTables;
-use csv::{ByteRecord, Reader, ReaderBuilder};
+use csv::{ByteRecord, ReaderBuilder};
 use market_types::Memory;
 use std::alloc::Global;
 use study_file::Value;
@@ -24,22 +23,6 @@ pub enum SeriesError {
     /// Want of memory.
     #[error("out of memory")]
     Memory,
-}
-
-// Reads the next record, of any length, into the line; whether there was one.
-fn next_record(reader: &mut Reader<&[u8]>, line: &mut ByteRecord) -> Result<bool, Memory>
-    requires flexible { is_flexible reader.old ≡ true }
-    requires untrimmed { reader_trim reader.old ≡ trim.None }
-    requires ready { Ready reader.old }
-    ensures reads { IfOk result (λ found. ReadRecord (λ s. Some s.now) reader.old reader.new found (fields_of line.new)) }
-    ensures ready { OnOk result (took_first reader.new ≡ true) }
-    ensures flexible { OnOk result (is_flexible reader.new ≡ true) }
-{
-    match reader.read_byte_record(line) {
-        Ok(found) => Ok(found),
-        // Records may have any length, and reading a slice never fails.
-        Err(_) => Err(Memory),
-    }
 }
 
 // The rows after the record of a number, if it isn't refused; whether it is taken.
