@@ -5,6 +5,6 @@ abbrev pub invariant-loop-n : goal.invariant-loop-n
 invariant-loop-n g l = record {
   traders : length l.exchange.cash ≡ length l.initial.exchange.cash;
   stocks : length l.exchange.stocks ≡ length l.initial.exchange.stocks;
-  enters : l.exchange.counts.enters ≤ l.n-counter;
-  cancels : l.exchange.counts.cancels ≤ l.n-counter;
+  enters : l.exchange.counts.enters ≤ l.n;
+  cancels : l.exchange.counts.cancels ≤ l.n;
 }
