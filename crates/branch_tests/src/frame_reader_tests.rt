@@ -110,10 +110,10 @@ const START: Feed = Feed {
     what: What::System { code: b'O' },
 };
 
-// The frame of a message.
-fn message(alloc: Global, feed: &Feed) -> Result<Vec<u8>, Memory> {
+// The frame of the message that a day begins with.
+fn start(alloc: Global) -> Result<Vec<u8>, Memory> {
     let mut bytes = Vec::new(alloc);
-    feed.put(&mut bytes)?;
+    START.put(&mut bytes)?;
     Ok(bytes)
 }
 
@@ -121,7 +121,7 @@ fn message(alloc: Global, feed: &Feed) -> Result<Vec<u8>, Memory> {
 fn bodies_and_messages(rt: HostRuntime) {
     let alloc = rt.alloc();
     holds(&rt, is_event(&read_payload(alloc, None, EVENT)));
-    let Ok(bytes) = message(alloc, &START) else {
+    let Ok(bytes) = start(alloc) else {
         panic!(rt; "out of memory");
     };
     holds(&rt, is_message(&next_frame(alloc, Some(1), &bytes), START));
