@@ -2,7 +2,6 @@ use crate::facts::holds;
 use agent_shell::Shell;
 use market_types::{Reply, Side};
 use std::process::Abort;
-use std::test::Fail;
 
 // Takes a reply where the account is small.
 fn take(rt: &impl Abort, shell: &mut Shell, reply: &Reply) {
@@ -19,11 +18,17 @@ fn take(rt: &impl Abort, shell: &mut Shell, reply: &Reply) {
 // The order buys 100, of which 10 are executed at a dollar (10,000): they take 100 * 10,000 * 10 = 10,000,000 from 1,000.
 // The copy still holds the other 90 after the order is gone.
 #[test]
-fn an_order_is_executed_and_removed(rt: HostRuntime) -> Result<(), Fail> {
-    let mut shell = Shell::open(rt.alloc(), 37, 1_000)?;
-    shell.reserve(1)?;
+fn an_order_is_executed_and_removed(rt: HostRuntime) {
+    let Ok(mut shell) = Shell::open(rt.alloc(), 37, 1_000) else {
+        panic!(rt; "out of memory");
+    };
+    let Ok(()) = shell.reserve(1) else {
+        panic!(rt; "out of memory");
+    };
     let token = shell.next_token();
-    shell.join(token, Side::Buy, 100)?;
+    let Ok(()) = shell.join(token, Side::Buy, 100) else {
+        panic!(rt; "out of memory");
+    };
     let executed = Reply::Executed {
         time: 5,
         token,
@@ -35,7 +40,9 @@ fn an_order_is_executed_and_removed(rt: HostRuntime) -> Result<(), Fail> {
     take(&rt, &mut shell, &executed);
     let account = shell.account();
     holds(&rt, account.position == 10 && account.cash == -9_999_000);
-    let copy = shell.copy()?;
+    let Ok(copy) = shell.copy() else {
+        panic!(rt; "out of memory");
+    };
     let rejected = Reply::Rejected {
         time: 5,
         token,
@@ -47,5 +54,4 @@ fn an_order_is_executed_and_removed(rt: HostRuntime) -> Result<(), Fail> {
         &rt,
         copy.open_len() == 1 && copy.tokens() == 1 && copy.agent() == 37,
     );
-    Ok(())
 }

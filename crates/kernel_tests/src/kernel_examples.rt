@@ -13,7 +13,7 @@ ghost use Rattle.market_floor.specs.OpeningWorked.{market_of, trader};
 ghost use Rattle.kernel_core.specs.Step.{Fits};
 ghost use Rattle.kernel_core.specs.EditsWorked.{IsPlain};
 
-use crate::facts::holds;
+use crate::facts::{equal, holds};
 use agent_shell::{Kind, TraderSetting};
 use kernel_core::{Kernel, Opening};
 use market_floor::opening_worked::{markets_are_openings, opening};
@@ -21,7 +21,6 @@ use market_rules::{Band, Edit, FeeTable, Param, TickTable};
 use market_types::{End, Enter, Entry, Inbound, Memory, Side, Symbol, Time, Token, Trace};
 use outside::{Counted, Steps};
 use std::alloc::{AllocError, Global};
-use std::test::Fail;
 
 // A trader of a kind that first wakes at a time, and then each millisecond.
 fn setting(kind: Kind, first: Time) -> TraderSetting
@@ -67,6 +66,29 @@ pub(crate) fn market(
     markets_are_openings();
     let settings = traders(alloc, kinds)?;
     opening(alloc, close, 100_000, delay, settings)
+}
+
+// A market of one watcher that wakes at 1000.
+pub(crate) fn one_watcher(alloc: Global, close: Time) -> Result<Opening, Memory>
+    requires low { 1000 ≤ close }
+    requires high { close ≤ 65535001000 }
+    ensures { IfOk result IsOpening }
+{
+    market(alloc, close, 0, &[(Kind::Watcher, 1000)])
+}
+
+// A market of two watchers that wake at 1000.
+pub(crate) fn two_watchers(alloc: Global, close: Time) -> Result<Opening, Memory>
+    requires low { 1000 ≤ close }
+    requires high { close ≤ 65535001000 }
+    ensures { IfOk result IsOpening }
+{
+    market(
+        alloc,
+        close,
+        0,
+        &[(Kind::Watcher, 1000), (Kind::Watcher, 1000)],
+    )
 }
 
 // Events until so many of them stand.
@@ -232,11 +254,15 @@ fn first_of_all(kernel: &Kernel, o: &Opening) -> (bool, i64, u32)
 }
 
 #[test]
-fn each_kind_of_edit_is_made(rt: HostRuntime) -> Result<(), Fail> {
+fn each_kind_of_edit_is_made(rt: HostRuntime) {
     let alloc = rt.alloc();
-    let o = market(alloc, 2000, 0, &[(Kind::Watcher, 1000)])?;
+    let Ok(o) = one_watcher(alloc, 2000) else {
+        panic!(rt; "out of memory");
+    };
     let mut trace = Trace::new(alloc);
-    let kernel = each_kind(alloc, &o, &mut trace)?;
+    let Ok(kernel) = each_kind(alloc, &o, &mut trace) else {
+        panic!(rt; "out of memory");
+    };
     let marks = trace.as_slice().iter().map(mark_of);
     let letters = b"tfhrlpsiv".iter().copied();
     holds(&rt, marks.eq(letters.zip(0..9)));
@@ -244,7 +270,6 @@ fn each_kind_of_edit_is_made(rt: HostRuntime) -> Result<(), Fail> {
         &rt,
         first_of_all(&kernel, &o) == (true, -5, 500) && kernel.counts().waiting == 2,
     );
-    Ok(())
 }
 
 // An event's time, its message's number, whether it was put back, and until when its receiver is busy.
@@ -269,18 +294,29 @@ const BUSY: [(Time, u64, bool, Time); 11] = [
     (1019, 11, false, 1019),
 ];
 
-#[test]
-fn a_busy_exchange_puts_back(rt: HostRuntime) -> Result<(), Fail> {
-    let alloc = rt.alloc();
+// A market of three watchers, of which the third wakes later, and of an exchange that computes.
+fn busy_market(alloc: Global) -> Result<Opening, Memory>
+    ensures { IfOk result IsOpening }
+{
     let watcher = Kind::Watcher;
-    let o = market(
+    market(
         alloc,
         2000,
         3,
         &[(watcher, 1000), (watcher, 1000), (watcher, 1003)],
-    )?;
+    )
+}
+
+#[test]
+fn a_busy_exchange_puts_back(rt: HostRuntime) {
+    let alloc = rt.alloc();
+    let Ok(o) = busy_market(alloc) else {
+        panic!(rt; "out of memory");
+    };
     let mut trace = Trace::new(alloc);
-    let kernel = branch(alloc, &o, &[], 100, &mut trace)?;
+    let Ok(kernel) = branch(alloc, &o, &[], 100, &mut trace) else {
+        panic!(rt; "out of memory");
+    };
     holds(
         &rt,
         trace
@@ -294,7 +330,6 @@ fn a_busy_exchange_puts_back(rt: HostRuntime) -> Result<(), Fail> {
         &rt,
         kernel.end(&o) == Some(End::Closed) && counts.waiting == 3 && counts.next_seq == 12,
     );
-    Ok(())
 }
 
 // When the message of number 1 is due after the first event under this jitter, without another latency.
@@ -309,13 +344,14 @@ fn due(alloc: Global, o: &Opening, jitter: u32) -> Result<Option<Time>, Memory>
 
 // The word of number 1 under the zero key is 2,419,978,656.
 #[test]
-fn a_latency_is_drawn_by_number(rt: HostRuntime) -> Result<(), Fail> {
+fn a_latency_is_drawn_by_number(rt: HostRuntime) {
     let alloc = rt.alloc();
-    let o = market(alloc, 2000, 0, &[(Kind::Watcher, 1000)])?;
+    let Ok(o) = one_watcher(alloc, 2000) else {
+        panic!(rt; "out of memory");
+    };
     for (jitter, time) in [(0, 1000), (9, 1005), (4_294_967_295, 2_419_979_656)] {
-        holds(&rt, due(alloc, &o, jitter)? == Some(time));
+        equal(&rt, due(alloc, &o, jitter), Ok(Some(time)));
     }
-    Ok(())
 }
 
 // Why a run has ended, after how many events, at which time, how many messages wait, the next number, and how many
@@ -343,50 +379,46 @@ fn ending(alloc: Global, o: &Opening, edits: &[(u32, Edit)]) -> Result<Ending, M
 
 // An order that is due goes on with a run that was closed.
 #[test]
-fn a_closed_run_goes_on(rt: HostRuntime) -> Result<(), Fail> {
+fn a_closed_run_goes_on(rt: HostRuntime) {
     let alloc = rt.alloc();
-    let o = market(
-        alloc,
-        2000,
-        0,
-        &[(Kind::Watcher, 1000), (Kind::Watcher, 1000)],
-    )?;
-    let closed = ending(alloc, &o, &[(50, order(b'A', 100))])?;
-    holds(&rt, closed == (Some(End::Closed), 8, 1115, 2, 10, 0));
-    Ok(())
+    let Ok(o) = two_watchers(alloc, 2000) else {
+        panic!(rt; "out of memory");
+    };
+    let told = ending(alloc, &o, &[(50, order(b'A', 100))]);
+    holds(&rt, told == Ok((Some(End::Closed), 8, 1115, 2, 10, 0)));
 }
 
 // An order that is due goes on with a run that was quiet.
 #[test]
-fn a_quiet_run_goes_on(rt: HostRuntime) -> Result<(), Fail> {
+fn a_quiet_run_goes_on(rt: HostRuntime) {
     let alloc = rt.alloc();
-    let o = market(alloc, 2000, 0, &[(Kind::Watcher, 1000)])?;
+    let Ok(o) = one_watcher(alloc, 2000) else {
+        panic!(rt; "out of memory");
+    };
     let edits = [(0, Edit::Silence { agent: 1 }), (50, order(b'A', 100))];
-    let quiet = ending(alloc, &o, &edits)?;
-    holds(&rt, quiet == (Some(End::Quiet), 3, 1105, 0, 3, 0));
-    Ok(())
+    let told = ending(alloc, &o, &edits);
+    holds(&rt, told == Ok((Some(End::Quiet), 3, 1105, 0, 3, 0)));
 }
+
+const FULL: Ending = (
+    Some(End::QueueFull),
+    65_535,
+    65_534_001_000,
+    65_536,
+    131_071,
+    1,
+);
 
 // With each wakeup one message more waits, of a question that is under way for an hour.
 #[test]
-fn an_order_into_a_full_queue_is_dropped_and_counted(rt: HostRuntime) -> Result<(), Fail> {
+fn an_order_into_a_full_queue_is_dropped_and_counted(rt: HostRuntime) {
     let alloc = rt.alloc();
-    let o = market(alloc, 65_535_001_000, 0, &[(Kind::Watcher, 1000)])?;
+    let Ok(o) = one_watcher(alloc, 65_535_001_000) else {
+        panic!(rt; "out of memory");
+    };
     let edits = [
         (0, latency(3_600_000_000_000, 0)),
         (65_535, order(b'A', 100)),
     ];
-    let full = ending(alloc, &o, &edits)?;
-    holds(
-        &rt,
-        full == (
-            Some(End::QueueFull),
-            65_535,
-            65_534_001_000,
-            65_536,
-            131_071,
-            1,
-        ),
-    );
-    Ok(())
+    holds(&rt, ending(alloc, &o, &edits) == Ok(FULL));
 }

@@ -12,7 +12,6 @@ use market_floor::opening_worked::opening;
 use market_floor::{Opening, Posting};
 use market_types::{Body, Cancel, Inbound, Memory, Message, Token};
 use std::alloc::Global;
-use std::test::Fail;
 
 // A market of one watcher.
 fn one_watcher(alloc: Global) -> Result<Opening, Memory>
@@ -111,32 +110,55 @@ fn rows(alloc: Global, mail: &Mail) -> Result<Vec<(u64, u64, u16, u16)>, Memory>
     Ok(rows)
 }
 
-#[test]
-fn messages_are_due_by_their_own_draws(rt: HostRuntime) -> Result<(), Fail> {
-    let alloc = rt.alloc();
-    let o = one_watcher(alloc)?;
-    let groups = with_jitter(alloc, &o)?;
-    let mut mail = Mail::new(alloc)?;
-    cancel(&mut mail, 1500);
-    ask(&mut mail, &o, &groups);
-    wake(&mut mail, &o, &groups, 1200);
-    let copy = mail.copy(alloc)?;
-    let moved = mail.put_back(1500);
-    holds(&rt, moved.map_or(false, |m| m.time == 1017 && m.seq == 1));
-    let now = [(1200, 2, 1, 1), (1500, 0, 1, 0), (1500, 1, 1, 0)];
-    holds(&rt, rows(alloc, &mail)?.as_slice() == now.as_slice());
-    let before = [(1017, 1, 1, 0), (1200, 2, 1, 1), (1500, 0, 1, 0)];
-    holds(&rt, rows(alloc, &copy)?.as_slice() == before.as_slice());
-    Ok(())
+const MOVED: [(u64, u64, u16, u16); 3] = [(1200, 2, 1, 1), (1500, 0, 1, 0), (1500, 1, 1, 0)];
+
+const UNMOVED: [(u64, u64, u16, u16); 3] = [(1017, 1, 1, 0), (1200, 2, 1, 1), (1500, 0, 1, 0)];
+
+// Whether these messages wait.
+fn waits(alloc: Global, mail: &Mail, hoped: &[(u64, u64, u16, u16)]) -> bool {
+    match rows(alloc, mail) {
+        Ok(rows) => rows.as_slice() == hoped,
+        Err(_) => false,
+    }
 }
 
 #[test]
-fn full_mail_drops_what_is_to_join(rt: HostRuntime) -> Result<(), Fail> {
+fn messages_are_due_by_their_own_draws(rt: HostRuntime) {
     let alloc = rt.alloc();
-    let o = one_watcher(alloc)?;
-    let mut mail = Mail::new(alloc)?;
+    let Ok(o) = one_watcher(alloc) else {
+        panic!(rt; "out of memory");
+    };
+    let Ok(groups) = with_jitter(alloc, &o) else {
+        panic!(rt; "out of memory");
+    };
+    let Ok(mut mail) = Mail::new(alloc) else {
+        panic!(rt; "out of memory");
+    };
+    cancel(&mut mail, 1500);
+    ask(&mut mail, &o, &groups);
+    wake(&mut mail, &o, &groups, 1200);
+    let Ok(copy) = mail.copy(alloc) else {
+        panic!(rt; "out of memory");
+    };
+    let moved = mail.put_back(1500);
+    holds(&rt, moved.map_or(false, |m| m.time == 1017 && m.seq == 1));
+    holds(&rt, waits(alloc, &mail, &MOVED));
+    holds(&rt, waits(alloc, &copy, &UNMOVED));
+}
+
+#[test]
+fn full_mail_drops_what_is_to_join(rt: HostRuntime) {
+    let alloc = rt.alloc();
+    let Ok(o) = one_watcher(alloc) else {
+        panic!(rt; "out of memory");
+    };
+    let Ok(mut mail) = Mail::new(alloc) else {
+        panic!(rt; "out of memory");
+    };
     fill(&mut mail, 65_536);
-    let mut copy = mail.copy(alloc)?;
+    let Ok(mut copy) = mail.copy(alloc) else {
+        panic!(rt; "out of memory");
+    };
     cancel(&mut copy, 0);
     wake(&mut copy, &o, &o.groups, 1200);
     equal(&rt, counts(&copy), (65_536, 65_536, 2));
@@ -145,5 +167,4 @@ fn full_mail_drops_what_is_to_join(rt: HostRuntime) -> Result<(), Fail> {
     holds(&rt, copy.least().map_or(false, |m| m.seq == 65_536));
     equal(&rt, counts(&copy), (65_536, 65_537, 2));
     equal(&rt, counts(&mail), (65_536, 65_536, 0));
-    Ok(())
 }

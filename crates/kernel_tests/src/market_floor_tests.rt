@@ -7,16 +7,15 @@ ghost use Rattle.market_floor.specs.Floor.{floor_at_opening};
 ghost use Rattle.market_floor.specs.Sound.{FitsFloor, IsSoundFloor};
 ghost use Rattle.market_floor.specs.Worked.{halting};
 
-use crate::facts::holds;
+use crate::facts::{equal, holds};
 use agent_shell::{Kind, TraderSetting};
 use market_floor::laws::floors_stay_sound;
 use market_floor::opening_worked::{markets_are_openings, opening};
 use market_floor::{Floor, Happening, Opening, Posting, applied_by};
 use market_rules::{Change, Dated, DatedList, Edit};
-use market_types::{AgentNo, Body, Message, Quote, Time};
+use market_types::{AgentNo, Body, Memory, Message, Quote, Time};
 use std::alloc::Global;
 use std::process::Abort;
-use std::test::Fail;
 
 // A halt of the first stock at a time.
 fn halt_at(time: Time) -> Dated
@@ -30,7 +29,7 @@ fn halt_at(time: Time) -> Dated
 }
 
 // Two halts.
-fn halts(alloc: Global) -> Result<DatedList, Fail>
+fn halts(alloc: Global) -> Result<DatedList, Memory>
     ensures { IfOk result (λ d. d ≡ halting.dated) }
 {
     let mut dates = Vec::new(alloc);
@@ -38,12 +37,12 @@ fn halts(alloc: Global) -> Result<DatedList, Fail>
     dates.push(halt_at(1600))?;
     match DatedList::new(dates) {
         Ok(dated) => Ok(dated),
-        Err(_) => Err(Fail::from("no dates")),
+        Err(_) => Err(Memory),
     }
 }
 
 // The market of the worked examples: one watcher, an exchange that computes for 7 nanoseconds, halts at 1400 and 1600.
-fn halting_opening(alloc: Global) -> Result<Opening, Fail>
+fn halting_opening(alloc: Global) -> Result<Opening, Memory>
     ensures value { IfOk result (λ o. o ≡ halting) }
     ensures opening { IfOk result (λ o. IsOpening o) }
 {
@@ -76,7 +75,7 @@ fn deliver(
     from: AgentNo,
     to: AgentNo,
     body: Body,
-) -> Result<Happening, Fail>
+) -> Result<Happening, Memory>
     requires fits { FitsFloor o.now floor.old }
     requires sound { IsSoundFloor events floor.old }
     requires few { events < 1000 }
@@ -130,50 +129,74 @@ const QUOTE: Body = Body::Quote(Quote {
 });
 
 #[test]
-fn a_watcher_wakes_and_hears(rt: HostRuntime) -> Result<(), Fail> {
+fn a_watcher_wakes_and_hears(rt: HostRuntime) {
     let alloc = rt.alloc();
-    let o = halting_opening(alloc)?;
-    let mut floor = Floor::open(alloc, &o)?;
-    let woken = deliver(&rt, alloc, &o, &mut floor, 0, 1000, 1, 1, Body::Wake)?;
-    assert!(rt; woken.postings.len() == 2 && woken.delay == 0);
-    assert!(rt; matches!(woken.postings.get(1), Some(Posting::WakeAt(1_001_000))));
-    let heard = deliver(&rt, alloc, &o, &mut floor, 1, 1017, 0, 1, QUOTE)?;
+    let Ok(o) = halting_opening(alloc) else {
+        panic!(rt; "out of memory");
+    };
+    let Ok(mut floor) = Floor::open(alloc, &o) else {
+        panic!(rt; "out of memory");
+    };
+    let Ok(woken) = deliver(&rt, alloc, &o, &mut floor, 0, 1000, 1, 1, Body::Wake) else {
+        panic!(rt; "out of memory");
+    };
+    holds(&rt, woken.postings.len() == 2 && woken.delay == 0);
+    holds(
+        &rt,
+        matches!(woken.postings.get(1), Some(Posting::WakeAt(1_001_000))),
+    );
+    let Ok(heard) = deliver(&rt, alloc, &o, &mut floor, 1, 1017, 0, 1, QUOTE) else {
+        panic!(rt; "out of memory");
+    };
     assert!(rt; heard.postings.len() == 0 && floor.traders() == 1);
     let told = floor.trader(1);
-    assert!(rt; told.quotes == 1 && told.draws == 1);
-    Ok(())
+    equal(&rt, (told.quotes, told.draws), (1, 1));
 }
 
 // The halt of 1400 is made with the question of that time.
 #[test]
-fn a_halt_comes_at_its_time(rt: HostRuntime) -> Result<(), Fail> {
+fn a_halt_comes_at_its_time(rt: HostRuntime) {
     let alloc = rt.alloc();
-    let o = halting_opening(alloc)?;
-    let mut floor = Floor::open(alloc, &o)?;
-    let early = deliver(&rt, alloc, &o, &mut floor, 0, 1399, 1, 0, Body::Ask(0))?;
+    let Ok(o) = halting_opening(alloc) else {
+        panic!(rt; "out of memory");
+    };
+    let Ok(mut floor) = Floor::open(alloc, &o) else {
+        panic!(rt; "out of memory");
+    };
+    let Ok(early) = deliver(&rt, alloc, &o, &mut floor, 0, 1399, 1, 0, Body::Ask(0)) else {
+        panic!(rt; "out of memory");
+    };
     holds(
         &rt,
         is_quote(&early, b'T') && early.before.len() == 0 && early.delay == 7,
     );
-    let late = deliver(&rt, alloc, &o, &mut floor, 1, 1400, 1, 0, Body::Ask(0))?;
+    let Ok(late) = deliver(&rt, alloc, &o, &mut floor, 1, 1400, 1, 0, Body::Ask(0)) else {
+        panic!(rt; "out of memory");
+    };
     holds(&rt, is_quote(&late, b'H') && late.before.len() == 1);
-    Ok(())
 }
 
 // A copy goes its own way: the halts are made on it alone.
 #[test]
-fn a_copy_halts(rt: HostRuntime) -> Result<(), Fail> {
+fn a_copy_halts(rt: HostRuntime) {
     let alloc = rt.alloc();
-    let o = halting_opening(alloc)?;
-    let floor = Floor::open(alloc, &o)?;
-    let mut copy = floor.copy(alloc)?;
-    let feed = copy.rule(alloc, &o, 0, 1600)?;
+    let Ok(o) = halting_opening(alloc) else {
+        panic!(rt; "out of memory");
+    };
+    let Ok(floor) = Floor::open(alloc, &o) else {
+        panic!(rt; "out of memory");
+    };
+    let Ok(mut copy) = floor.copy(alloc) else {
+        panic!(rt; "out of memory");
+    };
+    let Ok(feed) = copy.rule(alloc, &o, 0, 1600) else {
+        panic!(rt; "out of memory");
+    };
     holds(&rt, feed.len() == 1 && applied_by(&o, 0, 1600) == 2);
-    Ok(())
 }
 
 // A fresh floor after an edit at 1500, and how many feed messages it told.
-fn edited(alloc: Global, edit: &Edit) -> Result<(Floor, usize), Fail>
+fn edited(alloc: Global, edit: &Edit) -> Result<(Floor, usize), Memory>
     requires { IsEdit (floor_at_opening halting) edit.now }
 {
     let o = halting_opening(alloc)?;
@@ -183,12 +206,15 @@ fn edited(alloc: Global, edit: &Edit) -> Result<(Floor, usize), Fail>
 }
 
 #[test]
-fn edits_are_made(rt: HostRuntime) -> Result<(), Fail> {
+fn edits_are_made(rt: HostRuntime) {
     let alloc = rt.alloc();
-    let (_, told) = edited(alloc, &Edit::Halt { stock: 0 })?;
-    assert!(rt; told == 1);
-    let (floor, _) = edited(alloc, &Edit::Silence { agent: 1 })?;
+    let Ok((_, told)) = edited(alloc, &Edit::Halt { stock: 0 }) else {
+        panic!(rt; "out of memory");
+    };
+    equal(&rt, told, 1);
+    let Ok((floor, _)) = edited(alloc, &Edit::Silence { agent: 1 }) else {
+        panic!(rt; "out of memory");
+    };
     assert!(rt; floor.traders() == 1);
-    assert!(rt; floor.silenced(1));
-    Ok(())
+    holds(&rt, floor.silenced(1));
 }

@@ -4,16 +4,16 @@ use crate::facts::equal;
 use agent_shell::{Kind, TraderSetting};
 use market_floor::group_number;
 use market_floor::opening_worked::opening;
-use std::test::Fail;
+use market_types::Memory;
+use std::alloc::Global;
 
-#[test]
-fn agents_are_in_their_groups(rt: HostRuntime) -> Result<(), Fail> {
-    let alloc = rt.alloc();
+// A watcher of each of these groups.
+fn watchers(alloc: Global, groups: &[u8]) -> Result<Vec<TraderSetting>, Memory> {
     let mut traders = Vec::new(alloc);
-    for group in 3..5 {
+    for group in groups {
         traders.push(TraderSetting {
             kind: Kind::Watcher,
-            group,
+            group: *group,
             stock: 0,
             first: 1000,
             every: 1_000_000,
@@ -22,16 +22,20 @@ fn agents_are_in_their_groups(rt: HostRuntime) -> Result<(), Fail> {
             cash: 0,
         })?;
     }
-    let o = opening(alloc, 2000, 100, 3, traders)?;
+    Ok(traders)
+}
+
+#[test]
+fn agents_are_in_their_groups(rt: HostRuntime) {
+    let alloc = rt.alloc();
+    let Ok(traders) = watchers(alloc, &[3, 4]) else {
+        panic!(rt; "out of memory");
+    };
+    let Ok(o) = opening(alloc, 2000, 100, 3, traders) else {
+        panic!(rt; "out of memory");
+    };
     assert!(rt; o.traders.len() == 2);
-    equal(
-        &rt,
-        (
-            group_number(&o, 0),
-            group_number(&o, 1),
-            group_number(&o, 2),
-        ),
-        (0, 3, 4),
-    );
-    Ok(())
+    equal(&rt, group_number(&o, 0), 0);
+    equal(&rt, group_number(&o, 1), 3);
+    equal(&rt, group_number(&o, 2), 4);
 }

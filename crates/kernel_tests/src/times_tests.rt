@@ -7,14 +7,12 @@ ghost use Rattle.kernel_core.specs.EditsWorked.{IsPlain};
 
 use crate::facts::holds;
 use crate::kernel_examples::copies::{Gone, are_alike, crowd, gone_on};
-use crate::kernel_examples::{branch, market, run};
-use agent_shell::Kind;
+use crate::kernel_examples::{branch, one_watcher, run, two_watchers};
 use kernel_core::{Kernel, Opening};
 use market_rules::Edit;
 use market_types::{End, Memory, Time, Trace};
 use outside::{Counted, Steps};
 use std::alloc::Global;
-use std::test::Fail;
 
 // A run up to a time: the answer, and by how much the counter rose.
 fn timed(
@@ -74,26 +72,27 @@ const STOPS: [(u32, Time, u32, Reached); 11] = [
 
 // Two watchers wake at 1000 and ask, and the market closes at 1005, when their questions are due.
 #[test]
-fn a_run_stops_at_a_time(rt: HostRuntime) -> Result<(), Fail> {
+fn a_run_stops_at_a_time(rt: HostRuntime) {
     let alloc = rt.alloc();
-    let watchers = [(Kind::Watcher, 1000), (Kind::Watcher, 1000)];
-    let o = market(alloc, 1005, 0, &watchers)?;
+    let Ok(o) = two_watchers(alloc, 1005) else {
+        panic!(rt; "out of memory");
+    };
     for (first, when, most, hoped) in STOPS.iter() {
-        let told = reached(alloc, &o, &[], *first, *when, *most)?;
-        holds(&rt, told == *hoped);
+        let told = reached(alloc, &o, &[], *first, *when, *most);
+        holds(&rt, told == Ok(*hoped));
     }
-    Ok(())
 }
 
 // A silenced watcher asks for nothing when it wakes, so that no message waits.
 #[test]
-fn a_run_up_to_a_time_tells_that_it_is_quiet(rt: HostRuntime) -> Result<(), Fail> {
+fn a_run_up_to_a_time_tells_that_it_is_quiet(rt: HostRuntime) {
     let alloc = rt.alloc();
-    let o = market(alloc, 2000, 0, &[(Kind::Watcher, 1000)])?;
+    let Ok(o) = one_watcher(alloc, 2000) else {
+        panic!(rt; "out of memory");
+    };
     let silence = [(0, Edit::Silence { agent: 1 })];
-    let quiet = reached(alloc, &o, &silence, 0, 5000, 100)?;
-    holds(&rt, quiet == (Some(End::Quiet), 1, 1, 1000, false));
-    Ok(())
+    let told = reached(alloc, &o, &silence, 0, 5000, 100);
+    holds(&rt, told == Ok((Some(End::Quiet), 1, 1, 1000, false)));
 }
 
 // A run that stops at a time and then goes on to its end.
@@ -107,22 +106,34 @@ fn stopped(alloc: Global, o: &Opening, when: Time) -> Result<Gone, Memory>
     Ok(Gone { end, kernel, trace })
 }
 
+// A run from the opening to its end.
+fn unstopped(alloc: Global, o: &Opening) -> Result<Gone, Memory>
+    requires { IsOpening o.now }
+{
+    let kernel = Kernel::open(alloc, o)?;
+    gone_on(alloc, o, kernel)
+}
+
 #[test]
-fn a_run_that_stops_at_a_time_goes_on_as_if_it_had_not(rt: HostRuntime) -> Result<(), Fail> {
+fn a_run_that_stops_at_a_time_goes_on_as_if_it_had_not(rt: HostRuntime) {
     let alloc = rt.alloc();
-    let o = crowd(alloc)?;
-    let kernel = Kernel::open(alloc, &o)?;
-    let whole = gone_on(alloc, &o, kernel)?;
+    let Ok(o) = crowd(alloc) else {
+        panic!(rt; "out of memory");
+    };
+    let Ok(whole) = unstopped(alloc, &o) else {
+        panic!(rt; "out of memory");
+    };
     holds(
         &rt,
         whole.end == Some(End::Closed) && whole.kernel.events() > 1000,
     );
     for when in [0, 1000, 1_001_000, 30_000_000, 60_000_000, 90_000_000] {
-        let parts = stopped(alloc, &o, when)?;
+        let Ok(parts) = stopped(alloc, &o, when) else {
+            panic!(rt; "out of memory");
+        };
         holds(
             &rt,
-            parts.end == whole.end && are_alike(alloc, &parts, &whole)?,
+            parts.end == whole.end && are_alike(alloc, &parts, &whole) == Ok(true),
         );
     }
-    Ok(())
 }

@@ -12,7 +12,6 @@ use kernel_core::{Kernel, Opening};
 use market_rules::Edit;
 use market_types::{AgentNo, Body, End, Entry, Memory, Record, Time, Trace, TraderTold};
 use std::alloc::Global;
-use std::test::Fail;
 
 // An event in plain values, but for its feeds.
 #[derive(Clone, Copy, PartialEq, Eq, Debug)]
@@ -183,11 +182,14 @@ pub(crate) fn are_alike(alloc: Global, a: &Gone, b: &Gone) -> Result<bool, Memor
 }
 
 #[test]
-fn a_copy_goes_on_as_its_kernel_does(rt: HostRuntime) -> Result<(), Fail> {
+fn a_copy_goes_on_as_its_kernel_does(rt: HostRuntime) {
     let alloc = rt.alloc();
-    let o = crowd(alloc)?;
-    let (a, b) = both(alloc, &o)?;
+    let Ok(o) = crowd(alloc) else {
+        panic!(rt; "out of memory");
+    };
+    let Ok((a, b)) = both(alloc, &o) else {
+        panic!(rt; "out of memory");
+    };
     holds(&rt, a.end == Some(End::Closed) && a.kernel.events() > 1000);
-    holds(&rt, b.end == a.end && are_alike(alloc, &a, &b)?);
-    Ok(())
+    holds(&rt, b.end == a.end && are_alike(alloc, &a, &b) == Ok(true));
 }

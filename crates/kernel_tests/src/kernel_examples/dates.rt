@@ -11,7 +11,6 @@ use kernel_core::Opening;
 use market_rules::{Change, Dated, DatedList};
 use market_types::{Body, Entry, Memory, Reply, Time, Trace};
 use std::alloc::Global;
-use std::test::Fail;
 
 // Ticks of five cents from 1500 on.
 fn later_ticks(alloc: Global) -> Result<DatedList, Memory>
@@ -53,14 +52,15 @@ fn answer_of(entry: &Entry) -> Option<(u8, Time)> {
 }
 
 #[test]
-fn dated_ticks_hold_from_their_nanosecond_on(rt: HostRuntime) -> Result<(), Fail> {
+fn dated_ticks_hold_from_their_nanosecond_on(rt: HostRuntime) {
     let alloc = rt.alloc();
-    let o = dated_market(alloc)?;
+    let Ok(o) = dated_market(alloc) else {
+        panic!(rt; "out of memory");
+    };
     let mut trace = Trace::new(alloc);
     let orders = [(0, order(b'A', 499)), (0, order(b'B', 500))];
-    branch(alloc, &o, &orders, 100, &mut trace)?;
+    holds(&rt, branch(alloc, &o, &orders, 100, &mut trace).is_ok());
     let answers = trace.as_slice().iter().filter_map(answer_of);
     let hoped = [(b'A', 1499), (b'X', 1500)];
     holds(&rt, answers.eq(hoped.iter().copied()));
-    Ok(())
 }

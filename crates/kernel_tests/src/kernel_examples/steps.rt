@@ -2,14 +2,12 @@
 
 ghost use Rattle.kernel_core.specs.Step.{Fits};
 
-use super::market;
-use crate::facts::holds;
-use agent_shell::Kind;
+use super::one_watcher;
+use crate::facts::{equal, holds};
 use kernel_core::{Kernel, Opening, Stepped};
 use market_types::{End, Memory, Trace};
 use outside::{Counted, Steps};
 use std::alloc::Global;
-use std::test::Fail;
 
 // One step, and by how much the counter rose.
 fn stepped(
@@ -28,21 +26,20 @@ fn stepped(
 }
 
 #[test]
-fn a_step_is_one_event_and_one_tick(rt: HostRuntime) -> Result<(), Fail> {
+fn a_step_is_one_event_and_one_tick(rt: HostRuntime) {
     let alloc = rt.alloc();
-    let o = market(alloc, 1005, 0, &[(Kind::Watcher, 1000)])?;
+    let Ok(o) = one_watcher(alloc, 1005) else {
+        panic!(rt; "out of memory");
+    };
     let mut trace = Trace::new(alloc);
-    let mut kernel = Kernel::open(alloc, &o)?;
-    let first = stepped(alloc, &o, &mut kernel, &mut trace)?;
-    let second = stepped(alloc, &o, &mut kernel, &mut trace)?;
-    let third = stepped(alloc, &o, &mut kernel, &mut trace)?;
-    holds(
-        &rt,
-        first == (Stepped::Event(1), 1) && second == (Stepped::Event(2), 1),
-    );
-    holds(
-        &rt,
-        third == (Stepped::Ended(End::Closed), 0) && trace.len() == 2,
-    );
-    Ok(())
+    let Ok(mut kernel) = Kernel::open(alloc, &o) else {
+        panic!(rt; "out of memory");
+    };
+    let first = stepped(alloc, &o, &mut kernel, &mut trace);
+    let second = stepped(alloc, &o, &mut kernel, &mut trace);
+    let third = stepped(alloc, &o, &mut kernel, &mut trace);
+    holds(&rt, first == Ok((Stepped::Event(1), 1)));
+    holds(&rt, second == Ok((Stepped::Event(2), 1)));
+    holds(&rt, third == Ok((Stepped::Ended(End::Closed), 0)));
+    equal(&rt, trace.len(), 2);
 }
