@@ -9,6 +9,7 @@ use Rattle.std.specs.Ordering.{nat_cmp, ordering_then}
 use Rattle.std.specs.Cmp.Lexicographic.{slice_cmp}
 use Rattle.std.specs.declared.cmp.Ordering.{Ordering}
 use Rattle.std.specs.declared.cmp.Ordering.TheVariants.{Less, Equal, Greater}
+use Rattle.price_time_book.specs.Index.{by_ends}
 
 -- the number that goes on from another with these bytes
 abbrev onward : ℕ → List ℕ → ℕ
@@ -69,7 +70,7 @@ front (suc n) (x ∷ xs) [] = refl
 front (suc n) (x ∷ xs) (y ∷ ys) = again (nat_cmp x y) (slice_cmp nat_cmp (take n xs) (take n ys)) (slice_cmp nat_cmp xs ys) (front n xs ys)
 
 -- a front and the rest, which may overlap
-both_ends : (k n : ℕ) → k ≤ n → (xs ys : List ℕ)
+pub both_ends : (k n : ℕ) → k ≤ n → (xs ys : List ℕ)
     → ordering_then (slice_cmp nat_cmp (take n xs) (take n ys)) (slice_cmp nat_cmp (drop k xs) (drop k ys)) ≡ slice_cmp nat_cmp xs ys
 both_ends zero n le xs ys = front n xs ys
 both_ends (suc k) zero le xs ys = absurd (omega arith)
@@ -90,11 +91,11 @@ fits-take n bs fits i =
 fits-drop : (n : ℕ) (bs : List ℕ) → ((i : ℕ) → get_or bs i 0 < 256) → (i : ℕ) → get_or (drop n bs) i 0 < 256
 fits-drop n bs fits i = rw get_or-drop (fits (n + i))
 
--- fourteen bytes by the first eight and the last eight
-pub fourteen_cmp : (xs ys : List ℕ) → length xs ≡ 14 → length ys ≡ 14 → ((i : ℕ) → get_or xs i 0 < 256) → ((i : ℕ) → get_or ys i 0 < 256)
-    → ordering_then (nat_cmp (from_be_bytes w64 (take 8 xs)) (from_be_bytes w64 (take 8 ys))) (nat_cmp (from_be_bytes w64 (drop 6 xs)) (from_be_bytes w64 (drop 6 ys)))
-    ≡ slice_cmp nat_cmp xs ys
-fourteen_cmp xs ys k l p q =
+-- fourteen bytes by the last eight and the first eight
+pub ends_cmp : (xs ys : List ℕ) → length xs ≡ 14 → length ys ≡ 14 → ((i : ℕ) → get_or xs i 0 < 256) → ((i : ℕ) → get_or ys i 0 < 256)
+    → ordering_then (nat_cmp (from_be_bytes w64 (drop 6 xs)) (from_be_bytes w64 (drop 6 ys))) (nat_cmp (from_be_bytes w64 (take 8 xs)) (from_be_bytes w64 (take 8 ys)))
+    ≡ by_ends xs ys
+ends_cmp xs ys k l p q =
     let first = eight_cmp (take 8 xs) (take 8 ys) (omega (arith, length-take 8 xs)) (omega (arith, length-take 8 ys)) (fits-take 8 xs p) (fits-take 8 ys q) in
     let last = eight_cmp (drop 6 xs) (drop 6 ys) (omega (arith, length-drop 6 xs)) (omega (arith, length-drop 6 ys)) (fits-drop 6 xs p) (fits-drop 6 ys q) in
-    (λ i. ordering_then (first i) (last i)) ∙ both_ends 6 8 (omega arith) xs ys
+    λ i. ordering_then (last i) (first i)

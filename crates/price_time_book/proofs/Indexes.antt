@@ -1,11 +1,11 @@
 -- Lemmas on sorted indexes of the vector of arrival.
-use Rattle.std.proofs.Common.{◌≡◌, ◌≢◌, ℕ, ◌+◌, ◌-◌, ◌<◌, ◌≤◌, Bool, true, false, cond, ◌&&◌, eqb, ltb, List, [], ◌∷◌, ◌++◌, Some, None, length, get_or, set, refl, sym, ap, ◌∙◌, arith, inl, inr, suc, zero, subst, All, find}
+use Rattle.std.proofs.Common.{◌≡◌, ◌≢◌, ℕ, ◌+◌, ◌-◌, ◌<◌, ◌≤◌, Bool, true, false, cond, ◌&&◌, eqb, ltb, List, [], ◌∷◌, ◌++◌, Some, None, drop, length, take, get_or, set, refl, sym, ap, ◌∙◌, arith, inl, inr, suc, zero, subst, All, find}
 use Rattle.std.specs.Cmp.{IsTotalOrder}
 use Rattle.std.proofs.lemmas.Cmp.{nat_cmp_total, on_total, then_total}
 use Rattle.std.specs.List.{insert}
 use Rattle.std.specs.List.Sorted.{IsPartitionPoint}
-use Rattle.std.specs.Cmp.Lexicographic.{nat_list_cmp_total}
-use Rattle.std.specs.Ordering.{is_eq, is_lt, nat_cmp, ordering_reverse}
+use Rattle.std.specs.Cmp.Lexicographic.{nat_list_cmp_total, slice_cmp}
+use Rattle.std.specs.Ordering.{is_eq, is_lt, nat_cmp, ordering_reverse, ordering_then}
 use Rattle.std.specs.declared.cmp.Ordering.{Ordering}
 use Rattle.std.specs.declared.cmp.Ordering.TheVariants.{Less, Equal, Greater}
 use Rattle.std.specs.Prelude.{bytes_eq}
@@ -17,9 +17,10 @@ use Rattle.std.proofs.lemmas.List.Edits.{length-insert, get_or-insert_below, get
 use Rattle.price_time_book.specs.declared.resting.Resting.{Resting}
 use Rattle.price_time_book.specs.declared.index.ReferenceEntry.{ReferenceEntry}
 use Rattle.price_time_book.specs.declared.index.TokenEntry.{TokenEntry}
-use Rattle.price_time_book.specs.Index.{AreLessened, IsByReference, IsByToken, IsIndex, IsLessened, by_pair, pair_at, pair_of}
+use Rattle.price_time_book.specs.Index.{AreLessened, IsByReference, IsByToken, IsIndex, IsLessened, by_ends, by_pair, pair_at, pair_of}
 use Rattle.price_time_book.specs.Indexed.{nothing, open_orders}
 use Rattle.price_time_book.specs.Orders.{order_of}
+use Rattle.price_time_book.proofs.Bytewise.{both_ends}
 use Rattle.price_time_book.proofs.Lowers.{open_each}
 use Rattle.price_time_book.proofs.Stays.{all_differ}
 use Rattle.std.proofs.lemmas.List.Elements.{recursion_from_All}
@@ -347,21 +348,42 @@ reference_ties a b e =
     rw (t, e) refl
 
 -- ---- agents and tokens
+ends_total : IsTotalOrder by_ends
+ends_total = then_total (on_total (drop 6) nat_list_cmp_total) (on_total (take 8) nat_list_cmp_total)
+
 pub pair_total : IsTotalOrder by_pair
-pair_total = then_total (on_total (λ (p : ℕ × List ℕ). p.0) nat_cmp_total) (on_total (λ (p : ℕ × List ℕ). p.1) nat_list_cmp_total)
+pair_total = then_total (on_total (λ (p : ℕ × List ℕ). p.1) ends_total) (on_total (λ (p : ℕ × List ℕ). p.0) nat_cmp_total)
 
 equal_is : (o : Ordering) → is_eq o ≡ true → o ≡ Equal
 equal_is Less e = absurd (cc e)
 equal_is Equal e = refl
 equal_is Greater e = absurd (cc e)
 
--- keys tie where agents and tokens are the same
-pub pair_ties : (a b : ℕ) (t u : List ℕ) → is_eq (by_pair (a, t) (b, u)) ≡ (eqb a b && bytes_eq t u)
-pair_ties a b t u = elim (cases_eq a b) [
+-- which of two comes first doesn't tell whether both tie
+either_first : (o p : Ordering) → is_eq (ordering_then o p) ≡ is_eq (ordering_then p o)
+either_first Less Less = refl
+either_first Less Equal = refl
+either_first Less Greater = refl
+either_first Equal Less = refl
+either_first Equal Equal = refl
+either_first Equal Greater = refl
+either_first Greater Less = refl
+either_first Greater Equal = refl
+either_first Greater Greater = refl
+
+-- tokens tie where their bytes are the same
+ends_tie : (t u : List ℕ) → is_eq (by_ends t u) ≡ bytes_eq t u
+ends_tie t u =
+    either_first (slice_cmp nat_cmp (drop 6 t) (drop 6 u)) (slice_cmp nat_cmp (take 8 t) (take 8 u))
+    ∙ ap is_eq (both_ends 6 8 (omega arith) t u)
+    ∙ is_eq-slice_cmp t u
+
+agents_first : (a b : ℕ) (o : Ordering) (same : Bool) → is_eq o ≡ same → is_eq (ordering_then (nat_cmp a b) o) ≡ (eqb a b && same)
+agents_first a b o same h = elim (cases_eq a b) [
   | inl s ↦
       let e : eqb a b ≡ true = eq-eqb a b s in
       let l : ltb a b ≡ false = grind (arith, nat_tests) in
-      rw (l, e) (is_eq-slice_cmp t u)
+      rw (l, e) h
   | inr n ↦
       let e : eqb a b ≡ false = ne_eqb a b n in
       elim (cases_lt a b) [
@@ -369,6 +391,10 @@ pair_ties a b t u = elim (cases_eq a b) [
         | inr h ↦ (let l : ltb a b ≡ false = grind (arith, nat_tests) in rw (l, e) refl)
       ]
 ]
+
+-- keys tie where agents and tokens are the same
+pub pair_ties : (a b : ℕ) (t u : List ℕ) → is_eq (by_pair (a, t) (b, u)) ≡ (eqb a b && bytes_eq t u)
+pair_ties a b t u = either_first (by_ends t u) (nat_cmp a b) ∙ agents_first a b (by_ends t u) (bytes_eq t u) (ends_tie t u)
 
 pub pair_equal : (a b : ℕ) (t u : List ℕ) → (eqb a b && bytes_eq t u) ≡ true → by_pair (a, t) (b, u) ≡ Equal
 pair_equal a b t u e = equal_is (by_pair (a, t) (b, u)) (pair_ties a b t u ∙ e)

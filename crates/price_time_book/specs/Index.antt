@@ -1,5 +1,5 @@
 -- Sorted indexes of the vector of arrival: by reference, and by agent and token.
-use Rattle.std.specs.Prelude.{◌≡◌, ◌<◌, ◌≤◌, ℕ, List, All, length, slice_index_or}
+use Rattle.std.specs.Prelude.{◌≡◌, ◌<◌, ◌≤◌, ℕ, List, All, drop, length, slice_index_or, take}
 use Rattle.std.specs.Cmp.Lexicographic.{slice_cmp}
 use Rattle.std.specs.Ordering.{nat_cmp, ordering_then}
 use Rattle.std.specs.declared.cmp.Ordering.{Ordering}
@@ -20,9 +20,14 @@ pub record IsIndex {E K : Type 0} (key : E → K) (place : E → ℕ) (cmp : K �
 abbrev pub pair_of : Resting → ℕ × List ℕ
 pair_of o = (o.agent, o.token.0)
 
--- keys of agent and token by agent, and then by the bytes of the token
+-- tokens by their last eight bytes, and then by their first eight: a trader's tokens end in digits that rise
+-- by one, so those that traders give at about one time stand together
+abbrev pub by_ends : List ℕ → List ℕ → Ordering
+by_ends t u = ordering_then (slice_cmp nat_cmp (drop 6 t) (drop 6 u)) (slice_cmp nat_cmp (take 8 t) (take 8 u))
+
+-- keys of agent and token by the token, and then by the agent
 abbrev pub by_pair : ℕ × List ℕ → ℕ × List ℕ → Ordering
-by_pair p q = ordering_then (nat_cmp p.0 q.0) (slice_cmp nat_cmp p.1 q.1)
+by_pair p q = ordering_then (by_ends p.1 q.1) (nat_cmp p.0 q.0)
 
 abbrev pub pair_at : TokenEntry → ℕ × List ℕ
 pair_at e = (e.agent, e.token.0)

@@ -2,6 +2,9 @@
 //!
 //! An order that leaves keeps its entries until another comes under its key or the vector is made anew.
 //! So what a search finds may have left, and the search looks at its open shares.
+//!
+//! An order that joins has the greatest reference, and a token among the latest of its trader. Tokens are kept by their
+//! last bytes first, which count a trader's orders, so either entry is put near the end, and few entries move.
 
 ghost use Rattle.std.specs.Prelude.{◌≡◌, ◌≢◌, ◌<◌, ◌≤◌, ◌+◌, ◌-◌, ◌++◌, ◌∷◌, [], Some, None, IfSome, IfNone, All, List, length, slice_index_or, vec_len, vec_capacity, true, false};
 ghost use Rattle.std.specs.Ordering.{is_lt, nat_cmp};
@@ -44,8 +47,8 @@ fn compare_reference(entry: &ReferenceEntry, reference: u64) -> Ordering
 fn compare_token(entry: &TokenEntry, agent: AgentNo, token: &Token) -> Ordering
     ensures { result ≡ by_pair (pair_at entry.now) (agent, token.now.0) }
 {
-    match entry.agent.cmp(&agent) {
-        Ordering::Equal => compared(&entry.token.0, &token.0),
+    match compared(&entry.token.0, &token.0) {
+        Ordering::Equal => entry.agent.cmp(&agent),
         order => order,
     }
 }
