@@ -91,11 +91,24 @@ fits-take n bs fits i =
 fits-drop : (n : ℕ) (bs : List ℕ) → ((i : ℕ) → get_or bs i 0 < 256) → (i : ℕ) → get_or (drop n bs) i 0 < 256
 fits-drop n bs fits i = rw get_or-drop (fits (n + i))
 
--- fourteen bytes by the last eight and the first eight
+-- the first eight of fourteen bytes, and the last eight
+first_eight : (xs ys : List ℕ) → length xs ≡ 14 → length ys ≡ 14 → ((i : ℕ) → get_or xs i 0 < 256) → ((i : ℕ) → get_or ys i 0 < 256)
+    → nat_cmp (from_be_bytes w64 (take 8 xs)) (from_be_bytes w64 (take 8 ys)) ≡ slice_cmp nat_cmp (take 8 xs) (take 8 ys)
+first_eight xs ys k l p q = eight_cmp (take 8 xs) (take 8 ys) (omega (arith, length-take 8 xs)) (omega (arith, length-take 8 ys)) (fits-take 8 xs p) (fits-take 8 ys q)
+
+last_eight : (xs ys : List ℕ) → length xs ≡ 14 → length ys ≡ 14 → ((i : ℕ) → get_or xs i 0 < 256) → ((i : ℕ) → get_or ys i 0 < 256)
+    → nat_cmp (from_be_bytes w64 (drop 6 xs)) (from_be_bytes w64 (drop 6 ys)) ≡ slice_cmp nat_cmp (drop 6 xs) (drop 6 ys)
+last_eight xs ys k l p q = eight_cmp (drop 6 xs) (drop 6 ys) (omega (arith, length-drop 6 xs)) (omega (arith, length-drop 6 ys)) (fits-drop 6 xs p) (fits-drop 6 ys q)
+
+-- fourteen bytes by the first eight and the last eight
+pub fourteen_cmp : (xs ys : List ℕ) → length xs ≡ 14 → length ys ≡ 14 → ((i : ℕ) → get_or xs i 0 < 256) → ((i : ℕ) → get_or ys i 0 < 256)
+    → ordering_then (nat_cmp (from_be_bytes w64 (take 8 xs)) (from_be_bytes w64 (take 8 ys))) (nat_cmp (from_be_bytes w64 (drop 6 xs)) (from_be_bytes w64 (drop 6 ys)))
+    ≡ slice_cmp nat_cmp xs ys
+fourteen_cmp xs ys k l p q =
+    (λ i. ordering_then (first_eight xs ys k l p q i) (last_eight xs ys k l p q i)) ∙ both_ends 6 8 (omega arith) xs ys
+
+-- and the other way round
 pub ends_cmp : (xs ys : List ℕ) → length xs ≡ 14 → length ys ≡ 14 → ((i : ℕ) → get_or xs i 0 < 256) → ((i : ℕ) → get_or ys i 0 < 256)
     → ordering_then (nat_cmp (from_be_bytes w64 (drop 6 xs)) (from_be_bytes w64 (drop 6 ys))) (nat_cmp (from_be_bytes w64 (take 8 xs)) (from_be_bytes w64 (take 8 ys)))
     ≡ by_ends xs ys
-ends_cmp xs ys k l p q =
-    let first = eight_cmp (take 8 xs) (take 8 ys) (omega (arith, length-take 8 xs)) (omega (arith, length-take 8 ys)) (fits-take 8 xs p) (fits-take 8 ys q) in
-    let last = eight_cmp (drop 6 xs) (drop 6 ys) (omega (arith, length-drop 6 xs)) (omega (arith, length-drop 6 ys)) (fits-drop 6 xs p) (fits-drop 6 ys q) in
-    λ i. ordering_then (last i) (first i)
+ends_cmp xs ys k l p q = λ i. ordering_then (last_eight xs ys k l p q i) (first_eight xs ys k l p q i)

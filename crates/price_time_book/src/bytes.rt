@@ -2,12 +2,24 @@
 
 ghost use Rattle.std.specs.Prelude.{◌≡◌, bytes_eq, take, drop};
 ghost use Rattle.std.specs.Int.{w64, from_be_bytes};
+ghost use Rattle.std.specs.Ordering.{nat_cmp};
+ghost use Rattle.std.specs.Cmp.Lexicographic.{slice_cmp};
 ghost use Rattle.price_time_book.specs.Index.{by_ends};
 
 use std::cmp::Ordering;
 
-/// The order of two tokens by their last eight bytes and then by their first eight, as one number each.
+/// The order of two tokens' bytes, by two numbers of eight bytes each.
 pub fn compared(left: &[u8; 14], right: &[u8; 14]) -> Ordering
+    ensures { result ≡ slice_cmp nat_cmp left.now right.now }
+{
+    match head(left).cmp(&head(right)) {
+        Ordering::Equal => tail(left).cmp(&tail(right)),
+        order => order,
+    }
+}
+
+// The order of two tokens by their last eight bytes, and then by their first eight.
+pub(crate) fn compared_by_ends(left: &[u8; 14], right: &[u8; 14]) -> Ordering
     ensures { result ≡ by_ends left.now right.now }
 {
     match tail(left).cmp(&tail(right)) {

@@ -16,7 +16,7 @@ ghost use Rattle.price_time_book.specs.Index.{IsByReference, IsByToken, by_pair,
 ghost use Rattle.price_time_book.specs.Indexed.{nothing, open_orders};
 ghost use Rattle.price_time_book.specs.Orders.{order_of, order_with};
 
-use crate::bytes::compared;
+use crate::bytes::compared_by_ends;
 use crate::resting::Resting;
 use market_types::{AgentNo, Token};
 use std::cmp::Ordering;
@@ -47,7 +47,7 @@ fn compare_reference(entry: &ReferenceEntry, reference: u64) -> Ordering
 fn compare_token(entry: &TokenEntry, agent: AgentNo, token: &Token) -> Ordering
     ensures { result ≡ by_pair (pair_at entry.now) (agent, token.now.0) }
 {
-    match compared(&entry.token.0, &token.0) {
+    match compared_by_ends(&entry.token.0, &token.0) {
         Ordering::Equal => entry.agent.cmp(&agent),
         order => order,
     }
