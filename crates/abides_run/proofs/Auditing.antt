@@ -3,7 +3,7 @@ use Rattle.std.proofs.Common.{◌≡◌, ℕ, List, [], Option, None, Some, refl
 use Rattle.bundle_reader.specs.Told.{BundleTold}
 use Rattle.bundle_reader.specs.declared.bundle.BundleError.{BundleError}
 use Rattle.bundle_reader.specs.declared.bundle.BundleError.TheVariants as error
-use Rattle.bundle_reading.specs.Reading.{IsRefusedAs, Read, read}
+use Rattle.bundle_reader.specs.Reading.{IsRefusedAs, Read, read}
 use Rattle.audit_desk.specs.declared.failing.Failing.{Failing}
 use Rattle.audit_desk.specs.Audited.{audit_of}
 use Rattle.abides_run.specs.Audits.{status_for}

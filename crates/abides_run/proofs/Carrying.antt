@@ -3,11 +3,11 @@ use Rattle.std.proofs.Common.{◌≡◌, ◌⊎◌, ◌<◌, ◌≤◌, ◌+◌,
 use Rattle.toml.specs.Data.{Members}
 use Rattle.kernel_copy.specs.Courses.{CourseTold}
 use Rattle.study_file.specs.Tables.{table_of}
-use Rattle.session_script.specs.declared.act.Act.{Act}
-use Rattle.session_script.specs.declared.act.ScriptError.{ScriptError}
-use Rattle.session_script.specs.declared.act.ScriptError.TheVariants as error
+use Rattle.session_answers.specs.declared.act.Act.{Act}
+use Rattle.session_answers.specs.declared.act.ScriptError.{ScriptError}
+use Rattle.session_answers.specs.declared.act.ScriptError.TheVariants as error
 use Rattle.study_rules.specs.Scope.{scope_of_opening}
-use Rattle.session_script.specs.Script.{act_entries, acts_in, acts_of, forks_by_time, is_fit, is_script, script_of}
+use Rattle.session_answers.specs.Script.{act_entries, acts_in, acts_of, forks_by_time, is_fit, is_script, script_of}
 use Rattle.session_desk.specs.Session.{SessionTold, first_session}
 use Rattle.session_answers.specs.declared.end.PastAct.{PastAct}
 use Rattle.session_answers.specs.declared.end.SessionEnd.{SessionEnd}

@@ -18,9 +18,9 @@ use Rattle.order_file.specs.Orders.{orders_of}
 use Rattle.reopening_desk.specs.declared.stock.StockNamed.{StockNamed}
 use Rattle.reopening_desk.specs.Stocks.{stock_of}
 use Rattle.study_file.specs.LargeStudy.{large_study}
-use Rattle.session_script.specs.declared.act.Act.{Act}
-use Rattle.session_script.specs.declared.act.ScriptError.{ScriptError}
-use Rattle.session_script.specs.Script.{script_of}
+use Rattle.session_answers.specs.declared.act.Act.{Act}
+use Rattle.session_answers.specs.declared.act.ScriptError.{ScriptError}
+use Rattle.session_answers.specs.Script.{script_of}
 use Rattle.session_desk.specs.Session.{first_session}
 use Rattle.session_answers.specs.declared.end.PastAct.{PastAct}
 use Rattle.session_answers.specs.Refused.{act_refused}
@@ -34,7 +34,7 @@ use Rattle.command_words.specs.declared.asked.Task.TheVariants.{Run, Check, Tabl
 use Rattle.abides_run.specs.Words.{asked_of, further_of}
 use Rattle.abides_run.specs.Verdict.{Verdict, Files, no_file, file_too_long, verdict_on_past, verdict_on_aimed, verdict_on_late, verdict_on_orders, verdict_on_stock, verdict_on_branch, verdict_on_past_act, verdict_on_acts, verdict_on_script, verdict_on_found, verdict_on_file, verdict_on_further, most_bytes, series_of, judged, verdict_on_series, verdict_on_table, verdict_on_bytes, verdict_on_study, verdict_on_text, verdict_on_large, judged_large, accepted, verdict_on_failing, verdict_on_read, verdict_on_bundle, verdict_for, verdict, IsAsked, large_limit, most_bundle_bytes}
 use Rattle.bundle_reader.specs.Told.{BundleTold}
-use Rattle.bundle_reading.specs.Reading.{Read, read, cut, bad_frame, bad_order, reading_of}
+use Rattle.bundle_reader.specs.Reading.{Read, read, cut, bad_frame, bad_order, reading_of}
 use Rattle.audit_desk.specs.declared.failing.Failing.{Failing}
 use Rattle.audit_desk.specs.Audited.{audit_of}
 use Rattle.abides_run.specs.AllFound.{IsWorkedBy, verdict_on_all}

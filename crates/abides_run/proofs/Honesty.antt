@@ -4,7 +4,7 @@ use Rattle.toml.specs.Data.{Members}
 use Rattle.outside.specs.Files.{Content, whole, held, content}
 use Rattle.study_rules.specs.Accepted.{StudyTold, study_of}
 use Rattle.bundle_reader.specs.Told.{BundleTold}
-use Rattle.bundle_reading.specs.Reading.{read, reading_of}
+use Rattle.bundle_reader.specs.Reading.{read, reading_of}
 use Rattle.trace_bundle.specs.Bundle.{bundle_of}
 use Rattle.audit_desk.specs.declared.failing.Failing.{Failing}
 use Rattle.audit_desk.specs.Audited.{audit_of}

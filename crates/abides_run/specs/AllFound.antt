@@ -1,7 +1,7 @@
 -- What was found for the words: a study and what is to be done with it, a large study, or the bytes of a bundle.
 use Rattle.std.specs.Prelude.{◌≡◌, ◌<◌, ◌≤◌, ℕ, List, [], Option, Some, option_map}
 use Rattle.study_rules.specs.Accepted.{study_told}
-use Rattle.bundle_reading.specs.Reading.{reading_of}
+use Rattle.bundle_reader.specs.Reading.{reading_of}
 use Rattle.command_words.specs.Ranges.{IsTask}
 use Rattle.abides_run.specs.declared.found.Found.{Found}
 use Rattle.abides_run.specs.declared.found.Found.TheVariants.{Study, Large, Bundle}

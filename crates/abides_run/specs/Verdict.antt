@@ -18,12 +18,12 @@ use Rattle.reopening_desk.specs.declared.stock.StockNamed.{StockNamed}
 use Rattle.reopening_desk.specs.Stocks.{stock_of}
 use Rattle.study_file.specs.LargeStudy.{large_study}
 use Rattle.bundle_reader.specs.Told.{BundleTold}
-use Rattle.bundle_reading.specs.Reading.{Read, read, cut, bad_frame, bad_order, reading_of}
+use Rattle.bundle_reader.specs.Reading.{Read, read, cut, bad_frame, bad_order, reading_of}
 use Rattle.audit_desk.specs.declared.failing.Failing.{Failing}
 use Rattle.audit_desk.specs.Audited.{audit_of}
-use Rattle.session_script.specs.declared.act.Act.{Act}
-use Rattle.session_script.specs.declared.act.ScriptError.{ScriptError}
-use Rattle.session_script.specs.Script.{script_of}
+use Rattle.session_answers.specs.declared.act.Act.{Act}
+use Rattle.session_answers.specs.declared.act.ScriptError.{ScriptError}
+use Rattle.session_answers.specs.Script.{script_of}
 use Rattle.session_desk.specs.Session.{first_session}
 use Rattle.session_answers.specs.declared.end.PastAct.{PastAct}
 use Rattle.session_answers.specs.Refused.{act_refused}

@@ -3,7 +3,7 @@
 ghost use Rattle.std.specs.Prelude.{◌≡◌, ◌++◌, ◌∷◌, [], ℕ, IfOk, codes, string_bytes};
 ghost use Rattle.std.specs.Fmt.{decimal};
 ghost use Rattle.bundle_reader.specs.Told.{bundle_told};
-ghost use Rattle.bundle_reading.specs.Reading.{IsReadAs, reading_of};
+ghost use Rattle.bundle_reader.specs.Reading.{IsReadAs, reading_of};
 ghost use Rattle.abides_run.specs.Audits.{status_for};
 ghost use Rattle.abides_run.specs.Output.{Probes, audit_line};
 ghost use Rattle.abides_run.specs.Performed.{Finished, Performed};
@@ -13,8 +13,7 @@ use crate::ending::{Ending, nameless};
 use crate::send::send;
 use crate::status::Status;
 use audit_desk::{audit, displayed_orders};
-use bundle_reader::{Bundle, BundleError};
-use bundle_reading::read;
+use bundle_reader::{Bundle, BundleError, read};
 use outside::Sink;
 use plain_lists::Memory;
 use std::alloc::{AllocError, Global};

@@ -2,7 +2,7 @@
 
 ghost use Rattle.std.specs.Prelude.{◌≡◌, ◌⊎◌, ◌≤◌, ◌<◌, ◌^◌, ℕ, false, None, All, length, map, IfOk, string_bytes};
 ghost use Rattle.branch_tree.specs.Stops.{is_time};
-ghost use Rattle.session_script.specs.Fitting.{FitsOpening};
+ghost use Rattle.session_answers.specs.Fitting.{FitsOpening};
 ghost use Rattle.session_desk.specs.Session.{first_session};
 ghost use Rattle.session_answers.specs.Past.{past_act};
 ghost use Rattle.session_answers.specs.Refused.{act_refused};
@@ -20,8 +20,9 @@ use outside::{Gate, Ledger, Sink, Steps};
 use plain_lists::Memory;
 use probe_desk::Probe;
 use session_answers::laws::{branches_fork_by_number, nearer_states_leave_less};
-use session_answers::{PastAct, SessionEnd, carry_out, first_refused};
-use session_script::{Act, ScriptError, read_script};
+use session_answers::{
+    Act, PastAct, ScriptError, SessionEnd, carry_out, first_refused, read_script,
+};
 use std::alloc::{AllocError, Global};
 use std::sync::Wait;
 use std::thread::Threads;

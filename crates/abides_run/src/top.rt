@@ -9,7 +9,7 @@ use crate::find::find_asked;
 use crate::notes::write_note;
 use crate::perform::perform;
 use crate::status::Status;
-use audit_laws::honest::honest_bundles_pass;
+use audit_desk::honest::honest_bundles_pass;
 use outside::{Gate, Ledger, Library, Sink, Steps};
 use probe_desk::Probe;
 use std::alloc::Global;

@@ -18,3 +18,10 @@ pub mod Sound
 pub mod Reached
 pub mod Ends
 pub mod Behind
+pub mod MessageFound
+pub mod BodyFound
+pub mod TwosComplement
+pub mod HeadedFound
+pub mod FrameFound
+pub mod AsRead
+pub mod AsTold

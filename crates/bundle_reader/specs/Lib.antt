@@ -9,3 +9,6 @@ pub mod Told
 pub mod Order
 pub mod Bundle
 pub mod Reads
+pub mod Messages
+pub mod FramesRead
+pub mod Reading

@@ -1,6 +1,8 @@
-//! A bundle read back as values: the parts of a frame, one frame, the whole bundle.
+//! A bundle read back as values: the parts of a frame, one frame, the whole bundle, and what bytes are read as, as one function.
 #![tactic(auto)]
 
+mod as_read;
+pub mod as_read_worked;
 mod bodies;
 mod bundle;
 mod closing;
@@ -9,6 +11,7 @@ mod frame;
 mod head;
 mod head_type;
 mod heads;
+pub mod laws;
 mod market_body;
 mod next;
 mod numbers;
@@ -19,6 +22,7 @@ mod reading;
 mod take;
 mod worked;
 
+pub use as_read::read;
 pub use bodies::read_body;
 pub use bundle::{Bundle, BundleError, Told, read_bundle};
 pub use frame::{BranchFrame, EventFrame, Frame, HeaderFrame, WaitingFrame};

@@ -15,8 +15,8 @@ use Rattle.market_floor.specs.declared.opening.Opening.{Opening}
 use Rattle.market_floor.specs.Floor.{FloorState}
 use Rattle.market_floor.specs.Opening.{IsDated, IsOpening}
 use Rattle.market_floor.specs.Ruled.{all_changed, due, ruled}
-use Rattle.exchange_laws.specs.Feeds.{feed_by, feed_over}
-use Rattle.exchange_laws.specs.Messages.{messages_in}
+use Rattle.market_laws.specs.Feeds.{feed_by, feed_over}
+use Rattle.market_laws.specs.Messages.{messages_in}
 
 run-append : (s : Exchange) (xs ys : List Act) → run s (xs ++ ys) ≡ run (run s xs) ys
 run-append s [] ys = refl

@@ -9,8 +9,8 @@ use Rattle.exchange_agent.specs.State.{State as Exchange, Stock, stock_at}
 use Rattle.market_floor.specs.declared.opening.Opening.{Opening}
 use Rattle.market_floor.specs.Opening.{IsOpening, cash_of}
 use Rattle.kernel_core.specs.Until.{Run}
-use Rattle.exchange_laws.specs.Executed.{executed_in}
-use Rattle.exchange_laws.specs.Feeds.{feed_over}
+use Rattle.market_laws.specs.Executed.{executed_in}
+use Rattle.market_laws.specs.Feeds.{feed_over}
 use Rattle.market_laws.specs.History.{IsMetAs, first_exchange}
 use Rattle.market_laws.specs.Market.{IsConservedMarket}
 use Rattle.market_laws.proofs.Keeping.{few-accounts}

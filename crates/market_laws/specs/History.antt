@@ -8,8 +8,8 @@ use Rattle.market_floor.specs.declared.opening.Opening.{Opening}
 use Rattle.market_floor.specs.Opening.{cash_of}
 use Rattle.kernel_core.specs.Until.{Run}
 use Rattle.feed_rebuild.specs.Feeds.{entries_feed}
-use Rattle.exchange_laws.specs.Feeds.{feed_over}
-use Rattle.exchange_laws.specs.Messages.{messages_in}
+use Rattle.market_laws.specs.Feeds.{feed_over}
+use Rattle.market_laws.specs.Messages.{messages_in}
 
 -- the exchange of a study before the first message
 abbrev pub first_exchange : Opening → Exchange

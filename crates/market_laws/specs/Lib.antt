@@ -1,3 +1,10 @@
+pub mod Executed
+pub mod Feeds
+pub mod Messages
+pub mod Named
+pub mod Shown
+pub mod Small
+pub mod ExchangeWorked
 pub mod History
 pub mod Market
 pub mod Worked

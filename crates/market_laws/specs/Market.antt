@@ -9,7 +9,7 @@ use Rattle.kernel_core.specs.State.{State}
 use Rattle.kernel_core.specs.Until.{Run}
 use Rattle.kernel_copy.specs.Full.{full}
 use Rattle.feed_rebuild.specs.Feeds.{entries_feed}
-use Rattle.exchange_laws.specs.Executed.{executed_in}
+use Rattle.market_laws.specs.Executed.{executed_in}
 
 -- the exchange of a run
 abbrev pub exchange_of : Run → Exchange

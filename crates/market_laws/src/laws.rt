@@ -7,12 +7,12 @@ ghost use Rattle.kernel_copy.specs.Courses.{CourseTold, IsCourse};
 ghost use Rattle.kernel_copy.specs.Full.{full};
 ghost use Rattle.kernel_copy.specs.Segmentwise.{after};
 ghost use Rattle.feed_rebuild.specs.Feeds.{entries_feed};
-ghost use Rattle.exchange_laws.specs.Small.{IsSmallExchange, IsSmallFeed};
+ghost use Rattle.market_laws.specs.Small.{IsSmallExchange, IsSmallFeed};
 ghost use Rattle.market_laws.specs.History.{IsMetAs};
 ghost use Rattle.market_laws.specs.Market.{IsConservedMarket, IsStateOf, exchange_of};
 
+use crate::small::{live_orders_are_small, matches_are_told};
 use exchange_agent::laws::runs_are_conserved;
-use exchange_laws::small::{live_orders_are_small, matches_are_told};
 use kernel_copy::laws::courses_stay_in_range;
 use price_time_book::keeping::{a_match_keeps, a_reduce_keeps, fills_add_up, orderly_books_stay};
 use price_time_book::laws::{matching_ends, next_is_best};

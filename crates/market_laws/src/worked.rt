@@ -3,7 +3,7 @@
 ghost use Rattle.std.specs.Prelude.{◌≡◌, ◌∷◌, [], map, codes};
 ghost use Rattle.market_types.specs.declared.feed.What.TheVariants as what;
 ghost use Rattle.feed_rebuild.specs.Feeds.{entries_feed};
-ghost use Rattle.exchange_laws.specs.Messages.{messages_in};
+ghost use Rattle.market_laws.specs.Messages.{messages_in};
 ghost use Rattle.market_laws.specs.History.{IsMetAs};
 ghost use Rattle.market_laws.specs.Worked.{quiet_market, sell_and_halt, sold_and_halted};
 

@@ -7,7 +7,7 @@ use Rattle.market_types.specs.Limits.{highest_price}
 use Rattle.price_time_book.specs.declared.resting.Resting.{Resting}
 use Rattle.price_time_book.specs.Orderly.{IsRising as IsRisingBook}
 use Rattle.exchange_agent.specs.State.{Stock}
-use Rattle.exchange_laws.specs.Small.{IsSmallOrder, IsSmallStock, most_resting}
+use Rattle.market_laws.specs.Small.{IsSmallOrder, IsSmallStock, most_resting}
 use Rattle.reopen_cross.specs.declared.cross.Interest.{Interest}
 use Rattle.reopen_cross.specs.Orderly.{AreInterests, IsRising}
 use Rattle.reopening_desk.specs.Books.{AreResting, IsResting}

@@ -7,8 +7,8 @@ use Rattle.reopen_cross.specs.declared.cross.Interest.{Interest}
 use Rattle.reopen_cross.specs.declared.cross.Part.{Part}
 use Rattle.reopen_cross.specs.Cross.{cross_of}
 use Rattle.order_file.specs.Filed.{numbered_after}
-use Rattle.cross_frames.specs.declared.whole.Reopening.{Reopening}
-use Rattle.cross_frames.specs.Reopening.{reopening_frames}
+use Rattle.reopening_desk.specs.declared.whole.Reopening.{Reopening}
+use Rattle.reopening_desk.specs.Reopening.{reopening_frames}
 use Rattle.reopening_desk.specs.declared.stock.StockNamed.{StockNamed}
 use Rattle.reopening_desk.specs.Reopened.{interest_of, interests_of, joining, parts_in, reopened, reopening_at, told_of}
 

@@ -4,13 +4,13 @@ ghost use Rattle.std.specs.Prelude.{◌≡◌, ◌<◌, IfOk, length};
 ghost use Rattle.order_file.specs.Filed.{AreFiled};
 ghost use Rattle.reopen_cross.specs.Cross.{cross_of};
 ghost use Rattle.reopen_cross.specs.Orderly.{AreInterests};
-ghost use Rattle.exchange_laws.specs.Small.{IsSmallExchange};
+ghost use Rattle.market_laws.specs.Small.{IsSmallExchange};
 ghost use Rattle.reopening_desk.specs.Reopened.{Clears, interests_of, parts_in, reopened};
 
 use crate::book::interests;
 use crate::laws::{live_orders_are_in_range, reopenings_clear};
 use crate::stock::StockNamed;
-use cross_frames::{Reopening, put_reopening};
+use crate::{Reopening, put_reopening};
 use kernel_core::Kernel;
 use market_types::Memory;
 use order_file::join;

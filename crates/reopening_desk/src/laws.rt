@@ -6,11 +6,11 @@ ghost use Rattle.kernel_core.specs.State.{State};
 ghost use Rattle.reopen_cross.specs.declared.cross.Interest.{Interest};
 ghost use Rattle.reopen_cross.specs.Orderly.{AreInterests};
 ghost use Rattle.order_file.specs.Filed.{AreFiled};
-ghost use Rattle.exchange_laws.specs.Small.{IsSmallExchange};
+ghost use Rattle.market_laws.specs.Small.{IsSmallExchange};
 ghost use Rattle.reopening_desk.specs.Books.{AreResting};
 ghost use Rattle.reopening_desk.specs.Reopened.{Clears, interests_of};
 
-use exchange_laws::small::small_exchanges_have_small_books;
+use market_laws::small::small_exchanges_have_small_books;
 use order_file::laws::a_file_joins_a_book;
 use reopen_cross::laws::{crosses_clear, none_trades_where_none_crosses};
 

@@ -2,8 +2,8 @@
 use Rattle.std.proofs.Common.{◌≤◌, ℕ, List, [], ◌∷◌, arith}
 use Rattle.session_desk.specs.Session.{SessionTold, last_event_in}
 use Rattle.session_desk.specs.Anchors.{anchor_of, shared_count}
-use Rattle.session_script.specs.declared.act.Act.{Act}
-use Rattle.session_script.specs.declared.act.Act.TheVariants.{Fork, Undo, Edit, Rewind, Close, Values}
+use Rattle.session_answers.specs.declared.act.Act.{Act}
+use Rattle.session_answers.specs.declared.act.Act.TheVariants.{Fork, Undo, Edit, Rewind, Close, Values}
 use Rattle.session_answers.specs.Acting.{after_act, number_in}
 use Rattle.session_answers.specs.Counted.{Kept, all_reached, left_to_run, reached_for}
 

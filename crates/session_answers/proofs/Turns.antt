@@ -4,8 +4,8 @@ use Rattle.std.proofs.lemmas.Bool.{cases_Bool}
 use Rattle.std.proofs.lemmas.List.{drop_all, drop_more}
 use Rattle.probe_desk.specs.Probe.{Meaning}
 use Rattle.session_desk.specs.Session.{SessionTold}
-use Rattle.session_script.specs.declared.act.Act.{Act}
-use Rattle.session_script.specs.declared.act.Act.TheVariants.{Fork, Undo, Edit, Rewind, Close, Values}
+use Rattle.session_answers.specs.declared.act.Act.{Act}
+use Rattle.session_answers.specs.declared.act.Act.TheVariants.{Fork, Undo, Edit, Rewind, Close, Values}
 use Rattle.session_answers.specs.declared.end.PastAct.{PastAct}
 use Rattle.session_answers.specs.declared.end.SessionEnd.{SessionEnd}
 use Rattle.session_answers.specs.declared.end.SessionEnd.TheVariants.{NoEvent, Memory}

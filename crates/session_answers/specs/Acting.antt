@@ -6,8 +6,8 @@ use Rattle.branch_tree.specs.declared.stop.Stop.TheVariants.{At}
 use Rattle.rewind_desk.specs.Targets.{branch_of}
 use Rattle.session_desk.specs.Session.{SessionTold}
 use Rattle.session_desk.specs.Acts as desk
-use Rattle.session_script.specs.declared.act.Act.{Act}
-use Rattle.session_script.specs.declared.act.Act.TheVariants.{Fork, Undo, Edit as Edited, Rewind, Close, Values}
+use Rattle.session_answers.specs.declared.act.Act.{Act}
+use Rattle.session_answers.specs.declared.act.Act.TheVariants.{Fork, Undo, Edit as Edited, Rewind, Close, Values}
 
 -- no branch of the tree has this name
 abbrev pub lacks : SessionTold → List ℕ → Bool

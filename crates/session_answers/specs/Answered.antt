@@ -11,8 +11,8 @@ use Rattle.kernel_copy.specs.States.{state_frames_of}
 use Rattle.trace_bundle.specs.Bundle.{head_of, parent_written}
 use Rattle.probe_desk.specs.Probe.{Meaning, column_of}
 use Rattle.session_desk.specs.Session.{SessionTold, standing, full_in, full_run_in}
-use Rattle.session_script.specs.declared.act.Act.{Act}
-use Rattle.session_script.specs.declared.act.Act.TheVariants.{Fork, Undo, Edit as Edited, Rewind, Close, Values}
+use Rattle.session_answers.specs.declared.act.Act.{Act}
+use Rattle.session_answers.specs.declared.act.Act.TheVariants.{Fork, Undo, Edit as Edited, Rewind, Close, Values}
 use Rattle.session_answers.specs.Acting.{number_in, after_act}
 
 -- `v`, then a probe's value in sixteen bytes

@@ -5,8 +5,8 @@ use Rattle.branch_workers.specs.Layout.{layout}
 use Rattle.rewind_desk.specs.Sure.{sure}
 use Rattle.session_desk.specs.Session.{SessionTold, last_event_in}
 use Rattle.session_desk.specs.Anchors.{anchor_of, shared_count}
-use Rattle.session_script.specs.declared.act.Act.{Act}
-use Rattle.session_script.specs.declared.act.Act.TheVariants.{Fork, Undo, Edit as Edited, Rewind, Close, Values}
+use Rattle.session_answers.specs.declared.act.Act.{Act}
+use Rattle.session_answers.specs.declared.act.Act.TheVariants.{Fork, Undo, Edit as Edited, Rewind, Close, Values}
 use Rattle.session_answers.specs.Acting.{number_in, after_act}
 
 -- how many events the nearest kept state of a branch has up to an event number

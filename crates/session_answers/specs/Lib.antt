@@ -1,3 +1,8 @@
+pub mod Forms
+pub mod Acts
+pub mod Script
+pub mod Fitting
+pub mod Told
 pub mod Acting
 pub mod Refused
 pub mod Past

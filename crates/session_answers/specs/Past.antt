@@ -1,8 +1,8 @@
 -- Rewinds past their branch's last event.
 use Rattle.std.specs.Prelude.{ℕ, ◌+◌, nat_lt, List, [], ◌∷◌, Option, None, Some, if◌then◌else◌}
 use Rattle.session_desk.specs.Session.{SessionTold, last_event_in}
-use Rattle.session_script.specs.declared.act.Act.{Act}
-use Rattle.session_script.specs.declared.act.Act.TheVariants.{Fork, Undo, Edit as Edited, Rewind, Close, Values}
+use Rattle.session_answers.specs.declared.act.Act.{Act}
+use Rattle.session_answers.specs.declared.act.Act.TheVariants.{Fork, Undo, Edit as Edited, Rewind, Close, Values}
 use Rattle.session_answers.specs.declared.end.PastAct.{PastAct}
 use Rattle.session_answers.specs.Acting.{number_in, after_act}
 

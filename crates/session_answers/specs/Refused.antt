@@ -2,8 +2,8 @@
 use Rattle.std.specs.Prelude.{ℕ, ◌+◌, ◌==◌, ◌||◌, nat_lt, Bool, List, [], ◌∷◌, length, Option, None, Some, is_some, if◌then◌else◌}
 use Rattle.session_desk.specs.Session.{SessionTold}
 use Rattle.session_desk.specs.Answers.{fork_refusal}
-use Rattle.session_script.specs.declared.act.Act.{Act}
-use Rattle.session_script.specs.declared.act.Act.TheVariants.{Fork, Undo, Edit as Edited, Rewind, Close, Values}
+use Rattle.session_answers.specs.declared.act.Act.{Act}
+use Rattle.session_answers.specs.declared.act.Act.TheVariants.{Fork, Undo, Edit as Edited, Rewind, Close, Values}
 use Rattle.session_answers.specs.Acting.{lacks, number_in, forked, after_act}
 
 -- The tree has no branch of the act's name or parent; or the plan refuses the fork; or it is the root that would be undone or

@@ -5,8 +5,8 @@ use Rattle.branch_tree.specs.Worked.{branch, nested, root}
 use Rattle.market_floor.specs.OpeningWorked.{market, watcher}
 use Rattle.kernel_copy.specs.Courses.{CourseTold}
 use Rattle.session_desk.specs.Session.{SessionTold, first_session}
-use Rattle.session_script.specs.declared.act.Act.{Act}
-use Rattle.session_script.specs.declared.act.Act.TheVariants.{Fork, Edit as Edited}
+use Rattle.session_answers.specs.declared.act.Act.{Act}
+use Rattle.session_answers.specs.declared.act.Act.TheVariants.{Fork, Edit as Edited}
 
 -- a market of at most a hundred events, with the root `r`, a branch `x` of it at 6 and a branch `y` of that one at 6
 abbrev pub small_course : CourseTold

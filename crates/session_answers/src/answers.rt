@@ -10,6 +10,7 @@ ghost use Rattle.session_answers.specs.Counted.{left_to_run, reached_for, run_fo
 ghost use Rattle.session_answers.specs.Past.{last_before, past_last};
 ghost use Rattle.session_answers.specs.Refused.{is_refused};
 
+use crate::Act;
 use crate::frames::{put_head, put_own_head, put_values};
 use crate::named::branch_named;
 use branch_tree::Name;
@@ -23,7 +24,6 @@ use outside::{Ledger, Steps};
 use plain_lists::Memory;
 use probe_desk::{Probe, restart_all, values, watch};
 use session_desk::{Session, SessionError};
-use session_script::Act;
 use std::alloc::Global;
 
 // The frames of a branch's state after so many events.

@@ -4,7 +4,7 @@ ghost use Rattle.std.specs.Prelude.{◌≡◌, ◌<◌, ◌≤◌, ◌++◌, ◌
 ghost use Rattle.branch_tree.specs.Stops.{is_time};
 ghost use Rattle.rewind_desk.specs.Best.{best};
 ghost use Rattle.session_desk.specs.Session.{first_session};
-ghost use Rattle.session_script.specs.Fitting.{FitsOpening};
+ghost use Rattle.session_answers.specs.Fitting.{FitsOpening};
 ghost use Rattle.session_answers.specs.Answered.{answer_of, session_bytes};
 ghost use Rattle.session_answers.specs.Acting.{after_act};
 ghost use Rattle.session_answers.specs.Counted.{all_reached, all_run, reached_for, run_for};
@@ -12,6 +12,7 @@ ghost use Rattle.session_answers.specs.Past.{past_act, past_last};
 ghost use Rattle.session_answers.specs.Refused.{act_refused, is_refused};
 ghost use Rattle.session_answers.specs.declared.end.PastAct.{PastAct as PastTold};
 
+use crate::Act;
 use crate::answers::answer;
 use crate::changes::change;
 use crate::end::{PastAct, SessionEnd};
@@ -22,7 +23,6 @@ use outside::{Ledger, Steps};
 use plain_lists::Memory;
 use probe_desk::Probe;
 use session_desk::{Session, SessionError};
-use session_script::Act;
 use std::alloc::Global;
 use std::sync::Arc;
 

@@ -4,18 +4,18 @@ ghost use Rattle.std.specs.Prelude.{◌≡◌, ◌<◌, ◌≤◌, false, true, 
 ghost use Rattle.branch_tree.specs.Stops.{is_time};
 ghost use Rattle.kernel_copy.specs.Courses.{AreEdits};
 ghost use Rattle.session_desk.specs.Session.{first_session};
-ghost use Rattle.session_script.specs.Fitting.{FitsOpening};
-ghost use Rattle.session_script.specs.declared.act.Act.TheVariants as act;
+ghost use Rattle.session_answers.specs.Fitting.{FitsOpening};
+ghost use Rattle.session_answers.specs.declared.act.Act.TheVariants as act;
 ghost use Rattle.session_answers.specs.Acting.{after_act};
 ghost use Rattle.session_answers.specs.Refused.{act_refused, is_refused};
 
+use crate::Act;
 use crate::named::branch_named;
 use branch_tree::{Branch, Name, Stop};
 use kernel_copy::Course;
 use market_rules::Edit;
 use plain_lists::{Memory, Sequence};
 use session_desk::{Session, SessionError};
-use session_script::Act;
 use std::alloc::Global;
 use std::sync::Arc;
 

@@ -5,7 +5,7 @@ ghost use Rattle.std.specs.List.{list_any};
 ghost use Rattle.branch_tree.specs.declared.branch.Branch.{Branch as BranchTold};
 ghost use Rattle.branch_tree.specs.Stops.{is_time};
 ghost use Rattle.session_desk.specs.Session.{SessionTold};
-ghost use Rattle.session_script.specs.declared.act.Act.{Act as ActTold};
+ghost use Rattle.session_answers.specs.declared.act.Act.{Act as ActTold};
 ghost use Rattle.session_answers.specs.Counted.{Kept, all_reached};
 
 /// Where each nearest kept state has as many events or more, acts leave no more to run.

@@ -2,7 +2,7 @@
 //! computation.
 
 ghost use Rattle.std.specs.Prelude.{◌≡◌, ◌∷◌, [], None, Some, codes, negsuc, pos};
-ghost use Rattle.session_script.specs.declared.act.Act.TheVariants as act;
+ghost use Rattle.session_answers.specs.declared.act.Act.TheVariants as act;
 ghost use Rattle.session_answers.specs.Acting.{number_in, after_all};
 ghost use Rattle.session_answers.specs.Answered.{session_bytes, value_frame};
 ghost use Rattle.session_answers.specs.Counted.{all_reached};

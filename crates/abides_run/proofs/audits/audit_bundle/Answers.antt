@@ -1,6 +1,6 @@
 use Rattle.std.proofs.Common.{◌∙◌}
 use Rattle.bundle_reader.specs.Told.{bundle_told}
-use Rattle.bundle_reading.specs.Reading.{reading_of}
+use Rattle.bundle_reader.specs.Reading.{reading_of}
 use Rattle.abides_run.specs.Verdict.{verdict_on_read}
 use Rattle.abides_run.proofs.Auditing.{failing-finishes, passed-finishes, unaudited-finishes, unread-finishes}
 use Rattle.abides_run.proofs.audits.audit_bundle.Goals as goal

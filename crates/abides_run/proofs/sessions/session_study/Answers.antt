@@ -1,8 +1,8 @@
 use Rattle.std.proofs.Common.{◌≡◌, ◌∙◌, List, None, Ok, Result, sym, ap}
 use Rattle.kernel_copy.specs.Courses.{CourseTold}
-use Rattle.session_script.specs.declared.act.Act.{Act}
-use Rattle.session_script.specs.declared.act.ScriptError.{ScriptError}
-use Rattle.session_script.specs.Script.{script_of}
+use Rattle.session_answers.specs.declared.act.Act.{Act}
+use Rattle.session_answers.specs.declared.act.ScriptError.{ScriptError}
+use Rattle.session_answers.specs.Script.{script_of}
 use Rattle.session_desk.specs.Session.{first_session}
 use Rattle.session_answers.specs.Refused.{act_refused}
 use Rattle.study_rules.specs.Accepted.{study_told}

@@ -3,9 +3,9 @@ use Rattle.clap.proofs.OnLiterals.{clap_on_literals}
 use Rattle.wire_fields.specs.Kinds.{is_good}
 use Rattle.wire_fields.specs.Values.{is_in_range}
 use Rattle.bundle_reader.specs.Order.{taken}
-use Rattle.bundle_reading.specs.Frames.{frame_in}
-use Rattle.bundle_reading.specs.Messages.{message_in}
-use Rattle.bundle_reading.specs.Reading.{reading_of}
+use Rattle.bundle_reader.specs.FramesRead.{frame_in}
+use Rattle.bundle_reader.specs.Messages.{message_in}
+use Rattle.bundle_reader.specs.Reading.{reading_of}
 use Rattle.audit_desk.specs.Audited.{audit_of}
 use Rattle.command_words.specs.Line.{rows_for}
 use Rattle.abides_run.proofs.worked.audits_of_small_bytes.Goals as goal

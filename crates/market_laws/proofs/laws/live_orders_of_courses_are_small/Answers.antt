@@ -1,5 +1,5 @@
 use Rattle.kernel_copy.specs.Full.{full}
-use Rattle.market_laws.proofs.Small.{small-feed, small-orders}
+use Rattle.market_laws.proofs.SmallCourses.{small-feed, small-orders}
 use Rattle.market_laws.proofs.laws.live_orders_of_courses_are_small.Goals as goal
 
 pub returns-clause-orders : goal.returns-clause-orders

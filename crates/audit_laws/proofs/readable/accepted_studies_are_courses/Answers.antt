@@ -1,5 +1,0 @@
-use Rattle.audit_laws.proofs.AcceptedCourses.{accepted-course, accepted-named}
-use Rattle.audit_laws.proofs.readable.accepted_studies_are_courses.Goals as goal
-
-pub returns : goal.returns
-returns g = record { course = accepted-course; named = accepted-named }

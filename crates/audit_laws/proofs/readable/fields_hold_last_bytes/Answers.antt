@@ -1,5 +1,0 @@
-use Rattle.audit_laws.proofs.HeldBundles.{bytes-same}
-use Rattle.audit_laws.proofs.readable.fields_hold_last_bytes.Goals as goal
-
-pub returns : goal.returns
-returns g = λ b. bytes-same b

@@ -1,2 +1,0 @@
-pub mod Clipped
-pub mod ClippedWorked

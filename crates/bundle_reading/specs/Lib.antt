@@ -1,3 +1,0 @@
-pub mod Messages
-pub mod Frames
-pub mod Reading

@@ -1,9 +1,0 @@
-use Rattle.std.proofs.Common.{◌≡◌, ◌++◌, drop}
-use Rattle.std.specs.List.{flat_map}
-use Rattle.cross_frames.specs.Reopening.{add_frame}
-use Rattle.cross_frames.proofs.whole.put_orders.Given as goal
-
--- what was appended and what is still to come
-abbrev pub invariant-loop-order : goal.invariant-loop-order
-invariant-loop-order l =
-    l.out.items ++ flat_map (add_frame l.at) (drop l.order-index l.orders) ≡ l.initial.out.items ++ flat_map (add_frame l.at) l.orders

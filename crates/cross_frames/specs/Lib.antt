@@ -1,5 +1,0 @@
-pub mod Layouts
-pub mod Wires
-pub mod Frames
-pub mod Reopening
-pub mod Worked

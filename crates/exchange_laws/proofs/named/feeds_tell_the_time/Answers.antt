@@ -1,5 +1,0 @@
-use Rattle.exchange_laws.proofs.Names.{told-in-time}
-use Rattle.exchange_laws.proofs.named.feeds_tell_the_time.Goals as goal
-
-pub returns : goal.returns
-returns c = told-in-time
