@@ -2,39 +2,41 @@
 
 mod thief;
 
-ghost use Rattle.std.specs.Prelude.{◌≡◌, []};
+ghost use Rattle.std.specs.Prelude.{◌≡◌, [], All};
+ghost use Rattle.branch_deques.specs.Lanes.{fresh};
 
 use crate::facts::holds;
 use branch_deques::{Lane, Memory, Room, open_lanes};
 use std::alloc::Global;
 use std::marker::Brand;
+use std::process::Abort;
 use std::sync::Wait;
-use std::test::Fail;
+
+// The last of some lanes on which nothing was pushed.
+fn last_lane<B: Room>(rt: &impl Abort, lanes: &mut Vec<Lane<B>>) -> Lane<B>
+    requires { All (λ lane. lane.own.view ≡ fresh) lanes.old.items }
+    ensures fresh { result.own.view ≡ fresh }
+    ensures rest { All (λ lane. lane.own.view ≡ fresh) lanes.new.items }
+{
+    lanes.pop().expect(rt, "a lane")
+}
 
 // The segments 0, 1 and 2 are pushed on the first lane, which the second lane takes from until it finds none, and whose
 // owner then pops until there is none: what came out, and whether the owner found none.
-fn share_three<B: Room, R: Wait>(
-    rt: &R,
-    alloc: Global,
-    room: u32,
-) -> Result<(Vec<u32>, bool), Memory>
+fn share_three<B: Room, R: Wait + Abort>(rt: &R, alloc: Global, room: u32) -> (Vec<u32>, bool)
     requires room { room ≡ B.room }
     requires three { room ≡ 3 }
 {
-    let mut lanes = open_lanes::<B>(alloc, 2, room)?;
+    let mut lanes = open_lanes::<B>(alloc, 2, room).expect(rt, "memory");
+    let mut second = last_lane(rt, &mut lanes);
+    let mut first = last_lane(rt, &mut lanes);
     let mut got = Vec::new(alloc);
-    let Some(mut second) = lanes.pop() else {
-        return Ok((got, false));
-    };
-    let Some(mut first) = lanes.pop() else {
-        return Ok((got, false));
-    };
     push_three(&mut first);
-    take_some(rt, &mut second, &mut got)?;
+    holds(rt, take_some(rt, &mut second, &mut got).is_ok());
     let stolen = got.len();
-    pop_some(&mut first, 4, &mut got)?;
+    holds(rt, pop_some(&mut first, 4, &mut got).is_ok());
     let all_stolen = got.len() == stolen;
-    Ok((got, all_stolen))
+    (got, all_stolen)
 }
 
 fn push_three<B: Room>(lane: &mut Lane<B>)
@@ -69,52 +71,44 @@ fn pop_some<B: Room>(lane: &mut Lane<B>, tries: u32, got: &mut Vec<u32>) -> Resu
     Ok(())
 }
 
-fn share_picked<R: Wait>(rt: &R, alloc: Global) -> Result<(Vec<u32>, bool), Memory> {
+fn share_picked<R: Wait + Abort>(rt: &R, alloc: Global) -> (Vec<u32>, bool) {
     share_three::<Brand, R>(rt, alloc, 3)
 }
 
 // The segments 0, 1 and 2 are pushed on a lane, whose owner then pops four times: what came out.
-fn pop_three<B: Room>(alloc: Global, room: u32) -> Result<Vec<u32>, Memory>
+fn pop_three<B: Room, R: Abort>(rt: &R, alloc: Global, room: u32) -> Vec<u32>
     requires room { room ≡ B.room }
     requires three { room ≡ 3 }
 {
-    let mut lanes = open_lanes::<B>(alloc, 1, room)?;
+    let mut lanes = open_lanes::<B>(alloc, 1, room).expect(rt, "memory");
+    let mut only = last_lane(rt, &mut lanes);
     let mut got = Vec::new(alloc);
-    let Some(mut only) = lanes.pop() else {
-        return Ok(got);
-    };
     push_three(&mut only);
-    pop_some(&mut only, 4, &mut got)?;
-    Ok(got)
+    holds(rt, pop_some(&mut only, 4, &mut got).is_ok());
+    got
 }
 
-fn pop_picked(alloc: Global) -> Result<Vec<u32>, Memory> {
-    pop_three::<Brand>(alloc, 3)
+fn pop_picked<R: Abort>(rt: &R, alloc: Global) -> Vec<u32> {
+    pop_three::<Brand, R>(rt, alloc, 3)
 }
 
 // Of three lanes the first and the third get a segment each: what the second takes from them in four rounds.
-fn take_from_two<B: Room, R: Wait>(rt: &R, alloc: Global, room: u32) -> Result<Vec<u32>, Memory>
+fn take_from_two<B: Room, R: Wait + Abort>(rt: &R, alloc: Global, room: u32) -> Vec<u32>
     requires room { room ≡ B.room }
     requires three { room ≡ 3 }
 {
-    let mut lanes = open_lanes::<B>(alloc, 3, room)?;
+    let mut lanes = open_lanes::<B>(alloc, 3, room).expect(rt, "memory");
+    let mut third = last_lane(rt, &mut lanes);
+    let mut second = last_lane(rt, &mut lanes);
+    let mut first = last_lane(rt, &mut lanes);
     let mut got = Vec::new(alloc);
-    let Some(mut third) = lanes.pop() else {
-        return Ok(got);
-    };
-    let Some(mut second) = lanes.pop() else {
-        return Ok(got);
-    };
-    let Some(mut first) = lanes.pop() else {
-        return Ok(got);
-    };
     first.push(0);
     third.push(2);
-    take_some(rt, &mut second, &mut got)?;
-    Ok(got)
+    holds(rt, take_some(rt, &mut second, &mut got).is_ok());
+    got
 }
 
-fn take_picked<R: Wait>(rt: &R, alloc: Global) -> Result<Vec<u32>, Memory> {
+fn take_picked<R: Wait + Abort>(rt: &R, alloc: Global) -> Vec<u32> {
     take_from_two::<Brand, R>(rt, alloc, 3)
 }
 
@@ -126,23 +120,20 @@ fn lanes_cross<B: Room + Send>(lane: &Lane<B>) {
 }
 
 #[test]
-fn a_thief_takes_each_once(rt: HostRuntime) -> Result<(), Fail> {
-    let (got, all_stolen) = share_picked(&rt, rt.alloc())?;
+fn a_thief_takes_each_once(rt: HostRuntime) {
+    let (got, all_stolen) = share_picked(&rt, rt.alloc());
     holds(&rt, got.as_slice() == [0, 1, 2].as_slice());
     holds(&rt, all_stolen);
-    Ok(())
 }
 
 #[test]
-fn an_owner_pops_each_in_order(rt: HostRuntime) -> Result<(), Fail> {
-    let got = pop_picked(rt.alloc())?;
+fn an_owner_pops_each_in_order(rt: HostRuntime) {
+    let got = pop_picked(&rt, rt.alloc());
     holds(&rt, got.as_slice() == [0, 1, 2].as_slice());
-    Ok(())
 }
 
 #[test]
-fn the_next_higher_lane_is_first(rt: HostRuntime) -> Result<(), Fail> {
-    let got = take_picked(&rt, rt.alloc())?;
+fn the_next_higher_lane_is_first(rt: HostRuntime) {
+    let got = take_picked(&rt, rt.alloc());
     holds(&rt, got.as_slice() == [2, 0].as_slice());
-    Ok(())
 }

@@ -1,76 +1,75 @@
-ghost use Rattle.std.specs.Prelude.{◌≡◌, [], IfOk};
+ghost use Rattle.std.specs.Prelude.{◌≡◌, []};
 
 use crate::facts::holds;
 use branch_tree::{Branch, BranchPlan, Name, PlanError, Stop, plan};
-use market_rules::Edit;
-use market_types::{Memory, Sequence};
+use market_types::Sequence;
 use std::alloc::Global;
-use std::test::Fail;
+use std::process::Abort;
 
 // A branch with no edits.
-fn branch(alloc: Global, name: &[u8], parent: u16, stop: Stop) -> Result<Branch, Fail>
-    ensures parent { IfOk result (λ b. b.parent ≡ parent) }
-    ensures stop { IfOk result (λ b. b.stop ≡ stop) }
-    ensures edits { IfOk result (λ b. b.edits ≡ []) }
+fn branch(rt: &impl Abort, alloc: Global, name: &[u8], parent: u16, stop: Stop) -> Branch
+    ensures parent { result.parent ≡ parent }
+    ensures stop { result.stop ≡ stop }
+    ensures edits { result.edits ≡ [] }
 {
     let Some(name) = Name::new(name) else {
-        return Err(Fail::from("no name"));
+        panic!(rt; "no name");
     };
-    let edits: Vec<Edit> = Vec::new(alloc);
-    Ok(Branch {
+    Branch {
         name,
         parent,
         stop,
-        edits: Sequence::new(edits),
-    })
+        edits: Sequence::empty(alloc),
+    }
 }
 
 // The plan of a root and two branches, of which the second has these numbers.
 fn planned(
+    rt: &impl Abort,
     alloc: Global,
     name: &[u8],
     parent: u16,
     stop: Stop,
     limit: u32,
-) -> Result<Result<BranchPlan, PlanError>, Fail> {
+) -> Result<BranchPlan, PlanError> {
     let mut branches = Vec::new(alloc);
-    branches.push(branch(alloc, b"root", 0, Stop::At(0))?)?;
-    branches.push(branch(alloc, b"a", 0, Stop::At(6))?)?;
-    branches.push(branch(alloc, name, parent, stop)?)?;
-    Ok(plan(alloc, branches, limit))
+    branches
+        .push(branch(rt, alloc, b"root", 0, Stop::At(0)))
+        .expect(rt, "memory");
+    branches
+        .push(branch(rt, alloc, b"a", 0, Stop::At(6)))
+        .expect(rt, "memory");
+    branches
+        .push(branch(rt, alloc, name, parent, stop))
+        .expect(rt, "memory");
+    plan(alloc, branches, limit)
 }
 
-// The branch, the start and the stop of each segment.
-const PARTS: [(u16, Stop, Stop); 5] = [
-    (0, Stop::At(0), Stop::At(6)),
-    (0, Stop::At(6), Stop::At(100)),
-    (1, Stop::At(6), Stop::At(6)),
-    (1, Stop::At(6), Stop::At(100)),
-    (2, Stop::At(6), Stop::At(100)),
+// The branch, the start, the stop and the parent of each segment.
+const SEGMENTS: [(u16, Stop, Stop, Option<u32>); 5] = [
+    (0, Stop::At(0), Stop::At(6), None),
+    (0, Stop::At(6), Stop::At(100), Some(0)),
+    (1, Stop::At(6), Stop::At(6), Some(0)),
+    (1, Stop::At(6), Stop::At(100), Some(2)),
+    (2, Stop::At(6), Stop::At(100), Some(2)),
 ];
 
-const PARENTS: [Option<u32>; 5] = [None, Some(0), Some(0), Some(2), Some(2)];
+// Whether a plan has these segments.
+fn has_segments(plan: &BranchPlan) -> bool {
+    for (g, hoped) in plan.segments().iter().zip(SEGMENTS.iter()) {
+        if (g.branch, g.start, g.stop, g.parent) != *hoped {
+            return false;
+        }
+    }
+    plan.segments().len() == SEGMENTS.len()
+}
 
 #[test]
-fn a_nested_tree_has_five_segments(rt: HostRuntime) -> Result<(), Fail> {
-    let Ok(plan) = planned(rt.alloc(), b"b", 1, Stop::At(6), 100)? else {
-        return Err(Fail::from("refused"));
+fn a_nested_tree_has_five_segments(rt: HostRuntime) {
+    let Ok(plan) = planned(&rt, rt.alloc(), b"b", 1, Stop::At(6), 100) else {
+        panic!(rt; "refused");
     };
-    holds(
-        &rt,
-        plan.segments()
-            .iter()
-            .map(|g| (g.branch, g.start, g.stop))
-            .eq(PARTS.iter().copied()),
-    );
-    holds(
-        &rt,
-        plan.segments()
-            .iter()
-            .map(|g| g.parent)
-            .eq(PARENTS.iter().copied()),
-    );
-    Ok(())
+    holds(&rt, has_segments(&plan));
 }
 
 // A name, a parent, a stop and a limit, each with the refusal of the tree.
@@ -112,35 +111,23 @@ const TREES: [(&[u8], u16, Stop, u32, Option<PlanError>); 10] = [
 ];
 
 // Whether a copied branch is like its original.
-fn is_copied(alloc: Global) -> Result<bool, Fail> {
-    let copy = branch(alloc, b"tick5", 3, Stop::When(9))?.copy(alloc)?;
-    Ok((copy.name.as_slice(), copy.parent, copy.stop) == (b"tick5".as_slice(), 3, Stop::When(9)))
-}
-
-// Why a tree is refused, if it is.
-fn refusal(
-    alloc: Global,
-    name: &[u8],
-    parent: u16,
-    stop: Stop,
-    limit: u32,
-) -> Result<Option<PlanError>, Fail> {
-    Ok(planned(alloc, name, parent, stop, limit)?.err())
+fn is_copied(rt: &impl Abort, alloc: Global) -> bool {
+    let copy = branch(rt, alloc, b"tick5", 3, Stop::When(9))
+        .copy(alloc)
+        .expect(rt, "memory");
+    (copy.name.as_slice(), copy.parent, copy.stop) == (b"tick5".as_slice(), 3, Stop::When(9))
 }
 
 #[test]
-fn refused_trees_and_names(rt: HostRuntime) -> Result<(), Fail> {
+fn refused_trees_and_names(rt: HostRuntime) {
     let alloc = rt.alloc();
     for (name, parent, stop, limit, wanted) in TREES.iter() {
-        holds(
-            &rt,
-            refusal(alloc, name, *parent, *stop, *limit)? == *wanted,
-        );
+        let refusal = planned(&rt, alloc, name, *parent, *stop, *limit).err();
+        holds(&rt, refusal == *wanted);
     }
     holds(
         &rt,
         Name::new(b"").is_none() && Name::new(&[b'a'; 33]).is_none(),
     );
-    holds(&rt, is_copied(alloc)?);
-    Ok(())
+    holds(&rt, is_copied(&rt, alloc));
 }

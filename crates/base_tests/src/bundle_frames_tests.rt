@@ -121,9 +121,7 @@ const ALL: usize = 11 + 16 + 14 + 45 + 20 + 47 + 45 + 68 + 46 + 46 + 46 + 80 + 5
 #[test]
 fn each_frame_has_its_length(rt: HostRuntime) {
     let alloc = rt.alloc();
-    let Ok(agent) = agent(alloc) else {
-        panic!(rt; "out of memory");
-    };
+    let agent = agent(alloc).expect(&rt, "memory");
     let mut out = Vec::new(alloc);
     holds(&rt, put_header(&mut out, 2, 1, 1).is_ok());
     holds(&rt, put_branch(&mut out, 0, 65_535, 0, b"root").is_ok());

@@ -1,65 +1,79 @@
 use crate::facts::holds;
-use command_words::{Asked, Mark, Request, Task, ask};
+use command_words::{Asked, Crossing, Mark, Request, Task, ask};
 use std::alloc::Global;
-use std::test::Fail;
+use std::process::Abort;
+
+// The marks of a rewind, each behind a space.
+fn marks_told(rt: &impl Abort, alloc: Global, marks: &[Mark<'_>]) -> String {
+    let mut text = String::new(alloc);
+    for mark in marks {
+        let (word, branch) = (mark.word.as_str(), mark.branch.as_str());
+        let told = format!(in alloc; " {word}={branch}@{}", mark.event).expect(rt, "memory");
+        text.push_str(told.as_str()).expect(rt, "memory");
+    }
+    text
+}
+
+fn crossing_told(rt: &impl Abort, alloc: Global, crossing: &Crossing<'_>) -> String {
+    let (symbol, file) = (crossing.symbol.as_str(), crossing.file.as_str());
+    let (word, branch) = (crossing.mark.word.as_str(), crossing.mark.branch.as_str());
+    format!(in alloc; "{symbol} {file} {word}={branch}@{}", crossing.mark.event).expect(
+        rt, "memory",
+    )
+}
 
 // What is to be done with a study, in one text, with the places that it has.
-fn task_told(alloc: Global, task: &Task<'_>, study: &str) -> Result<String, Fail> {
-    Ok(match task {
-        Task::Run => format!(in alloc; "run {study}")?,
-        Task::Table => format!(in alloc; "table {study}")?,
-        Task::Check => format!(in alloc; "check {study}")?,
+fn task_told(rt: &impl Abort, alloc: Global, task: &Task<'_>, study: &str) -> String {
+    let told = match task {
+        Task::Run => format!(in alloc; "run {study}"),
+        Task::Table => format!(in alloc; "table {study}"),
+        Task::Check => format!(in alloc; "check {study}"),
         Task::Rewind(marks, places) => {
-            let mut text = format!(in alloc; "rewind {study}")?;
-            for mark in marks.as_slice() {
-                let told = mark_told(alloc, mark)?;
-                text = format!(in alloc; "{text} {told}")?;
-            }
-            format!(in alloc; "{text}, {places} places")?
+            let marks = marks_told(rt, alloc, marks.as_slice());
+            format!(in alloc; "rewind {study}{marks}, {places} places")
         }
         Task::Cross(crossing, places) => {
-            let (symbol, file) = (crossing.symbol.as_str(), crossing.file.as_str());
-            let mark = mark_told(alloc, &crossing.mark)?;
-            format!(in alloc; "cross {study} {symbol} {file} {mark}, {places} places")?
+            let crossing = crossing_told(rt, alloc, crossing);
+            format!(in alloc; "cross {study} {crossing}, {places} places")
         }
         Task::Session(script, places) => {
             let script = script.as_str();
-            format!(in alloc; "session {study} {script}, {places} places")?
+            format!(in alloc; "session {study} {script}, {places} places")
         }
-    })
-}
-
-fn mark_told(alloc: Global, mark: &Mark<'_>) -> Result<String, Fail> {
-    let (word, branch) = (mark.word.as_str(), mark.branch.as_str());
-    Ok(format!(in alloc; "{word}={branch}@{}", mark.event)?)
+    };
+    told.expect(rt, "memory")
 }
 
 // What is asked for, in one text.
-fn told(alloc: Global, asked: &Asked<'_>) -> Result<String, Fail> {
+fn told(rt: &impl Abort, alloc: Global, asked: &Asked<'_>) -> String {
     let text = match &asked.request {
-        Request::File(task, study) => task_told(alloc, task, study.as_str())?,
-        Request::Large(number) => format!(in alloc; "big {number}")?,
-        Request::Bundle(bundle) => format!(in alloc; "audit {}", bundle.as_str())?,
+        Request::File(task, study) => task_told(rt, alloc, task, study.as_str()),
+        Request::Large(number) => format!(in alloc; "big {number}").expect(rt, "memory"),
+        Request::Bundle(bundle) => {
+            format!(in alloc; "audit {}", bundle.as_str()).expect(rt, "memory")
+        }
     };
-    Ok(format!(in alloc; "{text}, {} workers", asked.workers)?)
+    format!(in alloc; "{text}, {} workers", asked.workers).expect(rt, "memory")
+}
+
+// The words between a line's spaces.
+fn words_of(rt: &impl Abort, alloc: Global, line: &str) -> Vec<String> {
+    let mut words = Vec::new(alloc);
+    for word in line.split(' ') {
+        let word = String::from_str(alloc, word).expect(rt, "memory");
+        words.push(word).expect(rt, "memory");
+    }
+    words
 }
 
 // What the words between a line's spaces ask for, in one text, and the empty text where they ask for nothing.
-fn answer(alloc: Global, line: &str) -> Result<String, Fail> {
-    let mut words = Vec::new(alloc);
-    for word in line.split(' ') {
-        words.push(String::from_str(alloc, word)?)?;
-    }
+fn answer(rt: &impl Abort, alloc: Global, line: &str) -> String {
+    let words = words_of(rt, alloc, line);
     match ask(alloc, words.as_slice()) {
-        Ok(Some(asked)) => told(alloc, &asked),
-        Ok(None) => Ok(String::new(alloc)),
-        Err(_) => Err(Fail::from("out of memory")),
+        Ok(Some(asked)) => told(rt, alloc, &asked),
+        Ok(None) => String::new(alloc),
+        Err(_) => panic!(rt; "out of memory"),
     }
-}
-
-// Whether a line's answer is this text.
-fn is_answered(alloc: Global, line: &str, wanted: &str) -> Result<bool, Fail> {
-    Ok(answer(alloc, line)?.as_str() == wanted)
 }
 
 // Lines, each with what it asks for.
@@ -100,12 +114,11 @@ const TAKEN: [(&str, &str); 18] = [
 ];
 
 #[test]
-fn lines_that_are_taken(rt: HostRuntime) -> Result<(), Fail> {
+fn lines_that_are_taken(rt: HostRuntime) {
     let alloc = rt.alloc();
     for (line, wanted) in TAKEN.iter() {
-        holds(&rt, is_answered(alloc, line, wanted)?);
+        holds(&rt, answer(&rt, alloc, line).as_str() == *wanted);
     }
-    Ok(())
 }
 
 const REFUSED: [&str; 61] = [
@@ -173,35 +186,31 @@ const REFUSED: [&str; 61] = [
 ];
 
 #[test]
-fn lines_that_are_refused(rt: HostRuntime) -> Result<(), Fail> {
+fn lines_that_are_refused(rt: HostRuntime) {
     let alloc = rt.alloc();
     for line in REFUSED.iter() {
-        holds(&rt, is_answered(alloc, line, "")?);
+        holds(&rt, answer(&rt, alloc, line).is_empty());
     }
     let none: Vec<String> = Vec::new(alloc);
     holds(&rt, matches!(&ask(alloc, none.as_slice()), Ok(None)));
-    Ok(())
 }
 
 // A line with so many marks.
-fn marked(alloc: Global, marks: u32) -> Result<String, Fail> {
-    let mut line = String::from_str(alloc, "rewind s")?;
+fn marked(rt: &impl Abort, alloc: Global, marks: u32) -> String {
+    let mut line = String::from_str(alloc, "rewind s").expect(rt, "memory");
     for _ in 0..marks {
-        line.push_str(" a:1")?;
+        line.push_str(" a:1").expect(rt, "memory");
     }
-    Ok(line)
+    line
 }
 
 #[test]
-fn a_rewind_has_at_most_64_marks(rt: HostRuntime) -> Result<(), Fail> {
+fn a_rewind_has_at_most_64_marks(rt: HostRuntime) {
     let alloc = rt.alloc();
-    let line = marked(alloc, 64)?;
-    let told = answer(alloc, line.as_str())?;
-    holds(
-        &rt,
-        told.as_str().ends_with(" a:1=a@1, 16 places, 1 workers"),
-    );
-    let longer = marked(alloc, 65)?;
-    holds(&rt, is_answered(alloc, longer.as_str(), "")?);
-    Ok(())
+    let line = marked(&rt, alloc, 64);
+    let told = answer(&rt, alloc, line.as_str());
+    let end = " a:1=a@1, 16 places, 1 workers";
+    holds(&rt, told.as_str().ends_with(end));
+    let longer = marked(&rt, alloc, 65);
+    holds(&rt, answer(&rt, alloc, longer.as_str()).is_empty());
 }

@@ -42,9 +42,13 @@ const KNOWN: [Known; 4] = [FIRST_BLOCK, SECOND_BLOCK, OTHER_STREAM, WORKED_BLOCK
 
 // Whether each word is the one that is drawn at its place.
 fn is_drawn(known: &Known) -> bool {
-    known.words.iter().enumerate().all(|(i, word)| {
-        draw(&known.key, known.stream, known.start.wrapping_add(i as u64)) == *word
-    })
+    for (i, word) in known.words.iter().enumerate() {
+        let place = known.start.wrapping_add(i as u64);
+        if draw(&known.key, known.stream, place) != *word {
+            return false;
+        }
+    }
+    true
 }
 
 #[test]

@@ -3,6 +3,7 @@ ghost use Rattle.std.specs.Prelude.{◌≡◌, ◌<◌, ◌≤◌, ◌+◌, ◌-
 use crate::facts::{equal, holds};
 use event_queue::Queue;
 use market_types::{Body, Message};
+use std::alloc::Global;
 use std::process::Abort;
 
 const PUSHES: u64 = 4_000;
@@ -129,6 +130,27 @@ fn assert_same(rt: &impl Abort, listed: &[Message], queue: &mut Queue, plain: &m
     equal(rt, queue.pop_least(), None);
 }
 
+// The least message of both is put back to a time.
+fn put_back_both(rt: &impl Abort, queue: &mut Queue, plain: &mut PlainQueue, time: u64, next: u64)
+    requires before { All (λ m. m.seq < next) queue.old.list }
+    ensures before { All (λ m. m.seq < next) queue.new.list }
+    ensures spare { queue.new.spare ≡ queue.old.spare }
+{
+    let least = plain.pop_least();
+    equal(rt, put_back(queue, time, next), least);
+    if let Some(m) = least {
+        plain.push(rt, Message { time, ..m });
+    }
+}
+
+// Compares lists of what waits, and all that leaves a copy of a queue, with what leaves the plain queue.
+fn assert_copied(rt: &impl Abort, alloc: Global, queue: &Queue, plain: &mut PlainQueue) {
+    let listed = queue.messages(alloc).expect(rt, "memory");
+    let mut copy = queue.copy(alloc).expect(rt, "memory");
+    assert_same(rt, listed.as_slice(), &mut copy, plain);
+    equal(rt, queue.len(), listed.len());
+}
+
 #[test]
 fn agrees_with_a_plain_list(rt: HostRuntime) {
     let mut queue = Queue::new(rt.alloc());
@@ -141,29 +163,13 @@ fn agrees_with_a_plain_list(rt: HostRuntime) {
         join(&mut queue, time, next);
         plain.push(&rt, wakeup(time, next));
         if next % 5 == 3 {
-            let moved = put_back(&mut queue, time + 50, next + 1);
-            let least = plain.pop_least();
-            equal(&rt, moved, least);
-            if let Some(m) = least {
-                plain.push(
-                    &rt,
-                    Message {
-                        time: time + 50,
-                        ..m
-                    },
-                );
-            }
+            put_back_both(&rt, &mut queue, &mut plain, time + 50, next + 1);
         } else if next % 5 < 3 {
-            let left = leave(&mut queue, next + 1);
-            equal(&rt, left, plain.pop_least());
+            equal(&rt, leave(&mut queue, next + 1), plain.pop_least());
         }
         equal(&rt, queue.len(), plain.messages.len());
     }
-    let (Ok(listed), Ok(mut copy)) = (queue.messages(rt.alloc()), queue.copy(rt.alloc())) else {
-        panic!(rt; "out of memory");
-    };
-    assert_same(&rt, listed.as_slice(), &mut copy, &mut plain);
-    equal(&rt, queue.len(), listed.len());
+    assert_copied(&rt, rt.alloc(), &queue, &mut plain);
 }
 
 #[test]

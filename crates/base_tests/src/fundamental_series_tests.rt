@@ -46,18 +46,14 @@ const WILD: SeriesRule = SeriesRule {
 
 #[test]
 fn goes_by_its_rule(rt: HostRuntime) {
-    let (Ok(calm), Ok(half)) = (
-        series_by_rule(rt.alloc(), &ZERO_KEY, 0, &CALM, OPEN, 1250),
-        series_by_rule(rt.alloc(), &COUNTING_KEY, 3, &HALF_WAY, OPEN, 1250),
-    ) else {
-        panic!(rt; "out of memory");
-    };
+    let calm = series_by_rule(rt.alloc(), &ZERO_KEY, 0, &CALM, OPEN, 1250).expect(&rt, "memory");
     equal(&rt, calm.value_at(1000), 100_000);
     equal(&rt, calm.value_at(1099), 100_000);
     equal(&rt, calm.value_at(1100), 101_000);
     equal(&rt, calm.value_at(1200), 101_900);
     equal(&rt, calm.value_at(5000), 101_900);
-    equal(&rt, half.value_at(1100), 100_000);
+    let half = series_by_rule(rt.alloc(), &COUNTING_KEY, 3, &HALF_WAY, OPEN, 1250);
+    equal(&rt, half.expect(&rt, "memory").value_at(1100), 100_000);
 }
 
 // The value so many nanoseconds after the opening.
@@ -83,36 +79,28 @@ fn shown(series: &Series) -> [u32; 7]
 }
 
 // What another program gives, which was written from the rule apart from this one.
+const FIRST_SHOCKS: [u32; 7] = [100_000, 99_697, 100_183, 99_982, 99_838, 100_008, 100_008];
+
+const SECOND_SHOCKS: [u32; 7] = [100_000, 100_215, 100_380, 100_157, 100_302, 99_943, 99_943];
+
+const WILD_SHOCKS: [u32; 7] = [
+    100,
+    1,
+    941_479_420,
+    558_917_008,
+    271_500_302,
+    594_216_091,
+    594_216_091,
+];
+
 #[test]
 fn takes_its_shocks_from_its_own_stream(rt: HostRuntime) {
-    let (Ok(first), Ok(second), Ok(wild)) = (
-        series_by_rule(rt.alloc(), &ZERO_KEY, 0, &SHOCKED, OPEN, 1500),
-        series_by_rule(rt.alloc(), &COUNTING_KEY, 1, &SHOCKED, OPEN, 1500),
-        series_by_rule(rt.alloc(), &ZERO_KEY, 0, &WILD, OPEN, 1500),
-    ) else {
-        panic!(rt; "out of memory");
-    };
-    holds(
-        &rt,
-        shown(&first) == [100_000, 99_697, 100_183, 99_982, 99_838, 100_008, 100_008],
-    );
-    holds(
-        &rt,
-        shown(&second) == [100_000, 100_215, 100_380, 100_157, 100_302, 99_943, 99_943],
-    );
-    holds(
-        &rt,
-        shown(&wild)
-            == [
-                100,
-                1,
-                941_479_420,
-                558_917_008,
-                271_500_302,
-                594_216_091,
-                594_216_091,
-            ],
-    );
+    let first = series_by_rule(rt.alloc(), &ZERO_KEY, 0, &SHOCKED, OPEN, 1500);
+    holds(&rt, shown(&first.expect(&rt, "memory")) == FIRST_SHOCKS);
+    let second = series_by_rule(rt.alloc(), &COUNTING_KEY, 1, &SHOCKED, OPEN, 1500);
+    holds(&rt, shown(&second.expect(&rt, "memory")) == SECOND_SHOCKS);
+    let wild = series_by_rule(rt.alloc(), &ZERO_KEY, 0, &WILD, OPEN, 1500);
+    holds(&rt, shown(&wild.expect(&rt, "memory")) == WILD_SHOCKS);
 }
 
 // 9.90 dollars from 900 nanoseconds past midnight on, 9.80 from 1500 on.
@@ -132,9 +120,7 @@ fn file_series(alloc: Global) -> Result<Series, Memory>
 
 #[test]
 fn goes_by_its_rows(rt: HostRuntime) {
-    let Ok(series) = file_series(rt.alloc()) else {
-        panic!(rt; "out of memory");
-    };
+    let series = file_series(rt.alloc()).expect(&rt, "memory");
     equal(&rt, series.value_at(900), 99_000);
     equal(&rt, series.value_at(1499), 99_000);
     equal(&rt, series.value_at(1500), 98_000);

@@ -159,29 +159,30 @@ fn refused_codes(rt: HostRuntime) {
     );
 }
 
+// Whether the first frame of some bytes has this payload, and leaves this rest.
+fn unframes(bytes: &[u8], payload: &[u8], rest: &[u8]) -> bool {
+    match unframe(bytes) {
+        Ok((first, left)) => first == payload && left == rest,
+        Err(_) => false,
+    }
+}
+
+// Why some bytes begin with no frame.
+fn refusal(bytes: &[u8]) -> Option<CodecError> {
+    unframe(bytes).err()
+}
+
 #[test]
 fn frames(rt: HostRuntime) {
     let mut out = Vec::new(rt.alloc());
     holds(&rt, frame(b"abc", &mut out).is_ok());
     holds(&rt, frame(&[], &mut out).is_ok());
     holds(&rt, out.as_slice() == b"\x00\x03abc\x00\x00".as_slice());
+    holds(&rt, unframes(out.as_slice(), b"abc", b"\x00\x00"));
+    holds(&rt, unframes(&[0, 0], b"", b""));
+    holds(&rt, refusal(b"\x00\x03\x57") == Some(CodecError::Cut(3)));
+    holds(&rt, refusal(b"\x00") == Some(CodecError::Cut(1)));
     let mut parts = Vec::new(rt.alloc());
     holds(&rt, frame_of_two(b"ab", b"c", &mut parts).is_ok());
     holds(&rt, parts.as_slice() == b"\x00\x03abc".as_slice());
-    holds(
-        &rt,
-        matches!(
-            unframe(&out),
-            Ok((payload, rest)) if payload == b"abc".as_slice() && rest == b"\x00\x00".as_slice()
-        ),
-    );
-    holds(
-        &rt,
-        matches!(unframe(&[0, 0]), Ok((payload, rest)) if payload.is_empty() && rest.is_empty()),
-    );
-    holds(
-        &rt,
-        matches!(unframe(b"\x00\x03\x57"), Err(CodecError::Cut(3))),
-    );
-    holds(&rt, matches!(unframe(b"\x00"), Err(CodecError::Cut(1))));
 }

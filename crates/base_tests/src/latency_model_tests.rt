@@ -34,21 +34,15 @@ fn one_group(alloc: Global, base: Time, jitter: u32) -> Result<Groups, Memory>
 fn delays_by_the_draw_of_the_message(rt: HostRuntime) {
     let word = draw(&ZERO_KEY, JITTER_STREAM, 1);
     for (jitter, want) in [(0, 0), (9, 5), (u32::MAX, 2_419_978_656)] {
-        let Ok(groups) = one_group(rt.alloc(), 0, jitter) else {
-            panic!(rt; "out of memory");
-        };
+        let groups = one_group(rt.alloc(), 0, jitter).expect(&rt, "memory");
         equal(&rt, groups.delay(0, 0, word), want);
     }
 }
 
 #[test]
 fn an_edit_changes_its_tables_alone(rt: HostRuntime) {
-    let Ok(mut groups) = one_group(rt.alloc(), 5, 0) else {
-        panic!(rt; "out of memory");
-    };
-    let Ok(copy) = groups.copy(rt.alloc()) else {
-        panic!(rt; "out of memory");
-    };
+    let mut groups = one_group(rt.alloc(), 5, 0).expect(&rt, "memory");
+    let copy = groups.copy(rt.alloc()).expect(&rt, "memory");
     groups.set(0, 0, 50, 9);
     equal(&rt, groups.delay(0, 0, 0x903df1a0), 55);
     equal(&rt, copy.delay(0, 0, 0x903df1a0), 5);

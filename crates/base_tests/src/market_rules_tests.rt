@@ -15,10 +15,7 @@ const TWO_BANDS: [Band; 2] = [
 ];
 
 fn two_bands(rt: &impl Abort, alloc: Global) -> TickTable {
-    let Ok(table) = TickTable::new(alloc, &TWO_BANDS) else {
-        panic!(rt; "no table");
-    };
-    table
+    TickTable::new(alloc, &TWO_BANDS).expect(rt, "a table")
 }
 
 // The allowed prices next to a number.
@@ -120,13 +117,14 @@ fn dated(rt: &impl Abort, alloc: Global, times: &[u64]) -> Result<DatedList, Rul
     DatedList::new(list)
 }
 
+// Times, each with how many of the changes at 5, 5 and 7 are due by then.
+const DUE: [(u64, usize); 5] = [(4, 0), (5, 2), (6, 2), (7, 3), (u64::MAX, 3)];
+
 #[test]
 fn changes_keep_their_order(rt: HostRuntime) {
-    let Ok(list) = dated(&rt, rt.alloc(), &[5, 5, 7]) else {
-        panic!(rt; "no list");
-    };
-    for (time, count) in [(4, 0), (5, 2), (6, 2), (7, 3), (u64::MAX, 3)] {
-        equal(&rt, list.rules_at(time), count);
+    let list = dated(&rt, rt.alloc(), &[5, 5, 7]).expect(&rt, "a list");
+    for (time, count) in DUE.iter() {
+        equal(&rt, list.rules_at(*time), *count);
     }
     holds(&rt, list.as_slice().len() == 3);
     holds(&rt, dated(&rt, rt.alloc(), &[]).is_ok());
@@ -164,16 +162,12 @@ fn edits(table: TickTable) -> [(Edit, u8); 8] {
 fn copies_are_equal(rt: HostRuntime) {
     let alloc = rt.alloc();
     for (edit, letter) in edits(two_bands(&rt, alloc)) {
-        let Ok(copy) = edit.copy(alloc) else {
-            panic!(rt; "out of memory");
-        };
+        let copy = edit.copy(alloc).expect(&rt, "memory");
         holds(&rt, copy == edit);
         equal(&rt, copy.letter(), letter);
     }
     let change = Change::Tick(two_bands(&rt, alloc));
-    let Ok(copy) = change.copy(alloc) else {
-        panic!(rt; "out of memory");
-    };
+    let copy = change.copy(alloc).expect(&rt, "memory");
     holds(&rt, copy == change);
     holds(&rt, copy != Change::Halt);
 }

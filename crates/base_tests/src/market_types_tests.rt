@@ -1,6 +1,7 @@
 use crate::facts::{equal, holds};
 use market_types::{Body, Entry, Feed, FeedList, Record, Roomy, Trace, What};
 use std::alloc::Global;
+use std::process::Abort;
 
 fn closing(time: u64) -> Feed {
     Feed {
@@ -32,19 +33,25 @@ fn joins_two(feed: &mut FeedList) -> bool {
     feed.reserve(2).is_ok() && feed.push(closing(1)).is_ok() && feed.push(closing(2)).is_ok()
 }
 
+// Whether the messages of a list have these times.
+fn have_times(feed: &FeedList, times: &[u64]) -> bool {
+    for (message, time) in feed.as_slice().iter().zip(times) {
+        if message.time != *time {
+            return false;
+        }
+    }
+    feed.len() == times.len()
+}
+
 #[test]
 fn feeds_grow_and_are_copied(rt: HostRuntime) {
     let mut feed = FeedList::new(rt.alloc());
     holds(&rt, feed.is_empty() && feed.get(0).is_none());
     holds(&rt, joins_two(&mut feed));
-    let Ok(copy) = feed.copy(rt.alloc()) else {
-        panic!(rt; "out of memory");
-    };
+    let copy = feed.copy(rt.alloc()).expect(&rt, "memory");
     holds(&rt, feed.append_copy(&copy).is_ok());
     equal(&rt, (feed.len(), copy.len()), (4, 2));
-    for (i, time) in [1, 2, 1, 2].iter().enumerate() {
-        holds(&rt, feed.as_slice().get(i).map(|f| f.time) == Some(*time));
-    }
+    holds(&rt, have_times(&feed, &[1, 2, 1, 2]));
 }
 
 // Whether the second entry of a trace is event 7 with a fee of -3 and two feed messages.
@@ -55,15 +62,20 @@ fn has_event_next(trace: &Trace) -> bool {
     }
 }
 
+// A trace of event 7.
+fn one_event(rt: &impl Abort, alloc: Global) -> Trace {
+    let mut feed = FeedList::new(alloc);
+    holds(rt, joins_two(&mut feed));
+    let mut trace = Trace::new(alloc);
+    holds(rt, trace.reserve(1).is_ok());
+    holds(rt, trace.push(Entry::Event(event(alloc, 7, feed))).is_ok());
+    trace
+}
+
 #[test]
 fn traces_grow_and_are_copied(rt: HostRuntime) {
-    let alloc = rt.alloc();
-    let mut feed = FeedList::new(alloc);
-    holds(&rt, joins_two(&mut feed));
-    let mut trace = Trace::new(alloc);
-    holds(&rt, trace.reserve(1).is_ok());
-    holds(&rt, trace.push(Entry::Event(event(alloc, 7, feed))).is_ok());
-    let mut longer = Trace::new(alloc);
+    let trace = one_event(&rt, rt.alloc());
+    let mut longer = Trace::new(rt.alloc());
     holds(&rt, longer.append_copy(&trace).is_ok());
     holds(&rt, longer.append_copy(&trace).is_ok());
     equal(&rt, (trace.len(), longer.len()), (1, 2));
@@ -72,13 +84,11 @@ fn traces_grow_and_are_copied(rt: HostRuntime) {
 
 #[test]
 fn numbers_grow(rt: HostRuntime) {
+    let last = [8].to_vec(rt.alloc()).expect(&rt, "memory");
     let mut numbers: Roomy<u32> = Roomy::new(rt.alloc());
     holds(&rt, numbers.reserve(1).is_ok());
     holds(&rt, numbers.push(5).is_ok());
     holds(&rt, numbers.append_slice(&[6, 7]).is_ok());
-    let Ok(last) = [8].to_vec(rt.alloc()) else {
-        panic!(rt; "out of memory");
-    };
     holds(&rt, numbers.append(last).is_ok());
     holds(&rt, numbers.as_slice() == [5, 6, 7, 8].as_slice());
 }

@@ -3,9 +3,10 @@ use outside::{
     Counted, ErrSink, Failed, FetchError, Fetched, FileLibrary, Library, MemoryLibrary, MemorySink,
     OutSink, Sink, Steps, StreamSink, write_all,
 };
+use std::alloc::Global;
 use std::fs;
 use std::io::{Error, ErrorKind, Write};
-use std::test::Fail;
+use std::process::Abort;
 
 // What a fetch answered, in words.
 fn shown(answer: &Result<Fetched, FetchError>) -> &'static str {
@@ -18,27 +19,44 @@ fn shown(answer: &Result<Fetched, FetchError>) -> &'static str {
     }
 }
 
+// Whether a fetch answered these bytes.
+fn is_whole(answer: &Result<Fetched, FetchError>, bytes: &[u8]) -> bool {
+    match answer {
+        Ok(Fetched::Whole(held)) => held.as_slice() == bytes,
+        _ => false,
+    }
+}
+
+// A file, the most bytes of it, and what a fetch answers.
+type Fetch = (&'static str, u64, &'static str);
+
+// Whether a library answers a fetch so.
+fn is_shown(alloc: Global, library: &mut impl Library, fetch: &Fetch) -> bool {
+    let (name, most, want) = *fetch;
+    shown(&library.fetch(alloc, name, most)) == want
+}
+
+const OF_THE_SYSTEM: [Fetch; 6] = [
+    ("fetched.txt", 4999, "too long"),
+    ("missing.txt", 9, "absent"),
+    ("/dev/null", 0, "whole"),
+    ("/dev/zero", 9, "too long"),
+    (".", 9, "failed"),
+    ("fetched.txt/x", 9, "failed"),
+];
+
+const SEVENS: [u8; 5000] = [7; 5000];
+
 #[test]
-fn files_of_the_system(rt: HostRuntime) -> Result<(), Fail> {
-    fs::write(&rt, "fetched.txt", &[7u8; 5000])?;
+fn files_of_the_system(rt: HostRuntime) {
+    holds(&rt, fs::write(&rt, "fetched.txt", &SEVENS).is_ok());
     let mut library = FileLibrary::new(&rt);
-    match library.fetch(rt.alloc(), "fetched.txt", 5000) {
-        Ok(Fetched::Whole(bytes)) => holds(&rt, bytes.as_slice() == [7u8; 5000].as_slice()),
-        other => panic!(rt; "a held file is {}", shown(&other)),
+    let whole = library.fetch(rt.alloc(), "fetched.txt", 5000);
+    holds(&rt, is_whole(&whole, &SEVENS));
+    for fetch in OF_THE_SYSTEM.iter() {
+        holds(&rt, is_shown(rt.alloc(), &mut library, fetch));
     }
-    for (name, most, want) in [
-        ("fetched.txt", 4999, "too long"),
-        ("missing.txt", 9, "absent"),
-        ("/dev/null", 0, "whole"),
-        ("/dev/zero", 9, "too long"),
-        (".", 9, "failed"),
-        ("fetched.txt/x", 9, "failed"),
-    ] {
-        let answer = library.fetch(rt.alloc(), name, most);
-        holds(&rt, shown(&answer) == want);
-    }
-    fs::remove_file(&rt, "fetched.txt")?;
-    Ok(())
+    holds(&rt, fs::remove_file(&rt, "fetched.txt").is_ok());
 }
 
 #[test]
@@ -94,51 +112,53 @@ fn faults_of_a_stream(rt: HostRuntime) {
     }
 }
 
-#[test]
-fn files_in_memory(rt: HostRuntime) -> Result<(), Fail> {
-    let mut files = Vec::new(rt.alloc());
-    files.push(("study".to_string(rt.alloc())?, b"four".to_vec(rt.alloc())?))?;
-    let failing = vec![in rt.alloc(); 2]?;
-    let Ok(mut library) = MemoryLibrary::new(files, failing) else {
-        panic!(rt; "a library takes no memory");
-    };
-    for (name, most, want) in [
-        ("study", 4, "whole"),
-        ("study", 4, "failed"),
-        ("study", 3, "too long"),
-        ("stud", 4, "absent"),
-    ] {
-        let answer = library.fetch(rt.alloc(), name, most);
-        holds(&rt, shown(&answer) == want);
-    }
-    match library.fetch(rt.alloc(), "study", 9) {
-        Ok(Fetched::Whole(bytes)) => holds(&rt, bytes.as_slice() == b"four".as_slice()),
-        other => panic!(rt; "a held file is {}", shown(&other)),
-    }
-    Ok(())
+// A library with one file of four bytes, whose second call fails.
+fn one_file(rt: &impl Abort, alloc: Global) -> MemoryLibrary {
+    let name = "study".to_string(alloc).expect(rt, "memory");
+    let bytes = b"four".to_vec(alloc).expect(rt, "memory");
+    let mut files = Vec::new(alloc);
+    files.push((name, bytes)).expect(rt, "memory");
+    let failing = vec![in alloc; 2].expect(rt, "memory");
+    MemoryLibrary::new(files, failing).expect(rt, "a library takes no memory")
 }
 
+const IN_MEMORY: [Fetch; 4] = [
+    ("study", 4, "whole"),
+    ("study", 4, "failed"),
+    ("study", 3, "too long"),
+    ("stud", 4, "absent"),
+];
+
 #[test]
-fn bytes_in_memory(rt: HostRuntime) -> Result<(), Fail> {
-    // Room, the most bytes a call, the failing call (0: none), and what is taken of ten bytes.
-    for (room, most, failing, want) in [
-        (10, 64, 0, "0123456789"),
-        (10, 7, 0, "0123456789"),
-        (10, 1, 0, "0123456789"),
-        (10, 7, 1, ""),
-        (10, 7, 2, "0123456"),
-        (9, 7, 0, "012345678"),
-        (10, 0, 0, ""),
-    ] {
-        let Ok(mut sink) = MemorySink::new(rt.alloc(), room, most, vec![in rt.alloc(); failing]?)
-        else {
-            panic!(rt; "no memory for {room} bytes");
-        };
+fn files_in_memory(rt: HostRuntime) {
+    let mut library = one_file(&rt, rt.alloc());
+    for fetch in IN_MEMORY.iter() {
+        holds(&rt, is_shown(rt.alloc(), &mut library, fetch));
+    }
+    let whole = library.fetch(rt.alloc(), "study", 9);
+    holds(&rt, is_whole(&whole, b"four"));
+}
+
+// Room, the most bytes a call, the failing call (0: none), and what is taken of ten bytes.
+const TAKEN: [(usize, usize, u32, &str); 7] = [
+    (10, 64, 0, "0123456789"),
+    (10, 7, 0, "0123456789"),
+    (10, 1, 0, "0123456789"),
+    (10, 7, 1, ""),
+    (10, 7, 2, "0123456"),
+    (9, 7, 0, "012345678"),
+    (10, 0, 0, ""),
+];
+
+#[test]
+fn bytes_in_memory(rt: HostRuntime) {
+    for (room, most, failing, want) in TAKEN.iter() {
+        let failing = vec![in rt.alloc(); *failing].expect(&rt, "memory");
+        let mut sink = MemorySink::new(rt.alloc(), *room, *most, failing).expect(&rt, "memory");
         let answer = write_all(&mut sink, b"0123456789");
         equal(&rt, answer.is_ok(), want.len() == 10);
         holds(&rt, sink.taken() == want.as_bytes());
     }
-    Ok(())
 }
 
 #[test]

@@ -4,6 +4,7 @@ use crate::facts::{equal, holds};
 use market_types::{AgentNo, Side, Token};
 use price_time_book::keeping::changes_keep;
 use price_time_book::{Best, Book, Fill, Resting};
+use std::alloc::Global;
 use std::process::Abort;
 
 const ROUNDS: u64 = 3000;
@@ -78,7 +79,8 @@ fn sell(reference: u64, agent: AgentNo, token: Token, price: u32, left: u32) -> 
 
 // What a fill says: the reference, the price and the shares.
 fn said(fill: Option<Fill>) -> Option<(u64, u32, u32)> {
-    fill.map(|f| (f.resting.reference, f.resting.price, f.shares))
+    let f = fill?;
+    Some((f.resting.reference, f.resting.price, f.shares))
 }
 
 #[test]
@@ -223,33 +225,40 @@ fn rank(order: &Resting) -> u64 {
     u64::from(price).saturating_mul(2).saturating_add(behind)
 }
 
-// The least of the pairs (rank, reference) of one side.
-fn first(plain: &[Resting], side: Side) -> Option<(u64, u64)> {
-    plain
-        .iter()
-        .filter(|o| o.side == side)
-        .map(|o| (rank(o), o.reference))
-        .min()
+// The first order of one side: the least by rank and reference.
+fn first(plain: &[Resting], side: Side) -> Option<Resting> {
+    let mut first: Option<Resting> = None;
+    for order in plain {
+        match first {
+            _ if order.side != side => {}
+            Some(o) if (rank(&o), o.reference) < (rank(order), order.reference) => {}
+            _ => first = Some(*order),
+        }
+    }
+    first
 }
 
 // The least rank of the shown orders of one side.
 fn best_rank(plain: &[Resting], side: Side) -> Option<u64> {
-    plain
-        .iter()
-        .filter(|o| o.side == side && o.shown)
-        .map(rank)
-        .min()
+    let mut best: Option<u64> = None;
+    for order in plain {
+        if order.side == side && order.shown {
+            best = Some(best.unwrap_or(u64::MAX).min(rank(order)));
+        }
+    }
+    best
 }
 
-// The open shares of one side at a rank.
-fn sum(plain: &[Resting], side: Side, wanted: u64) -> u64 {
+// The open shares of one side at a rank, if there is one.
+fn sum(plain: &[Resting], side: Side, wanted: Option<u64>) -> Option<u64> {
+    let wanted = wanted?;
     let mut shares = 0u64;
     for order in plain {
         if order.side == side && rank(order) == wanted {
             shares = shares.saturating_add(u64::from(order.left));
         }
     }
-    shares
+    Some(shares)
 }
 
 // Whether an order crosses one of this side with this limit.
@@ -262,47 +271,58 @@ fn crosses(order: &Resting, side: Side, limit: u32) -> bool {
 
 // So many shares of the order with this reference leave.
 fn lower(plain: &mut Vec<Resting>, reference: u64, shares: u32, intended: u32) -> Option<Resting> {
-    let at = plain.iter().position(|o| o.reference == reference)?;
-    let was = plain[at];
-    plain[at].left = was.left.saturating_sub(shares);
-    plain[at].intended = was.intended.saturating_sub(intended);
+    let mut was = None;
+    for order in plain.iter_mut() {
+        if order.reference == reference {
+            was = Some(*order);
+            order.left = order.left.saturating_sub(shares);
+            order.intended = order.intended.saturating_sub(intended);
+        }
+    }
     plain.retain(|o| o.left > 0);
-    Some(was)
+    was
 }
 
 // The order that an agent sent under a token.
 fn sent(plain: &[Resting], agent: AgentNo, token: &Token) -> Option<Resting> {
-    plain
-        .iter()
-        .copied()
-        .find(|o| o.agent == agent && o.token == *token)
+    for order in plain {
+        if order.agent == agent && order.token == *token {
+            return Some(*order);
+        }
+    }
+    None
 }
 
 // The first order of the other side gives shares, if its price is within the limit.
 fn give(plain: &mut Vec<Resting>, side: Side, limit: u32, wanted: u32) -> Option<Resting> {
-    let (_, reference) = first(plain.as_slice(), side.opposite())?;
-    let at = plain.iter().position(|o| o.reference == reference)?;
-    let order = plain[at];
+    let order = first(plain.as_slice(), side.opposite())?;
     if !crosses(&order, side, limit) {
         return None;
     }
-    lower(plain, reference, wanted, 0)
+    lower(plain, order.reference, wanted, 0)
+}
+
+// How many orders one side has, and how many orders cross one of this side with a limit.
+fn counts(plain: &[Resting], side: Side, limit: u32) -> (usize, usize) {
+    let (mut depth, mut crossing) = (0usize, 0usize);
+    for order in plain {
+        depth = depth.saturating_add(usize::from(order.side == side));
+        crossing = crossing.saturating_add(usize::from(crosses(order, side, limit)));
+    }
+    (depth, crossing)
+}
+
+// The shares of the best price, if there is one.
+fn shares_at(best: Option<Best>) -> Option<u64> {
+    Some(best?.shares)
 }
 
 // Compares what a side tells.
 fn assert_same_side(rt: &impl Abort, book: &Book, plain: &[Resting], side: Side) {
-    let shares = best_rank(plain, side).map(|rank| sum(plain, side, rank));
-    equal(rt, book.best(side).map(|b| b.shares), shares);
-    equal(
-        rt,
-        book.depth(side),
-        plain.iter().filter(|o| o.side == side).count(),
-    );
-    equal(
-        rt,
-        book.crossing(side, 100_300),
-        plain.iter().filter(|o| crosses(o, side, 100_300)).count(),
-    );
+    let shares = sum(plain, side, best_rank(plain, side));
+    equal(rt, shares_at(book.best(side)), shares);
+    let told = (book.depth(side), book.crossing(side, 100_300));
+    holds(rt, told == counts(plain, side, 100_300));
 }
 
 // Compares all that a book tells.
@@ -311,6 +331,15 @@ fn assert_same(rt: &impl Abort, book: &Book, plain: &[Resting]) {
     assert_same_side(rt, book, plain, Side::Sell);
     equal(rt, book.len(), plain.len());
     equal(rt, book.is_empty(), plain.is_empty());
+}
+
+// Whether a fill is of this order, with as many of the wanted shares as it has.
+fn is_given(fill: Option<Fill>, order: Option<Resting>, wanted: u32) -> bool {
+    match (fill, order) {
+        (Some(fill), Some(o)) => fill.resting == o && fill.shares == o.left.min(wanted),
+        (None, None) => true,
+        _ => false,
+    }
 }
 
 // An incoming order meets the first order of the other side.
@@ -323,8 +352,7 @@ fn match_some(rt: &impl Abort, book: &mut Book, plain: &mut Vec<Resting>, roll: 
     let (side, limit, wanted) = (side_of(roll), price_of(roll), shares_of(roll));
     let fill = take(book, side, limit, wanted, next);
     let want = give(plain, side, limit, wanted);
-    equal(rt, fill.map(|f| f.resting), want);
-    equal(rt, fill.map(|f| f.shares), want.map(|o| o.left.min(wanted)));
+    holds(rt, is_given(fill, want, wanted));
 }
 
 // Half of an agent's order leaves, if it has one under the token.
@@ -361,6 +389,13 @@ fn rest_some(rt: &impl Abort, book: &mut Book, plain: &mut Vec<Resting>, roll: u
     }
 }
 
+// A copy of a book that lists these orders.
+fn copied(rt: &impl Abort, alloc: Global, book: &Book, plain: &[Resting]) -> Book {
+    let listed = book.orders(alloc).expect(rt, "memory");
+    holds(rt, listed.as_slice() == plain);
+    book.copy(alloc).expect(rt, "memory")
+}
+
 #[test]
 fn agrees_with_a_plain_list(rt: HostRuntime) {
     let mut book = Book::new(rt.alloc());
@@ -377,9 +412,6 @@ fn agrees_with_a_plain_list(rt: HostRuntime) {
         }
         assert_same(&rt, &book, plain.as_slice());
     }
-    let (Ok(listed), Ok(copy)) = (book.orders(rt.alloc()), book.copy(rt.alloc())) else {
-        panic!(rt; "out of memory");
-    };
-    holds(&rt, listed.as_slice() == plain.as_slice());
+    let copy = copied(&rt, rt.alloc(), &book, plain.as_slice());
     assert_same(&rt, &copy, plain.as_slice());
 }

@@ -1,7 +1,8 @@
 use crate::facts::holds;
-use market_types::{Body, EditMark, Entry, FeedList, Memory, Quote, Record, Reply, Token, Trace};
+use market_types::{Body, EditMark, Entry, FeedList, Quote, Record, Reply, Token, Trace};
 use probe_desk::{Fees, Probe, Range, SpreadSum, Volume, restart_all, values, watch};
 use std::alloc::Global;
+use std::process::Abort;
 
 // A record of these parts.
 fn record(alloc: Global, put_back: bool, fee: i64, body: Body) -> Entry {
@@ -57,35 +58,45 @@ fn edited(alloc: Global) -> Entry {
     })
 }
 
+// Events of these kinds join a trace.
+fn join_events(rt: &impl Abort, alloc: Global, trace: &mut Trace, events: &[(bool, i64, Body)]) {
+    for (put_back, fee, body) in events {
+        let event = record(alloc, *put_back, *fee, *body);
+        trace.push(event).expect(rt, "memory");
+    }
+}
+
 // The trace of the worked example.
-fn small_trace(alloc: Global) -> Result<Trace, Memory> {
+fn small_trace(rt: &impl Abort, alloc: Global) -> Trace {
     let mut trace = Trace::new(alloc);
-    for (put_back, fee, body) in [
+    let before = [
         (false, 30, executed(50, 100_300, b'R')),
         (false, -5, executed(50, 99_000, b'A')),
         (false, 0, quoted(99_900, 100_100)),
-    ] {
-        trace.push(record(alloc, put_back, fee, body))?;
-    }
-    trace.push(edited(alloc))?;
-    for (put_back, fee, body) in [
+    ];
+    join_events(rt, alloc, &mut trace, &before);
+    trace.push(edited(alloc)).expect(rt, "memory");
+    let after = [
         (false, 0, quoted(0, 100_100)),
         (true, 0, executed(7, 1, b'R')),
         (false, 0, executed(10, 100_000, b'R')),
-    ] {
-        trace.push(record(alloc, put_back, fee, body))?;
-    }
-    Ok(trace)
+    ];
+    join_events(rt, alloc, &mut trace, &after);
+    trace
 }
 
 // A probe of each kind.
-fn four_probes(alloc: Global) -> Result<Vec<Box<dyn Probe>>, Memory> {
+fn four_probes(rt: &impl Abort, alloc: Global) -> Vec<Box<dyn Probe>> {
     let mut probes: Vec<Box<dyn Probe>> = Vec::new(alloc);
-    probes.push(Box::new(alloc, Volume::new())?)?;
-    probes.push(Box::new(alloc, SpreadSum::new())?)?;
-    probes.push(Box::new(alloc, Range::new())?)?;
-    probes.push(Box::new(alloc, Fees::new())?)?;
-    Ok(probes)
+    let volume = Box::new(alloc, Volume::new()).expect(rt, "memory");
+    probes.push(volume).expect(rt, "memory");
+    let spreads = Box::new(alloc, SpreadSum::new()).expect(rt, "memory");
+    probes.push(spreads).expect(rt, "memory");
+    let range = Box::new(alloc, Range::new()).expect(rt, "memory");
+    probes.push(range).expect(rt, "memory");
+    let fees = Box::new(alloc, Fees::new()).expect(rt, "memory");
+    probes.push(fees).expect(rt, "memory");
+    probes
 }
 
 // Whether the probes have these values.
@@ -99,9 +110,8 @@ fn have(alloc: Global, probes: &[Box<dyn Probe>], hoped: &[i128]) -> bool {
 #[test]
 fn four_probes_watch_a_small_trace(rt: HostRuntime) {
     let alloc = rt.alloc();
-    let (Ok(mut probes), Ok(trace)) = (four_probes(alloc), small_trace(alloc)) else {
-        panic!(rt; "out of memory");
-    };
+    let mut probes = four_probes(&rt, alloc);
+    let trace = small_trace(&rt, alloc);
     watch(probes.as_mut_slice(), &trace);
     holds(&rt, have(alloc, probes.as_slice(), &[60, 200, 300, 25]));
     watch(probes.as_mut_slice(), &trace);

@@ -12,7 +12,6 @@ use plain_lists::{Memory, Sequence};
 use shelf_core::{Event, Key, ShelfPlan, System, Word, law, step};
 use std::alloc::Global;
 use std::process::Abort;
-use std::test::Fail;
 
 fn is_small(plan: &ShelfPlan) -> bool
     ensures { IsTrue result → place_count plan.now < 2 ^ 32 }
@@ -39,14 +38,14 @@ fn is_small_event(event: &Event) -> bool
 }
 
 // Makes a step of a small system.
-fn make(rt: &impl Abort, alloc: Global, s: &mut System, event: &Event) -> Result<bool, Memory>
+fn make(rt: &impl Abort, alloc: Global, s: &mut System, event: &Event) -> bool
     requires { Orderly s.old }
     ensures { Orderly s.new }
 {
     assert!(rt; is_small_system(s));
     assert!(rt; is_small_event(event));
     assert!(rt; s.views.len() < 1000);
-    step(alloc, s, event)
+    step(alloc, s, event).expect(rt, "memory")
 }
 
 fn key(segment: u32, event: u32) -> Key {
@@ -83,11 +82,13 @@ fn shared_plan(alloc: Global) -> Result<ShelfPlan, Memory> {
 }
 
 // Eighteen events of two seats at one fork's place, each with its answer.
-fn two_seats(alloc: Global) -> Result<Sequence<(Event, bool)>, Memory> {
+fn two_seats(rt: &impl Abort, alloc: Global) -> Sequence<(Event, bool)> {
     let k = key(0, 2);
     let mut events = Sequence::empty(alloc);
-    events.push((Event::Lay(fork_plan(alloc)?), true))?;
-    events.push((Event::Lay(fork_plan(alloc)?), false))?;
+    for answer in [true, false] {
+        let plan = fork_plan(alloc).expect(rt, "memory");
+        events.push((Event::Lay(plan), answer)).expect(rt, "memory");
+    }
     for (event, answer) in [
         (Event::Split(0), true),
         (Event::Claim(0, 0), true),
@@ -106,35 +107,41 @@ fn two_seats(alloc: Global) -> Result<Sequence<(Event, bool)>, Memory> {
         (Event::Stop(1), true),
         (Event::Join(0, 1), true),
     ] {
-        events.push((event, answer))?;
+        events.push((event, answer)).expect(rt, "memory");
     }
-    Ok(events)
+    events
 }
 
-#[test]
-fn two_seats_at_one_fork(rt: HostRuntime) -> Result<(), Fail> {
-    let mut s = System::opening(rt.alloc())?;
-    let events = two_seats(rt.alloc())?;
-    for (i, (event, answer)) in events.as_slice().iter().enumerate() {
-        let made = make(&rt, rt.alloc(), &mut s, event)?;
-        holds(&rt, made == *answer);
-    }
+// Whether the first seat took in the second and has stopped.
+fn has_joined(s: &System) -> bool {
     match s.views.get(0) {
-        None => panic!(rt; "no seat"),
-        Some(view) => {
-            holds(&rt, view.numbers.as_slice() == [0, 1].as_slice());
-            holds(&rt, view.stopped);
-        }
+        None => false,
+        Some(view) => view.numbers.as_slice() == [0, 1].as_slice() && view.stopped,
     }
-    Ok(())
+}
+
+// Makes events in order, each with its answer.
+fn make_all(rt: &impl Abort, alloc: Global, s: &mut System, events: &[(Event, bool)])
+    requires { Orderly s.old }
+{
+    for (i, (event, answer)) in events.iter().enumerate() {
+        holds(rt, make(rt, alloc, s, event) == *answer);
+    }
 }
 
 #[test]
-fn law_of_no_events(rt: HostRuntime) -> Result<(), Fail> {
-    let s = law(rt.alloc(), &[])?;
+fn two_seats_at_one_fork(rt: HostRuntime) {
+    let mut s = System::opening(rt.alloc()).expect(&rt, "memory");
+    let events = two_seats(&rt, rt.alloc());
+    make_all(&rt, rt.alloc(), &mut s, events.as_slice());
+    holds(&rt, has_joined(&s));
+}
+
+#[test]
+fn law_of_no_events(rt: HostRuntime) {
+    let s = law(rt.alloc(), &[]).expect(&rt, "memory");
     holds(&rt, s.plan.is_none());
     equal(&rt, s.views.len(), 1);
-    Ok(())
 }
 
 // The event that a number stands for: its kind, a seat, and a segment, key, word or other seat.
@@ -166,27 +173,45 @@ fn event_of(number: u32) -> Event {
     }
 }
 
+// Lays the plan of three segments.
+fn lay(rt: &impl Abort, alloc: Global, s: &mut System)
+    requires { Orderly s.old }
+    ensures { Orderly s.new }
+{
+    let plan = shared_plan(alloc).expect(rt, "memory");
+    make(rt, alloc, s, &Event::Lay(plan));
+}
+
+// Makes the event of a number in both: whether it was possible. The table says the same.
+fn made_alike(
+    rt: &impl Abort,
+    alloc: Global,
+    s: &mut System,
+    plain: &mut Plain,
+    number: u32,
+) -> bool
+    requires { Orderly s.old }
+    ensures { Orderly s.new }
+{
+    let event = event_of(number);
+    let made = make(rt, alloc, s, &event);
+    equal(rt, plain.make(&event).expect(rt, "memory"), made);
+    holds(rt, plain.is_like(s));
+    made
+}
+
 #[test]
-fn many_events_as_the_table_says(rt: HostRuntime) -> Result<(), Fail> {
-    let mut s = System::opening(rt.alloc())?;
-    let mut plain = Plain::opening(rt.alloc())?;
-    make(
-        &rt,
-        rt.alloc(),
-        &mut s,
-        &Event::Lay(shared_plan(rt.alloc())?),
-    )?;
+fn many_events_as_the_table_says(rt: HostRuntime) {
+    let alloc = rt.alloc();
+    let mut s = System::opening(alloc).expect(&rt, "memory");
+    let mut plain = Plain::opening(alloc).expect(&rt, "memory");
+    lay(&rt, alloc, &mut s);
     let mut number = 1u32;
     let mut possible = 0;
     for i in 0..600u32 {
         number = number.wrapping_mul(1_664_525).wrapping_add(1_013_904_223);
-        let event = event_of(number / 65_536);
-        let made = make(&rt, rt.alloc(), &mut s, &event)?;
-        let expected = plain.make(&event)?;
-        equal(&rt, made, expected);
-        holds(&rt, plain.is_like(&s));
+        let made = made_alike(&rt, alloc, &mut s, &mut plain, number / 65_536);
         possible = u32::saturating_add(possible, u32::from(made));
     }
     holds(&rt, possible > 100);
-    Ok(())
 }

@@ -2,61 +2,48 @@
 
 ghost use Rattle.std.specs.Prelude.{◌≡◌, []};
 
-use super::pop_some;
+use super::{last_lane, pop_some};
 use crate::facts::{equal, holds};
 use branch_deques::{Lane, Memory, Room, open_lanes};
 use std::alloc::Global;
 use std::marker::Brand;
+use std::process::Abort;
 use std::sync::Wait;
 use std::sync::atomic::{AtomicBool, Ordering};
-use std::test::Fail;
 use std::thread;
 use std::thread::Threads;
 
 // Pops the first segment, if there is one.
-fn pop_one<B: Room>(lane: &mut Lane<B>, got: &mut Vec<u32>) -> Result<(), Memory>
+fn pop_one<B: Room>(rt: &impl Abort, lane: &mut Lane<B>, got: &mut Vec<u32>)
     ensures { lane.new.own.view.pushed ≡ lane.old.own.view.pushed }
 {
     if let Some(segment) = lane.pop() {
-        got.push(segment)?;
+        got.push(segment).expect(rt, "memory");
     }
-    Ok(())
 }
 
-// Pushes all segments in order, and after each second one pops one, if it is to pop: what it popped.
-fn push_all<B: Room>(
-    alloc: Global,
-    lane: &mut Lane<B>,
-    room: u32,
-    pops: bool,
-) -> Result<Vec<u32>, Memory>
-    requires room { room ≡ B.room }
-    requires fresh { lane.old.own.view.pushed ≡ [] }
-{
-    let mut got = Vec::new(alloc);
-    for segment in 0..room {
-        lane.push(segment);
-        if pops && segment % 2 == 1 {
-            pop_one(lane, &mut got)?;
-        }
-    }
-    Ok(got)
-}
-
-// The same, after which others are told that no more is pushed.
-fn push_and_tell<B: Room>(
+// Pushes all segments in order, and after each second one pops one, if it is to pop: what it popped. Then others are told
+// that no more is pushed.
+fn push_and_tell<B: Room, R: Abort>(
+    rt: &R,
     alloc: Global,
     mut lane: Lane<B>,
     room: u32,
     pops: bool,
     is_over: &AtomicBool,
-) -> Result<(Lane<B>, Vec<u32>), Memory>
+) -> (Lane<B>, Vec<u32>)
     requires room { room ≡ B.room }
     requires fresh { lane.own.view.pushed ≡ [] }
 {
-    let got = push_all(alloc, &mut lane, room, pops);
+    let mut got = Vec::new(alloc);
+    for segment in 0..room {
+        lane.push(segment);
+        if pops && segment % 2 == 1 {
+            pop_one(rt, &mut lane, &mut got);
+        }
+    }
     is_over.store(true, Ordering::SeqCst);
-    Ok((lane, got?))
+    (lane, got)
 }
 
 // Takes from the other lane until nothing more is pushed and it finds none, or it tried too often.
@@ -80,38 +67,34 @@ fn take_all<B: Room, R: Wait>(
 
 // The segments up to a room are pushed on the first lane by one thread, while another takes from it: what the owner
 // popped, in the end until there was none, and what the other took.
-fn share_all<B: Room + Send, R: Threads + Wait + Sync>(
+fn share_all<B: Room + Send, R: Threads + Wait + Abort + Sync>(
     rt: &R,
     alloc: Global,
     room: u32,
     pops: bool,
-) -> Result<Option<(Vec<u32>, Vec<u32>)>, Memory>
+) -> (Vec<u32>, Vec<u32>)
     requires room { room ≡ B.room }
 {
-    let mut lanes = open_lanes::<B>(alloc, 2, room)?;
-    let Some(second) = lanes.pop() else {
-        return Ok(None);
-    };
-    let Some(first) = lanes.pop() else {
-        return Ok(None);
-    };
+    let mut lanes = open_lanes::<B>(alloc, 2, room).expect(rt, "memory");
+    let second = last_lane(rt, &mut lanes);
+    let first = last_lane(rt, &mut lanes);
     let is_over = AtomicBool::new(false);
     let shared = &is_over;
     let (owner, taken) = thread::join(
         rt,
-        move || push_and_tell(alloc, first, room, pops, shared),
+        move || push_and_tell(rt, alloc, first, room, pops, shared),
         move || take_all(rt, alloc, second, shared),
     );
-    let (mut first, mut popped) = owner?;
-    pop_some(&mut first, room, &mut popped)?;
-    Ok(Some((popped, taken?)))
+    let (mut first, mut popped) = owner;
+    pop_some(&mut first, room, &mut popped).expect(rt, "memory");
+    (popped, taken.expect(rt, "memory"))
 }
 
-fn share_thousand<R: Threads + Wait + Sync>(
+fn share_thousand<R: Threads + Wait + Abort + Sync>(
     rt: &R,
     alloc: Global,
     pops: bool,
-) -> Result<Option<(Vec<u32>, Vec<u32>)>, Memory> {
+) -> (Vec<u32>, Vec<u32>) {
     share_all::<Brand, R>(rt, alloc, 1000, pops)
 }
 
@@ -124,18 +107,20 @@ fn together(popped: &[u32], taken: &[u32], alloc: Global) -> Result<Vec<u32>, Me
     Ok(both)
 }
 
+// Compares what two threads took with all that was pushed.
+fn assert_each_once(rt: &impl Abort, alloc: Global, popped: &[u32], taken: &[u32]) {
+    holds(rt, popped.is_sorted() && taken.is_sorted());
+    let both = together(popped, taken, alloc).expect(rt, "memory");
+    equal(rt, both.len(), 1000);
+    holds(rt, both.iter().copied().eq(0..1000));
+}
+
 #[test]
-fn two_threads_take_each_once(rt: HostRuntime) -> Result<(), Fail> {
+fn two_threads_take_each_once(rt: HostRuntime) {
     for round in 0..20 {
         let pops = round % 2 == 1;
-        let Some((popped, taken)) = share_thousand(&rt, rt.alloc(), pops)? else {
-            return Err(Fail::from("no lanes"));
-        };
+        let (popped, taken) = share_thousand(&rt, rt.alloc(), pops);
         holds(&rt, pops || popped.is_empty());
-        holds(&rt, popped.is_sorted() && taken.is_sorted());
-        let both = together(popped.as_slice(), taken.as_slice(), rt.alloc())?;
-        equal(&rt, both.len(), 1000);
-        holds(&rt, both.iter().copied().eq(0..1000));
+        assert_each_once(&rt, rt.alloc(), popped.as_slice(), taken.as_slice());
     }
-    Ok(())
 }

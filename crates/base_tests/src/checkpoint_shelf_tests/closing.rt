@@ -5,13 +5,12 @@ ghost use Rattle.std.specs.Arc.{arc_value};
 ghost use Rattle.shelf_core.specs.Views.{new_view};
 
 use super::Item;
-use super::seats::{claimed, fill, fork_plan, two_new, value_of};
+use super::seats::{FORK, claimed, fill, fork_shelf, value_of};
 use crate::facts::equal;
 use checkpoint_shelf::{Key, Shelf, ShelfSeat};
-use plain_lists::Memory;
 use std::alloc::Global;
+use std::process::Abort;
 use std::sync::Arc;
-use std::test::Fail;
 
 // A seat claims a segment and spends the turn of a key of it, with a value or with none.
 fn spend(shelf: &Shelf<Item>, seat: &mut ShelfSeat<Item>, k: Key, value: Option<Arc<Item>>) -> bool
@@ -30,41 +29,34 @@ fn spend(shelf: &Shelf<Item>, seat: &mut ShelfSeat<Item>, k: Key, value: Option<
 
 // Whether the value of a key is there, once two seats handed a shelf back.
 fn is_there(
+    rt: &impl Abort,
     alloc: Global,
     shelf: Shelf<Item>,
     zero: ShelfSeat<Item>,
     one: ShelfSeat<Item>,
     k: Key,
-) -> Result<bool, Memory>
+) -> bool
     requires two { shelf.seats ≡ 2 }
     requires zero { (zero.shelf ≡ Some shelf) × (zero.view.numbers ≡ (new_view 0).numbers) × (zero.view.turns ≡ []) }
     requires one { (one.shelf ≡ Some shelf) × (one.view.numbers ≡ (new_view 1).numbers) × (one.view.turns ≡ []) }
 {
     let mut seats = Vec::new(alloc);
-    seats.push(zero)?;
-    seats.push(one)?;
+    seats.push(zero).expect(rt, "memory");
+    seats.push(one).expect(rt, "memory");
     let closed = shelf.close(seats);
-    Ok(closed.get(k).is_some())
+    closed.get(k).is_some()
 }
 
 // Whether the turn of a fork was got and spent, with a value or with none, and the value is there at the end.
-fn closed_fork(alloc: Global, with_value: bool) -> Result<(bool, bool), Memory> {
-    let k = Key {
-        segment: 0,
-        event: 2,
-    };
-    let value = value_of(alloc, k, with_value)?;
-    let (shelf, seats) = Shelf::<Item>::open(alloc, &7, fork_plan(alloc)?, 2)?;
-    let Some((mut zero, one)) = two_new(&shelf, seats) else {
-        return Ok((false, false));
-    };
-    let spent = spend(&shelf, &mut zero, k, value);
-    Ok((spent, is_there(alloc, shelf, zero, one, k)?))
+fn closed_fork(rt: &impl Abort, alloc: Global, with_value: bool) -> (bool, bool) {
+    let value = value_of(alloc, FORK, with_value).expect(rt, "memory");
+    let (shelf, mut zero, one) = fork_shelf(rt, alloc);
+    let spent = spend(&shelf, &mut zero, FORK, value);
+    (spent, is_there(rt, alloc, shelf, zero, one, FORK))
 }
 
 #[test]
-fn a_closed_shelf_has_what_was_published(rt: HostRuntime) -> Result<(), Fail> {
-    equal(&rt, closed_fork(rt.alloc(), true)?, (true, true));
-    equal(&rt, closed_fork(rt.alloc(), false)?, (true, false));
-    Ok(())
+fn a_closed_shelf_has_what_was_published(rt: HostRuntime) {
+    equal(&rt, closed_fork(&rt, rt.alloc(), true), (true, true));
+    equal(&rt, closed_fork(&rt, rt.alloc(), false), (true, false));
 }

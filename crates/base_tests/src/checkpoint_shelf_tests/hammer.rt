@@ -1,19 +1,18 @@
 //! Two threads at one shelf.
 
-ghost use Rattle.std.specs.Prelude.{◌≡◌, ◌<◌, ◌+◌, IfOk, IfSome, IsSome, IsTrue, IsFalse, Some, length, []};
-ghost use Rattle.shelf_core.specs.Plan.{place_of};
+ghost use Rattle.std.specs.Prelude.{◌≡◌, ◌<◌, IfOk, IfSome, Some, length, []};
 ghost use Rattle.shelf_core.specs.Views.{new_view, times};
 ghost use Rattle.checkpoint_shelf.specs.Plans.{PlanFits};
 
 use super::Item;
-use super::seats::{claimed, fill, two_new, value_of};
+use super::seats::{claimed, fill, opened, value_of};
 use crate::facts::{equal, holds};
-use checkpoint_shelf::{Found, Key, Progress, Shelf, ShelfPlan, ShelfSeat, Shelved};
-use plain_lists::{Memory, Sequence};
+use checkpoint_shelf::{ClosedShelf, Found, Key, Progress, Shelf, ShelfPlan, ShelfSeat, Shelved};
+use plain_lists::{Memory, Sequence, copied};
 use std::alloc::Global;
+use std::process::Abort;
 use std::sync::Wait;
 use std::sync::atomic::{AtomicU64, Ordering};
-use std::test::Fail;
 use std::thread;
 use std::thread::Threads;
 
@@ -30,103 +29,102 @@ fn key_in(segment: u32) -> Option<Key>
     None
 }
 
-fn grid_key(segment: u32) -> Key
-    ensures { result ≡ record { segment = segment; event = 50 } }
-{
-    Key { segment, event: 50 }
-}
+const FORKS: [Key; 2] = [
+    Key {
+        segment: 5,
+        event: 2,
+    },
+    Key {
+        segment: 37,
+        event: 2,
+    },
+];
+
+const GRID: [Key; 8] = [
+    Key {
+        segment: 0,
+        event: 50,
+    },
+    Key {
+        segment: 8,
+        event: 50,
+    },
+    Key {
+        segment: 16,
+        event: 50,
+    },
+    Key {
+        segment: 24,
+        event: 50,
+    },
+    Key {
+        segment: 32,
+        event: 50,
+    },
+    Key {
+        segment: 40,
+        event: 50,
+    },
+    Key {
+        segment: 48,
+        event: 50,
+    },
+    Key {
+        segment: 56,
+        event: 50,
+    },
+];
 
 // Sixty-four segments with two forks, and with eight grid keys on three places.
 fn shared_plan(alloc: Global) -> Result<ShelfPlan, Memory>
     ensures fits { IfOk result (λ plan. PlanFits plan) }
     ensures segments { IfOk result (λ plan. plan.segments ≡ 64) }
 {
-    let mut forks = Sequence::empty(alloc);
-    forks.push(Key {
-        segment: 5,
-        event: 2,
-    })?;
-    forks.push(Key {
-        segment: 37,
-        event: 2,
-    })?;
-    let mut grid = Sequence::empty(alloc);
-    grid.push(grid_key(0))?;
-    grid.push(grid_key(8))?;
-    grid.push(grid_key(16))?;
-    grid.push(grid_key(24))?;
-    grid.push(grid_key(32))?;
-    grid.push(grid_key(40))?;
-    grid.push(grid_key(48))?;
-    grid.push(grid_key(56))?;
+    let (forks, grid) = (copied(alloc, &FORKS)?, copied(alloc, &GRID)?);
     Ok(ShelfPlan {
         segments: 64,
-        forks,
-        grid,
+        forks: Sequence::new(forks),
+        grid: Sequence::new(grid),
         places: 3,
     })
 }
 
-// Gives the place of a key its value: it abandons one turn, and tries again until it gets another.
-fn give<R: Wait>(
+// Gives the place of a segment's key its value, if it has one: it abandons one turn, and tries again until it gets another.
+// Whether a value was given.
+fn give<R: Wait + Abort>(
     rt: &R,
     alloc: Global,
     shelf: &Shelf<Item>,
     seat: &mut ShelfSeat<Item>,
-    k: Key,
-) -> Result<(), Memory>
+    segment: u32,
+) -> bool
     requires seat { seat.old.shelf ≡ Some shelf.now }
     requires course { shelf.now.course ≡ 7 }
-    requires claim { 0 < times k.segment seat.old.view.claims }
-    requires place { IsSome (place_of shelf.now.plan k) }
+    requires claim { 0 < times segment seat.old.view.claims }
     ensures same { seat.new.shelf ≡ seat.old.shelf }
     ensures numbers { seat.new.view.numbers ≡ seat.old.view.numbers }
     ensures claims { seat.new.view.claims ≡ seat.old.view.claims }
     ensures counts { seat.new.view.counts ≡ seat.old.view.counts }
     ensures turns { seat.new.view.turns ≡ seat.old.view.turns }
 {
+    let Some(k) = key_in(segment) else {
+        return false;
+    };
+    if shelf.place_of(k).is_none() {
+        return false;
+    }
     fill(shelf, seat, k, None);
     for _ in rt.forever() {
-        let value = value_of(alloc, k, true)?;
+        let value = value_of(alloc, k, true).expect(rt, "memory");
         if fill(shelf, seat, k, value) {
-            return Ok(());
+            return true;
         }
     }
     unreachable!()
 }
 
-// Claims a segment, and gives the place of its key its value. Whether it was free, and whether a value was given.
-fn run_segment<R: Wait>(
-    rt: &R,
-    alloc: Global,
-    shelf: &Shelf<Item>,
-    seat: &mut ShelfSeat<Item>,
-    segment: u32,
-) -> Result<(bool, bool), Memory>
-    requires seat { seat.old.shelf ≡ Some shelf.now }
-    requires course { shelf.now.course ≡ 7 }
-    requires segment { segment < shelf.now.plan.segments }
-    ensures same { seat.new.shelf ≡ seat.old.shelf }
-    ensures numbers { seat.new.view.numbers ≡ seat.old.view.numbers }
-    ensures turns { seat.new.view.turns ≡ seat.old.view.turns }
-    ensures counts { seat.new.view.counts ≡ seat.old.view.counts }
-    ensures mine { IfOk result (λ r. IsTrue r.0 → length seat.new.view.claims ≡ length seat.old.view.claims + 1) }
-    ensures others { IfOk result (λ r. IsFalse r.0 → seat.new.view.claims ≡ seat.old.view.claims) }
-{
-    if !claimed(shelf, seat, segment) {
-        return Ok((false, false));
-    }
-    if let Some(k) = key_in(segment) {
-        if shelf.place_of(k).is_some() {
-            give(rt, alloc, shelf, seat, k)?;
-            return Ok((true, true));
-        }
-    }
-    Ok((true, false))
-}
-
 // Whether what is found of a key, if it is there, is its value.
-fn is_right(shelf: &Shelf<Item>, seat: &mut ShelfSeat<Item>, k: Key) -> Result<bool, Memory>
+fn is_right(shelf: &Shelf<Item>, seat: &mut ShelfSeat<Item>, k: Key) -> bool
     requires seat { seat.old.shelf ≡ Some shelf.now }
     ensures same { seat.new.shelf ≡ seat.old.shelf }
     ensures numbers { seat.new.view.numbers ≡ seat.old.view.numbers }
@@ -135,16 +133,17 @@ fn is_right(shelf: &Shelf<Item>, seat: &mut ShelfSeat<Item>, k: Key) -> Result<b
     ensures counts { seat.new.view.counts ≡ seat.old.view.counts }
 {
     if shelf.place_of(k).is_none() {
-        return Ok(false);
+        return false;
     }
-    match shelf.find(seat, k)? {
-        Found::Here(value) => Ok(value.key() == k && *value.course() == 7),
-        Found::NotYet(_) => Ok(true),
+    match shelf.find(seat, k) {
+        Ok(Found::Here(value)) => value.key == k && value.course == 7,
+        Ok(Found::NotYet(_)) => true,
+        Err(_) => false,
     }
 }
 
 // The same of each key.
-fn are_right(shelf: &Shelf<Item>, seat: &mut ShelfSeat<Item>) -> Result<bool, Memory>
+fn are_right(shelf: &Shelf<Item>, seat: &mut ShelfSeat<Item>) -> bool
     requires seat { seat.old.shelf ≡ Some shelf.now }
     ensures same { seat.new.shelf ≡ seat.old.shelf }
     ensures numbers { seat.new.view.numbers ≡ seat.old.view.numbers }
@@ -155,10 +154,10 @@ fn are_right(shelf: &Shelf<Item>, seat: &mut ShelfSeat<Item>) -> Result<bool, Me
     let mut right = true;
     for segment in 0..64 {
         if let Some(k) = key_in(segment) {
-            right &= is_right(shelf, seat, k)?;
+            right &= is_right(shelf, seat, k);
         }
     }
-    Ok(right)
+    right
 }
 
 // What a thread did: its segments as bits, how many they are, how many values it gave, and whether each value that it
@@ -169,45 +168,6 @@ struct Did {
     mine: u32,
     given: u32,
     right: bool,
-}
-
-// Runs each segment that it can claim; at each that has a key it looks at all keys.
-fn run_segments<R: Wait>(
-    rt: &R,
-    alloc: Global,
-    shelf: &Shelf<Item>,
-    seat: &mut ShelfSeat<Item>,
-) -> Result<Did, Memory>
-    requires seat { seat.old.shelf ≡ Some shelf.now }
-    requires course { shelf.now.course ≡ 7 }
-    requires segments { shelf.now.plan.segments ≡ 64 }
-    requires claims { seat.old.view.claims ≡ [] }
-    ensures same { seat.new.shelf ≡ seat.old.shelf }
-    ensures numbers { seat.new.view.numbers ≡ seat.old.view.numbers }
-    ensures turns { seat.new.view.turns ≡ seat.old.view.turns }
-    ensures counts { seat.new.view.counts ≡ seat.old.view.counts }
-    ensures mine { IfOk result (λ did. did.mine ≡ length seat.new.view.claims) }
-{
-    let (mut segments, mut mine, mut given, mut right) = (0, 0, 0, true);
-    for segment in 0..64u32 {
-        let (ran, gave) = run_segment(rt, alloc, shelf, seat, segment)?;
-        if ran {
-            segments |= 1 << segment;
-            mine += 1;
-        }
-        if gave {
-            given += 1;
-        }
-        if key_in(segment).is_some() {
-            right &= are_right(shelf, seat)?;
-        }
-    }
-    Ok(Did {
-        segments,
-        mine,
-        given,
-        right,
-    })
 }
 
 // Counts so many segments.
@@ -234,31 +194,51 @@ fn meet(came: &AtomicU64, all: u64) {
     }
 }
 
-// Runs segments beside another thread, and counts them beside it.
-fn work<R: Wait>(
+// Runs each segment that it can claim beside another thread, and counts them beside it; at each segment that has a key it
+// looks at all keys.
+fn work<R: Wait + Abort>(
     rt: &R,
     alloc: Global,
     shelf: &Shelf<Item>,
     mut seat: ShelfSeat<Item>,
     came: &AtomicU64,
-) -> Result<(ShelfSeat<Item>, Did), Memory>
+) -> (ShelfSeat<Item>, Did)
     requires seat { seat.shelf ≡ Some shelf.now }
     requires course { shelf.now.course ≡ 7 }
     requires segments { shelf.now.plan.segments ≡ 64 }
     requires claims { seat.view.claims ≡ [] }
     requires counts { seat.view.counts ≡ 0 }
-    ensures same { IfOk result (λ r. r.0.shelf ≡ seat.shelf) }
-    ensures numbers { IfOk result (λ r. r.0.view.numbers ≡ seat.view.numbers) }
-    ensures turns { IfOk result (λ r. r.0.view.turns ≡ seat.view.turns) }
+    ensures same { result.0.shelf ≡ seat.shelf }
+    ensures numbers { result.0.view.numbers ≡ seat.view.numbers }
+    ensures turns { result.0.view.turns ≡ seat.view.turns }
 {
     meet(came, 2);
-    let did = run_segments(rt, alloc, shelf, &mut seat)?;
+    let (mut segments, mut mine, mut given, mut right) = (0, 0, 0, true);
+    for segment in 0..64u32 {
+        if claimed(shelf, &mut seat, segment) {
+            segments |= 1 << segment;
+            mine += 1;
+            if give(rt, alloc, shelf, &mut seat, segment) {
+                given += 1;
+            }
+        }
+        if key_in(segment).is_some() {
+            right &= are_right(shelf, &mut seat);
+        }
+    }
     meet(came, 4);
-    count_all(shelf, &mut seat, did.mine);
-    Ok((seat, did))
+    count_all(shelf, &mut seat, mine);
+    let did = Did {
+        segments,
+        mine,
+        given,
+        right,
+    };
+    (seat, did)
 }
 
 // What two threads and the closed shelf tell.
+#[derive(Clone, Copy)]
 struct Told {
     first: Did,
     second: Did,
@@ -269,19 +249,24 @@ struct Told {
 
 // The segments whose key's value is there, as bits, once two seats handed a shelf back.
 fn there(
+    rt: &impl Abort,
     alloc: Global,
     shelf: Shelf<Item>,
     zero: ShelfSeat<Item>,
     one: ShelfSeat<Item>,
-) -> Result<u64, Memory>
+) -> u64
     requires two { shelf.seats ≡ 2 }
     requires zero { (zero.shelf ≡ Some shelf) × (zero.view.numbers ≡ (new_view 0).numbers) × (zero.view.turns ≡ []) }
     requires one { (one.shelf ≡ Some shelf) × (one.view.numbers ≡ (new_view 1).numbers) × (one.view.turns ≡ []) }
 {
     let mut seats = Vec::new(alloc);
-    seats.push(zero)?;
-    seats.push(one)?;
-    let closed = shelf.close(seats);
+    seats.push(zero).expect(rt, "memory");
+    seats.push(one).expect(rt, "memory");
+    values_of(&shelf.close(seats))
+}
+
+// The segments whose key's value is there, as bits.
+fn values_of(closed: &ClosedShelf<Item>) -> u64 {
     let mut there = 0;
     for segment in 0..64u32 {
         if let Some(k) = key_in(segment) {
@@ -292,16 +277,13 @@ fn there(
             there |= u64::from(is_there) << segment;
         }
     }
-    Ok(there)
+    there
 }
 
 // Two threads run all segments of a new shelf.
-fn run_all<R: Threads + Wait + Sync>(rt: &R, alloc: Global) -> Result<Option<Told>, Memory> {
-    let plan = shared_plan(alloc)?;
-    let (shelf, seats) = Shelf::<Item>::open(alloc, &7, plan, 2)?;
-    let Some((zero, one)) = two_new(&shelf, seats) else {
-        return Ok(None);
-    };
+fn run_all<R: Threads + Wait + Abort + Sync>(rt: &R, alloc: Global) -> Told {
+    let plan = shared_plan(alloc).expect(rt, "memory");
+    let (shelf, zero, one) = opened(rt, alloc, plan);
     let came = AtomicU64::new(0);
     let (shared, came) = (&shelf, &came);
     let (first, second) = thread::join(
@@ -309,43 +291,39 @@ fn run_all<R: Threads + Wait + Sync>(rt: &R, alloc: Global) -> Result<Option<Tol
         move || work(rt, alloc, shared, zero, came),
         move || work(rt, alloc, shared, one, came),
     );
-    let (mut zero, first) = first?;
-    let (one, second) = second?;
+    let (mut zero, first) = first;
+    let (one, second) = second;
     let progress = shelf.progress(&mut zero);
-    let there = there(alloc, shelf, zero, one)?;
-    Ok(Some(Told {
+    Told {
         first,
         second,
         progress,
-        there,
-    }))
+        there: there(rt, alloc, shelf, zero, one),
+    }
+}
+
+const ALL: Progress = Progress {
+    done: 64,
+    stopped: false,
+};
+
+// Each segment ran once, and of each place one value is there.
+fn assert_whole(rt: &impl Abort, told: &Told) {
+    let (first, second, there) = (told.first, told.second, told.there);
+    equal(rt, first.segments ^ second.segments, u64::MAX);
+    equal(rt, first.given.wrapping_add(second.given), 10);
+    holds(rt, first.right && second.right);
+    equal(rt, told.progress, ALL);
+    // each fork has its value, and each place of the grid that of one of its keys
+    equal(rt, there & (1 << 5 | 1 << 37), 1 << 5 | 1 << 37);
+    equal(rt, (there & (1 | 1 << 24 | 1 << 48)).count_ones(), 1);
+    equal(rt, (there & (1 << 8 | 1 << 32 | 1 << 56)).count_ones(), 1);
+    equal(rt, (there & (1 << 16 | 1 << 40)).count_ones(), 1);
 }
 
 #[test]
-fn two_threads_share_a_shelf(rt: HostRuntime) -> Result<(), Fail> {
-    let all = Progress {
-        done: 64,
-        stopped: false,
-    };
-    for round in 0..200 {
-        let Some(told) = run_all(&rt, rt.alloc())? else {
-            return Err(Fail::from("no seats"));
-        };
-        let Told {
-            first,
-            second,
-            progress,
-            there,
-        } = told;
-        equal(&rt, first.segments ^ second.segments, u64::MAX);
-        equal(&rt, first.given.wrapping_add(second.given), 10);
-        holds(&rt, first.right && second.right);
-        equal(&rt, progress, all);
-        // each fork has its value, and each place of the grid that of one of its keys
-        equal(&rt, there & (1 << 5 | 1 << 37), 1 << 5 | 1 << 37);
-        equal(&rt, (there & (1 | 1 << 24 | 1 << 48)).count_ones(), 1);
-        equal(&rt, (there & (1 << 8 | 1 << 32 | 1 << 56)).count_ones(), 1);
-        equal(&rt, (there & (1 << 16 | 1 << 40)).count_ones(), 1);
+fn two_threads_share_a_shelf(rt: HostRuntime) {
+    for _ in 0..200 {
+        assert_whole(&rt, &run_all(&rt, rt.alloc()));
     }
-    Ok(())
 }

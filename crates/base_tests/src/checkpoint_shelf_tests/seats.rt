@@ -10,30 +10,32 @@ ghost use Rattle.checkpoint_shelf.specs.Seats.{NewFrom};
 
 use super::Item;
 use checkpoint_shelf::{Begun, Key, PlaceWord, Shelf, ShelfPlan, ShelfSeat};
-use plain_lists::{Memory, Sequence};
+use plain_lists::{Memory, Sequence, copied};
 use std::alloc::Global;
+use std::process::Abort;
 use std::sync::Arc;
 
+pub(super) const FORK: Key = Key {
+    segment: 0,
+    event: 2,
+};
+
 // Five segments, of which the first is forked at event 2.
-pub(super) fn fork_plan(alloc: Global) -> Result<ShelfPlan, Memory>
+fn fork_plan(alloc: Global) -> Result<ShelfPlan, Memory>
     ensures fits { IfOk result (λ plan. PlanFits plan) }
     ensures segments { IfOk result (λ plan. plan.segments ≡ 5) }
 {
-    let mut forks = Sequence::empty(alloc);
-    forks.push(Key {
-        segment: 0,
-        event: 2,
-    })?;
+    let forks = copied(alloc, &[FORK])?;
     Ok(ShelfPlan {
         segments: 5,
-        forks,
+        forks: Sequence::new(forks),
         grid: Sequence::empty(alloc),
         places: 0,
     })
 }
 
 // The two seats of a new shelf.
-pub(super) fn two_new(
+fn two_new(
     shelf: &Shelf<Item>,
     mut seats: Vec<ShelfSeat<Item>>,
 ) -> Option<(ShelfSeat<Item>, ShelfSeat<Item>)>
@@ -46,6 +48,35 @@ pub(super) fn two_new(
     let Some(one) = seats.pop() else { return None };
     let Some(zero) = seats.pop() else { return None };
     Some((zero, one))
+}
+
+// A new shelf of course 7, and its two seats.
+pub(super) fn opened(
+    rt: &impl Abort,
+    alloc: Global,
+    plan: ShelfPlan,
+) -> (Shelf<Item>, ShelfSeat<Item>, ShelfSeat<Item>)
+    requires fits { PlanFits plan }
+    ensures shelf { (result.0.plan ≡ plan) × (result.0.seats ≡ 2) × (result.0.course ≡ 7) }
+    ensures zero { (result.1.shelf ≡ Some result.0) × (result.1.view ≡ new_view 0) }
+    ensures one { (result.2.shelf ≡ Some result.0) × (result.2.view ≡ new_view 1) }
+{
+    let (shelf, seats) = Shelf::<Item>::open(alloc, &7, plan, 2).expect(rt, "memory");
+    let (zero, one) = two_new(&shelf, seats).expect(rt, "two seats");
+    (shelf, zero, one)
+}
+
+// The same of five segments, of which the first is forked.
+pub(super) fn fork_shelf(
+    rt: &impl Abort,
+    alloc: Global,
+) -> (Shelf<Item>, ShelfSeat<Item>, ShelfSeat<Item>)
+    ensures shelf { (result.0.plan.segments ≡ 5) × (result.0.seats ≡ 2) × (result.0.course ≡ 7) }
+    ensures zero { (result.1.shelf ≡ Some result.0) × (result.1.view ≡ new_view 0) }
+    ensures one { (result.2.shelf ≡ Some result.0) × (result.2.view ≡ new_view 1) }
+{
+    let plan = fork_plan(alloc).expect(rt, "memory");
+    opened(rt, alloc, plan)
 }
 
 // A value of a key for a shelf of course 7, or none.

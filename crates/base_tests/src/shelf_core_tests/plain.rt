@@ -62,22 +62,34 @@ fn claim_word(owner: Option<u32>) -> ClaimWord {
 }
 
 impl Seat {
-    // Learns of a key's value: of the fork keys, and of the one grid key that shares no place.
-    fn learn(&mut self, key: Key) {
-        if matches!(place(key), Some(0 | 1 | 3)) {
+    // Learns of the value of a key at a place: of the fork keys, and of the one grid key that shares no place.
+    fn learn(&mut self, place: Option<usize>) {
+        if matches!(place, Some(0 | 1 | 3)) {
             self.known = self.known.wrapping_add(1);
         }
     }
 
     fn segment_count(&self) -> usize {
-        self.segments.iter().filter(|has| **has).count()
+        let mut count = 0usize;
+        for has in self.segments.iter() {
+            count = count.saturating_add(usize::from(*has));
+        }
+        count
+    }
+
+    fn turn_count(&self) -> usize {
+        let mut count = 0usize;
+        for turn in self.turns.iter() {
+            count = count.saturating_add(usize::from(turn.is_some()));
+        }
+        count
     }
 
     fn is_like(&self, view: &SeatView) -> bool {
         self.spent == view.spent
             && self.segment_count() == view.claims.len()
             && self.counts == view.counts
-            && self.turns.iter().filter(|turn| turn.is_some()).count() == view.turns.len()
+            && self.turn_count() == view.turns.len()
             && self.loan == view.loan.map(|loan| loan.1)
             && self.stopped == view.stopped
             && self.done_seen == view.done_seen
@@ -86,6 +98,16 @@ impl Seat {
             && self.known == view.known.len()
             && self.returned == view.found.len()
     }
+}
+
+// Whether seats are like views, in order.
+fn are_like(seats: &[Seat], views: &[SeatView]) -> bool {
+    for (seat, view) in seats.iter().zip(views) {
+        if !seat.is_like(view) {
+            return false;
+        }
+    }
+    seats.len() == views.len()
 }
 
 impl Plain {
@@ -102,17 +124,13 @@ impl Plain {
     }
 
     pub fn is_like(&self, s: &System) -> bool {
-        let claims = self.owner.map(claim_word);
+        let [a, b, c] = self.owner;
+        let claims = [claim_word(a), claim_word(b), claim_word(c)];
         s.claims.as_slice() == claims.as_slice()
             && s.places.as_slice() == self.places.as_slice()
             && s.done == self.done
             && s.stopped == self.stopped
-            && s.views.len() == self.seats.len()
-            && s.views
-                .as_slice()
-                .iter()
-                .zip(self.seats.as_slice())
-                .all(|(view, seat)| seat.is_like(view))
+            && are_like(self.seats.as_slice(), s.views.as_slice())
     }
 
     /// Makes an event other than `Lay`.
@@ -199,7 +217,7 @@ impl Plain {
         seat.turns[p] = None;
         self.places[p] = word;
         if word != PlaceWord::Free {
-            seat.learn(key);
+            seat.learn(Some(p));
         }
         true
     }
@@ -211,7 +229,7 @@ impl Plain {
         }
         self.places[p] = PlaceWord::Lent(key, n);
         seat.loan = Some(key);
-        seat.learn(key);
+        seat.learn(Some(p));
         true
     }
 
@@ -250,7 +268,9 @@ impl Plain {
         };
         match seen {
             Seen::Claim(_, _) => {}
-            Seen::Place(_, PlaceWord::Ready(key) | PlaceWord::Lent(key, _)) => seat.learn(key),
+            Seen::Place(_, PlaceWord::Ready(key) | PlaceWord::Lent(key, _)) => {
+                seat.learn(place(key));
+            }
             Seen::Place(_, _) => {}
             Seen::Done(done, stopped) => {
                 seat.done_seen = done;
@@ -266,7 +286,7 @@ impl Plain {
         let Some(other) = self.seat(m) else {
             return false;
         };
-        if n == m || other.loan.is_some() || other.turns.iter().any(|turn| turn.is_some()) {
+        if n == m || other.loan.is_some() || other.turn_count() > 0 {
             return false;
         }
         for i in 0..3 {

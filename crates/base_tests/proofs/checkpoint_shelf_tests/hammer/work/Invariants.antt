@@ -1,5 +1,5 @@
 use Rattle.std.proofs.Common.{◌≡◌, ◌≤◌, length}
-use Rattle.base_tests.proofs.checkpoint_shelf_tests.hammer.run_segments.Given as goal
+use Rattle.base_tests.proofs.checkpoint_shelf_tests.hammer.work.Given as goal
 
 abbrev pub invariant-loop-segment : goal.invariant-loop-segment
 invariant-loop-segment g l = record {
