@@ -1,8 +1,8 @@
 //! The exchange on worked examples, each public call once.
 
-ghost use Rattle.std.specs.Prelude.{◌≡◌, ◌≤◌, ◌+◌, length};
+ghost use Rattle.std.specs.Prelude.{◌≡◌, ◌≤◌, length};
 
-use crate::exchange_examples::{numbered, opened, sent};
+use crate::exchange_examples::{ABM, handled, numbered, opened, sent};
 use crate::facts::{equal, holds};
 use exchange_agent::{Exchange, Handled};
 use market_rules::{Band, Change, FeeTable, TickTable};
@@ -78,8 +78,6 @@ fn fed(out: &Handled, i: usize) -> Option<(u8, u64, u32, u64)> {
 // Three sells come to rest, and a buy sweeps them: what is told of the buy.
 fn swept(rt: &impl Abort, alloc: Global, exchange: &mut Exchange) -> Handled
     requires traders { length exchange.old.cash ≡ 3 }
-    requires enters { exchange.old.counts.enters ≡ 0 }
-    requires cancels { exchange.old.counts.cancels ≡ 0 }
     ensures traders { length exchange.new.cash ≡ length exchange.old.cash }
     ensures stocks { length exchange.new.stocks ≡ length exchange.old.stocks }
 {
@@ -162,33 +160,53 @@ fn three_sells_are_swept(rt: HostRuntime) {
     sweep_is_counted(&rt, &exchange);
 }
 
-// An order for the day to sell one share, and what is refused of it, with the reason.
-fn refused() -> [(Enter, u8); 9] {
-    let e = order(b'A', Side::Sell, 1, 100);
-    [
-        (
-            Enter {
-                stock: Symbol(*b"XYZ     "),
-                ..e
-            },
-            b'S',
-        ),
-        (Enter { display: b'N', ..e }, b'O'),
-        (Enter { minimum: 1, ..e }, b'O'),
-        (Enter { cross: b'O', ..e }, b'O'),
-        (Enter { tif: 1, ..e }, b'O'),
-        (Enter { shares: 0, ..e }, b'O'),
-        (
-            Enter {
-                shares: 1_000_000,
-                ..e
-            },
-            b'O',
-        ),
-        (Enter { price: 0, ..e }, b'X'),
-        (Enter { price: 150, ..e }, b'X'),
-    ]
-}
+// An order for the day to sell one share.
+const ONE: Enter = Enter {
+    token: Token(*b"A0001000000001"),
+    side: Side::Sell,
+    shares: 1,
+    stock: ABM,
+    price: 100,
+    tif: 99_999,
+    firm: *b"ABID",
+    display: b'Y',
+    capacity: b'P',
+    sweep: b'N',
+    minimum: 0,
+    cross: b'N',
+    customer: b'N',
+};
+
+// What is refused of it, with the reason.
+const REFUSED: [(Enter, u8); 9] = [
+    (
+        Enter {
+            stock: Symbol(*b"XYZ     "),
+            ..ONE
+        },
+        b'S',
+    ),
+    (
+        Enter {
+            display: b'N',
+            ..ONE
+        },
+        b'O',
+    ),
+    (Enter { minimum: 1, ..ONE }, b'O'),
+    (Enter { cross: b'O', ..ONE }, b'O'),
+    (Enter { tif: 1, ..ONE }, b'O'),
+    (Enter { shares: 0, ..ONE }, b'O'),
+    (
+        Enter {
+            shares: 1_000_000,
+            ..ONE
+        },
+        b'O',
+    ),
+    (Enter { price: 0, ..ONE }, b'X'),
+    (Enter { price: 150, ..ONE }, b'X'),
+];
 
 // An order is refused for this reason.
 fn is_refused(rt: &impl Abort, alloc: Global, e: Enter, reason: u8) {
@@ -207,8 +225,8 @@ fn is_refused(rt: &impl Abort, alloc: Global, e: Enter, reason: u8) {
 
 #[test]
 fn orders_are_refused_with_their_reasons(rt: HostRuntime) {
-    for (e, reason) in refused() {
-        is_refused(&rt, rt.alloc(), e, reason);
+    for (e, reason) in REFUSED.iter() {
+        is_refused(&rt, rt.alloc(), *e, *reason);
     }
 }
 
@@ -286,9 +304,9 @@ fn make_change(
     requires stocks { length exchange.old.stocks ≡ 1 }
     ensures traders { length exchange.new.cash ≡ length exchange.old.cash }
     ensures stocks { length exchange.new.stocks ≡ length exchange.old.stocks }
-    ensures counts { exchange.new.counts ≡ exchange.old.counts }
 {
-    holds(rt, exchange.apply_change(time, 0, change, feed).is_ok());
+    let answer = exchange.apply_change(time, 0, change, feed);
+    holds(rt, answer.is_ok());
 }
 
 // A stock is halted twice: an order is refused, and a cancel is not.
@@ -301,12 +319,8 @@ fn is_halted(
 )
     requires traders { length exchange.old.cash ≡ 3 }
     requires stocks { length exchange.old.stocks ≡ 1 }
-    requires enters { exchange.old.counts.enters ≤ 1000 }
-    requires cancels { exchange.old.counts.cancels ≤ 1000 }
     ensures traders { length exchange.new.cash ≡ length exchange.old.cash }
     ensures stocks { length exchange.new.stocks ≡ length exchange.old.stocks }
-    ensures enters { exchange.new.counts.enters ≤ exchange.old.counts.enters + 2 }
-    ensures cancels { exchange.new.counts.cancels ≤ exchange.old.counts.cancels + 2 }
 {
     make_change(rt, exchange, 4500, &Change::Halt, feed);
     make_change(rt, exchange, 4500, &Change::Halt, feed);
@@ -326,12 +340,8 @@ fn is_halted(
 fn is_resumed(rt: &impl Abort, alloc: Global, exchange: &mut Exchange, feed: &mut FeedList)
     requires traders { length exchange.old.cash ≡ 3 }
     requires stocks { length exchange.old.stocks ≡ 1 }
-    requires enters { exchange.old.counts.enters ≤ 1000 }
-    requires cancels { exchange.old.counts.cancels ≤ 1000 }
     ensures traders { length exchange.new.cash ≡ length exchange.old.cash }
     ensures stocks { length exchange.new.stocks ≡ length exchange.old.stocks }
-    ensures enters { exchange.new.counts.enters ≤ exchange.old.counts.enters + 2 }
-    ensures cancels { exchange.new.counts.cancels ≤ exchange.old.counts.cancels + 2 }
 {
     make_change(rt, exchange, 4800, &Change::Resume, feed);
     equal(rt, (feed.len(), exchange.stock(0).state), (2, b'T'));
@@ -344,12 +354,8 @@ fn is_resumed(rt: &impl Abort, alloc: Global, exchange: &mut Exchange, feed: &mu
 fn has_new_rules(rt: &impl Abort, alloc: Global, exchange: &mut Exchange, feed: &mut FeedList)
     requires traders { length exchange.old.cash ≡ 3 }
     requires stocks { length exchange.old.stocks ≡ 1 }
-    requires enters { exchange.old.counts.enters ≤ 1000 }
-    requires cancels { exchange.old.counts.cancels ≤ 1000 }
     ensures traders { length exchange.new.cash ≡ length exchange.old.cash }
     ensures stocks { length exchange.new.stocks ≡ length exchange.old.stocks }
-    ensures enters { exchange.new.counts.enters ≤ exchange.old.counts.enters + 2 }
-    ensures cancels { exchange.new.counts.cancels ≤ exchange.old.counts.cancels + 2 }
 {
     let Ok(table) = TickTable::new(alloc, &[Band { from: 0, tick: 500 }]) else {
         panic!(rt; "no table");
@@ -378,44 +384,47 @@ fn rules_change_between_messages(rt: HostRuntime) {
     has_new_rules(&rt, alloc, &mut exchange, &mut feed);
 }
 
+// An order of 10 shares at 10 dollars comes from an agent.
+fn enter_ten(rt: &impl Abort, alloc: Global, exchange: &mut Exchange, from: AgentNo, side: Side)
+    requires trader { 1 ≤ from }
+    requires traders { length exchange.old.cash ≡ 3 }
+    requires exists { from ≤ 3 }
+    ensures traders { length exchange.new.cash ≡ 3 }
+    ensures stocks { length exchange.new.stocks ≡ length exchange.old.stocks }
+{
+    let order = Inbound::Enter(order(b'A', side, 10, 100_000));
+    sent(rt, alloc, exchange, 3000, from, order);
+}
+
+// A quote in short: its receiver, the stock's state, the best bid and its shares, and the best ask.
+fn quoted(out: &Handled) -> Option<(AgentNo, u8, u32, u64, u32)> {
+    match out.get(0) {
+        Some((to, Body::Quote(q))) => Some((to, q.state, q.bid, q.bid_shares, q.ask)),
+        _ => None,
+    }
+}
+
+// How many orders stand of the first stock.
+fn standing(rt: &impl Abort, alloc: Global, exchange: &Exchange) -> usize
+    requires { length exchange.now.stocks ≡ 1 }
+{
+    let Ok(orders) = exchange.orders(alloc, 0) else {
+        panic!(rt; "no orders");
+    };
+    orders.len()
+}
+
 #[test]
 fn a_copy_goes_its_own_way(rt: HostRuntime) {
     let alloc = rt.alloc();
     let mut exchange = opened(&rt, alloc);
-    sent(
-        &rt,
-        alloc,
-        &mut exchange,
-        3000,
-        1,
-        Inbound::Enter(order(b'A', Side::Buy, 10, 100_000)),
-    );
-    let Ok(copy) = exchange.copy(alloc) else {
+    enter_ten(&rt, alloc, &mut exchange, 1, Side::Buy);
+    let Ok(mut copy) = exchange.copy(alloc) else {
         panic!(rt; "no copy");
     };
-    sent(
-        &rt,
-        alloc,
-        &mut exchange,
-        3000,
-        2,
-        Inbound::Enter(order(b'A', Side::Sell, 10, 100_000)),
-    );
-    let Ok(orders) = copy.orders(alloc, 0) else {
-        panic!(rt; "no orders");
-    };
-    equal(&rt, (orders.len(), exchange.stock(0).live), (1, 0));
-    let mut out = Handled::new(alloc);
-    let mut copy = copy;
-    assert!(rt; copy.handle(3001, 3, &Body::Ask(0), &mut out).is_ok());
-    match out.get(0) {
-        Some((to, Body::Quote(quote))) => {
-            equal(
-                &rt,
-                (to, quote.state, quote.bid, quote.bid_shares, quote.ask),
-                (3, b'T', 100_000, 10, 0),
-            );
-        }
-        _ => panic!(rt; "no quote"),
-    }
+    enter_ten(&rt, alloc, &mut exchange, 2, Side::Sell);
+    let stand = standing(&rt, alloc, &copy);
+    equal(&rt, (stand, exchange.stock(0).live), (1, 0));
+    let out = handled(&rt, alloc, &mut copy, 3001, 3, &Body::Ask(0));
+    equal(&rt, quoted(&out), Some((3, b'T', 100_000, 10, 0)));
 }

@@ -3,8 +3,10 @@
 mod bytes;
 mod limits;
 
-ghost use Rattle.std.specs.Prelude.{◌≡◌, ◌≤◌, ◌<◌, ◌+◌, ◌^◌, length, All};
+ghost use Rattle.std.specs.Prelude.{◌≡◌, ◌≤◌, ◌<◌, length};
+ghost use Rattle.exchange_agent.specs.Market.{IsAskable};
 
+use crate::facts::holds;
 use exchange_agent::{Exchange, Handled, StockRules};
 use market_rules::{Band, FeeTable, TickTable};
 use market_types::{AgentNo, Body, Enter, Inbound, Side, Symbol, Time, Token};
@@ -17,8 +19,6 @@ pub(crate) const ABM: Symbol = Symbol(*b"ABM     ");
 pub(crate) fn opened(rt: &impl Abort, alloc: Global) -> Exchange
     ensures traders { length result.cash ≡ 3 }
     ensures stocks { length result.stocks ≡ 1 }
-    ensures enters { result.counts.enters ≡ 0 }
-    ensures cancels { result.counts.cancels ≡ 0 }
 {
     opened_for(rt, alloc, false)
 }
@@ -27,8 +27,6 @@ pub(crate) fn opened(rt: &impl Abort, alloc: Global) -> Exchange
 pub(crate) fn opened_for(rt: &impl Abort, alloc: Global, hidden: bool) -> Exchange
     ensures traders { length result.cash ≡ 3 }
     ensures stocks { length result.stocks ≡ 1 }
-    ensures enters { result.counts.enters ≡ 0 }
-    ensures cancels { result.counts.cancels ≡ 0 }
 {
     let Ok(ticks) = TickTable::new(alloc, &[Band { from: 0, tick: 100 }]) else {
         panic!(rt; "no table");
@@ -91,6 +89,30 @@ pub(crate) fn numbered(n: u32, side: Side, shares: u32, price: u32) -> Enter {
 }
 
 // What comes of a message that is handled at a time.
+pub(crate) fn handled(
+    rt: &impl Abort,
+    alloc: Global,
+    exchange: &mut Exchange,
+    time: Time,
+    from: AgentNo,
+    body: &Body,
+) -> Handled
+    requires trader { 1 ≤ from }
+    requires exists { from ≤ length exchange.old.cash }
+    requires askable { IsAskable (length exchange.old.stocks) body.now }
+    ensures traders { length exchange.new.cash ≡ length exchange.old.cash }
+    ensures stocks { length exchange.new.stocks ≡ length exchange.old.stocks }
+{
+    let counts = exchange.counts();
+    assert!(rt; counts.enters < 1_000_000);
+    assert!(rt; counts.cancels < 1_000_000);
+    let mut out = Handled::new(alloc);
+    let answer = exchange.handle(time, from, body, &mut out);
+    holds(rt, answer.is_ok());
+    out
+}
+
+// What comes of an order, or of its cancel.
 pub(crate) fn sent(
     rt: &impl Abort,
     alloc: Global,
@@ -101,20 +123,8 @@ pub(crate) fn sent(
 ) -> Handled
     requires trader { 1 ≤ from }
     requires exists { from ≤ length exchange.old.cash }
-    requires enters { exchange.old.counts.enters < 2 ^ 62 }
-    requires cancels { exchange.old.counts.cancels < 2 ^ 62 }
     ensures traders { length exchange.new.cash ≡ length exchange.old.cash }
     ensures stocks { length exchange.new.stocks ≡ length exchange.old.stocks }
-    ensures enters { exchange.new.counts.enters ≤ exchange.old.counts.enters + 1 }
-    ensures cancels { exchange.new.counts.cancels ≤ exchange.old.counts.cancels + 1 }
-    ensures times { All (λ f. f.time ≡ time) result.feed.list }
 {
-    let mut out = Handled::new(alloc);
-    if exchange
-        .handle(time, from, &Body::Order(inbound), &mut out)
-        .is_err()
-    {
-        panic!(rt; "out of memory");
-    }
-    out
+    handled(rt, alloc, exchange, time, from, &Body::Order(inbound))
 }

@@ -10,6 +10,7 @@ ghost use Rattle.market_types.specs.Limits.{longest_delay};
 ghost use Rattle.market_rules.specs.EditRanges.{is_near_zero};
 ghost use Rattle.market_floor.specs.Opening.{IsOpening};
 ghost use Rattle.market_floor.specs.OpeningWorked.{market_of, trader};
+ghost use Rattle.kernel_core.specs.Open.{opened};
 ghost use Rattle.kernel_core.specs.Step.{Fits};
 ghost use Rattle.kernel_core.specs.EditsWorked.{IsPlain};
 
@@ -18,9 +19,10 @@ use agent_shell::{Kind, TraderSetting};
 use kernel_core::{Kernel, Opening};
 use market_floor::opening_worked::{markets_are_openings, opening};
 use market_rules::{Band, Edit, FeeTable, Param, TickTable};
-use market_types::{End, Enter, Entry, Inbound, Memory, Side, Symbol, Time, Token, Trace};
+use market_types::{End, Enter, Entry, Inbound, Message, Side, Symbol, Time, Token, Trace};
 use outside::{Counted, Steps};
 use std::alloc::{AllocError, Global};
+use std::process::Abort;
 
 // A trader of a kind that first wakes at a time, and then each millisecond.
 fn setting(kind: Kind, first: Time) -> TraderSetting
@@ -47,11 +49,12 @@ fn traders(alloc: Global, kinds: &[(Kind, Time)]) -> Result<Vec<TraderSetting>, 
 
 // A market of such traders, whose exchange computes for `delay` nanoseconds.
 pub(crate) fn market(
+    rt: &impl Abort,
     alloc: Global,
     close: Time,
     delay: Time,
     kinds: &[(Kind, Time)],
-) -> Result<Opening, Memory>
+) -> Opening
     requires low { 1000 ≤ close }
     requires high { close ≤ 65535001000 }
     requires delay { delay ≤ 1000 }
@@ -60,76 +63,95 @@ pub(crate) fn market(
     requires kinds { All (λ (k : Kind × ℕ). IsKind k.0) kinds.now }
     requires early { All (λ (k : Kind × ℕ). 1000 ≤ k.1) kinds.now }
     requires late { All (λ (k : Kind × ℕ). k.1 ≤ 2000) kinds.now }
-    ensures opening { IfOk result IsOpening }
-    ensures made { IfOk result (λ o. o ≡ market_of close 100000 delay (map (λ (k : Kind × ℕ). trader k.0 k.1) kinds.now)) }
+    ensures opening { IsOpening result }
+    ensures made { result ≡ market_of close 100000 delay (map (λ (k : Kind × ℕ). trader k.0 k.1) kinds.now) }
 {
     markets_are_openings();
-    let settings = traders(alloc, kinds)?;
-    opening(alloc, close, 100_000, delay, settings)
+    let Ok(settings) = traders(alloc, kinds) else {
+        panic!(rt; "out of memory");
+    };
+    let Ok(o) = opening(alloc, close, 100_000, delay, settings) else {
+        panic!(rt; "out of memory");
+    };
+    o
 }
 
 // A market of one watcher that wakes at 1000.
-pub(crate) fn one_watcher(alloc: Global, close: Time) -> Result<Opening, Memory>
+pub(crate) fn one_watcher(rt: &impl Abort, alloc: Global, close: Time) -> Opening
     requires low { 1000 ≤ close }
     requires high { close ≤ 65535001000 }
-    ensures { IfOk result IsOpening }
+    ensures { IsOpening result }
 {
-    market(alloc, close, 0, &[(Kind::Watcher, 1000)])
+    market(rt, alloc, close, 0, &[(Kind::Watcher, 1000)])
 }
 
 // A market of two watchers that wake at 1000.
-pub(crate) fn two_watchers(alloc: Global, close: Time) -> Result<Opening, Memory>
+pub(crate) fn two_watchers(rt: &impl Abort, alloc: Global, close: Time) -> Opening
     requires low { 1000 ≤ close }
     requires high { close ≤ 65535001000 }
-    ensures { IfOk result IsOpening }
+    ensures { IsOpening result }
 {
-    market(
-        alloc,
-        close,
-        0,
-        &[(Kind::Watcher, 1000), (Kind::Watcher, 1000)],
-    )
+    let kinds = [(Kind::Watcher, 1000), (Kind::Watcher, 1000)];
+    market(rt, alloc, close, 0, &kinds)
 }
 
 // Events until so many of them stand.
 pub(crate) fn run(
+    rt: &impl Abort,
     alloc: Global,
     o: &Opening,
     kernel: &mut Kernel,
     stop: u32,
     trace: &mut Trace,
-) -> Result<Option<End>, Memory>
+) -> Option<End>
     requires { Fits o.now kernel.old }
     ensures fits { Fits o.now kernel.new }
     ensures offsets { kernel.new.floor.offsets ≡ kernel.old.floor.offsets }
     ensures drops { kernel.new.post.dropped ≤ max kernel.old.post.dropped 2000002 }
 {
     let mut steps: Steps<Counted> = Steps::new();
-    let end = kernel.run_until(alloc, o, stop, trace, &mut steps);
+    let answer = kernel.run_until(alloc, o, stop, trace, &mut steps);
     steps.close();
+    let Ok(end) = answer else {
+        panic!(rt; "out of memory");
+    };
     end
+}
+
+// The state before the first event.
+pub(crate) fn opened(rt: &impl Abort, alloc: Global, o: &Opening) -> Kernel
+    requires { IsOpening o.now }
+    ensures opened { result ≡ opened o.now }
+    ensures fits { Fits o.now result }
+{
+    let Ok(kernel) = Kernel::open(alloc, o) else {
+        panic!(rt; "out of memory");
+    };
+    kernel
 }
 
 // A run from the opening on: before each edit events until so many of them stand, and so many at last.
 pub(crate) fn branch(
+    rt: &impl Abort,
     alloc: Global,
     o: &Opening,
     edits: &[(u32, Edit)],
     last: u32,
     trace: &mut Trace,
-) -> Result<Kernel, Memory>
+) -> Kernel
     requires opening { IsOpening o.now }
     requires few { length edits.now ≤ 16 }
     requires plain { All (λ (e : ℕ × Edit). IsPlain e.1) edits.now }
-    ensures { IfOk result (λ k. Fits o.now k) }
+    ensures { Fits o.now result }
 {
-    let mut kernel = Kernel::open(alloc, o)?;
+    let mut kernel = opened(rt, alloc, o);
     for i in 0..edits.len() {
-        run(alloc, o, &mut kernel, edits[i].0, trace)?;
-        kernel.apply(alloc, o, &edits[i].1, 1, i as u16, trace)?;
+        run(rt, alloc, o, &mut kernel, edits[i].0, trace);
+        let answer = kernel.apply(alloc, o, &edits[i].1, 1, i as u16, trace);
+        holds(rt, answer.is_ok());
     }
-    run(alloc, o, &mut kernel, last, trace)?;
-    Ok(kernel)
+    run(rt, alloc, o, &mut kernel, last, trace);
+    kernel
 }
 
 // An order of the first trader that is due so long after the state's time: 100 shares to sell at 10.01 dollars.
@@ -195,21 +217,21 @@ fn shifted(offset: i64) -> Edit
 }
 
 // Ticks of five cents.
-fn five_cents(alloc: Global) -> Result<TickTable, Memory>
-    ensures { IfOk result (λ t. t ≡ record { from = 0; tick = 500 } ∷ []) }
+fn five_cents(rt: &impl Abort, alloc: Global) -> TickTable
+    ensures { result ≡ record { from = 0; tick = 500 } ∷ [] }
 {
     let Ok(table) = TickTable::new(alloc, &[Band { from: 0, tick: 500 }]) else {
-        return Err(Memory);
+        panic!(rt; "out of memory");
     };
-    Ok(table)
+    table
 }
 
 // Ticks of five cents for the first stock.
-fn ticks(alloc: Global) -> Result<Edit, Memory>
-    ensures { IfOk result IsPlain }
+fn ticks(rt: &impl Abort, alloc: Global) -> Edit
+    ensures { IsPlain result }
 {
-    let table = five_cents(alloc)?;
-    Ok(Edit::Tick { stock: 0, table })
+    let table = five_cents(rt, alloc);
+    Edit::Tick { stock: 0, table }
 }
 
 // The letter of an edit's mark and its place among the edits; 0 and 0 of an event.
@@ -221,11 +243,11 @@ fn mark_of(entry: &Entry) -> (u8, u16) {
 }
 
 // Edits of one watcher's market: each kind once, before the first event.
-fn each_kind(alloc: Global, o: &Opening, trace: &mut Trace) -> Result<Kernel, Memory>
+fn each_kind(rt: &impl Abort, alloc: Global, o: &Opening, trace: &mut Trace) -> Kernel
     requires { IsOpening o.now }
-    ensures { IfOk result (λ k. Fits o.now k) }
+    ensures { Fits o.now result }
 {
-    let finer = ticks(alloc)?;
+    let finer = ticks(rt, alloc);
     let fees = FeeTable { add: 0, take: 0 };
     let (agent, stock) = (1, 0);
     let edits = [
@@ -239,7 +261,7 @@ fn each_kind(alloc: Global, o: &Opening, trace: &mut Trace) -> Result<Kernel, Me
         (0, order(b'A', 100)),
         (0, shifted(-5)),
     ];
-    branch(alloc, o, &edits, 0, trace)
+    branch(rt, alloc, o, &edits, 0, trace)
 }
 
 // Whether the first trader is silenced, the offset of the first stock, and its tick at 10.01 dollars.
@@ -253,19 +275,26 @@ fn first_of_all(kernel: &Kernel, o: &Opening) -> (bool, i64, u32)
     )
 }
 
+const MARKS: [(u8, u16); 9] = [
+    (b't', 0),
+    (b'f', 1),
+    (b'h', 2),
+    (b'r', 3),
+    (b'l', 4),
+    (b'p', 5),
+    (b's', 6),
+    (b'i', 7),
+    (b'v', 8),
+];
+
 #[test]
 fn each_kind_of_edit_is_made(rt: HostRuntime) {
     let alloc = rt.alloc();
-    let Ok(o) = one_watcher(alloc, 2000) else {
-        panic!(rt; "out of memory");
-    };
+    let o = one_watcher(&rt, alloc, 2000);
     let mut trace = Trace::new(alloc);
-    let Ok(kernel) = each_kind(alloc, &o, &mut trace) else {
-        panic!(rt; "out of memory");
-    };
+    let kernel = each_kind(&rt, alloc, &o, &mut trace);
     let marks = trace.as_slice().iter().map(mark_of);
-    let letters = b"tfhrlpsiv".iter().copied();
-    holds(&rt, marks.eq(letters.zip(0..9)));
+    holds(&rt, marks.eq(MARKS.iter().copied()));
     holds(
         &rt,
         first_of_all(&kernel, &o) == (true, -5, 500) && kernel.counts().waiting == 2,
@@ -295,28 +324,20 @@ const BUSY: [(Time, u64, bool, Time); 11] = [
 ];
 
 // A market of three watchers, of which the third wakes later, and of an exchange that computes.
-fn busy_market(alloc: Global) -> Result<Opening, Memory>
-    ensures { IfOk result IsOpening }
+fn busy_market(rt: &impl Abort, alloc: Global) -> Opening
+    ensures { IsOpening result }
 {
     let watcher = Kind::Watcher;
-    market(
-        alloc,
-        2000,
-        3,
-        &[(watcher, 1000), (watcher, 1000), (watcher, 1003)],
-    )
+    let kinds = [(watcher, 1000), (watcher, 1000), (watcher, 1003)];
+    market(rt, alloc, 2000, 3, &kinds)
 }
 
 #[test]
 fn a_busy_exchange_puts_back(rt: HostRuntime) {
     let alloc = rt.alloc();
-    let Ok(o) = busy_market(alloc) else {
-        panic!(rt; "out of memory");
-    };
+    let o = busy_market(&rt, alloc);
     let mut trace = Trace::new(alloc);
-    let Ok(kernel) = branch(alloc, &o, &[], 100, &mut trace) else {
-        panic!(rt; "out of memory");
-    };
+    let kernel = branch(&rt, alloc, &o, &[], 100, &mut trace);
     holds(
         &rt,
         trace
@@ -332,25 +353,34 @@ fn a_busy_exchange_puts_back(rt: HostRuntime) {
     );
 }
 
+// The messages that wait, in their order.
+pub(crate) fn waiting(rt: &impl Abort, alloc: Global, kernel: &Kernel) -> Vec<Message> {
+    let Ok(messages) = kernel.messages(alloc) else {
+        panic!(rt; "out of memory");
+    };
+    messages
+}
+
 // When the message of number 1 is due after the first event under this jitter, without another latency.
-fn due(alloc: Global, o: &Opening, jitter: u32) -> Result<Option<Time>, Memory>
+fn due(rt: &impl Abort, alloc: Global, o: &Opening, jitter: u32) -> Option<Time>
     requires { IsOpening o.now }
 {
     let mut trace = Trace::new(alloc);
-    let kernel = branch(alloc, o, &[(0, latency(0, jitter))], 1, &mut trace)?;
-    let messages = kernel.messages(alloc)?;
-    Ok(messages.iter().find(|m| m.seq == 1).map(|m| m.time))
+    let edits = [(0, latency(0, jitter))];
+    let kernel = branch(rt, alloc, o, &edits, 1, &mut trace);
+    let messages = waiting(rt, alloc, &kernel);
+    messages.iter().find(|m| m.seq == 1).map(|m| m.time)
 }
 
-// The word of number 1 under the zero key is 2,419,978,656.
+// A jitter, and when the message is then due: the word of number 1 under the zero key is 2,419,978,656.
+const DUE: [(u32, Time); 3] = [(0, 1000), (9, 1005), (4_294_967_295, 2_419_979_656)];
+
 #[test]
 fn a_latency_is_drawn_by_number(rt: HostRuntime) {
     let alloc = rt.alloc();
-    let Ok(o) = one_watcher(alloc, 2000) else {
-        panic!(rt; "out of memory");
-    };
-    for (jitter, time) in [(0, 1000), (9, 1005), (4_294_967_295, 2_419_979_656)] {
-        equal(&rt, due(alloc, &o, jitter), Ok(Some(time)));
+    let o = one_watcher(&rt, alloc, 2000);
+    for (jitter, time) in DUE.iter() {
+        equal(&rt, due(&rt, alloc, &o, *jitter), Some(*time));
     }
 }
 
@@ -359,45 +389,42 @@ fn a_latency_is_drawn_by_number(rt: HostRuntime) {
 type Ending = (Option<End>, u32, Time, u32, u64, u64);
 
 // How a run of a market ends in which edits are made.
-fn ending(alloc: Global, o: &Opening, edits: &[(u32, Edit)]) -> Result<Ending, Memory>
+fn ending(rt: &impl Abort, alloc: Global, o: &Opening, edits: &[(u32, Edit)]) -> Ending
     requires opening { IsOpening o.now }
     requires few { length edits.now ≤ 16 }
     requires plain { All (λ (e : ℕ × Edit). IsPlain e.1) edits.now }
 {
     let mut trace = Trace::new(alloc);
-    let k = branch(alloc, o, edits, 100_000, &mut trace)?;
+    let k = branch(rt, alloc, o, edits, 100_000, &mut trace);
     let told = k.counts();
-    Ok((
+    (
         k.end(o),
         k.events(),
         k.time(),
         told.waiting,
         told.next_seq,
         told.dropped,
-    ))
+    )
 }
 
 // An order that is due goes on with a run that was closed.
 #[test]
 fn a_closed_run_goes_on(rt: HostRuntime) {
     let alloc = rt.alloc();
-    let Ok(o) = two_watchers(alloc, 2000) else {
-        panic!(rt; "out of memory");
-    };
-    let told = ending(alloc, &o, &[(50, order(b'A', 100))]);
-    holds(&rt, told == Ok((Some(End::Closed), 8, 1115, 2, 10, 0)));
+    let o = two_watchers(&rt, alloc, 2000);
+    let edits = [(50, order(b'A', 100))];
+    let told = ending(&rt, alloc, &o, &edits);
+    holds(&rt, told == (Some(End::Closed), 8, 1115, 2, 10, 0));
 }
 
 // An order that is due goes on with a run that was quiet.
 #[test]
 fn a_quiet_run_goes_on(rt: HostRuntime) {
     let alloc = rt.alloc();
-    let Ok(o) = one_watcher(alloc, 2000) else {
-        panic!(rt; "out of memory");
-    };
+    let o = one_watcher(&rt, alloc, 2000);
     let edits = [(0, Edit::Silence { agent: 1 }), (50, order(b'A', 100))];
-    let told = ending(alloc, &o, &edits);
-    holds(&rt, told == Ok((Some(End::Quiet), 3, 1105, 0, 3, 0)));
+    let told = ending(&rt, alloc, &o, &edits);
+    holds(&rt, told == (Some(End::Quiet), 3, 1105, 0, 3, 0));
 }
 
 const FULL: Ending = (
@@ -413,12 +440,10 @@ const FULL: Ending = (
 #[test]
 fn an_order_into_a_full_queue_is_dropped_and_counted(rt: HostRuntime) {
     let alloc = rt.alloc();
-    let Ok(o) = one_watcher(alloc, 65_535_001_000) else {
-        panic!(rt; "out of memory");
-    };
+    let o = one_watcher(&rt, alloc, 65_535_001_000);
     let edits = [
         (0, latency(3_600_000_000_000, 0)),
         (65_535, order(b'A', 100)),
     ];
-    holds(&rt, ending(alloc, &o, &edits) == Ok(FULL));
+    holds(&rt, ending(&rt, alloc, &o, &edits) == FULL);
 }

@@ -1,6 +1,6 @@
 //! The mail when it is sent to, copied and full.
 
-ghost use Rattle.std.specs.Prelude.{◌≡◌, ◌<◌, ◌+◌, ◌^◌, ◌∷◌, [], IfOk};
+ghost use Rattle.std.specs.Prelude.{◌≡◌, ◌<◌, ◌+◌, ◌^◌, ◌∷◌, []};
 ghost use Rattle.latency_model.specs.Tables.{group_count};
 ghost use Rattle.market_floor.specs.OpeningWorked.{market, watcher};
 
@@ -10,15 +10,15 @@ use kernel_core::Mail;
 use latency_model::Groups;
 use market_floor::opening_worked::opening;
 use market_floor::{Opening, Posting};
-use market_types::{Body, Cancel, Inbound, Memory, Message, Token};
+use market_types::{Body, Cancel, Inbound, Message, Token};
 use std::alloc::Global;
+use std::process::Abort;
 
 // A market of one watcher.
-fn one_watcher(alloc: Global) -> Result<Opening, Memory>
-    ensures { IfOk result (λ o. o ≡ market 2000 0 (watcher 1000 ∷ [])) }
+fn one_watcher(rt: &impl Abort, alloc: Global) -> Opening
+    ensures { result ≡ market 2000 0 (watcher 1000 ∷ []) }
 {
-    let mut traders = Vec::new(alloc);
-    traders.push(TraderSetting {
+    let watcher = TraderSetting {
         kind: Kind::Watcher,
         group: 0,
         stock: 0,
@@ -27,18 +27,47 @@ fn one_watcher(alloc: Global) -> Result<Opening, Memory>
         wobble: 0,
         delay: 0,
         cash: 0,
-    })?;
-    opening(alloc, 2000, 100, 0, traders)
+    };
+    let Ok(traders) = vec![in alloc; watcher] else {
+        panic!(rt; "out of memory");
+    };
+    let Ok(o) = opening(alloc, 2000, 100, 0, traders) else {
+        panic!(rt; "out of memory");
+    };
+    o
 }
 
 // Its latencies, with a jitter of 9 on the base of 5.
-fn with_jitter(alloc: Global, o: &Opening) -> Result<Groups, Memory>
+fn with_jitter(rt: &impl Abort, alloc: Global, o: &Opening) -> Groups
     requires { group_count o.now.groups ≡ 1 }
-    ensures { IfOk result (λ g. group_count g ≡ 1) }
+    ensures { group_count result ≡ 1 }
 {
-    let mut groups = o.groups.copy(alloc)?;
+    let Ok(mut groups) = o.groups.copy(alloc) else {
+        panic!(rt; "out of memory");
+    };
     groups.set(0, 0, 5, 9);
-    Ok(groups)
+    groups
+}
+
+// Mail in which nothing waits.
+fn opened(rt: &impl Abort, alloc: Global) -> Mail
+    ensures numbers { result.next_seq ≡ 0 }
+    ensures drops { result.dropped ≡ 0 }
+{
+    let Ok(mail) = Mail::new(alloc) else {
+        panic!(rt; "out of memory");
+    };
+    mail
+}
+
+// Equal mail.
+fn copied(rt: &impl Abort, alloc: Global, mail: &Mail) -> Mail
+    ensures { result ≡ mail.now }
+{
+    let Ok(copy) = mail.copy(alloc) else {
+        panic!(rt; "out of memory");
+    };
+    copy
 }
 
 // The watcher asks 7 nanoseconds after 1000.
@@ -95,19 +124,22 @@ fn take(mail: &mut Mail) -> Option<u64>
     }
 }
 
+// The number of the next message that leaves.
+fn least(mail: &Mail) -> Option<u64> {
+    match mail.least() {
+        Some(m) => Some(m.seq),
+        None => None,
+    }
+}
+
 // How many messages wait, the next number, and how many messages were dropped.
 fn counts(mail: &Mail) -> (u32, u64, u64) {
     (mail.len(), mail.next_seq(), mail.dropped())
 }
 
-// The time, the number, the sender and the receiver of each message that waits.
-fn rows(alloc: Global, mail: &Mail) -> Result<Vec<(u64, u64, u16, u16)>, Memory> {
-    let messages: Vec<Message> = mail.messages(alloc)?;
-    let rows: Vec<(u64, u64, u16, u16)> = messages
-        .iter()
-        .map(|m| (m.time, m.seq, m.from, m.to))
-        .collect(alloc)?;
-    Ok(rows)
+// The time, the number, the sender and the receiver of a message.
+fn row(m: &Message) -> (u64, u64, u16, u16) {
+    (m.time, m.seq, m.from, m.to)
 }
 
 const MOVED: [(u64, u64, u16, u16); 3] = [(1200, 2, 1, 1), (1500, 0, 1, 0), (1500, 1, 1, 0)];
@@ -115,56 +147,49 @@ const MOVED: [(u64, u64, u16, u16); 3] = [(1200, 2, 1, 1), (1500, 0, 1, 0), (150
 const UNMOVED: [(u64, u64, u16, u16); 3] = [(1017, 1, 1, 0), (1200, 2, 1, 1), (1500, 0, 1, 0)];
 
 // Whether these messages wait.
-fn waits(alloc: Global, mail: &Mail, hoped: &[(u64, u64, u16, u16)]) -> bool {
-    match rows(alloc, mail) {
-        Ok(rows) => rows.as_slice() == hoped,
-        Err(_) => false,
+fn waits(rt: &impl Abort, alloc: Global, mail: &Mail, hoped: &[(u64, u64, u16, u16)]) -> bool {
+    let Ok(messages) = mail.messages(alloc) else {
+        panic!(rt; "out of memory");
+    };
+    messages.iter().map(row).eq(hoped.iter().copied())
+}
+
+// The message that is put back: when it was due, and its number.
+fn put_back(mail: &mut Mail, until: u64) -> Option<(u64, u64)> {
+    match mail.put_back(until) {
+        Some(m) => Some((m.time, m.seq)),
+        None => None,
     }
 }
 
 #[test]
 fn messages_are_due_by_their_own_draws(rt: HostRuntime) {
     let alloc = rt.alloc();
-    let Ok(o) = one_watcher(alloc) else {
-        panic!(rt; "out of memory");
-    };
-    let Ok(groups) = with_jitter(alloc, &o) else {
-        panic!(rt; "out of memory");
-    };
-    let Ok(mut mail) = Mail::new(alloc) else {
-        panic!(rt; "out of memory");
-    };
+    let o = one_watcher(&rt, alloc);
+    let groups = with_jitter(&rt, alloc, &o);
+    let mut mail = opened(&rt, alloc);
     cancel(&mut mail, 1500);
     ask(&mut mail, &o, &groups);
     wake(&mut mail, &o, &groups, 1200);
-    let Ok(copy) = mail.copy(alloc) else {
-        panic!(rt; "out of memory");
-    };
-    let moved = mail.put_back(1500);
-    holds(&rt, moved.map_or(false, |m| m.time == 1017 && m.seq == 1));
-    holds(&rt, waits(alloc, &mail, &MOVED));
-    holds(&rt, waits(alloc, &copy, &UNMOVED));
+    let copy = copied(&rt, alloc, &mail);
+    equal(&rt, put_back(&mut mail, 1500), Some((1017, 1)));
+    holds(&rt, waits(&rt, alloc, &mail, &MOVED));
+    holds(&rt, waits(&rt, alloc, &copy, &UNMOVED));
 }
 
 #[test]
 fn full_mail_drops_what_is_to_join(rt: HostRuntime) {
     let alloc = rt.alloc();
-    let Ok(o) = one_watcher(alloc) else {
-        panic!(rt; "out of memory");
-    };
-    let Ok(mut mail) = Mail::new(alloc) else {
-        panic!(rt; "out of memory");
-    };
+    let o = one_watcher(&rt, alloc);
+    let mut mail = opened(&rt, alloc);
     fill(&mut mail, 65_536);
-    let Ok(mut copy) = mail.copy(alloc) else {
-        panic!(rt; "out of memory");
-    };
+    let mut copy = copied(&rt, alloc, &mail);
     cancel(&mut copy, 0);
     wake(&mut copy, &o, &o.groups, 1200);
     equal(&rt, counts(&copy), (65_536, 65_536, 2));
     equal(&rt, take(&mut copy), Some(65_535));
     wake(&mut copy, &o, &o.groups, 0);
-    holds(&rt, copy.least().map_or(false, |m| m.seq == 65_536));
+    equal(&rt, least(&copy), Some(65_536));
     equal(&rt, counts(&copy), (65_536, 65_537, 2));
     equal(&rt, counts(&mail), (65_536, 65_536, 0));
 }

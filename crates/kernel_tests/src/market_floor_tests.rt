@@ -1,9 +1,11 @@
 //! Deliveries, halts at their times, copies and edits of a floor.
 
-ghost use Rattle.std.specs.Prelude.{◌≡◌, ◌<◌, ◌+◌, IfOk};
+ghost use Rattle.std.specs.Prelude.{◌≡◌, ◌≤◌, ◌<◌, ◌+◌, true, length};
+ghost use Rattle.exchange_agent.specs.Market.{IsAskable};
 ghost use Rattle.market_floor.specs.Opening.{IsOpening};
 ghost use Rattle.market_floor.specs.Edited.{IsEdit};
 ghost use Rattle.market_floor.specs.Floor.{floor_at_opening};
+ghost use Rattle.market_floor.specs.Postings.{IsAmong};
 ghost use Rattle.market_floor.specs.Sound.{FitsFloor, IsSoundFloor};
 ghost use Rattle.market_floor.specs.Worked.{halting};
 
@@ -13,7 +15,7 @@ use market_floor::laws::floors_stay_sound;
 use market_floor::opening_worked::{markets_are_openings, opening};
 use market_floor::{Floor, Happening, Opening, Posting, applied_by};
 use market_rules::{Change, Dated, DatedList, Edit};
-use market_types::{AgentNo, Body, Memory, Message, Quote, Time};
+use market_types::{AgentNo, Body, Message, Quote, Time};
 use std::alloc::Global;
 use std::process::Abort;
 
@@ -29,26 +31,25 @@ fn halt_at(time: Time) -> Dated
 }
 
 // Two halts.
-fn halts(alloc: Global) -> Result<DatedList, Memory>
-    ensures { IfOk result (λ d. d ≡ halting.dated) }
+fn halts(rt: &impl Abort, alloc: Global) -> DatedList
+    ensures { result ≡ halting.dated }
 {
-    let mut dates = Vec::new(alloc);
-    dates.push(halt_at(1400))?;
-    dates.push(halt_at(1600))?;
-    match DatedList::new(dates) {
-        Ok(dated) => Ok(dated),
-        Err(_) => Err(Memory),
-    }
+    let Ok(dates) = vec![in alloc; halt_at(1400), halt_at(1600)] else {
+        panic!(rt; "out of memory");
+    };
+    let Ok(dated) = DatedList::new(dates) else {
+        panic!(rt; "no dates");
+    };
+    dated
 }
 
 // The market of the worked examples: one watcher, an exchange that computes for 7 nanoseconds, halts at 1400 and 1600.
-fn halting_opening(alloc: Global) -> Result<Opening, Memory>
-    ensures value { IfOk result (λ o. o ≡ halting) }
-    ensures opening { IfOk result (λ o. IsOpening o) }
+fn halting_opening(rt: &impl Abort, alloc: Global) -> Opening
+    ensures value { result ≡ halting }
+    ensures opening { IsOpening result }
 {
     markets_are_openings();
-    let mut traders = Vec::new(alloc);
-    traders.push(TraderSetting {
+    let watcher = TraderSetting {
         kind: Kind::Watcher,
         group: 0,
         stock: 0,
@@ -57,11 +58,69 @@ fn halting_opening(alloc: Global) -> Result<Opening, Memory>
         wobble: 0,
         delay: 0,
         cash: 0,
-    })?;
-    let dated = halts(alloc)?;
-    let mut o = opening(alloc, 2000, 100, 7, traders)?;
-    o.dated = dated;
-    Ok(o)
+    };
+    let Ok(traders) = vec![in alloc; watcher] else {
+        panic!(rt; "out of memory");
+    };
+    let Ok(mut o) = opening(alloc, 2000, 100, 7, traders) else {
+        panic!(rt; "out of memory");
+    };
+    o.dated = halts(rt, alloc);
+    o
+}
+
+// Its floor before the first event.
+fn opened(rt: &impl Abort, alloc: Global, o: &Opening) -> Floor
+    requires { IsOpening o.now }
+    ensures value { result ≡ floor_at_opening o.now }
+    ensures fits { FitsFloor o.now result }
+    ensures sound { IsSoundFloor 0 result }
+{
+    let Ok(floor) = Floor::open(alloc, o) else {
+        panic!(rt; "out of memory");
+    };
+    floor
+}
+
+// Whether a body that asks does so of one of the market's stocks.
+fn asks_of(o: &Opening, body: &Body) -> bool
+    ensures { result ≡ true → IsAskable (length o.now.stocks) body.now }
+{
+    match body {
+        Body::Ask(stock) => usize::from(*stock) < o.stocks.len(),
+        _ => true,
+    }
+}
+
+// A message between a floor's agents, of one of its stocks, within the market's hours.
+fn message(
+    rt: &impl Abort,
+    o: &Opening,
+    floor: &Floor,
+    time: Time,
+    from: AgentNo,
+    to: AgentNo,
+    body: Body,
+) -> Message
+    requires { FitsFloor o.now floor.now }
+    ensures among { IsAmong (length floor.now.parties) (length floor.now.exchange.stocks) result }
+    ensures start { o.now.start ≤ result.time }
+    ensures close { result.time ≤ o.now.close }
+{
+    let traders = floor.traders();
+    assert!(rt; usize::from(from) <= traders);
+    assert!(rt; usize::from(to) <= traders);
+    assert!(rt; to.max(from) > 0);
+    assert!(rt; o.start <= time);
+    assert!(rt; time <= o.close);
+    assert!(rt; asks_of(o, &body));
+    Message {
+        time,
+        seq: 3,
+        from,
+        to,
+        body,
+    }
 }
 
 // Delivers a message, after so many events.
@@ -75,7 +134,7 @@ fn deliver(
     from: AgentNo,
     to: AgentNo,
     body: Body,
-) -> Result<Happening, Memory>
+) -> Happening
     requires fits { FitsFloor o.now floor.old }
     requires sound { IsSoundFloor events floor.old }
     requires few { events < 1000 }
@@ -83,25 +142,11 @@ fn deliver(
     ensures sound { IsSoundFloor (events + 1) floor.new }
 {
     floors_stay_sound();
-    let traders = floor.traders();
-    assert!(rt; usize::from(from) <= traders);
-    assert!(rt; usize::from(to) <= traders);
-    assert!(rt; to > 0 || from > 0);
-    assert!(rt; o.start <= time);
-    assert!(rt; time <= o.close);
-    if let Body::Ask(stock) = body {
-        assert!(rt; usize::from(stock) < o.stocks.len());
-    }
-    let m = Message {
-        time,
-        seq: 3,
-        from,
-        to,
-        body,
-    };
+    let m = message(rt, o, floor, time, from, to, body);
     let mut happening = Happening::new(alloc);
-    floor.deliver(alloc, o, 0, &m, &mut happening)?;
-    Ok(happening)
+    let answer = floor.deliver(alloc, o, 0, &m, &mut happening);
+    holds(rt, answer.is_ok());
+    happening
 }
 
 // Whether the first posting is a quote of this state to agent 1.
@@ -118,6 +163,21 @@ fn is_quote(happening: &Happening, state: u8) -> bool {
     }
 }
 
+// Whether the second posting is a wakeup at this time.
+fn is_wakeup(happening: &Happening, time: Time) -> bool {
+    match happening.postings.get(1) {
+        Some(Posting::WakeAt(at)) => at == time,
+        _ => false,
+    }
+}
+
+// How many quotes the first trader heard, and how many draws it made.
+fn first_told(rt: &impl Abort, floor: &Floor) -> (u32, u64) {
+    assert!(rt; floor.traders() == 1);
+    let told = floor.trader(1);
+    (told.quotes, told.draws)
+}
+
 const QUOTE: Body = Body::Quote(Quote {
     stock: 0,
     state: b'T',
@@ -131,90 +191,74 @@ const QUOTE: Body = Body::Quote(Quote {
 #[test]
 fn a_watcher_wakes_and_hears(rt: HostRuntime) {
     let alloc = rt.alloc();
-    let Ok(o) = halting_opening(alloc) else {
-        panic!(rt; "out of memory");
-    };
-    let Ok(mut floor) = Floor::open(alloc, &o) else {
-        panic!(rt; "out of memory");
-    };
-    let Ok(woken) = deliver(&rt, alloc, &o, &mut floor, 0, 1000, 1, 1, Body::Wake) else {
-        panic!(rt; "out of memory");
-    };
+    let o = halting_opening(&rt, alloc);
+    let mut floor = opened(&rt, alloc, &o);
+    let woken = deliver(&rt, alloc, &o, &mut floor, 0, 1000, 1, 1, Body::Wake);
     holds(&rt, woken.postings.len() == 2 && woken.delay == 0);
-    holds(
-        &rt,
-        matches!(woken.postings.get(1), Some(Posting::WakeAt(1_001_000))),
-    );
-    let Ok(heard) = deliver(&rt, alloc, &o, &mut floor, 1, 1017, 0, 1, QUOTE) else {
-        panic!(rt; "out of memory");
-    };
-    assert!(rt; heard.postings.len() == 0 && floor.traders() == 1);
-    let told = floor.trader(1);
-    equal(&rt, (told.quotes, told.draws), (1, 1));
+    holds(&rt, is_wakeup(&woken, 1_001_000));
+    let heard = deliver(&rt, alloc, &o, &mut floor, 1, 1017, 0, 1, QUOTE);
+    equal(&rt, (heard.postings.len(), floor.traders()), (0, 1));
+    equal(&rt, first_told(&rt, &floor), (1, 1));
 }
 
 // The halt of 1400 is made with the question of that time.
 #[test]
 fn a_halt_comes_at_its_time(rt: HostRuntime) {
     let alloc = rt.alloc();
-    let Ok(o) = halting_opening(alloc) else {
-        panic!(rt; "out of memory");
-    };
-    let Ok(mut floor) = Floor::open(alloc, &o) else {
-        panic!(rt; "out of memory");
-    };
-    let Ok(early) = deliver(&rt, alloc, &o, &mut floor, 0, 1399, 1, 0, Body::Ask(0)) else {
-        panic!(rt; "out of memory");
-    };
-    holds(
-        &rt,
-        is_quote(&early, b'T') && early.before.len() == 0 && early.delay == 7,
-    );
-    let Ok(late) = deliver(&rt, alloc, &o, &mut floor, 1, 1400, 1, 0, Body::Ask(0)) else {
-        panic!(rt; "out of memory");
-    };
+    let o = halting_opening(&rt, alloc);
+    let mut floor = opened(&rt, alloc, &o);
+    let early = deliver(&rt, alloc, &o, &mut floor, 0, 1399, 1, 0, Body::Ask(0));
+    holds(&rt, is_quote(&early, b'T'));
+    equal(&rt, (early.before.len(), early.delay), (0, 7));
+    let late = deliver(&rt, alloc, &o, &mut floor, 1, 1400, 1, 0, Body::Ask(0));
     holds(&rt, is_quote(&late, b'H') && late.before.len() == 1);
+}
+
+// How many feed messages the dated changes up to a time tell on a copy of a floor.
+fn ruled_on_a_copy(rt: &impl Abort, alloc: Global, o: &Opening, floor: &Floor, time: Time) -> usize
+    requires { FitsFloor o.now floor.now }
+{
+    let Ok(mut copy) = floor.copy(alloc) else {
+        panic!(rt; "out of memory");
+    };
+    let Ok(feed) = copy.rule(alloc, o, 0, time) else {
+        panic!(rt; "out of memory");
+    };
+    feed.len()
 }
 
 // A copy goes its own way: the halts are made on it alone.
 #[test]
 fn a_copy_halts(rt: HostRuntime) {
     let alloc = rt.alloc();
-    let Ok(o) = halting_opening(alloc) else {
-        panic!(rt; "out of memory");
-    };
-    let Ok(floor) = Floor::open(alloc, &o) else {
-        panic!(rt; "out of memory");
-    };
-    let Ok(mut copy) = floor.copy(alloc) else {
-        panic!(rt; "out of memory");
-    };
-    let Ok(feed) = copy.rule(alloc, &o, 0, 1600) else {
-        panic!(rt; "out of memory");
-    };
-    holds(&rt, feed.len() == 1 && applied_by(&o, 0, 1600) == 2);
+    let o = halting_opening(&rt, alloc);
+    let floor = opened(&rt, alloc, &o);
+    equal(&rt, ruled_on_a_copy(&rt, alloc, &o, &floor, 1600), 1);
+    equal(&rt, applied_by(&o, 0, 1600), 2);
 }
 
-// A fresh floor after an edit at 1500, and how many feed messages it told.
-fn edited(alloc: Global, edit: &Edit) -> Result<(Floor, usize), Memory>
-    requires { IsEdit (floor_at_opening halting) edit.now }
+// Edits a fresh floor at 1500, and how many feed messages that told.
+fn edited(rt: &impl Abort, alloc: Global, floor: &mut Floor, edit: &Edit) -> usize
+    requires { IsEdit floor.old edit.now }
 {
-    let o = halting_opening(alloc)?;
-    let mut floor = Floor::open(alloc, &o)?;
-    let feed = floor.edit(alloc, 1500, edit)?;
-    Ok((floor, feed.len()))
+    let Ok(feed) = floor.edit(alloc, 1500, edit) else {
+        panic!(rt; "out of memory");
+    };
+    feed.len()
 }
 
 #[test]
 fn edits_are_made(rt: HostRuntime) {
     let alloc = rt.alloc();
-    let Ok((_, told)) = edited(alloc, &Edit::Halt { stock: 0 }) else {
-        panic!(rt; "out of memory");
-    };
-    equal(&rt, told, 1);
-    let Ok((floor, _)) = edited(alloc, &Edit::Silence { agent: 1 }) else {
-        panic!(rt; "out of memory");
-    };
+    let o = halting_opening(&rt, alloc);
+    let mut floor = opened(&rt, alloc, &o);
+    equal(
+        &rt,
+        edited(&rt, alloc, &mut floor, &Edit::Halt { stock: 0 }),
+        1,
+    );
+    let mut floor = opened(&rt, alloc, &o);
+    edited(&rt, alloc, &mut floor, &Edit::Silence { agent: 1 });
     assert!(rt; floor.traders() == 1);
     holds(&rt, floor.silenced(1));
 }

@@ -4,31 +4,25 @@ use crate::facts::equal;
 use agent_shell::{Kind, TraderSetting};
 use market_floor::group_number;
 use market_floor::opening_worked::opening;
-use market_types::Memory;
-use std::alloc::Global;
 
-// A watcher of each of these groups.
-fn watchers(alloc: Global, groups: &[u8]) -> Result<Vec<TraderSetting>, Memory> {
-    let mut traders = Vec::new(alloc);
-    for group in groups {
-        traders.push(TraderSetting {
-            kind: Kind::Watcher,
-            group: *group,
-            stock: 0,
-            first: 1000,
-            every: 1_000_000,
-            wobble: 0,
-            delay: 0,
-            cash: 0,
-        })?;
+// A watcher of a group.
+fn watcher(group: u8) -> TraderSetting {
+    TraderSetting {
+        kind: Kind::Watcher,
+        group,
+        stock: 0,
+        first: 1000,
+        every: 1_000_000,
+        wobble: 0,
+        delay: 0,
+        cash: 0,
     }
-    Ok(traders)
 }
 
 #[test]
 fn agents_are_in_their_groups(rt: HostRuntime) {
     let alloc = rt.alloc();
-    let Ok(traders) = watchers(alloc, &[3, 4]) else {
+    let Ok(traders) = vec![in alloc; watcher(3), watcher(4)] else {
         panic!(rt; "out of memory");
     };
     let Ok(o) = opening(alloc, 2000, 100, 3, traders) else {

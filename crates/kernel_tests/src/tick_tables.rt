@@ -2,12 +2,12 @@
 
 use market_rules::{Band, TickTable};
 use std::alloc::Global;
-use std::test::Fail;
+use std::process::Abort;
 
 /// A tick of one cent at each price.
-pub(crate) fn cents(alloc: Global) -> Result<TickTable, Fail> {
-    match TickTable::new(alloc, &[Band { from: 0, tick: 100 }]) {
-        Ok(ticks) => Ok(ticks),
-        Err(_) => Err(Fail::from("no ticks")),
-    }
+pub(crate) fn cents(rt: &impl Abort, alloc: Global) -> TickTable {
+    let Ok(ticks) = TickTable::new(alloc, &[Band { from: 0, tick: 100 }]) else {
+        panic!(rt; "no ticks");
+    };
+    ticks
 }

@@ -7,29 +7,34 @@ ghost use Rattle.kernel_core.specs.EditsWorked.{IsPlain};
 
 use crate::facts::holds;
 use crate::kernel_examples::copies::{Gone, are_alike, crowd, gone_on};
-use crate::kernel_examples::{branch, one_watcher, run, two_watchers};
+use crate::kernel_examples::{branch, one_watcher, opened, run, two_watchers};
 use kernel_core::{Kernel, Opening};
 use market_rules::Edit;
-use market_types::{End, Memory, Time, Trace};
+use market_types::{End, Time, Trace};
 use outside::{Counted, Steps};
 use std::alloc::Global;
+use std::process::Abort;
 
 // A run up to a time: the answer, and by how much the counter rose.
 fn timed(
+    rt: &impl Abort,
     alloc: Global,
     o: &Opening,
     kernel: &mut Kernel,
     when: Time,
     most: u32,
     trace: &mut Trace,
-) -> Result<(Option<End>, u64), Memory>
+) -> (Option<End>, u64)
     requires { Fits o.now kernel.old }
     ensures { Fits o.now kernel.new }
 {
     let mut steps: Steps<Counted> = Steps::new();
-    let end = kernel.run_until_time(alloc, o, when, most, trace, &mut steps);
+    let answer = kernel.run_until_time(alloc, o, when, most, trace, &mut steps);
     let ticks = steps.close();
-    Ok((end?, ticks))
+    let Ok(end) = answer else {
+        panic!(rt; "out of memory");
+    };
+    (end, ticks)
 }
 
 // What a run up to a time answers, how often it ticked, the state's count of events and time, and whether one more is due.
@@ -37,22 +42,23 @@ type Reached = (Option<End>, u64, u32, Time, bool);
 
 // A run up to a time once the edits are made and so many events stand.
 fn reached(
+    rt: &impl Abort,
     alloc: Global,
     o: &Opening,
     edits: &[(u32, Edit)],
     first: u32,
     when: Time,
     most: u32,
-) -> Result<Reached, Memory>
+) -> Reached
     requires opening { IsOpening o.now }
     requires few { length edits.now ≤ 16 }
     requires plain { All (λ (e : ℕ × Edit). IsPlain e.1) edits.now }
 {
     let mut trace = Trace::new(alloc);
-    let mut kernel = branch(alloc, o, edits, first, &mut trace)?;
-    let (end, ticks) = timed(alloc, o, &mut kernel, when, most, &mut trace)?;
+    let mut kernel = branch(rt, alloc, o, edits, first, &mut trace);
+    let (end, ticks) = timed(rt, alloc, o, &mut kernel, when, most, &mut trace);
     let due = kernel.due_by(o, when);
-    Ok((end, ticks, kernel.events(), kernel.time(), due))
+    (end, ticks, kernel.events(), kernel.time(), due)
 }
 
 // After how many events a run goes on, up to when, how many events it may make, and what it reaches.
@@ -74,12 +80,10 @@ const STOPS: [(u32, Time, u32, Reached); 11] = [
 #[test]
 fn a_run_stops_at_a_time(rt: HostRuntime) {
     let alloc = rt.alloc();
-    let Ok(o) = two_watchers(alloc, 1005) else {
-        panic!(rt; "out of memory");
-    };
+    let o = two_watchers(&rt, alloc, 1005);
     for (first, when, most, hoped) in STOPS.iter() {
-        let told = reached(alloc, &o, &[], *first, *when, *most);
-        holds(&rt, told == Ok(*hoped));
+        let told = reached(&rt, alloc, &o, &[], *first, *when, *most);
+        holds(&rt, told == *hoped);
     }
 }
 
@@ -87,53 +91,38 @@ fn a_run_stops_at_a_time(rt: HostRuntime) {
 #[test]
 fn a_run_up_to_a_time_tells_that_it_is_quiet(rt: HostRuntime) {
     let alloc = rt.alloc();
-    let Ok(o) = one_watcher(alloc, 2000) else {
-        panic!(rt; "out of memory");
-    };
+    let o = one_watcher(&rt, alloc, 2000);
     let silence = [(0, Edit::Silence { agent: 1 })];
-    let told = reached(alloc, &o, &silence, 0, 5000, 100);
-    holds(&rt, told == Ok((Some(End::Quiet), 1, 1, 1000, false)));
+    let told = reached(&rt, alloc, &o, &silence, 0, 5000, 100);
+    holds(&rt, told == (Some(End::Quiet), 1, 1, 1000, false));
 }
 
 // A run that stops at a time and then goes on to its end.
-fn stopped(alloc: Global, o: &Opening, when: Time) -> Result<Gone, Memory>
+fn stopped(rt: &impl Abort, alloc: Global, o: &Opening, when: Time) -> Gone
     requires { IsOpening o.now }
 {
-    let mut kernel = Kernel::open(alloc, o)?;
+    let mut kernel = opened(rt, alloc, o);
     let mut trace = Trace::new(alloc);
-    timed(alloc, o, &mut kernel, when, 100_000, &mut trace)?;
-    let end = run(alloc, o, &mut kernel, 100_000, &mut trace)?;
-    Ok(Gone { end, kernel, trace })
+    timed(rt, alloc, o, &mut kernel, when, 100_000, &mut trace);
+    let end = run(rt, alloc, o, &mut kernel, 100_000, &mut trace);
+    Gone { end, kernel, trace }
 }
 
-// A run from the opening to its end.
-fn unstopped(alloc: Global, o: &Opening) -> Result<Gone, Memory>
-    requires { IsOpening o.now }
-{
-    let kernel = Kernel::open(alloc, o)?;
-    gone_on(alloc, o, kernel)
-}
+// Times at which such a run stops.
+const BREAKS: [Time; 6] = [0, 1000, 1_001_000, 30_000_000, 60_000_000, 90_000_000];
 
 #[test]
 fn a_run_that_stops_at_a_time_goes_on_as_if_it_had_not(rt: HostRuntime) {
     let alloc = rt.alloc();
-    let Ok(o) = crowd(alloc) else {
-        panic!(rt; "out of memory");
-    };
-    let Ok(whole) = unstopped(alloc, &o) else {
-        panic!(rt; "out of memory");
-    };
-    holds(
-        &rt,
-        whole.end == Some(End::Closed) && whole.kernel.events() > 1000,
-    );
-    for when in [0, 1000, 1_001_000, 30_000_000, 60_000_000, 90_000_000] {
-        let Ok(parts) = stopped(alloc, &o, when) else {
-            panic!(rt; "out of memory");
-        };
+    let o = crowd(&rt, alloc);
+    let whole = gone_on(&rt, alloc, &o, opened(&rt, alloc, &o));
+    let events = whole.kernel.events();
+    holds(&rt, whole.end == Some(End::Closed) && events > 1000);
+    for when in BREAKS.iter() {
+        let parts = stopped(&rt, alloc, &o, *when);
         holds(
             &rt,
-            parts.end == whole.end && are_alike(alloc, &parts, &whole) == Ok(true),
+            parts.end == whole.end && are_alike(&rt, alloc, &parts, &whole),
         );
     }
 }

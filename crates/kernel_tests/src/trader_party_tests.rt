@@ -2,14 +2,14 @@
 
 ghost use Rattle.agent_shell.specs.Parameters.{IsKind};
 
+use crate::facts::{equal, holds};
 use crate::tick_tables::cents;
 use agent_shell::{Kind, Sends, TraderSetting};
 use market_floor::Party;
 use market_rules::{TickTable, View};
-use market_types::{Body, Memory, Quote, Symbol};
+use market_types::{Body, Quote, Symbol};
 use std::alloc::Global;
 use std::process::Abort;
-use std::test::Fail;
 
 const QUOTE: Body = Body::Quote(Quote {
     stock: 0,
@@ -22,7 +22,7 @@ const QUOTE: Body = Body::Quote(Quote {
 });
 
 // Trader 1 of stock 0, which wakes each 500 nanoseconds and computes for 12.
-fn opened(alloc: Global, kind: Kind) -> Result<Party, Memory>
+fn opened(rt: &impl Abort, alloc: Global, kind: Kind) -> Party
     requires { IsKind kind }
 {
     let setting = TraderSetting {
@@ -35,7 +35,18 @@ fn opened(alloc: Global, kind: Kind) -> Result<Party, Memory>
         delay: 12,
         cash: 1000,
     };
-    Party::open(alloc, 1, &setting)
+    let Ok(party) = Party::open(alloc, 1, &setting) else {
+        panic!(rt; "out of memory");
+    };
+    party
+}
+
+/// An equal party.
+pub fn copied(rt: &impl Abort, party: &Party) -> Party {
+    let Ok(copy) = party.copy() else {
+        panic!(rt; "out of memory");
+    };
+    copy
 }
 
 /// Takes a message at 1000 where the stock has this value and the counts and the account are small.
@@ -46,7 +57,7 @@ pub fn react(
     ticks: &TickTable,
     body: &Body,
     out: &mut Sends,
-) -> Result<(), Memory> {
+) {
     let told = party.told();
     assert!(rt; told.tokens < 1000 && told.draws < 1000 && told.quotes < 1000);
     let position = told.account.position;
@@ -62,45 +73,49 @@ pub fn react(
         value,
         ticks,
     };
-    party.react(&view, body, out)
+    let answer = party.react(&view, body, out);
+    holds(rt, answer.is_ok());
+}
+
+// What a party that takes these messages sends.
+fn sends_of(rt: &impl Abort, alloc: Global, party: &mut Party, bodies: &[Body]) -> Sends {
+    let ticks = cents(rt, alloc);
+    let mut out = Sends::new(alloc);
+    for body in bodies {
+        react(rt, party, 100_050, &ticks, body, &mut out);
+    }
+    out
 }
 
 #[test]
-fn a_watcher_wakes_and_hears(rt: HostRuntime) -> Result<(), Fail> {
+fn a_watcher_wakes_and_hears(rt: HostRuntime) {
     let alloc = rt.alloc();
-    let ticks = cents(alloc)?;
-    let mut out = Sends::new(alloc);
-    let mut party = opened(alloc, Kind::Watcher)?;
-    react(&rt, &mut party, 100_050, &ticks, &Body::Wake, &mut out)?;
-    react(&rt, &mut party, 100_050, &ticks, &QUOTE, &mut out)?;
+    let mut party = opened(&rt, alloc, Kind::Watcher);
+    let out = sends_of(&rt, alloc, &mut party, &[Body::Wake, QUOTE]);
     let told = party.told();
-    assert!(rt; told.draws == 1 && told.quotes == 1);
-    assert!(rt; !party.is_silent() && out.as_slice().len() == 2);
-    Ok(())
+    equal(&rt, (told.draws, told.quotes), (1, 1));
+    holds(&rt, !party.is_silent());
+    equal(&rt, out.as_slice().len(), 2);
 }
 
 // The copy of one that is silenced is silenced too.
 #[test]
-fn a_silenced_watcher_is_still(rt: HostRuntime) -> Result<(), Fail> {
+fn a_silenced_watcher_is_still(rt: HostRuntime) {
     let alloc = rt.alloc();
-    let ticks = cents(alloc)?;
-    let mut out = Sends::new(alloc);
-    let mut party = opened(alloc, Kind::Watcher)?;
+    let mut party = opened(&rt, alloc, Kind::Watcher);
     party.silence();
-    let mut copy = party.copy()?;
-    react(&rt, &mut copy, 100_050, &ticks, &Body::Wake, &mut out)?;
-    react(&rt, &mut copy, 100_050, &ticks, &QUOTE, &mut out)?;
+    let mut copy = copied(&rt, &party);
+    let out = sends_of(&rt, alloc, &mut copy, &[Body::Wake, QUOTE]);
     let told = copy.told();
-    assert!(rt; told.draws == 0 && told.quotes == 0);
-    assert!(rt; copy.is_silent() && out.as_slice().is_empty());
-    Ok(())
+    equal(&rt, (told.draws, told.quotes), (0, 0));
+    holds(&rt, copy.is_silent());
+    holds(&rt, out.as_slice().is_empty());
 }
 
 // A maker quotes two orders.
 #[test]
-fn a_maker_quotes(rt: HostRuntime) -> Result<(), Fail> {
+fn a_maker_quotes(rt: HostRuntime) {
     let alloc = rt.alloc();
-    let ticks = cents(alloc)?;
     let kind = Kind::Maker {
         size: 10,
         half: 150,
@@ -108,11 +123,12 @@ fn a_maker_quotes(rt: HostRuntime) -> Result<(), Fail> {
         levels: 1,
         pause: 7,
     };
-    let mut out = Sends::new(alloc);
-    let mut party = opened(alloc, kind)?;
-    react(&rt, &mut party, 100_050, &ticks, &QUOTE, &mut out)?;
-    let copy = party.copy()?;
-    let told = copy.told();
-    assert!(rt; out.as_slice().len() == 2 && told.live == 2 && told.tokens == 2);
-    Ok(())
+    let mut party = opened(&rt, alloc, kind);
+    let out = sends_of(&rt, alloc, &mut party, &[QUOTE]);
+    let told = copied(&rt, &party).told();
+    equal(
+        &rt,
+        (out.as_slice().len(), told.live, told.tokens),
+        (2, 2, 2),
+    );
 }

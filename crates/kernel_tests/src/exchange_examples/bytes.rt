@@ -85,8 +85,8 @@ fn a_sweep_is_fed_byte_by_byte(rt: HostRuntime) {
     sent(&rt, alloc, &mut exchange, 3000, 2, second);
     sent(&rt, alloc, &mut exchange, 3000, 3, third);
     let out = sent(&rt, alloc, &mut exchange, 3000, 1, sweep);
-    for (i, bytes) in SWEPT.into_iter().enumerate() {
-        holds(&rt, is_fed(&out, i, bytes));
+    for (i, bytes) in SWEPT.iter().enumerate() {
+        holds(&rt, is_fed(&out, i, *bytes));
     }
     equal(&rt, (out.len(), out.feed.len(), out.fee), (7, 4, 6000));
 }
@@ -112,8 +112,8 @@ fn a_hidden_order_is_fed_without_its_name(rt: HostRuntime) {
     let out = sent(&rt, alloc, &mut exchange, 3000, 3, shown);
     equal(&rt, (out.len(), out.feed.len()), (1, 1));
     let out = sent(&rt, alloc, &mut exchange, 3000, 1, buy);
-    for (i, bytes) in OF_BOTH.into_iter().enumerate() {
-        holds(&rt, is_fed(&out, i, bytes));
+    for (i, bytes) in OF_BOTH.iter().enumerate() {
+        holds(&rt, is_fed(&out, i, *bytes));
     }
     equal(&rt, (out.len(), out.feed.len()), (5, 2));
 }

@@ -1,6 +1,6 @@
 //! The exchange when it is full.
 
-ghost use Rattle.std.specs.Prelude.{◌≡◌, ◌≤◌, length};
+ghost use Rattle.std.specs.Prelude.{◌≡◌, length};
 
 use super::{ABM, numbered, opened, sent};
 use crate::facts::equal;
@@ -28,12 +28,8 @@ fn fill(
     expected: u8,
 )
     requires traders { length exchange.old.cash ≡ 3 }
-    requires enters { exchange.old.counts.enters ≡ 0 }
-    requires cancels { exchange.old.counts.cancels ≡ 0 }
     ensures traders { length exchange.new.cash ≡ length exchange.old.cash }
     ensures stocks { length exchange.new.stocks ≡ length exchange.old.stocks }
-    ensures enters { exchange.new.counts.enters ≤ orders }
-    ensures cancels { exchange.new.counts.cancels ≤ orders }
 {
     for n in 0..orders {
         let e = Enter {

@@ -1,44 +1,26 @@
 //! A long run beside its copy.
 
-ghost use Rattle.std.specs.Prelude.{IfOk};
+ghost use Rattle.std.specs.Prelude.{◌≡◌};
 ghost use Rattle.agent_shell.specs.Parameters.{IsKind};
 ghost use Rattle.market_floor.specs.Opening.{IsOpening};
 ghost use Rattle.kernel_core.specs.Step.{Fits};
 
-use super::{branch, latency, market, run, shifted};
+use super::{branch, latency, market, run, shifted, waiting};
 use crate::facts::holds;
 use agent_shell::Kind;
 use kernel_core::{Kernel, Opening};
 use market_rules::Edit;
-use market_types::{AgentNo, Body, End, Entry, Memory, Record, Time, Trace, TraderTold};
+use market_types::{AgentNo, End, Entry, Record, Time, Trace, TraderTold};
 use std::alloc::Global;
+use std::process::Abort;
 
-// An event in plain values, but for its feeds.
-#[derive(Clone, Copy, PartialEq, Eq, Debug)]
-struct EventTold {
-    number: u32,
-    time: Time,
-    seq: u64,
-    from: AgentNo,
-    to: AgentNo,
-    put_back: bool,
-    until: Time,
-    fee: i64,
-    body: Body,
-}
+// An event in plain values, but for its body and its feeds.
+type EventTold = (u32, Time, u64, AgentNo, AgentNo, bool, Time, i64);
 
 fn told(e: &Record) -> EventTold {
-    EventTold {
-        number: e.number,
-        time: e.time,
-        seq: e.seq,
-        from: e.from,
-        to: e.to,
-        put_back: e.put_back,
-        until: e.until,
-        fee: e.fee,
-        body: e.body,
-    }
+    (
+        e.number, e.time, e.seq, e.from, e.to, e.put_back, e.until, e.fee,
+    )
 }
 
 // Whether two events have the same feeds.
@@ -49,7 +31,9 @@ fn feed_alike(a: &Record, b: &Record) -> bool {
 // Whether two entries are the same event.
 fn is_same(pair: (&Entry, &Entry)) -> bool {
     match pair {
-        (Entry::Event(a), Entry::Event(b)) => told(a) == told(b) && feed_alike(a, b),
+        (Entry::Event(a), Entry::Event(b)) => told(a) == told(b)
+            && a.body == b.body
+            && feed_alike(a, b),
         _ => false,
     }
 }
@@ -60,26 +44,26 @@ fn are_same(a: &[Entry], b: &[Entry]) -> bool {
 }
 
 // What the traders tell of themselves, in their order.
-fn tellings(alloc: Global, kernel: &Kernel) -> Result<Vec<TraderTold>, Memory> {
+fn tellings(rt: &impl Abort, alloc: Global, kernel: &Kernel) -> Vec<TraderTold> {
     let mut told = Vec::new(alloc);
     for agent in 1..kernel.agents() {
-        told.push(kernel.trader(agent))?;
+        holds(rt, told.push(kernel.trader(agent)).is_ok());
     }
-    Ok(told)
+    told
 }
 
 // Whether the same messages wait, in one order.
-fn wait_alike(alloc: Global, a: &Kernel, b: &Kernel) -> Result<bool, Memory> {
-    let here = a.messages(alloc)?;
-    let there = b.messages(alloc)?;
-    Ok(here.iter().copied().eq(there.iter().copied()))
+fn wait_alike(rt: &impl Abort, alloc: Global, a: &Kernel, b: &Kernel) -> bool {
+    let here = waiting(rt, alloc, a);
+    let there = waiting(rt, alloc, b);
+    here.iter().copied().eq(there.iter().copied())
 }
 
 // Whether the traders tell the same of themselves.
-fn tell_alike(alloc: Global, a: &Kernel, b: &Kernel) -> Result<bool, Memory> {
-    let here = tellings(alloc, a)?;
-    let there = tellings(alloc, b)?;
-    Ok(here.iter().copied().eq(there.iter().copied()))
+fn tell_alike(rt: &impl Abort, alloc: Global, a: &Kernel, b: &Kernel) -> bool {
+    let here = tellings(rt, alloc, a);
+    let there = tellings(rt, alloc, b);
+    here.iter().copied().eq(there.iter().copied())
 }
 
 fn noise() -> Kind
@@ -121,8 +105,8 @@ fn maker() -> Kind
 }
 
 // A market of one trader of each kind.
-pub(crate) fn crowd(alloc: Global) -> Result<Opening, Memory>
-    ensures { IfOk result IsOpening }
+pub(crate) fn crowd(rt: &impl Abort, alloc: Global) -> Opening
+    ensures { IsOpening result }
 {
     let kinds = [
         (Kind::Watcher, 1000),
@@ -131,18 +115,18 @@ pub(crate) fn crowd(alloc: Global) -> Result<Opening, Memory>
         (momentum(), 1003),
         (maker(), 1000),
     ];
-    market(alloc, 60_000_000, 2, &kinds)
+    market(rt, alloc, 60_000_000, 2, &kinds)
 }
 
 // A state after 500 events, on whose way latencies, a trader and the value were edited.
-fn halfway(alloc: Global, o: &Opening) -> Result<Kernel, Memory>
+fn halfway(rt: &impl Abort, alloc: Global, o: &Opening) -> Kernel
     requires { IsOpening o.now }
-    ensures { IfOk result (λ k. Fits o.now k) }
+    ensures { Fits o.now result }
 {
     let mut trace = Trace::new(alloc);
     let silence = Edit::Silence { agent: 1 };
     let edits = [(100, latency(7, 9)), (200, silence), (300, shifted(250))];
-    branch(alloc, o, &edits, 500, &mut trace)
+    branch(rt, alloc, o, &edits, 500, &mut trace)
 }
 
 // A run to its end: why it ended, its state, and its trace.
@@ -153,43 +137,40 @@ pub(crate) struct Gone {
     pub(crate) trace: Trace,
 }
 
-pub(crate) fn gone_on(alloc: Global, o: &Opening, mut kernel: Kernel) -> Result<Gone, Memory>
+pub(crate) fn gone_on(rt: &impl Abort, alloc: Global, o: &Opening, mut kernel: Kernel) -> Gone
     requires { Fits o.now kernel }
 {
     let mut trace = Trace::new(alloc);
-    let end = run(alloc, o, &mut kernel, 100_000, &mut trace)?;
-    Ok(Gone { end, kernel, trace })
+    let end = run(rt, alloc, o, &mut kernel, 100_000, &mut trace);
+    Gone { end, kernel, trace }
 }
 
-// A kernel and its copy, each run to its end.
-fn both(alloc: Global, o: &Opening) -> Result<(Gone, Gone), Memory>
-    requires { IsOpening o.now }
+// An equal kernel.
+fn copied(rt: &impl Abort, alloc: Global, kernel: &Kernel) -> Kernel
+    ensures { result ≡ kernel.now }
 {
-    let kernel = halfway(alloc, o)?;
-    let copy = kernel.copy(alloc)?;
-    let here = gone_on(alloc, o, kernel)?;
-    let there = gone_on(alloc, o, copy)?;
-    Ok((here, there))
+    let Ok(copy) = kernel.copy(alloc) else {
+        panic!(rt; "out of memory");
+    };
+    copy
 }
 
 // Whether two runs ended in one state after the same events.
-pub(crate) fn are_alike(alloc: Global, a: &Gone, b: &Gone) -> Result<bool, Memory> {
-    let waiting = wait_alike(alloc, &a.kernel, &b.kernel)?;
-    let traders = tell_alike(alloc, &a.kernel, &b.kernel)?;
-    let counts = a.kernel.counts() == b.kernel.counts();
-    let events = are_same(a.trace.as_slice(), b.trace.as_slice());
-    Ok(waiting && traders && counts && events)
+pub(crate) fn are_alike(rt: &impl Abort, alloc: Global, a: &Gone, b: &Gone) -> bool {
+    wait_alike(rt, alloc, &a.kernel, &b.kernel)
+        && tell_alike(rt, alloc, &a.kernel, &b.kernel)
+        && a.kernel.counts() == b.kernel.counts()
+        && are_same(a.trace.as_slice(), b.trace.as_slice())
 }
 
 #[test]
 fn a_copy_goes_on_as_its_kernel_does(rt: HostRuntime) {
     let alloc = rt.alloc();
-    let Ok(o) = crowd(alloc) else {
-        panic!(rt; "out of memory");
-    };
-    let Ok((a, b)) = both(alloc, &o) else {
-        panic!(rt; "out of memory");
-    };
+    let o = crowd(&rt, alloc);
+    let kernel = halfway(&rt, alloc, &o);
+    let copy = copied(&rt, alloc, &kernel);
+    let a = gone_on(&rt, alloc, &o, kernel);
+    let b = gone_on(&rt, alloc, &o, copy);
     holds(&rt, a.end == Some(End::Closed) && a.kernel.events() > 1000);
-    holds(&rt, b.end == a.end && are_alike(alloc, &a, &b) == Ok(true));
+    holds(&rt, b.end == a.end && are_alike(&rt, alloc, &a, &b));
 }

@@ -2,44 +2,45 @@
 
 ghost use Rattle.kernel_core.specs.Step.{Fits};
 
-use super::one_watcher;
+use super::{one_watcher, opened};
 use crate::facts::{equal, holds};
 use kernel_core::{Kernel, Opening, Stepped};
-use market_types::{End, Memory, Trace};
+use market_types::{End, Trace};
 use outside::{Counted, Steps};
 use std::alloc::Global;
+use std::process::Abort;
 
 // One step, and by how much the counter rose.
 fn stepped(
+    rt: &impl Abort,
     alloc: Global,
     o: &Opening,
     kernel: &mut Kernel,
     trace: &mut Trace,
-) -> Result<(Stepped, u64), Memory>
+) -> (Stepped, u64)
     requires { Fits o.now kernel.old }
     ensures { Fits o.now kernel.new }
 {
     let mut steps: Steps<Counted> = Steps::new();
     let answer = kernel.step(alloc, o, trace, &mut steps);
     let ticks = steps.close();
-    Ok((answer?, ticks))
+    let Ok(told) = answer else {
+        panic!(rt; "out of memory");
+    };
+    (told, ticks)
 }
 
 #[test]
 fn a_step_is_one_event_and_one_tick(rt: HostRuntime) {
     let alloc = rt.alloc();
-    let Ok(o) = one_watcher(alloc, 1005) else {
-        panic!(rt; "out of memory");
-    };
+    let o = one_watcher(&rt, alloc, 1005);
     let mut trace = Trace::new(alloc);
-    let Ok(mut kernel) = Kernel::open(alloc, &o) else {
-        panic!(rt; "out of memory");
-    };
-    let first = stepped(alloc, &o, &mut kernel, &mut trace);
-    let second = stepped(alloc, &o, &mut kernel, &mut trace);
-    let third = stepped(alloc, &o, &mut kernel, &mut trace);
-    holds(&rt, first == Ok((Stepped::Event(1), 1)));
-    holds(&rt, second == Ok((Stepped::Event(2), 1)));
-    holds(&rt, third == Ok((Stepped::Ended(End::Closed), 0)));
+    let mut kernel = opened(&rt, alloc, &o);
+    let first = stepped(&rt, alloc, &o, &mut kernel, &mut trace);
+    let second = stepped(&rt, alloc, &o, &mut kernel, &mut trace);
+    let third = stepped(&rt, alloc, &o, &mut kernel, &mut trace);
+    holds(&rt, first == (Stepped::Event(1), 1));
+    holds(&rt, second == (Stepped::Event(2), 1));
+    holds(&rt, third == (Stepped::Ended(End::Closed), 0));
     equal(&rt, trace.len(), 2);
 }

@@ -6,6 +6,6 @@ use Rattle.market_floor.proofs.Halting.{halting-opens}
 use Rattle.kernel_tests.proofs.market_floor_tests.halting_opening.Goals as goal
 
 pub returns-clause-opening : goal.returns-clause-opening
-returns-clause-opening c =
-    let value : record c.in_ok-o.o { dated = c.in_ok-dated.dated } ≡ halting = search rules in
+returns-clause-opening g c =
+    let value : record c.in-Ok-opening.o { dated = c.halts.result } ≡ halting = search rules in
     subst (λ (o : Opening). IsOpening o) (sym value) (halting-opens c.markets_are_openings.ensures)

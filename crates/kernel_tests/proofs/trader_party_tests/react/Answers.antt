@@ -3,8 +3,8 @@ use Rattle.std.proofs.lemmas.Int.{ints}
 use Rattle.market_types.specs.declared.account.TraderTold.{TraderTold}
 use Rattle.kernel_tests.proofs.trader_party_tests.react.Goals as goal
 
-pub react-requires-clause-few : goal.react-requires-clause-few
-react-requires-clause-few g c = record {
+pub react-answer-requires-clause-few : goal.react-answer-requires-clause-few
+react-answer-requires-clause-few g c = record {
   tokens = omega (arith, ap (λ (t : TraderTold). t.tokens) c.told-told.ensures.value);
   draws = omega (arith, ap (λ (t : TraderTold). t.draws) c.told-told.ensures.value);
   quotes = omega (arith, ap (λ (t : TraderTold). t.quotes) c.told-told.ensures.value);

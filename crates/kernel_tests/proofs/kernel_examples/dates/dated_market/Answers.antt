@@ -7,11 +7,11 @@ use Rattle.kernel_tests.proofs.Dated.{dated-opens, later-ticks-dated}
 use Rattle.kernel_tests.proofs.kernel_examples.dates.dated_market.Goals as goal
 
 pub returns : goal.returns
-returns c =
-    let o : Opening = c.in_ok-o.o in
-    let made = c.in_ok-o.ensures.made in
+returns g c =
+    let o : Opening = c.market-o.result in
+    let made = c.market-o.ensures.made in
     let start : o.start ≤ 1500 = omega (arith, ap (λ (q : Opening). q.start) made) in
     let close : 1500 ≤ o.close = omega (arith, ap (λ (q : Opening). q.close) made) in
     let some : 0 < length o.stocks = omega (arith, ap (λ (q : Opening). length q.stocks) made) in
-    let is : c.in_ok-dated.dated ≡ later_ticks = c.in_ok-dated.ensures in
-    subst (λ (ds : List Dated). IsOpening (record o { dated = ds })) (sym is) (dated-opens o later_ticks c.in_ok-o.ensures.opening (later-ticks-dated o start close some))
+    let is : c.later_ticks.result ≡ later_ticks = c.later_ticks.ensures in
+    subst (λ (ds : List Dated). IsOpening (record o { dated = ds })) (sym is) (dated-opens o later_ticks c.market-o.ensures.opening (later-ticks-dated o start close some))
