@@ -2,7 +2,6 @@ use Rattle.std.proofs.Common.{◌≡◌, ◌∙◌, ℕ, List, length, map, ap, 
 use Rattle.std.proofs.lemmas.List.{length-map}
 use Rattle.agent_shell.specs.declared.setting.Kind.{Kind}
 use Rattle.agent_shell.specs.declared.setting.TraderSetting.{TraderSetting}
-use Rattle.market_floor.specs.declared.opening.Opening.{Opening}
 use Rattle.market_floor.specs.Opening.{IsOpening, IsTraderOf}
 use Rattle.market_floor.specs.OpeningWorked.{market_of, trader}
 use Rattle.kernel_tests.proofs.Testing.{kinds-admitted}
