@@ -13,8 +13,9 @@ use crate::index::{ReferenceEntry, TokenEntry, enter_reference, enter_token};
 use crate::levels::{Half, Queue, best_in, fits, is_met, join};
 use crate::lowering::{lower_at, take_first};
 use crate::resting::{Best, Fill, Resting};
+use crate::room::{copied_half, copied_two, make_room_in_half, make_room_in_two};
 use crate::search::{crossing_in, held_at, open_of, order_of};
-use market_types::{AgentNo, Memory, Side, Token, copied};
+use market_types::{AgentNo, Memory, Side, Token};
 use std::alloc::Global;
 use std::marker::Model;
 
@@ -124,27 +125,19 @@ impl Book {
     pub fn copy(&self, alloc: Global) -> Result<Book, Memory>
         ensures { IfOk result (λ b. b.list ≡ self.now.list) }
     {
-        let orders = copied(alloc, self.orders.as_slice())?;
-        let nexts = copied(alloc, self.nexts.as_slice())?;
-        let buys = copied(alloc, self.buys.shown.as_slice())?;
-        let sells = copied(alloc, self.sells.shown.as_slice())?;
-        let hidden_buys = copied(alloc, self.buys.hidden.as_slice())?;
-        let hidden_sells = copied(alloc, self.sells.hidden.as_slice())?;
-        let references = copied(alloc, self.references.as_slice())?;
-        let tokens = copied(alloc, self.tokens.as_slice())?;
+        let (orders, nexts) = copied_two(alloc, self.orders.as_slice(), self.nexts.as_slice())?;
+        let buys = copied_half(alloc, &self.buys)?;
+        let sells = copied_half(alloc, &self.sells)?;
+        let (references, tokens) = copied_two(
+            alloc,
+            self.references.as_slice(),
+            self.tokens.as_slice(),
+        )?;
         Ok(Book {
             orders,
             nexts,
-            buys: Half {
-                shown: buys,
-                hidden: hidden_buys,
-                count: self.buys.count,
-            },
-            sells: Half {
-                shown: sells,
-                hidden: hidden_sells,
-                count: self.sells.count,
-            },
+            buys,
+            sells,
             references,
             tokens,
             spare: 0,
@@ -367,25 +360,15 @@ impl Book {
         if n <= self.spare {
             return Ok(());
         }
-        let orders = self.orders.reserve(n);
-        let nexts = self.nexts.reserve(n);
-        let buys = self.buys.shown.reserve(n);
-        let sells = self.sells.shown.reserve(n);
-        let hidden_buys = self.buys.hidden.reserve(n);
-        let hidden_sells = self.sells.hidden.reserve(n);
-        let references = self.references.reserve(n);
-        let tokens = self.tokens.reserve(n);
-        match (orders, nexts, buys, sells) {
-            (Ok(()), Ok(()), Ok(()), Ok(())) => {}
-            _ => return Err(Memory),
+        let orders = make_room_in_two(&mut self.orders, &mut self.nexts, n);
+        let buys = make_room_in_half(&mut self.buys, n);
+        let sells = make_room_in_half(&mut self.sells, n);
+        let entries = make_room_in_two(&mut self.references, &mut self.tokens, n);
+        if orders & buys & sells & entries {
+            self.spare = n;
+            return Ok(());
         }
-        match (hidden_buys, hidden_sells, references, tokens) {
-            (Ok(()), Ok(()), Ok(()), Ok(())) => {
-                self.spare = n;
-                Ok(())
-            }
-            _ => Err(Memory),
-        }
+        Err(Memory)
     }
 
     // A book with the same orders and without those that have left, which keeps places for `n` more.

@@ -15,6 +15,7 @@ pub mod laws;
 mod levels;
 mod lowering;
 mod resting;
+mod room;
 mod search;
 pub mod worked;
 

@@ -1,6 +1,7 @@
 //! What the definitions give on worked examples.
 
-ghost use Rattle.std.specs.Prelude.{◌≡◌, ◌∷◌, [], Some, None, true, false};
+ghost use Rattle.std.specs.Prelude.{◌≡◌, ◌∷◌, [], Some, None, true, false, codes};
+ghost use Rattle.price_time_book.specs.Index.{by_pair};
 ghost use Rattle.price_time_book.specs.Matched.{fill_of, after_fill, matched};
 ghost use Rattle.price_time_book.specs.Next.{beats, best_at, crossing_of, next_of};
 ghost use Rattle.price_time_book.specs.Orders.{order_with, changed, reduced};
@@ -10,6 +11,7 @@ ghost use Rattle.price_time_book.specs.Sides.{depth_of};
 ghost use Rattle.price_time_book.specs.Worked.{bought, dear, early, given, late, three_sells, veiled, veiled_sells};
 
 use market_types::Side;
+use std::cmp::Ordering;
 
 /// Three sells are swept by an order to buy 700 shares at 10.01 dollars: the two at 10.00 come first,
 /// the earlier of them before the later, and 100 shares stay unmatched.
@@ -92,4 +94,15 @@ pub fn queues()
     ensures best_hidden { best_in (hidden_of Side.Sell) veiled_sells ≡ Some (record { price = 100000; shares = 200 }) }
     ensures by_price { first_priced Side.Sell veiled_sells ≡ Some (veiled (early 200)) }
     ensures best_by_price { best_priced Side.Sell veiled_sells ≡ Some (record { price = 100000; shares = 500 }) }
+{}
+
+/// Keys of agent and token go by the token's last eight bytes first: of two tokens of one agent the one with the lesser
+/// end comes before the other, and so does a token of agent 9 before one of agent 1. Where the last eight bytes are
+/// equal the first eight decide, and where the tokens are equal the agents do.
+pub fn tokens_in_order()
+    ensures one_agent { by_pair (1, codes "T0001000000002") (1, codes "T0001000000003") ≡ Ordering.Less }
+    ensures last_bytes { by_pair (9, codes "T0009000000002") (1, codes "T0001000000003") ≡ Ordering.Less }
+    ensures first_bytes { by_pair (1, codes "T0001000000002") (2, codes "T0002000000002") ≡ Ordering.Less }
+    ensures agents { by_pair (1, codes "T0001000000002") (2, codes "T0001000000002") ≡ Ordering.Less }
+    ensures same { by_pair (1, codes "T0001000000002") (1, codes "T0001000000002") ≡ Ordering.Equal }
 {}
