@@ -45,19 +45,22 @@ impl SeatView {
     fn copy(&self, alloc: Global) -> Result<SeatView, Memory>
         ensures { IfOk result (λ view. view ≡ self.now) }
     {
+        let (numbers, claims) = copied_two(alloc, &self.numbers, &self.claims)?;
+        let (known, found) = copied_two(alloc, &self.known, &self.found)?;
+        let (turns, saw) = copied_two(alloc, &self.turns, &self.saw)?;
         Ok(SeatView {
-            numbers: self.numbers.copy(alloc)?,
+            numbers,
             spent: self.spent,
-            claims: self.claims.copy(alloc)?,
+            claims,
             counts: self.counts,
-            turns: self.turns.copy(alloc)?,
+            turns,
             loan: self.loan,
-            known: self.known.copy(alloc)?,
+            known,
             done_seen: self.done_seen,
             stopped: self.stopped,
-            found: self.found.copy(alloc)?,
+            found,
             loads: self.loads,
-            saw: self.saw.copy(alloc)?,
+            saw,
         })
     }
 
@@ -174,15 +177,47 @@ impl SeatView {
         ensures { IfOk result (λ view. view ≡ joined_with other.now self.now) }
     {
         let mut view = self.copy(alloc)?;
-        view.numbers.append(&other.numbers)?;
-        view.claims.append(&other.claims)?;
+        append_two(
+            &mut view.numbers,
+            &other.numbers,
+            &mut view.claims,
+            &other.claims,
+        )?;
+        append_two(&mut view.known, &other.known, &mut view.found, &other.found)?;
         view.counts += other.counts;
-        view.known.append(&other.known)?;
         view.done_seen = view.done_seen.max(other.done_seen);
         view.stopped |= other.stopped;
-        view.found.append(&other.found)?;
         Ok(view)
     }
+}
+
+// Copies of two lists.
+fn copied_two<A: Copy + Drop, B: Copy + Drop>(
+    alloc: Global,
+    first: &Sequence<A>,
+    second: &Sequence<B>,
+) -> Result<(Sequence<A>, Sequence<B>), Memory>
+    ensures first { IfOk result (λ v. v.0 ≡ first.now) }
+    ensures second { IfOk result (λ v. v.1 ≡ second.now) }
+{
+    let one = first.copy(alloc)?;
+    let two = second.copy(alloc)?;
+    Ok((one, two))
+}
+
+// Appends to each of two lists a copy of each item of another.
+fn append_two<A: Copy + Drop, B: Copy + Drop>(
+    first: &mut Sequence<A>,
+    more: &Sequence<A>,
+    second: &mut Sequence<B>,
+    others: &Sequence<B>,
+) -> Result<(), Memory>
+    ensures first { IfOk result (λ _. first.new ≡ first.old ++ more.now) }
+    ensures second { IfOk result (λ _. second.new ≡ second.old ++ others.now) }
+{
+    first.append(more)?;
+    second.append(others)?;
+    Ok(())
 }
 
 // Adds a key to those that are known, where it is sole.
