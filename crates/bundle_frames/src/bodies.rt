@@ -168,13 +168,11 @@ pub(crate) fn executed(
     ensures { result ≡ spelling (reply_wire (reply.Executed time token.now shares price flag match_number)) }
 {
     let mut body = [0; 40];
-    body[0] = b'E';
-    body[1..9].copy_from_slice(&time.to_be_bytes());
     body[23..27].copy_from_slice(&shares.to_be_bytes());
     body[27..31].copy_from_slice(&price.to_be_bytes());
     body[31] = flag;
     body[32..40].copy_from_slice(&match_number.to_be_bytes());
-    body[9..23].copy_from_slice(&token.0);
+    body[0..23].copy_from_slice(&answer_start(b'E', time, token));
     body
 }
 
