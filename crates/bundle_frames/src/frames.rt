@@ -1,8 +1,9 @@
 //! The fixed fields of each frame in bytes.
 
-ghost use Rattle.std.specs.Prelude.{◌≡◌, ◌<◌, ◌/◌, ◌%◌, ◌^◌, length};
+ghost use Rattle.std.specs.Prelude.{◌≡◌, ◌<◌, ◌/◌, ◌%◌, ◌^◌, ◌∷◌, ◌++◌, [], length};
 ghost use Rattle.std.specs.Int.{cast_unsigned, w64, w128};
 ghost use Rattle.market_types.specs.Told.{edit_told};
+ghost use Rattle.wire_fields.specs.Numbers.{number_bytes};
 ghost use Rattle.wire_fields.specs.Wire.{spelling};
 ghost use Rattle.bundle_frames.specs.Wires.{header_wire, branch_wire, head_wire, edit_wire, counts_wire, stock_wire, order_wire, agent_wire, end_wire, position_bytes, letter_of_delivery, letter_of_silence, letter_of_order, letter_of_body, waiting_wire};
 
@@ -51,22 +52,49 @@ fn delivery_letter(put_back: bool) -> u8
     if put_back { b'P' } else { b'D' }
 }
 
-// An event, before its body, of which this letter tells the kind. It is written field by field at the offsets of its layout,
-// since most frames are events.
+// The letter, the number and the time of an event.
+fn event_start(h: &EventHead) -> [u8; 13]
+    ensures { result ≡ 101 ∷ (number_bytes 4 h.now.number ++ number_bytes 8 h.now.time) }
+{
+    let mut part = [0; 13];
+    part[0] = b'e';
+    part[1..5].copy_from_slice(&h.number.to_be_bytes());
+    part[5..13].copy_from_slice(&h.time.to_be_bytes());
+    part
+}
+
+// Which message an event is of, and between whom.
+fn event_way(h: &EventHead) -> [u8; 12]
+    ensures { result ≡ number_bytes 8 h.now.seq ++ number_bytes 2 h.now.from ++ number_bytes 2 h.now.to }
+{
+    let mut part = [0; 12];
+    part[0..8].copy_from_slice(&h.seq.to_be_bytes());
+    part[8..10].copy_from_slice(&h.from.to_be_bytes());
+    part[10..12].copy_from_slice(&h.to.to_be_bytes());
+    part
+}
+
+// How an event went, and the letter of its body.
+fn event_end(h: &EventHead, letter: u8) -> [u8; 18]
+    ensures { result ≡ letter_of_delivery h.now.put_back ∷ (number_bytes 8 h.now.until ++ number_bytes 8 (cast_unsigned w64 h.now.fee) ++ (letter ∷ [])) }
+{
+    let mut part = [0; 18];
+    part[0] = delivery_letter(h.put_back);
+    part[1..9].copy_from_slice(&h.until.to_be_bytes());
+    part[9..17].copy_from_slice(&h.fee.to_be_bytes());
+    part[17] = letter;
+    part
+}
+
+// An event, before its body, of which this letter tells the kind. It is written at the offsets of its layout, since most
+// frames are events.
 pub(crate) fn event_head(h: &EventHead, letter: u8) -> [u8; 43]
     ensures { result ≡ spelling (head_wire h.now letter) }
 {
     let mut head = [0; 43];
-    head[0] = b'e';
-    head[1..5].copy_from_slice(&h.number.to_be_bytes());
-    head[5..13].copy_from_slice(&h.time.to_be_bytes());
-    head[13..21].copy_from_slice(&h.seq.to_be_bytes());
-    head[21..23].copy_from_slice(&h.from.to_be_bytes());
-    head[23..25].copy_from_slice(&h.to.to_be_bytes());
-    head[25] = delivery_letter(h.put_back);
-    head[26..34].copy_from_slice(&h.until.to_be_bytes());
-    head[34..42].copy_from_slice(&h.fee.cast_unsigned().to_be_bytes());
-    head[42] = letter;
+    head[0..13].copy_from_slice(&event_start(h));
+    head[13..25].copy_from_slice(&event_way(h));
+    head[25..43].copy_from_slice(&event_end(h, letter));
     head
 }
 

@@ -5,24 +5,14 @@ use Rattle.bundle_frames.proofs.bodies.accepted.Goals as goal
 pub returns : goal.returns
 returns c =
     simp (
-      c.copy_from_slice-11.ensures.after,
-      c.copy_from_slice-10.ensures.after,
-      c.copy_from_slice-9.ensures.after,
-      c.copy_from_slice-8.ensures.after,
-      c.copy_from_slice-7.ensures.after,
-      c.copy_from_slice-6.ensures.after,
-      c.copy_from_slice-5.ensures.after,
       c.copy_from_slice-4.ensures.after,
       c.copy_from_slice-3.ensures.after,
       c.copy_from_slice-2.ensures.after,
       c.copy_from_slice.ensures.after,
-      c.to_be_bytes.ensures,
-      c.to_be_bytes-2.ensures,
-      c.to_be_bytes-3.ensures,
-      c.to_be_bytes-4.ensures,
-      c.to_be_bytes-5.ensures,
-      c.to_be_bytes-6.ensures,
-      c.side_letter.ensures,
+      c.answer_start.ensures,
+      c.asked.ensures,
+      c.terms.ensures,
+      c.accepted_end.ensures,
       div-one,
     )
     refl
