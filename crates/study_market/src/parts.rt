@@ -2,7 +2,8 @@
 
 ghost use Rattle.std.specs.Prelude.{◌≡◌, IfOk};
 ghost use Rattle.toml.specs.View.{table_view};
-ghost use Rattle.study_market.specs.Stocks.{stock_rules_of};
+ghost use Rattle.study_market.specs.Stocks.{series_of, stock_rules_of};
+ghost use Rattle.study_market.specs.Market.{latencies_of};
 ghost use Rattle.study_market.specs.Changes.{changes_of};
 ghost use Rattle.study_market.specs.Traders.{traders_of};
 ghost use Rattle.study_market.specs.Opening.{opening_of, IsAccepted};
@@ -15,11 +16,28 @@ use crate::series::all_series;
 use crate::tables::SeriesTables;
 use agent_shell::TraderSetting;
 use exchange_agent::StockRules;
+use fundamental_series::Series;
+use latency_model::Groups;
 use market_floor::Opening;
 use market_rules::DatedList;
 use market_types::{Memory, Sequence};
 use std::alloc::Global;
 use study_file::Table;
+
+// The latencies between the groups of an accepted study, and the values of its stocks.
+fn groups_and_series(
+    alloc: Global,
+    table: &Table,
+    rows: &SeriesTables,
+) -> Result<(Groups, Sequence<Series>), Memory>
+    requires { IsAccepted (table_view table.now) rows.now }
+    ensures groups { IfOk result (λ r. r.0 ≡ latencies_of (table_view table.now)) }
+    ensures series { IfOk result (λ r. r.1 ≡ series_of (table_view table.now) rows.now) }
+{
+    let groups = latencies(alloc, table)?;
+    let series = all_series(alloc, table, rows)?;
+    Ok((groups, series))
+}
 
 /// What a run of an accepted study starts from, by its tables, the rows of its series file and what was read of it.
 pub fn opening(
@@ -36,16 +54,17 @@ pub fn opening(
     requires traders { traders.items ≡ traders_of (table_view table.now) }
     ensures { IfOk result (λ o. o ≡ opening_of (table_view table.now) rows.now) }
 {
+    let (groups, series) = groups_and_series(alloc, table, rows)?;
     Ok(Opening {
         start: start(table),
         close: close(table),
         limit: limit(table),
         key: key(table),
-        groups: latencies(alloc, table)?,
+        groups,
         exchange_group: exchange_group(table),
         exchange_delay: exchange_natural(table, "delay"),
         stocks: Sequence::new(stocks),
-        series: all_series(alloc, table, rows)?,
+        series,
         dated,
         hidden: takes_hidden_orders(table),
         traders: Sequence::new(traders),
