@@ -8,7 +8,7 @@ ghost use Rattle.exchange_agent.specs.Sound.{IsWithin};
 use crate::listing::Listing;
 use crate::remembered::Remembered;
 use crate::told::{Counts, StockRules};
-use market_types::{Memory, Money};
+use market_types::{Memory, Money, copied};
 use std::alloc::Global;
 use std::marker::Model;
 
@@ -111,8 +111,7 @@ impl Exchange {
         ensures { IfOk result (λ x. x ≡ self.now) }
     {
         let stocks = copies(alloc, self.stocks.as_slice())?;
-        let mut cash = Vec::new(alloc);
-        cash.extend_from_slice(self.cash.as_slice())?;
+        let cash = copied(alloc, self.cash.as_slice())?;
         let pairs = self.pairs.copy(alloc)?;
         Ok(Exchange {
             stocks,

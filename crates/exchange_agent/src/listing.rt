@@ -9,7 +9,7 @@ ghost use Rattle.exchange_agent.specs.View.{stock_of};
 use crate::told::{StockRules, StockTold};
 use crate::trading::Trading;
 use market_rules::{FeeTable, TickTable};
-use market_types::{Memory, Quote, Side, StockNo, Symbol};
+use market_types::{Memory, Quote, Side, StockNo, Symbol, copied};
 use price_time_book::{Best, Book, Resting};
 use std::alloc::Global;
 
@@ -66,8 +66,7 @@ impl Listing {
     {
         let ticks = self.ticks.copy(alloc)?;
         let book = self.book.copy(alloc)?;
-        let mut positions = Vec::new(alloc);
-        positions.extend_from_slice(self.positions.as_slice())?;
+        let positions = copied(alloc, self.positions.as_slice())?;
         Ok(Listing {
             symbol: self.symbol,
             ticks,

@@ -39,6 +39,16 @@ pub fn centre_of(quote: &Quote, value: u32) -> u32
     }
 }
 
+// A level's steps from the nearest one.
+fn steps_of(step: u32, i: u32) -> u64
+    requires step { step ≤ 1000000000 }
+    requires level { i < 8 }
+    ensures value { result ≡ i * step }
+    ensures high { result ≤ 7000000000 }
+{
+    u64::from(i) * u64::from(step)
+}
+
 // How far a level is from the centre.
 fn distance_of(levels: &Levels, i: u32) -> i64
     requires levels { IsLevels levels.now }
@@ -46,7 +56,7 @@ fn distance_of(levels: &Levels, i: u32) -> i64
     ensures value { result ≡ pos (distance_of levels.now i) }
     ensures high { result ≤ℤ pos 8000000000 }
 {
-    i64::from(levels.half) + i64::from(i) * i64::from(levels.step)
+    (u64::from(levels.half) + steps_of(levels.step, i)) as i64
 }
 
 fn extra_of(levels: &Levels, i: u32) -> Time

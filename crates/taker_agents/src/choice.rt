@@ -1,6 +1,8 @@
 //! What a trader makes of a quote of a stock that trades.
 
-ghost use Rattle.std.specs.Prelude.{◌≡◌, ◌<◌, ◌≤◌, ◌+◌, ◌^◌, pos, ◌≤ℤ◌, Some, IfSome, [], ◌∷◌};
+ghost use Rattle.std.specs.Prelude.{◌≡◌, ◌<◌, ◌≤◌, ◌+◌, ◌^◌, ◌==◌, ◌&&◌, not, nat_le, if◌then◌else◌, pos, ◌+ℤ◌, ◌-ℤ◌, ◌≤ℤ◌, Some, IfSome, [], ◌∷◌};
+ghost use Rattle.market_types.specs.declared.order.Side.TheVariants.{Buy as buying, Sell as selling};
+ghost use Rattle.market_rules.specs.Nearest.{down_of, up_of};
 ghost use Rattle.agent_shell.specs.Choice.{day_order, wishes_of};
 ghost use Rattle.agent_shell.specs.Decide.{choice_of};
 ghost use Rattle.agent_shell.specs.Noise.{noise_wish, price_or};
@@ -91,6 +93,36 @@ fn with_wish(draws: u64, wish: Wish) -> Choice
     }
 }
 
+// Whether the ask is the margin or more below a guess.
+fn is_cheap(ask: u32, margin: u32, guess: u32) -> bool
+    ensures { result ≡ (not (ask == 0) && nat_le (ask + margin) guess) }
+{
+    let low = u64::from(ask) + u64::from(margin);
+    ask != 0 && low <= u64::from(guess)
+}
+
+// Whether the bid is the margin or more above a guess.
+fn is_dear(bid: u32, margin: u32, guess: u32) -> bool
+    ensures { result ≡ (not (bid == 0) && nat_le (guess + margin) bid) }
+{
+    let high = u64::from(guess) + u64::from(margin);
+    bid != 0 && high <= u64::from(bid)
+}
+
+// The order that waits the margin away from a guess, on the side that a coin picks.
+fn waiting(view: &View, size: u32, margin: u32, guess: u32, coin: u32) -> Wish
+    ensures value { result ≡ (if coin == 0 then day_order buying size (down_of (sight_of view.now).bands (pos guess -ℤ pos margin)) 0 else day_order selling size (up_of (sight_of view.now).bands (pos guess +ℤ pos margin)) 0) }
+    ensures shares { result.shares ≡ size }
+{
+    if coin == 0 {
+        let price = view.ticks.down(i64::from(guess) - i64::from(margin));
+        day_order(Side::Buy, size, price)
+    } else {
+        let price = view.ticks.up(i64::from(guess) + i64::from(margin));
+        day_order(Side::Sell, size, price)
+    }
+}
+
 // What a trader on value makes of a quote, by its guess and a coin.
 fn value_choice(view: &View, quote: &Quote, size: u32, margin: u32, guess: u32, coin: u32) -> Choice
     requires size { 0 < size }
@@ -100,21 +132,13 @@ fn value_choice(view: &View, quote: &Quote, size: u32, margin: u32, guess: u32, 
     ensures few { result.draws ≤ 2 }
     ensures shares { IfSome result.wish (λ w. 0 < w.shares) }
 {
-    let low = u64::from(quote.ask) + u64::from(margin);
-    if quote.ask != 0 && low <= u64::from(guess) {
+    if is_cheap(quote.ask, margin, guess) {
         return with_wish(1, day_order(Side::Buy, size, i64::from(quote.ask)));
     }
-    let high = u64::from(guess) + u64::from(margin);
-    if quote.bid != 0 && high <= u64::from(quote.bid) {
+    if is_dear(quote.bid, margin, guess) {
         return with_wish(1, day_order(Side::Sell, size, i64::from(quote.bid)));
     }
-    if coin == 0 {
-        let price = view.ticks.down(i64::from(guess) - i64::from(margin));
-        with_wish(2, day_order(Side::Buy, size, price))
-    } else {
-        let price = view.ticks.up(i64::from(guess) + i64::from(margin));
-        with_wish(2, day_order(Side::Sell, size, price))
-    }
+    with_wish(2, waiting(view, size, margin, guess, coin))
 }
 
 /// What a trader makes of a quote.
