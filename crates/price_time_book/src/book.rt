@@ -13,9 +13,9 @@ use crate::index::{ReferenceEntry, TokenEntry, enter_reference, enter_token};
 use crate::levels::{Half, Queue, best_in, fits, is_met, join};
 use crate::lowering::{lower_at, take_first};
 use crate::resting::{Best, Fill, Resting};
-use crate::room::{copied_half, copied_two, make_room_in_half, make_room_in_two};
+use crate::room::{make_room_in_half, make_room_in_two};
 use crate::search::{crossing_in, held_at, open_of, order_of};
-use market_types::{AgentNo, Memory, Side, Token};
+use market_types::{AgentNo, Memory, Side, Token, copied};
 use std::alloc::Global;
 use std::marker::Model;
 
@@ -125,19 +125,27 @@ impl Book {
     pub fn copy(&self, alloc: Global) -> Result<Book, Memory>
         ensures { IfOk result (λ b. b.list ≡ self.now.list) }
     {
-        let (orders, nexts) = copied_two(alloc, self.orders.as_slice(), self.nexts.as_slice())?;
-        let buys = copied_half(alloc, &self.buys)?;
-        let sells = copied_half(alloc, &self.sells)?;
-        let (references, tokens) = copied_two(
-            alloc,
-            self.references.as_slice(),
-            self.tokens.as_slice(),
-        )?;
+        let orders = copied(alloc, self.orders.as_slice())?;
+        let nexts = copied(alloc, self.nexts.as_slice())?;
+        let buys = copied(alloc, self.buys.shown.as_slice())?;
+        let sells = copied(alloc, self.sells.shown.as_slice())?;
+        let hidden_buys = copied(alloc, self.buys.hidden.as_slice())?;
+        let hidden_sells = copied(alloc, self.sells.hidden.as_slice())?;
+        let references = copied(alloc, self.references.as_slice())?;
+        let tokens = copied(alloc, self.tokens.as_slice())?;
         Ok(Book {
             orders,
             nexts,
-            buys,
-            sells,
+            buys: Half {
+                shown: buys,
+                hidden: hidden_buys,
+                count: self.buys.count,
+            },
+            sells: Half {
+                shown: sells,
+                hidden: hidden_sells,
+                count: self.sells.count,
+            },
             references,
             tokens,
             spare: 0,

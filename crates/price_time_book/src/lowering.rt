@@ -286,75 +286,6 @@ fn give(
     }
 }
 
-// The first order of a side gives up to so many shares.
-fn give_first(
-    mine: Side,
-    orders: &mut Vec<Resting>,
-    half: &mut Half,
-    nexts: &[usize],
-    first: First,
-    shares: u32,
-) -> Fill
-    requires some { 0 < shares }
-    requires shown_level { first.shown ≡ true → first.level < vec_len half.old.shown }
-    requires hidden_level { first.shown ≡ false → first.level < vec_len half.old.hidden }
-    requires shown_placed { first.shown ≡ true → (d : Level) → IsOpenAt orders.old.items (key (shown_of mine) (slice_index_or half.old.shown.items first.level d).price) first.place }
-    requires hidden_placed { first.shown ≡ false → (d : Level) → IsOpenAt orders.old.items (key (hidden_of mine) (slice_index_or half.old.hidden.items first.level d).price) first.place }
-    requires shown { IsIndexed (shown_of mine) orders.old.items nexts.now half.old.shown.items }
-    requires hidden { IsIndexed (hidden_of mine) orders.old.items nexts.now half.old.hidden.items }
-    requires count { half.old.count ≡ depth_of mine (open_orders orders.old.items) }
-    requires orderly { IsOrderly (open_orders orders.old.items) }
-    ensures fill { result ≡ fill_of shares (slice_index_or orders.old.items first.place nothing) }
-    ensures gives { 0 < result.shares }
-    ensures filled { open_orders orders.new.items ≡ after_fill result (open_orders orders.old.items) }
-    ensures shown { IsIndexed (shown_of mine) orders.new.items nexts.now half.new.shown.items }
-    ensures hidden { IsIndexed (hidden_of mine) orders.new.items nexts.now half.new.hidden.items }
-    ensures others { (t : Queue) (ls : List Level) → t.side ≢ mine → IsIndexed t orders.old.items nexts.now ls → IsIndexed t orders.new.items nexts.now ls }
-    ensures lessened { AreLessened orders.old.items orders.new.items }
-    ensures count { half.new.count ≡ depth_of mine (open_orders orders.new.items) }
-    ensures other_count { (t : Side) → t ≢ mine →
-        depth_of t (open_orders orders.new.items) ≡ depth_of t (open_orders orders.old.items) }
-    ensures orderly { IsOrderly (open_orders orders.new.items) }
-    ensures small { IsSmall (open_orders orders.old.items) → IsSmall (open_orders orders.new.items) }
-    ensures orders_len { vec_len orders.new ≡ vec_len orders.old }
-    ensures orders_capacity { vec_capacity orders.new ≡ vec_capacity orders.old }
-    ensures shown_len { vec_len half.new.shown ≤ vec_len half.old.shown }
-    ensures shown_capacity { vec_capacity half.new.shown ≡ vec_capacity half.old.shown }
-    ensures hidden_len { vec_len half.new.hidden ≤ vec_len half.old.hidden }
-    ensures hidden_capacity { vec_capacity half.new.hidden ≡ vec_capacity half.old.hidden }
-{
-    if first.shown {
-        let queue = Queue {
-            side: mine,
-            shown: true,
-        };
-        return give(
-            queue,
-            orders,
-            &mut half.shown,
-            &mut half.count,
-            nexts,
-            first.level,
-            first.place,
-            shares,
-        );
-    }
-    let queue = Queue {
-        side: mine,
-        shown: false,
-    };
-    give(
-        queue,
-        orders,
-        &mut half.hidden,
-        &mut half.count,
-        nexts,
-        first.level,
-        first.place,
-        shares,
-    )
-}
-
 // The first order of a side gives up to so many shares to an incoming order of the other, if that one's limit allows.
 pub fn take_first(
     mine: Side,
@@ -396,7 +327,36 @@ pub fn take_first(
     if !is_within(side, limit, price) {
         return None;
     }
-    Some(give_first(mine, orders, half, nexts, first, shares))
+    if first.shown {
+        let queue = Queue {
+            side: mine,
+            shown: true,
+        };
+        return Some(give(
+            queue,
+            orders,
+            &mut half.shown,
+            &mut half.count,
+            nexts,
+            first.level,
+            first.place,
+            shares,
+        ));
+    }
+    let queue = Queue {
+        side: mine,
+        shown: false,
+    };
+    Some(give(
+        queue,
+        orders,
+        &mut half.hidden,
+        &mut half.count,
+        nexts,
+        first.level,
+        first.place,
+        shares,
+    ))
 }
 
 // The open order at a place keeps fewer open shares and another intended size.

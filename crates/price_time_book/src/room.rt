@@ -1,10 +1,8 @@
-//! Room for more in the vectors of a book, and copies of them.
+//! Room for more in the vectors of a book.
 
-ghost use Rattle.std.specs.Prelude.{◌≡◌, ◌≤◌, ◌+◌, IfOk, vec_len, vec_capacity, true};
+ghost use Rattle.std.specs.Prelude.{◌≡◌, ◌≤◌, ◌+◌, vec_len, vec_capacity, true};
 
 use crate::levels::Half;
-use market_types::{Memory, copied};
-use std::alloc::Global;
 
 // Makes room for `n` more items of a vector, and tells whether there is.
 fn make_room<T: Drop>(items: &mut Vec<T>, n: usize) -> bool
@@ -48,32 +46,4 @@ pub fn make_room_in_half(half: &mut Half, n: usize) -> bool
     ensures hidden_room { result ≡ true → vec_len half.new.hidden + n ≤ vec_capacity half.new.hidden }
 {
     make_room_in_two(&mut half.shown, &mut half.hidden, n)
-}
-
-// Copies of two lists.
-pub fn copied_two<A: Copy + Drop, B: Copy + Drop>(
-    alloc: Global,
-    first: &[A],
-    second: &[B],
-) -> Result<(Vec<A>, Vec<B>), Memory>
-    ensures first { IfOk result (λ v. v.0.items ≡ first.now) }
-    ensures second { IfOk result (λ v. v.1.items ≡ second.now) }
-{
-    let one = copied(alloc, first)?;
-    let two = copied(alloc, second)?;
-    Ok((one, two))
-}
-
-// A side with the same levels.
-pub fn copied_half(alloc: Global, half: &Half) -> Result<Half, Memory>
-    ensures shown { IfOk result (λ h. h.shown.items ≡ half.now.shown.items) }
-    ensures hidden { IfOk result (λ h. h.hidden.items ≡ half.now.hidden.items) }
-    ensures count { IfOk result (λ h. h.count ≡ half.now.count) }
-{
-    let (shown, hidden) = copied_two(alloc, half.shown.as_slice(), half.hidden.as_slice())?;
-    Ok(Half {
-        shown,
-        hidden,
-        count: half.count,
-    })
 }

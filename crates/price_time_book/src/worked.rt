@@ -96,9 +96,8 @@ pub fn queues()
     ensures best_by_price { best_priced Side.Sell veiled_sells ≡ Some (record { price = 100000; shares = 500 }) }
 {}
 
-/// Keys of agent and token go by the token's last eight bytes first: of two tokens of one agent the one with the lesser
-/// end comes before the other, and so does a token of agent 9 before one of agent 1. Where the last eight bytes are
-/// equal the first eight decide, and where the tokens are equal the agents do.
+/// Keys of agent and token go by the token's last eight bytes first: token 2 of any trader comes before token 3 of another.
+/// Where these are equal the first eight bytes decide, and where the tokens are equal the agents do.
 pub fn tokens_in_order()
     ensures one_agent { by_pair (1, codes "T0001000000002") (1, codes "T0001000000003") ≡ Ordering.Less }
     ensures last_bytes { by_pair (9, codes "T0009000000002") (1, codes "T0001000000003") ≡ Ordering.Less }

@@ -1,10 +1,12 @@
 use Rattle.std.proofs.Common.{◌≡◌, ◌<◌, List, Some, None, get_or, length, refl, sym, ap, ◌∙◌, subst, option_map}
 use Rattle.std.proofs.lemmas.List.{get_or_default}
+use Rattle.price_time_book.specs.declared.levels.Queue.{Queue}
 use Rattle.price_time_book.specs.declared.resting.Fill.{Fill}
 use Rattle.price_time_book.specs.declared.resting.Resting.{Resting}
-use Rattle.price_time_book.specs.Indexed.{nothing, open_orders}
+use Rattle.price_time_book.specs.Indexed.{IsIndexed, nothing, open_orders}
 use Rattle.price_time_book.specs.Matched.{fill_of}
 use Rattle.price_time_book.specs.Queues.{first_of, hidden_of, shown_of}
+use Rattle.price_time_book.proofs.Sides.{hidden_apart, shown_apart}
 use Rattle.price_time_book.proofs.Takes.{next_beyond, next_is, next_none, placed_seen, top_seen}
 use Rattle.price_time_book.proofs.lowering.take_first.Goals as goal
 
@@ -24,15 +26,40 @@ returns-then-not-is_within-clause-next c =
     let top = top_seen c.args.mine c.as_slice.result.now os i o seen same c.in_ok-first.ensures.first in
     sym (ap (option_map (fill_of c.args.shares)) (next_beyond c.args.side c.args.mine c.args.limit (open_orders os) o c.requires.side top (sym c.is_within.ensures ∙ c.if-not-is_within.true)))
 
-pub give_first-requires-clause-shown_placed : goal.give_first-requires-clause-shown_placed
-give_first-requires-clause-shown_placed c =
+pub give-requires-clause-place : goal.give-requires-clause-place
+give-requires-clause-place c =
+    let os = c.args.orders.now.items in
+    let i = c.in_ok-first.first.place in
+    let seen = c.as_slice.ensures.value in
     let ls = c.first_of.new.half.shown.items in
-    λ h. placed_seen (shown_of c.args.mine) c.as_slice.result.now c.args.orders.now.items ls ls c.in_ok-first.first.level c.in_ok-first.first.place c.as_slice.ensures.value refl (c.in_ok-first.ensures.shown_placed h)
+    placed_seen (shown_of c.args.mine) c.as_slice.result.now os ls ls c.in_ok-first.first.level i seen refl (c.in_ok-first.ensures.shown_placed c.if-first.true)
 
-pub give_first-requires-clause-hidden_placed : goal.give_first-requires-clause-hidden_placed
-give_first-requires-clause-hidden_placed c =
+pub returns-then-first-clause-next : goal.returns-then-first-clause-next
+returns-then-first-clause-next c =
+    let os = c.args.orders.now.items in
+    let i = c.in_ok-first.first.place in
+    let seen = c.as_slice.ensures.value in
+    let within : i < length os = subst (λ (w : List Resting). i < length w) seen c.in_ok-first.ensures.within in
+    let o = c.index.result.now in
+    let same : o ≡ get_or os i nothing = c.index.ensures ∙ get_or_default os i o nothing within in
+    let top = top_seen c.args.mine c.as_slice.result.now os i o seen same c.in_ok-first.ensures.first in
+    let next = next_is c.args.side c.args.mine c.args.limit (open_orders os) o c.requires.side top (sym c.is_within.ensures ∙ c.if-not-is_within.false) in
+    ap (λ (f : Fill). Some f) (c.give.ensures.fill ∙ ap (fill_of c.args.shares) (sym same)) ∙ sym (ap (option_map (fill_of c.args.shares)) next)
+
+pub returns-then-first-clause-hidden : goal.returns-then-first-clause-hidden
+returns-then-first-clause-hidden c =
+    c.give.ensures.others (hidden_of c.args.mine) c.first_of.new.half.hidden.items (hidden_apart c.args.mine c.args.mine) (subst (λ (w : List Resting). IsIndexed (hidden_of c.args.mine) w c.args.nexts.now c.first_of.new.half.hidden.items) c.as_slice.ensures.value c.first_of.ensures.hidden)
+
+pub returns-then-first-clause-others : goal.returns-then-first-clause-others
+returns-then-first-clause-others c = λ t ms n x. c.give.ensures.others t ms (λ e. n (ap (λ (r : Queue). r.side) e)) x
+
+pub give-requires-2-clause-place : goal.give-requires-2-clause-place
+give-requires-2-clause-place c =
+    let os = c.args.orders.now.items in
+    let i = c.in_ok-first.first.place in
+    let seen = c.as_slice.ensures.value in
     let ls = c.first_of.new.half.hidden.items in
-    λ h. placed_seen (hidden_of c.args.mine) c.as_slice.result.now c.args.orders.now.items ls ls c.in_ok-first.first.level c.in_ok-first.first.place c.as_slice.ensures.value refl (c.in_ok-first.ensures.hidden_placed h)
+    placed_seen (hidden_of c.args.mine) c.as_slice.result.now os ls ls c.in_ok-first.first.level i seen refl (c.in_ok-first.ensures.hidden_placed c.if-first.false)
 
 pub returns-clause-next : goal.returns-clause-next
 returns-clause-next c =
@@ -44,4 +71,11 @@ returns-clause-next c =
     let same : o ≡ get_or os i nothing = c.index.ensures ∙ get_or_default os i o nothing within in
     let top = top_seen c.args.mine c.as_slice.result.now os i o seen same c.in_ok-first.ensures.first in
     let next = next_is c.args.side c.args.mine c.args.limit (open_orders os) o c.requires.side top (sym c.is_within.ensures ∙ c.if-not-is_within.false) in
-    ap (λ (f : Fill). Some f) (c.give_first.ensures.fill ∙ ap (fill_of c.args.shares) (sym same)) ∙ sym (ap (option_map (fill_of c.args.shares)) next)
+    ap (λ (f : Fill). Some f) (c.give-2.ensures.fill ∙ ap (fill_of c.args.shares) (sym same)) ∙ sym (ap (option_map (fill_of c.args.shares)) next)
+
+pub returns-clause-shown : goal.returns-clause-shown
+returns-clause-shown c =
+    c.give-2.ensures.others (shown_of c.args.mine) c.first_of.new.half.shown.items (shown_apart c.args.mine c.args.mine) (subst (λ (w : List Resting). IsIndexed (shown_of c.args.mine) w c.args.nexts.now c.first_of.new.half.shown.items) c.as_slice.ensures.value c.first_of.ensures.shown)
+
+pub returns-clause-others : goal.returns-clause-others
+returns-clause-others c = λ t ms n x. c.give-2.ensures.others t ms (λ e. n (ap (λ (r : Queue). r.side) e)) x
