@@ -1,10 +1,11 @@
 //! A trader's own account, its own list of open orders, and its tokens.
 
-ghost use Rattle.std.specs.Prelude.{◌≡◌, ◌<◌, ◌≤◌, ◌+◌, ◌^◌, pos, ◌≤ℤ◌, None, Some, IsOk, IfOk, OnOk, OnErr, length, option_map, slice_get};
+ghost use Rattle.std.specs.Prelude.{◌≡◌, ◌<◌, ◌≤◌, ◌+◌, ◌^◌, pos, ◌≤ℤ◌, ◌+ℤ◌, ◌-ℤ◌, None, Some, IsOk, IfOk, OnOk, OnErr, length, option_map, slice_get};
 ghost use Rattle.indexmap.specs.IndexMap.{index_of_by};
 ghost use Rattle.agent_shell.specs.Bounds.{IsNear};
 ghost use Rattle.agent_shell.specs.Own.{own_order, lowered, same_token, without};
-ghost use Rattle.agent_shell.specs.Shell.{IsModest, executed, orders_at_opening, replied, with_order};
+ghost use Rattle.market_types.specs.declared.order.Side.TheVariants.{Buy as buying, Sell as selling};
+ghost use Rattle.agent_shell.specs.Shell.{IsModest, IsWithin, executed, orders_at_opening, replied, with_order};
 ghost use Rattle.agent_shell.specs.Sound.{IsOwn};
 ghost use Rattle.agent_shell.specs.Tokens.{token_of};
 ghost use Rattle.agent_shell.specs.Account.{cost_of, traded};
@@ -60,6 +61,34 @@ fn cost_of(price: u32, shares: u32) -> Money
     (100 * u128::from(price) * u128::from(shares)) as i128
 }
 
+// A position after so many shares were traded.
+fn position_after(position: i64, side: Side, shares: u32) -> i64
+    requires { IsWithin (2 ^ 62) position }
+    ensures bought { side ≡ buying → result ≡ position +ℤ pos shares }
+    ensures sold { side ≡ selling → result ≡ position -ℤ pos shares }
+    ensures near { IsNear (2 ^ 32) position result }
+{
+    match side {
+        Side::Buy => position + i64::from(shares),
+        Side::Sell => position - i64::from(shares),
+    }
+}
+
+// Cash after a trade of this cost.
+fn cash_after(cash: Money, side: Side, cost: Money) -> Money
+    requires cash { IsWithin (2 ^ 120) cash }
+    requires low { pos 0 ≤ℤ cost }
+    requires high { cost ≤ℤ pos (2 ^ 71) }
+    ensures bought { side ≡ buying → result ≡ cash -ℤ cost }
+    ensures sold { side ≡ selling → result ≡ cash +ℤ cost }
+    ensures near { IsNear (2 ^ 71) cash result }
+{
+    match side {
+        Side::Buy => cash - cost,
+        Side::Sell => cash + cost,
+    }
+}
+
 // The account after so many shares were traded at a price.
 fn traded(account: Account, side: Side, price: u32, shares: u32) -> Account
     requires { IsModest account }
@@ -67,17 +96,9 @@ fn traded(account: Account, side: Side, price: u32, shares: u32) -> Account
     ensures position { IsNear (2 ^ 32) account.position result.position }
     ensures cash { IsNear (2 ^ 71) account.cash result.cash }
 {
-    let cost = cost_of(price, shares);
-    let shares = i64::from(shares);
-    match side {
-        Side::Buy => Account {
-            position: account.position + shares,
-            cash: account.cash - cost,
-        },
-        Side::Sell => Account {
-            position: account.position - shares,
-            cash: account.cash + cost,
-        },
+    Account {
+        position: position_after(account.position, side, shares),
+        cash: cash_after(account.cash, side, cost_of(price, shares)),
     }
 }
 
