@@ -90,7 +90,13 @@ fn order_and_halt(rt: &impl Abort, alloc: Global, halt_first: bool) -> Vec<Edit>
 }
 
 // The bundle of a course, from what was kept.
-fn bundle(rt: &impl Abort, alloc: Global, course: &Course, keep: Keep, ran: &Vec<Outcome>) -> Vec<u8>
+fn bundle(
+    rt: &impl Abort,
+    alloc: Global,
+    course: &Course,
+    keep: Keep,
+    ran: &Vec<Outcome>,
+) -> Vec<u8>
     requires { map outcome_told ran.now.items ≡ outcomes_before course.now keep (length (segments_in course.now.plan)) }
 {
     let _ = keep;
@@ -213,7 +219,14 @@ fn slow_by_time(rt: &impl Abort, alloc: Global) -> Vec<Branch>
     ensures { AreBranches result.items }
 {
     let mut branches = root(rt, alloc);
-    fork(rt, &mut branches, b"x", 0, Stop::When(1005), latency(rt, alloc, 50));
+    fork(
+        rt,
+        &mut branches,
+        b"x",
+        0,
+        Stop::When(1005),
+        latency(rt, alloc, 50),
+    );
     branches
 }
 
@@ -281,8 +294,22 @@ fn revived(rt: &impl Abort, alloc: Global) -> Vec<Branch>
     let mut branches = root(rt, alloc);
     let late = Stop::At(50);
     fork(rt, &mut branches, b"x", 0, late, order(rt, alloc));
-    fork(rt, &mut branches, b"y", 0, late, order_and_halt(rt, alloc, false));
-    fork(rt, &mut branches, b"z", 0, late, order_and_halt(rt, alloc, true));
+    fork(
+        rt,
+        &mut branches,
+        b"y",
+        0,
+        late,
+        order_and_halt(rt, alloc, false),
+    );
+    fork(
+        rt,
+        &mut branches,
+        b"z",
+        0,
+        late,
+        order_and_halt(rt, alloc, true),
+    );
     branches
 }
 

@@ -95,7 +95,11 @@ fn entries_of(outcome: &Outcome) -> Option<&Packed> {
 fn begins_with_an_edit(rt: &impl Abort, alloc: Global, entries: &Packed) -> bool {
     let mut event = blank_event(alloc);
     let mut edit = blank_edit(alloc);
-    entries.walk().next(&mut event, &mut edit).expect(rt, "memory") == Step::Edit
+    entries
+        .walk()
+        .next(&mut event, &mut edit)
+        .expect(rt, "memory")
+        == Step::Edit
 }
 
 // Whether what stands at a step of two walks is one.
@@ -116,7 +120,9 @@ fn have_same_entries(rt: &impl Abort, alloc: Global, a: &Packed, b: &Packed) {
     let mut there = b.walk();
     for _ in 0..a.len() {
         let step = here.next(&mut first.0, &mut first.1).expect(rt, "memory");
-        let other = there.next(&mut second.0, &mut second.1).expect(rt, "memory");
+        let other = there
+            .next(&mut second.0, &mut second.1)
+            .expect(rt, "memory");
         holds(rt, step == other && are_one_step(step, &first, &second));
     }
 }

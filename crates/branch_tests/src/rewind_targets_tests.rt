@@ -107,7 +107,10 @@ fn marks_name_whole_branches(rt: HostRuntime) {
             event: 2,
         },
     ];
-    holds(&rt, aims_at(&rt, alloc, "rewind s root:0 x-1:0007 x:2", &wanted));
+    holds(
+        &rt,
+        aims_at(&rt, alloc, "rewind s root:0 x-1:0007 x:2", &wanted),
+    );
     equal(&rt, first_past(&[6, 2, 7], &wanted), None);
     let past = Some(Past { index: 1, last: 6 });
     equal(&rt, first_past(&[6, 1, 6], &wanted), past);

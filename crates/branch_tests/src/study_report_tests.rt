@@ -119,7 +119,9 @@ fn fees(rt: &impl Abort, alloc: Global, count: u32) -> Vec<Box<dyn Probe>> {
 fn length_of_table(rt: &impl Abort, alloc: Global, count: u32) -> usize {
     let probes = fees(rt, alloc, count);
     let rows = root_row(rt, alloc, probes.len());
-    table(alloc, rows.as_slice(), probes.as_slice()).expect(rt, "memory").len()
+    table(alloc, rows.as_slice(), probes.as_slice())
+        .expect(rt, "memory")
+        .len()
 }
 
 #[test]
