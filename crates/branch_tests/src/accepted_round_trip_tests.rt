@@ -2,10 +2,10 @@
 
 use crate::facts::{equal, holds};
 use bundle_reader::Bundle;
-use market_types::Memory;
 use outside::{Counted, Steps};
 use round_trip::run_and_read;
 use std::alloc::Global;
+use std::process::Abort;
 use std::sync::Wait;
 use std::thread::Threads;
 use study_file::{RawStudy, read_tables};
@@ -24,15 +24,12 @@ branch = [{ name = \"i\", parent = \"root\", at = 0, edit = [{ kind = \"inject\"
 ";
 
 // The study with texts in place of others.
-fn changed(alloc: Global, changes: &[(&str, &str)]) -> Result<RawStudy, Memory> {
-    let mut text = String::from_str(alloc, STUDY)?;
+fn changed(rt: &impl Abort, alloc: Global, changes: &[(&str, &str)]) -> RawStudy {
+    let mut text = String::from_str(alloc, STUDY).expect(rt, "memory");
     for (old, new) in changes.iter() {
-        text = text.replacen(alloc, *old, new, 1)?;
+        text = text.replacen(alloc, *old, new, 1).expect(rt, "memory");
     }
-    match read_tables(alloc, text.as_bytes()) {
-        Ok(raw) => Ok(raw),
-        Err(_) => Err(Memory),
-    }
+    read_tables(alloc, text.as_bytes()).expect(rt, "tables")
 }
 
 // How many agents, stocks and branches a bundle has, and how many entries each of its two branches.
@@ -66,15 +63,12 @@ fn read_of<R: Threads + Wait + Sync>(
 }
 
 // What is read of the study with texts in place of others.
-fn read_with<R: Threads + Wait + Sync>(
+fn read_with<R: Abort + Threads + Wait + Sync>(
     rt: &R,
     alloc: Global,
     changes: &[(&str, &str)],
 ) -> Result<[usize; 5], u32> {
-    match changed(alloc, changes) {
-        Ok(raw) => read_of(rt, alloc, &raw),
-        Err(_) => Err(99),
-    }
+    read_of(rt, alloc, &changed(rt, alloc, changes))
 }
 
 const SECOND: (&str, &str) = ("version = 1", "version = 2");

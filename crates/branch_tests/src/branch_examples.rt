@@ -1,6 +1,6 @@
 //! Worked branches over the code.
 
-ghost use Rattle.std.specs.Prelude.{◌≡◌, ◌≤◌, IfOk, length, map};
+ghost use Rattle.std.specs.Prelude.{◌≡◌, ◌≤◌, ◌∷◌, [], length, map};
 ghost use Rattle.branch_tree.specs.Segments.{segments_in};
 ghost use Rattle.kernel_copy.specs.Courses.{AreEdits};
 ghost use Rattle.kernel_copy.specs.Outcomes.{outcome_told, outcomes_before};
@@ -14,7 +14,7 @@ use bundle_frames::{Closing, put_end};
 use kernel_copy::{Course, Keep, Kept, Outcome, closing_of};
 use kernel_core::Kernel;
 use market_rules::Edit;
-use market_types::{Enter, Inbound, Memory, Side, Symbol, Time, Token};
+use market_types::{Enter, Inbound, Side, Symbol, Time, Token};
 use std::alloc::Global;
 use std::process::Abort;
 use std::sync::Wait;
@@ -22,13 +22,20 @@ use std::thread::Threads;
 use trace_bundle::laws::outcomes_are_a_run;
 use trace_bundle::{write_branch, write_header};
 
-// The first watcher is silenced.
-fn silence(alloc: Global) -> Result<Vec<Edit>, Memory>
-    ensures { IfOk result (λ v. AreEdits small v.items) }
+// One edit.
+fn only(rt: &impl Abort, alloc: Global, edit: Edit) -> Vec<Edit>
+    ensures { result.items ≡ edit ∷ [] }
 {
     let mut edits = Vec::new(alloc);
-    edits.push(Edit::Silence { agent: 1 })?;
-    Ok(edits)
+    edits.push(edit).expect(rt, "memory");
+    edits
+}
+
+// The first watcher is silenced.
+fn silence(rt: &impl Abort, alloc: Global) -> Vec<Edit>
+    ensures { AreEdits small result.items }
+{
+    only(rt, alloc, Edit::Silence { agent: 1 })
 }
 
 // A bid of the first watcher, of 999,999 shares at 10 dollars.
@@ -51,21 +58,20 @@ fn bid() -> Inbound {
 }
 
 // The bid comes, due 100 nanoseconds later.
-fn order(alloc: Global) -> Result<Vec<Edit>, Memory>
-    ensures { IfOk result (λ v. AreEdits small v.items) }
+fn order(rt: &impl Abort, alloc: Global) -> Vec<Edit>
+    ensures { AreEdits small result.items }
 {
-    let mut edits = Vec::new(alloc);
-    edits.push(Edit::Inject {
+    let order = Edit::Inject {
         agent: 1,
         after: 100,
         message: bid(),
-    })?;
-    Ok(edits)
+    };
+    only(rt, alloc, order)
 }
 
 // The bid comes and the stock halts, or the other way round.
-fn order_and_halt(alloc: Global, halt_first: bool) -> Result<Vec<Edit>, Memory>
-    ensures { IfOk result (λ v. AreEdits small v.items) }
+fn order_and_halt(rt: &impl Abort, alloc: Global, halt_first: bool) -> Vec<Edit>
+    ensures { AreEdits small result.items }
 {
     let order = Edit::Inject {
         agent: 1,
@@ -78,38 +84,43 @@ fn order_and_halt(alloc: Global, halt_first: bool) -> Result<Vec<Edit>, Memory>
     } else {
         (order, halt)
     };
-    let mut edits = Vec::new(alloc);
-    edits.push(first)?;
-    edits.push(second)?;
-    Ok(edits)
+    let mut edits = only(rt, alloc, first);
+    edits.push(second).expect(rt, "memory");
+    edits
 }
 
 // The bundle of a course, from what was kept.
-fn bundle(alloc: Global, course: &Course, keep: Keep, ran: &Vec<Outcome>) -> Result<Vec<u8>, Memory>
+fn bundle(
+    rt: &impl Abort,
+    alloc: Global,
+    course: &Course,
+    keep: Keep,
+    ran: &Vec<Outcome>,
+) -> Vec<u8>
     requires { map outcome_told ran.now.items ≡ outcomes_before course.now keep (length (segments_in course.now.plan)) }
 {
     let _ = keep;
     outcomes_are_a_run();
     let count = course.plan().branches().len();
     let mut out = Vec::new(alloc);
-    write_header(course, &mut out)?;
+    write_header(course, &mut out).expect(rt, "memory");
     for b in 0..count {
-        write_branch(course, ran, b as u16, &mut out)?;
+        write_branch(course, ran, b as u16, &mut out).expect(rt, "memory");
     }
-    put_end(&mut out, count as u16)?;
-    Ok(out)
+    put_end(&mut out, count as u16).expect(rt, "memory");
+    out
 }
 
 // The trace of a course's last branch, from what was kept.
-fn last(alloc: Global, course: &Course, keep: Keep, ran: &Vec<Outcome>) -> Result<Vec<u8>, Memory>
+fn last(rt: &impl Abort, alloc: Global, course: &Course, keep: Keep, ran: &Vec<Outcome>) -> Vec<u8>
     requires { map outcome_told ran.now.items ≡ outcomes_before course.now keep (length (segments_in course.now.plan)) }
 {
     let _ = keep;
     outcomes_are_a_run();
     let count = course.plan().branches().len();
     let mut out = Vec::new(alloc);
-    write_branch(course, ran, (count - 1) as u16, &mut out)?;
-    Ok(out)
+    write_branch(course, ran, (count - 1) as u16, &mut out).expect(rt, "memory");
+    out
 }
 
 // What a course gave: how many events were counted, the outcomes of its segments, its bundle, and its last branch's trace.
@@ -122,42 +133,24 @@ struct Written {
 }
 
 // Runs the course of these branches, with this kept of the entries.
-fn run<R: Threads + Wait + Sync>(
+fn run<R: Abort + Threads + Wait + Sync>(
     rt: &R,
     alloc: Global,
     keep: Keep,
     branches: Vec<Branch>,
-) -> Result<Written, Memory>
+) -> Written
     requires { AreBranches branches.items }
 {
-    let course = course_of(alloc, branches)?;
-    let simulated = simulate(rt, alloc, &course, keep)?;
-    let bundle = bundle(alloc, &course, keep, &simulated.outcomes)?;
-    let last = last(alloc, &course, keep, &simulated.outcomes)?;
-    Ok(Written {
+    let course = course_of(rt, alloc, branches);
+    let simulated = simulate(rt, alloc, &course, keep);
+    let bundle = bundle(rt, alloc, &course, keep, &simulated.outcomes);
+    let last = last(rt, alloc, &course, keep, &simulated.outcomes);
+    Written {
         ticks: simulated.ticks,
         outcomes: simulated.outcomes,
         bundle,
         last,
-    })
-}
-
-// What it gives, if there was memory for the branches and for the run.
-fn given<R: Abort + Threads + Wait + Sync>(
-    rt: &R,
-    alloc: Global,
-    keep: Keep,
-    branches: Result<Vec<Branch>, Memory>,
-) -> Written
-    requires { IfOk branches (λ v. AreBranches v.items) }
-{
-    let Ok(branches) = branches else {
-        panic!(rt; "out of memory");
-    };
-    let Ok(written) = run(rt, alloc, keep, branches) else {
-        panic!(rt; "out of memory");
-    };
-    written
+    }
 }
 
 // The length of some bytes, and a number that a change of any one of them changes.
@@ -215,29 +208,36 @@ const OF_THREE: [Finish; 5] = [
 fn three_branches(rt: HostRuntime) {
     let alloc = rt.alloc();
     for stop in [Stop::At(2), Stop::When(1000), Stop::When(1004)] {
-        let run = given(&rt, alloc, Keep::Entries, three_at(alloc, stop));
+        let run = run(&rt, alloc, Keep::Entries, three_at(&rt, alloc, stop));
         is_told(&rt, &run, 18, &OF_THREE, (3255, 550_129_052_676));
         equal(&rt, digest(run.last.as_slice()), (799, 1_096_420_110_848));
     }
 }
 
 // A branch at the time of two messages.
-fn slow_by_time(alloc: Global) -> Result<Vec<Branch>, Memory>
-    ensures { IfOk result (λ v. AreBranches v.items) }
+fn slow_by_time(rt: &impl Abort, alloc: Global) -> Vec<Branch>
+    ensures { AreBranches result.items }
 {
-    let mut branches = root(alloc)?;
-    fork(&mut branches, b"x", 0, Stop::When(1005), latency(alloc, 50))?;
-    Ok(branches)
+    let mut branches = root(rt, alloc);
+    fork(
+        rt,
+        &mut branches,
+        b"x",
+        0,
+        Stop::When(1005),
+        latency(rt, alloc, 50),
+    );
+    branches
 }
 
 // A branch of a branch at a time.
-fn low_by_time(alloc: Global) -> Result<Vec<Branch>, Memory>
-    ensures { IfOk result (λ v. AreBranches v.items) }
+fn low_by_time(rt: &impl Abort, alloc: Global) -> Vec<Branch>
+    ensures { AreBranches result.items }
 {
-    let mut branches = root(alloc)?;
-    fork(&mut branches, b"x", 0, Stop::When(1004), nothing(alloc))?;
-    fork(&mut branches, b"w", 1, Stop::At(1), nothing(alloc))?;
-    Ok(branches)
+    let mut branches = root(rt, alloc);
+    fork(rt, &mut branches, b"x", 0, Stop::When(1004), nothing(alloc));
+    fork(rt, &mut branches, b"w", 1, Stop::At(1), nothing(alloc));
+    branches
 }
 
 const OF_SLOW: [Finish; 3] = [(4, 4, 1005), (2, 6, 1010), (3, 6, 1010)];
@@ -255,20 +255,20 @@ const OF_LOW: [Finish; 5] = [
 #[test]
 fn branches_by_time(rt: HostRuntime) {
     let alloc = rt.alloc();
-    let slow = given(&rt, alloc, Keep::Entries, slow_by_time(alloc));
+    let slow = run(&rt, alloc, Keep::Entries, slow_by_time(&rt, alloc));
     is_told(&rt, &slow, 8, &OF_SLOW, (1637, 356_322_517_250));
-    let low = given(&rt, alloc, Keep::Entries, low_by_time(alloc));
+    let low = run(&rt, alloc, Keep::Entries, low_by_time(&rt, alloc));
     is_told(&rt, &low, 14, &OF_LOW, (2416, 315_712_857_091));
 }
 
 // A branch of a branch where both fork at the last event.
-fn at_the_last(alloc: Global) -> Result<Vec<Branch>, Memory>
-    ensures { IfOk result (λ v. AreBranches v.items) }
+fn at_the_last(rt: &impl Abort, alloc: Global) -> Vec<Branch>
+    ensures { AreBranches result.items }
 {
-    let mut branches = root(alloc)?;
-    fork(&mut branches, b"x", 0, Stop::At(6), nothing(alloc))?;
-    fork(&mut branches, b"y", 1, Stop::At(6), nothing(alloc))?;
-    Ok(branches)
+    let mut branches = root(rt, alloc);
+    fork(rt, &mut branches, b"x", 0, Stop::At(6), nothing(alloc));
+    fork(rt, &mut branches, b"y", 1, Stop::At(6), nothing(alloc));
+    branches
 }
 
 const OF_EMPTY: [Finish; 5] = [
@@ -283,20 +283,34 @@ const OF_EMPTY: [Finish; 5] = [
 #[test]
 fn empty_segments(rt: HostRuntime) {
     let alloc = rt.alloc();
-    let run = given(&rt, alloc, Keep::Entries, at_the_last(alloc));
+    let run = run(&rt, alloc, Keep::Entries, at_the_last(&rt, alloc));
     is_told(&rt, &run, 6, &OF_EMPTY, (2416, 405_230_435_075));
 }
 
 // Branches that leave when the root has closed: with the bid, and with a halt behind it and before it.
-fn revived(alloc: Global) -> Result<Vec<Branch>, Memory>
-    ensures { IfOk result (λ v. AreBranches v.items) }
+fn revived(rt: &impl Abort, alloc: Global) -> Vec<Branch>
+    ensures { AreBranches result.items }
 {
-    let mut branches = root(alloc)?;
+    let mut branches = root(rt, alloc);
     let late = Stop::At(50);
-    fork(&mut branches, b"x", 0, late, order(alloc))?;
-    fork(&mut branches, b"y", 0, late, order_and_halt(alloc, false))?;
-    fork(&mut branches, b"z", 0, late, order_and_halt(alloc, true))?;
-    Ok(branches)
+    fork(rt, &mut branches, b"x", 0, late, order(rt, alloc));
+    fork(
+        rt,
+        &mut branches,
+        b"y",
+        0,
+        late,
+        order_and_halt(rt, alloc, false),
+    );
+    fork(
+        rt,
+        &mut branches,
+        b"z",
+        0,
+        late,
+        order_and_halt(rt, alloc, true),
+    );
+    branches
 }
 
 const OF_REVIVED: [Finish; 5] = [
@@ -312,17 +326,17 @@ const OF_REVIVED: [Finish; 5] = [
 #[test]
 fn edits_in_both_orders(rt: HostRuntime) {
     let alloc = rt.alloc();
-    let run = given(&rt, alloc, Keep::Entries, revived(alloc));
+    let run = run(&rt, alloc, Keep::Entries, revived(&rt, alloc));
     is_told(&rt, &run, 12, &OF_REVIVED, (3984, 841_970_850_564));
 }
 
 // A branch in which the first watcher is silenced at event 2.
-fn silenced(alloc: Global) -> Result<Vec<Branch>, Memory>
-    ensures { IfOk result (λ v. AreBranches v.items) }
+fn silenced(rt: &impl Abort, alloc: Global) -> Vec<Branch>
+    ensures { AreBranches result.items }
 {
-    let mut branches = root(alloc)?;
-    fork(&mut branches, b"x", 0, Stop::At(2), silence(alloc))?;
-    Ok(branches)
+    let mut branches = root(rt, alloc);
+    fork(rt, &mut branches, b"x", 0, Stop::At(2), silence(rt, alloc));
+    branches
 }
 
 // A watcher that is silenced at event 2 hears its quote at 1010 and doesn't count it. Where the frames of the entries are kept
@@ -330,13 +344,13 @@ fn silenced(alloc: Global) -> Result<Vec<Branch>, Memory>
 #[test]
 fn a_silenced_watcher(rt: HostRuntime) {
     let alloc = rt.alloc();
-    let run = given(&rt, alloc, Keep::Entries, silenced(alloc));
+    let run = run(&rt, alloc, Keep::Entries, silenced(&rt, alloc));
     equal(&rt, (run.ticks, run.outcomes.len()), (10, 3));
     let outcomes = run.outcomes.as_slice();
     equal(&rt, heard(outcomes, 2, 1), Some((true, 1010, 0)));
     equal(&rt, heard(outcomes, 2, 2), Some((false, 1010, 1)));
     equal(&rt, digest(run.bundle.as_slice()), (1637, 407_337_604_610));
-    let frames = given(&rt, alloc, Keep::Frames, silenced(alloc));
+    let frames = run(&rt, alloc, Keep::Frames, silenced(&rt, alloc));
     equal(&rt, frames.ticks, run.ticks);
     holds(&rt, frames.bundle.as_slice() == run.bundle.as_slice());
 }
@@ -349,42 +363,42 @@ fn name(k: u16) -> [u8; 2]
 }
 
 // 255 branches of the root without edits, which fork after 0 to 3 events.
-fn wide(alloc: Global) -> Result<Vec<Branch>, Memory>
-    ensures { IfOk result (λ v. AreBranches v.items) }
+fn wide(rt: &impl Abort, alloc: Global) -> Vec<Branch>
+    ensures { AreBranches result.items }
 {
-    let mut branches = root(alloc)?;
+    let mut branches = root(rt, alloc);
     for k in 1..256u16 {
         let stop = Stop::At(u32::from(k % 4));
-        fork(&mut branches, &name(k), 0, stop, nothing(alloc))?;
+        fork(rt, &mut branches, &name(k), 0, stop, nothing(alloc));
     }
-    Ok(branches)
+    branches
 }
 
 // 60 branches, each of the one before, which make the latency 1 to 60; they fork after 0 to 6 events.
-fn deep(alloc: Global) -> Result<Vec<Branch>, Memory>
-    ensures { IfOk result (λ v. AreBranches v.items) }
+fn deep(rt: &impl Abort, alloc: Global) -> Vec<Branch>
+    ensures { AreBranches result.items }
 {
-    let mut branches = root(alloc)?;
+    let mut branches = root(rt, alloc);
     for k in 1..61u16 {
-        let edits = latency(alloc, u64::from(k));
+        let edits = latency(rt, alloc, u64::from(k));
         let stop = Stop::At(u32::from(k / 10));
-        fork(&mut branches, &name(k), k - 1, stop, edits)?;
+        fork(rt, &mut branches, &name(k), k - 1, stop, edits);
     }
-    Ok(branches)
+    branches
 }
 
 // As many branches of one parent as there may be, and a chain whose branches have the edits of all before them.
 #[test]
 fn wide_and_deep_trees(rt: HostRuntime) {
     let alloc = rt.alloc();
-    let wide = given(&rt, alloc, Keep::Entries, wide(alloc));
+    let wide = run(&rt, alloc, Keep::Entries, wide(&rt, alloc));
     equal(&rt, (wide.ticks, wide.outcomes.len()), (1152, 260));
     equal(
         &rt,
         digest(wide.bundle.as_slice()),
         (204_818, 276_323_116_800),
     );
-    let deep = given(&rt, alloc, Keep::Entries, deep(alloc));
+    let deep = run(&rt, alloc, Keep::Entries, deep(&rt, alloc));
     equal(&rt, (deep.ticks, deep.outcomes.len()), (210, 121));
     equal(
         &rt,
@@ -394,17 +408,15 @@ fn wide_and_deep_trees(rt: HostRuntime) {
 }
 
 // The closing of the opening's state.
-fn first_closing(alloc: Global) -> Result<Closing, Memory> {
-    let o = market(alloc)?;
-    let kernel = Kernel::open(alloc, &o)?;
-    closing_of(alloc, &o, &kernel)
+fn first_closing(rt: &impl Abort, alloc: Global) -> Closing {
+    let o = market(rt, alloc);
+    let kernel = Kernel::open(alloc, &o).expect(rt, "memory");
+    closing_of(alloc, &o, &kernel).expect(rt, "memory")
 }
 
 #[test]
 fn the_closing_of_the_opening(rt: HostRuntime) {
-    let Ok(closing) = first_closing(rt.alloc()) else {
-        panic!(rt; "out of memory");
-    };
+    let closing = first_closing(&rt, rt.alloc());
     let counts = closing.counts;
     equal(
         &rt,

@@ -1,6 +1,6 @@
 //! Tables of worked courses.
 
-ghost use Rattle.std.specs.Prelude.{◌≡◌, IfOk, length, map};
+ghost use Rattle.std.specs.Prelude.{◌≡◌, length, map};
 ghost use Rattle.branch_tree.specs.Segments.{segments_in};
 ghost use Rattle.market_floor.specs.Opening.{IsOpening};
 ghost use Rattle.market_floor.specs.OpeningWorked.{watcher};
@@ -16,9 +16,10 @@ use branch_tree::{Branch, Name, Stop, plan};
 use kernel_copy::{Course, Keep, Outcome};
 use market_floor::Opening;
 use market_floor::opening_worked::{markets_are_openings, opening};
-use market_types::{Memory, Record, Sequence, Time};
+use market_types::{Record, Sequence, Time};
 use probe_desk::{Fees, Probe, Range, SpreadSum, Volume};
 use std::alloc::Global;
+use std::process::Abort;
 use std::sync::Arc;
 use study_report::study_table;
 use trace_bundle::laws::outcomes_are_a_run;
@@ -75,62 +76,59 @@ fn watching(first: Time) -> TraderSetting
 }
 
 // Three watchers, the third of which wakes later.
-fn three(alloc: Global) -> Result<Vec<TraderSetting>, Memory>
-    ensures { IfOk result (λ v. v.items ≡ three_watchers) }
+fn three(rt: &impl Abort, alloc: Global) -> Vec<TraderSetting>
+    ensures { result.items ≡ three_watchers }
 {
     let mut traders = Vec::new(alloc);
-    traders.push(watching(1000))?;
-    traders.push(watching(1000))?;
-    traders.push(watching(1003))?;
-    Ok(traders)
+    traders.push(watching(1000)).expect(rt, "memory");
+    traders.push(watching(1000)).expect(rt, "memory");
+    traders.push(watching(1003)).expect(rt, "memory");
+    traders
 }
 
 // A market of three watchers and an exchange that computes.
-fn busy_market(alloc: Global) -> Result<Opening, Memory>
-    ensures opening { IfOk result IsOpening }
-    ensures made { IfOk result (λ o. o ≡ busy) }
+fn busy_market(rt: &impl Abort, alloc: Global) -> Opening
+    ensures opening { IsOpening result }
+    ensures made { result ≡ busy }
 {
     markets_are_openings();
-    let traders = three(alloc)?;
-    let o = opening(alloc, 2000, 100, 3, traders)?;
-    Ok(o)
+    let traders = three(rt, alloc);
+    let Ok(o) = opening(alloc, 2000, 100, 3, traders) else {
+        panic!(rt; "out of memory");
+    };
+    o
 }
 
 // The root alone.
-fn root(alloc: Global) -> Result<Vec<Branch>, Memory>
-    ensures { IfOk result (λ v. AreBranches busy v.items) }
+fn root(rt: &impl Abort, alloc: Global) -> Vec<Branch>
+    ensures { AreBranches busy result.items }
 {
-    let Some(name) = Name::new(b"root") else {
-        return Err(Memory);
-    };
-    let mut branches = Vec::new(alloc);
-    branches.push(Branch {
-        name,
+    let root = Branch {
+        name: Name::new(b"root").expect(rt, "a name"),
         parent: 0,
         stop: Stop::At(0),
         edits: Sequence::new(Vec::new(alloc)),
-    })?;
-    Ok(branches)
+    };
+    let mut branches = Vec::new(alloc);
+    branches.push(root).expect(rt, "memory");
+    branches
 }
 
 // The course of the root alone over that market.
-fn busy_course(alloc: Global) -> Result<Arc<Course>, Memory> {
-    let branches = root(alloc)?;
-    let opening = busy_market(alloc)?;
-    let Ok(plan) = plan(alloc, branches, 100) else {
-        return Err(Memory);
-    };
-    Ok(Arc::new(alloc, Course::new(opening, plan))?)
+fn busy_course(rt: &impl Abort, alloc: Global) -> Arc<Course> {
+    let plan = plan(alloc, root(rt, alloc), 100).expect(rt, "a plan");
+    let course = Course::new(busy_market(rt, alloc), plan);
+    Arc::new(alloc, course).expect(rt, "memory")
 }
 
 // A probe of each kind.
-fn four_probes(alloc: Global) -> Result<[Box<dyn Probe>; 4], Memory> {
-    Ok([
-        Box::new(alloc, Volume::new())?,
-        Box::new(alloc, SpreadSum::new())?,
-        Box::new(alloc, Range::new())?,
-        Box::new(alloc, Fees::new())?,
-    ])
+fn four_probes(rt: &impl Abort, alloc: Global) -> [Box<dyn Probe>; 4] {
+    [
+        Box::new(alloc, Volume::new()).expect(rt, "memory"),
+        Box::new(alloc, SpreadSum::new()).expect(rt, "memory"),
+        Box::new(alloc, Range::new()).expect(rt, "memory"),
+        Box::new(alloc, Fees::new()).expect(rt, "memory"),
+    ]
 }
 
 // Whether this is the table of a run.
@@ -156,13 +154,9 @@ const OF_FOUR_PROBES: &[u8] =
 #[test]
 fn four_probes_on_three_branches(rt: HostRuntime) {
     let alloc = rt.alloc();
-    let (Ok(mut probes), Ok(course)) = (four_probes(alloc), three_branches(alloc, Stop::At(2)))
-    else {
-        panic!(rt; "out of memory");
-    };
-    let Ok(ran) = simulate(&rt, alloc, &course, Keep::Entries) else {
-        panic!(rt; "out of memory");
-    };
+    let mut probes = four_probes(&rt, alloc);
+    let course = three_branches(&rt, alloc, Stop::At(2));
+    let ran = simulate(&rt, alloc, &course, Keep::Entries);
     holds(
         &rt,
         is_table(alloc, &course, &ran.outcomes, &mut probes, OF_FOUR_PROBES),
@@ -175,12 +169,8 @@ const OF_NO_PROBE: &[u8] =
 #[test]
 fn no_probe_on_three_branches(rt: HostRuntime) {
     let alloc = rt.alloc();
-    let Ok(course) = three_branches(alloc, Stop::At(2)) else {
-        panic!(rt; "out of memory");
-    };
-    let Ok(ran) = simulate(&rt, alloc, &course, Keep::Entries) else {
-        panic!(rt; "out of memory");
-    };
+    let course = three_branches(&rt, alloc, Stop::At(2));
+    let ran = simulate(&rt, alloc, &course, Keep::Entries);
     holds(
         &rt,
         is_table(alloc, &course, &ran.outcomes, &mut [], OF_NO_PROBE),
@@ -188,8 +178,8 @@ fn no_probe_on_three_branches(rt: HostRuntime) {
 }
 
 // A probe of what was put back.
-fn put_backs(alloc: Global) -> Result<[Box<dyn Probe>; 1], Memory> {
-    Ok([Box::new(alloc, PutBacks { count: 0 })?])
+fn put_backs(rt: &impl Abort, alloc: Global) -> [Box<dyn Probe>; 1] {
+    [Box::new(alloc, PutBacks { count: 0 }).expect(rt, "memory")]
 }
 
 const OF_PUT_BACKS: &[u8] =
@@ -199,12 +189,9 @@ const OF_PUT_BACKS: &[u8] =
 #[test]
 fn a_probe_of_what_was_put_back(rt: HostRuntime) {
     let alloc = rt.alloc();
-    let (Ok(mut probes), Ok(course)) = (put_backs(alloc), busy_course(alloc)) else {
-        panic!(rt; "out of memory");
-    };
-    let Ok(ran) = simulate(&rt, alloc, &course, Keep::Entries) else {
-        panic!(rt; "out of memory");
-    };
+    let mut probes = put_backs(&rt, alloc);
+    let course = busy_course(&rt, alloc);
+    let ran = simulate(&rt, alloc, &course, Keep::Entries);
     holds(
         &rt,
         is_table(alloc, &course, &ran.outcomes, &mut probes, OF_PUT_BACKS),

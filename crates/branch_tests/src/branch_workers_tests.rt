@@ -13,7 +13,7 @@ use branch_workers::{Setup, work};
 use checkpoint_shelf::{ClosedShelf, Key};
 use kernel_copy::laws::{courses_stay_in_range, segments_have_few_events};
 use kernel_copy::{Checkpoint, Course, Keep, Kept, Outcome};
-use market_types::{EditMark, Memory, Record};
+use market_types::{EditMark, Record};
 use outside::{Counted, Gate, HoldGate, OpenGate, Steps};
 use packed_entries::{Packed, Step, blank_edit, blank_event};
 use std::alloc::Global;
@@ -44,16 +44,16 @@ fn held(shelf: &ClosedShelf<Checkpoint>) -> u32 {
 
 // What so many workers, 1 to 64, that keep entries made of a course with so many places, at most 128, for the grid of
 // stride 5, and how many steps they counted.
-fn worked<R: Threads + Wait + Sync, G: Gate + Sync>(
+fn worked<R: Abort + Threads + Wait + Sync, G: Gate + Sync>(
     rt: &R,
     alloc: Global,
     course: &Arc<Course>,
     places: u32,
     workers: u32,
     gate: &G,
-) -> (Result<Told, Memory>, u64) {
+) -> (Told, u64) {
     if workers == 0 || workers > 64 || places > 128 {
-        return (Err(Memory), 0);
+        panic!(rt; "no such setup");
     }
     segments_have_few_events(course);
     let mut steps: Steps<Counted> = Steps::new();
@@ -63,14 +63,14 @@ fn worked<R: Threads + Wait + Sync, G: Gate + Sync>(
         keep: Keep::Entries,
         workers,
     };
-    let told = match work(rt, alloc, course, setup, gate, &mut steps) {
-        Ok(worked) => Ok(Told {
-            held: held(&worked.shelf),
-            outcomes: worked.outcomes,
-        }),
-        Err(refused) => Err(refused),
+    let worked = work(rt, alloc, course, setup, gate, &mut steps);
+    let ticks = steps.close();
+    let worked = worked.expect(rt, "memory");
+    let told = Told {
+        held: held(&worked.shelf),
+        outcomes: worked.outcomes,
     };
-    (told, steps.close())
+    (told, ticks)
 }
 
 // Whether two events are one.
@@ -92,66 +92,69 @@ fn entries_of(outcome: &Outcome) -> Option<&Packed> {
 }
 
 // Whether the first of entries is an edit.
-fn begins_with_an_edit(alloc: Global, entries: &Packed) -> Result<bool, Memory> {
+fn begins_with_an_edit(rt: &impl Abort, alloc: Global, entries: &Packed) -> bool {
     let mut event = blank_event(alloc);
     let mut edit = blank_edit(alloc);
-    let step = entries.walk().next(&mut event, &mut edit)?;
-    Ok(step == Step::Edit)
+    entries
+        .walk()
+        .next(&mut event, &mut edit)
+        .expect(rt, "memory")
+        == Step::Edit
 }
 
-// Whether two lists of entries are of the same events and edits.
-fn have_same_entries(alloc: Global, a: &Packed, b: &Packed) -> Result<bool, Memory> {
-    if a.len() != b.len() {
-        return Ok(false);
+// Whether what stands at a step of two walks is one.
+fn are_one_step(step: Step, a: &(Record, EditMark), b: &(Record, EditMark)) -> bool {
+    match step {
+        Step::Event => are_one_event(&a.0, &b.0),
+        Step::Edit => are_one_edit(&a.1, &b.1),
+        Step::End => false,
     }
+}
+
+// Two lists of entries are of the same events and edits.
+fn have_same_entries(rt: &impl Abort, alloc: Global, a: &Packed, b: &Packed) {
+    equal(rt, a.len(), b.len());
     let mut first = (blank_event(alloc), blank_edit(alloc));
     let mut second = (blank_event(alloc), blank_edit(alloc));
     let mut here = a.walk();
     let mut there = b.walk();
     for _ in 0..a.len() {
-        let step = here.next(&mut first.0, &mut first.1)?;
-        let other = there.next(&mut second.0, &mut second.1)?;
-        let is_same = match step {
-            Step::Event => are_one_event(&first.0, &second.0),
-            Step::Edit => are_one_edit(&first.1, &second.1),
-            Step::End => false,
-        };
-        if step != other || !is_same {
-            return Ok(false);
-        }
+        let step = here.next(&mut first.0, &mut first.1).expect(rt, "memory");
+        let other = there
+            .next(&mut second.0, &mut second.1)
+            .expect(rt, "memory");
+        holds(rt, step == other && are_one_step(step, &first, &second));
     }
-    Ok(true)
 }
 
-// Whether two outcomes tell of one segment, with the same events and counters at the end.
-fn are_one(alloc: Global, a: &Outcome, b: &Outcome) -> Result<bool, Memory> {
+// Two outcomes tell of one segment, with the same events and counters at the end.
+fn are_one(rt: &impl Abort, alloc: Global, a: &Outcome, b: &Outcome) {
+    equal(rt, a.segment, b.segment);
+    holds(rt, a.closing.counts == b.closing.counts);
     let (Some(first), Some(second)) = (entries_of(a), entries_of(b)) else {
-        return Ok(false);
+        panic!(rt; "no entries");
     };
-    if a.segment != b.segment || a.closing.counts != b.closing.counts {
-        return Ok(false);
-    }
-    have_same_entries(alloc, first, second)
+    have_same_entries(rt, alloc, first, second);
 }
 
 // The bytes of the frames of what outcomes keep, one after another.
-fn frames_of(alloc: Global, outcomes: &[Outcome]) -> Result<Vec<u8>, Memory>
+fn frames_of(rt: &impl Abort, alloc: Global, outcomes: &[Outcome]) -> Vec<u8>
     requires { All (λ o. IsWritable (kept_told o.kept)) outcomes.now }
 {
     let mut bytes = Vec::new(alloc);
     for outcome in outcomes.iter() {
-        outcome.kept.put(&mut bytes)?;
+        outcome.kept.put(&mut bytes).expect(rt, "memory");
     }
-    Ok(bytes)
+    bytes
 }
 
 // The bytes of the frames of a course's entries, segment after segment, by three workers that keep this.
-fn frames<R: Threads + Wait + Sync>(
+fn frames<R: Abort + Threads + Wait + Sync>(
     rt: &R,
     alloc: Global,
     course: &Arc<Course>,
     keep: Keep,
-) -> Result<Vec<u8>, Memory> {
+) -> Vec<u8> {
     courses_stay_in_range();
     segments_have_few_events(course);
     course.is_course();
@@ -164,8 +167,10 @@ fn frames<R: Threads + Wait + Sync>(
     };
     let worked = work(rt, alloc, course, setup, &OpenGate, &mut steps);
     let _ = steps.close();
-    let worked = worked?;
-    frames_of(alloc, worked.outcomes.as_slice())
+    let Ok(worked) = worked else {
+        panic!(rt; "out of memory");
+    };
+    frames_of(rt, alloc, worked.outcomes.as_slice())
 }
 
 // So many workers with so many places: they count as many steps as one worker does, so many states stand on the shelf, and each
@@ -180,12 +185,9 @@ fn many_at<R: Abort + Threads + Wait + Sync>(
     held: u32,
 ) {
     let (told, ticks) = worked(rt, alloc, course, places, workers, &OpenGate);
-    let Ok(told) = told else {
-        panic!(rt; "out of memory");
-    };
     equal(rt, (ticks, told.outcomes.len(), told.held), (18, 5, held));
     for (a, b) in alone.iter().zip(told.outcomes.iter()) {
-        holds(rt, matches!(are_one(alloc, a, b), Ok(true)));
+        are_one(rt, alloc, a, b);
     }
 }
 
@@ -195,12 +197,8 @@ fn frames_are_those_of_entries<R: Abort + Threads + Wait + Sync>(
     alloc: Global,
     course: &Arc<Course>,
 ) {
-    let (Ok(bytes), Ok(entries)) = (
-        frames(rt, alloc, course, Keep::Frames),
-        frames(rt, alloc, course, Keep::Entries),
-    ) else {
-        panic!(rt; "out of memory");
-    };
+    let bytes = frames(rt, alloc, course, Keep::Frames);
+    let entries = frames(rt, alloc, course, Keep::Entries);
     holds(rt, !bytes.is_empty());
     holds(rt, bytes.as_slice() == entries.as_slice());
 }
@@ -208,12 +206,8 @@ fn frames_are_those_of_entries<R: Abort + Threads + Wait + Sync>(
 // Three branches, x, y and z, by one worker and by many: the outcomes are the same. Four of the five segments pass event 5, and
 // of the states there no place, one place and enough places hold none, one and all.
 fn three_at<R: Abort + Threads + Wait + Sync>(rt: &R, alloc: Global, stop: Stop) {
-    let Ok(course) = course(alloc, stop) else {
-        panic!(rt; "out of memory");
-    };
-    let Ok(alone) = simulate(rt, alloc, &course, Keep::Entries) else {
-        panic!(rt; "out of memory");
-    };
+    let course = course(rt, alloc, stop);
+    let alone = simulate(rt, alloc, &course, Keep::Entries);
     equal(rt, (alone.ticks, alone.outcomes.len()), (18, 5));
     for (workers, places, held) in [(1, 0, 0), (3, 1, 1), (64, 128, 4)] {
         many_at(
@@ -241,15 +235,10 @@ fn three_branches(rt: HostRuntime) {
 #[test]
 fn two_segments_at_once(rt: HostRuntime) {
     let alloc = rt.alloc();
-    let Ok(course) = course(alloc, Stop::At(2)) else {
-        panic!(rt; "out of memory");
-    };
+    let course = course(&rt, alloc, Stop::At(2));
     for (held, until) in [(2, 3), (3, 2)] {
         let gate = HoldGate::new(held, until, 100_000_000);
         let (told, ticks) = worked(&rt, alloc, &course, 1, 2, &gate);
-        let Ok(told) = told else {
-            panic!(rt; "out of memory");
-        };
         equal(&rt, (told.outcomes.len(), ticks), (5, 18));
         equal(&rt, (gate.exceeded(), gate.passes()), (false, 5));
     }

@@ -1,7 +1,8 @@
 use crate::facts::{equal, holds};
 use bundle_reader::{Bundle, BundleError, read_bundle};
-use market_types::{Entry, Memory, Trace};
+use market_types::{Entry, Trace};
 use std::alloc::Global;
+use std::process::Abort;
 
 // The bundle of a run without events: two agents with the exchange, one stock, one branch.
 const EMPTY_RUN: [u8; 402] = [
@@ -193,17 +194,13 @@ fn is_answer(read: &Result<Bundle, BundleError>, answer: Result<&[u8], usize>) -
 
 #[test]
 fn the_empty_run(rt: HostRuntime) {
-    let Ok(bundle) = read_bundle(rt.alloc(), &EMPTY_RUN) else {
-        panic!(rt; "no bundle");
-    };
+    let bundle = read_bundle(rt.alloc(), &EMPTY_RUN).expect(&rt, "a bundle");
     equal(
         &rt,
         (bundle.agents, bundle.stocks, bundle.branches.len()),
         (2, 1, 1),
     );
-    let Some(root) = bundle.branches.get(0) else {
-        panic!(rt; "no branch");
-    };
+    let root = bundle.branches.get(0).expect(&rt, "a branch");
     holds(&rt, root.name.as_slice() == b"root".as_slice());
     equal(&rt, (root.parent, root.stop), (65_535, 0));
     holds(
@@ -256,22 +253,20 @@ fn each_byte_changed(rt: HostRuntime) {
 }
 
 // A bundle in which the frames of these letters stand among the entries.
-fn bundle_of(alloc: Global, letters: &[u8]) -> Result<Vec<u8>, Memory> {
+fn bundle_of(rt: &impl Abort, alloc: Global, letters: &[u8]) -> Vec<u8> {
     let mut bytes = Vec::new(alloc);
-    bytes.extend_from_slice(BEFORE)?;
+    bytes.extend_from_slice(BEFORE).expect(rt, "memory");
     for letter in letters {
-        bytes.extend_from_slice(frame(*letter))?;
+        bytes.extend_from_slice(frame(*letter)).expect(rt, "memory");
     }
-    bytes.extend_from_slice(BEHIND)?;
-    Ok(bytes)
+    bytes.extend_from_slice(BEHIND).expect(rt, "memory");
+    bytes
 }
 
 #[test]
 fn the_split_of_the_feed(rt: HostRuntime) {
     for (letters, answer) in SPLITS.iter() {
-        let Ok(bytes) = bundle_of(rt.alloc(), letters) else {
-            panic!(rt; "out of memory");
-        };
+        let bytes = bundle_of(&rt, rt.alloc(), letters);
         holds(&rt, is_answer(&read_bundle(rt.alloc(), &bytes), *answer));
     }
 }

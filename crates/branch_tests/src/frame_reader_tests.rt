@@ -4,6 +4,7 @@ use bundle_frames::{Written, put_branch, put_header};
 use bundle_reader::{Frame, FrameError, next_frame, read_payload};
 use market_types::{Body, Feed, Memory, What};
 use std::alloc::Global;
+use std::process::Abort;
 
 // What stands from a byte on.
 fn from(bytes: &[u8], at: usize) -> &[u8] {
@@ -70,19 +71,17 @@ fn is_event(read: &Result<Option<Frame>, Memory>) -> bool {
 }
 
 // A header's frame and a root's.
-fn heads(alloc: Global) -> Result<Vec<u8>, Memory> {
+fn heads(rt: &impl Abort, alloc: Global) -> Vec<u8> {
     let mut bytes = Vec::new(alloc);
-    put_header(&mut bytes, 3, 1, 2)?;
-    put_branch(&mut bytes, 0, 65_535, 100, b"root")?;
-    Ok(bytes)
+    put_header(&mut bytes, 3, 1, 2).expect(rt, "memory");
+    put_branch(&mut bytes, 0, 65_535, 100, b"root").expect(rt, "memory");
+    bytes
 }
 
 #[test]
 fn heads_are_read_back(rt: HostRuntime) {
     let alloc = rt.alloc();
-    let Ok(bytes) = heads(alloc) else {
-        panic!(rt; "out of memory");
-    };
+    let bytes = heads(&rt, alloc);
     holds(&rt, is_header(&next_frame(alloc, None, &bytes)));
     holds(&rt, is_root(&next_frame(alloc, None, from(&bytes, 11))));
     let short = next_frame(alloc, None, b"\x00\x01?").err();
@@ -111,19 +110,17 @@ const START: Feed = Feed {
 };
 
 // The frame of the message that a day begins with.
-fn start(alloc: Global) -> Result<Vec<u8>, Memory> {
+fn start(rt: &impl Abort, alloc: Global) -> Vec<u8> {
     let mut bytes = Vec::new(alloc);
-    START.put(&mut bytes)?;
-    Ok(bytes)
+    START.put(&mut bytes).expect(rt, "memory");
+    bytes
 }
 
 #[test]
 fn bodies_and_messages(rt: HostRuntime) {
     let alloc = rt.alloc();
     holds(&rt, is_event(&read_payload(alloc, None, EVENT)));
-    let Ok(bytes) = start(alloc) else {
-        panic!(rt; "out of memory");
-    };
+    let bytes = start(&rt, alloc);
     holds(&rt, is_message(&next_frame(alloc, Some(1), &bytes), START));
     holds(&rt, !is_event(&read_payload(alloc, None, b"q")));
     holds(&rt, Name::new(b"").is_none());

@@ -1,15 +1,15 @@
 //! Courses by one worker.
 
-ghost use Rattle.std.specs.Prelude.{◌≡◌, IfOk, length, map};
+ghost use Rattle.std.specs.Prelude.{◌≡◌, length, map};
 ghost use Rattle.branch_tree.specs.Segments.{segments_in};
 ghost use Rattle.kernel_copy.specs.Outcomes.{outcome_told, outcomes_before};
 
 use branch_workers::{Setup, work};
 use kernel_copy::laws::segments_have_few_events;
 use kernel_copy::{Course, Keep, Outcome};
-use market_types::Memory;
 use outside::{Counted, OpenGate, Steps};
 use std::alloc::Global;
+use std::process::Abort;
 use std::sync::{Arc, Wait};
 use std::thread::Threads;
 
@@ -23,13 +23,13 @@ pub(crate) struct Simulated {
 }
 
 // Has the segments of a course run by one worker, which keeps this of their entries.
-pub(crate) fn simulate<R: Threads + Wait + Sync>(
+pub(crate) fn simulate<R: Abort + Threads + Wait + Sync>(
     rt: &R,
     alloc: Global,
     course: &Arc<Course>,
     keep: Keep,
-) -> Result<Simulated, Memory>
-    ensures { IfOk result (λ x. map outcome_told x.outcomes.items ≡ outcomes_before course.now.value keep (length (segments_in course.now.value.plan))) }
+) -> Simulated
+    ensures { map outcome_told result.outcomes.items ≡ outcomes_before course.now.value keep (length (segments_in course.now.value.plan)) }
 {
     segments_have_few_events(course);
     let setup = Setup {
@@ -41,9 +41,8 @@ pub(crate) fn simulate<R: Threads + Wait + Sync>(
     let mut steps: Steps<Counted> = Steps::new();
     let worked = work(rt, alloc, course, setup, &OpenGate, &mut steps);
     let ticks = steps.close();
-    let worked = worked?;
-    Ok(Simulated {
-        outcomes: worked.outcomes,
+    Simulated {
+        outcomes: worked.expect(rt, "memory").outcomes,
         ticks,
-    })
+    }
 }

@@ -1,6 +1,6 @@
 //! Rewinds over the shelf that workers of a small course give back.
 
-ghost use Rattle.std.specs.Prelude.{◌≡◌, ◌≤◌, IfOk};
+ghost use Rattle.std.specs.Prelude.{◌≡◌, ◌≤◌};
 ghost use Rattle.rewind_desk.specs.AfterWork.{IsAfterWork};
 
 use crate::facts::equal;
@@ -10,7 +10,6 @@ use branch_workers::{Setup, work};
 use checkpoint_shelf::ClosedShelf;
 use kernel_copy::Keep;
 use kernel_copy::laws::segments_have_few_events;
-use market_types::Memory;
 use outside::{Counted, OpenGate, Steps};
 use rewind_desk::{Checkpoint, Course, Key, RewindError, nearest, rewind};
 use std::alloc::Global;
@@ -19,14 +18,14 @@ use std::sync::{Arc, Wait};
 use std::thread::Threads;
 
 // The shelf that three workers of a course give back, with so many places for the grid of stride 5.
-pub(crate) fn left<R: Threads + Wait + Sync>(
+pub(crate) fn left<R: Abort + Threads + Wait + Sync>(
     rt: &R,
     alloc: Global,
     course: &Arc<Course>,
     places: u32,
-) -> Result<ClosedShelf<Checkpoint>, Memory>
+) -> ClosedShelf<Checkpoint>
     requires places { places ≤ 128 }
-    ensures { IfOk result (λ s. IsAfterWork course.now.value 5 places 3 s) }
+    ensures { IsAfterWork course.now.value 5 places 3 result }
 {
     segments_have_few_events(course);
     let mut steps: Steps<Counted> = Steps::new();
@@ -38,8 +37,7 @@ pub(crate) fn left<R: Threads + Wait + Sync>(
     };
     let worked = work(rt, alloc, course, setup, &OpenGate, &mut steps);
     let _ = steps.close();
-    let worked = worked?;
-    Ok(worked.shelf)
+    worked.expect(rt, "memory").shelf
 }
 
 // What a rewind came to: the events of the state, and of the one from which it was reached; or why it is refused. And
@@ -81,12 +79,8 @@ type Row = (u16, u32, Result<(u32, u32), RewindError>, u64);
 
 // Asks for each row's rewind of a course whose branches leave at this stop, with a place for each state of the grid.
 fn rewound<R: Abort + Threads + Wait + Sync>(rt: &R, alloc: Global, stop: Stop, rows: &[Row]) {
-    let Ok(course) = course(alloc, stop) else {
-        panic!(rt; "out of memory");
-    };
-    let Ok(shelf) = left(rt, alloc, &course, 128) else {
-        panic!(rt; "out of memory");
-    };
+    let course = course(rt, alloc, stop);
+    let shelf = left(rt, alloc, &course, 128);
     for (branch, event, told, ticks) in rows.iter() {
         equal(
             rt,
@@ -126,12 +120,9 @@ fn rewinds_of_a_small_course(rt: HostRuntime) {
 // The fork's state has two events, and this number in its key. Without places for the grid it is the nearest from its event on,
 // and with them the one at the greatest multiple of the stride.
 fn nearest_at<R: Abort + Threads + Wait + Sync>(rt: &R, alloc: Global, stop: Stop, number: u32) {
-    let Ok(course) = course(alloc, stop) else {
-        panic!(rt; "out of memory");
-    };
-    let (Ok(forks), Ok(all)) = (left(rt, alloc, &course, 0), left(rt, alloc, &course, 128)) else {
-        panic!(rt; "out of memory");
-    };
+    let course = course(rt, alloc, stop);
+    let forks = left(rt, alloc, &course, 0);
+    let all = left(rt, alloc, &course, 128);
     let fork = key(0, number);
     for (event, without, with) in [
         (1, None, None),

@@ -1,50 +1,49 @@
-ghost use Rattle.std.specs.Prelude.{◌≡◌, [], IfOk};
+ghost use Rattle.std.specs.Prelude.{◌≡◌, []};
 
 use crate::facts::{equal, holds};
 use branch_tree::{Branch, BranchPlan, Name, Stop, plan};
 use command_words::{Request, Task, ask};
 use market_rules::Edit;
-use market_types::{Memory, Sequence};
+use market_types::Sequence;
 use rewind_desk::{Aimed, Past, Target, aim, first_past};
 use std::alloc::Global;
+use std::process::Abort;
 
 // A branch with no edits.
-fn branch(alloc: Global, name: &str, parent: u16, stop: Stop) -> Result<Branch, Memory>
-    ensures parent { IfOk result (λ b. b.parent ≡ parent) }
-    ensures stop { IfOk result (λ b. b.stop ≡ stop) }
-    ensures edits { IfOk result (λ b. b.edits ≡ []) }
+fn branch(rt: &impl Abort, alloc: Global, name: &str, parent: u16, stop: Stop) -> Branch
+    ensures parent { result.parent ≡ parent }
+    ensures stop { result.stop ≡ stop }
+    ensures edits { result.edits ≡ [] }
 {
-    let Some(name) = Name::new(name.as_bytes()) else {
-        return Err(Memory);
-    };
     let edits: Vec<Edit> = Vec::new(alloc);
-    Ok(Branch {
-        name,
+    Branch {
+        name: Name::new(name.as_bytes()).expect(rt, "a name"),
         parent,
         stop,
         edits: Sequence::new(edits),
-    })
+    }
 }
 
 // The plan of `root`, `x` from it at 2 and `x-1` from `x` at 4.
-fn tree(alloc: Global) -> Result<BranchPlan, Memory> {
+fn tree(rt: &impl Abort, alloc: Global) -> BranchPlan {
     let mut branches = Vec::new(alloc);
-    branches.push(branch(alloc, "root", 0, Stop::At(0))?)?;
-    branches.push(branch(alloc, "x", 0, Stop::At(2))?)?;
-    branches.push(branch(alloc, "x-1", 1, Stop::At(4))?)?;
-    match plan(alloc, branches, 100) {
-        Ok(plan) => Ok(plan),
-        Err(_) => Err(Memory),
-    }
+    let root = branch(rt, alloc, "root", 0, Stop::At(0));
+    branches.push(root).expect(rt, "memory");
+    let child = branch(rt, alloc, "x", 0, Stop::At(2));
+    branches.push(child).expect(rt, "memory");
+    let last = branch(rt, alloc, "x-1", 1, Stop::At(4));
+    branches.push(last).expect(rt, "memory");
+    plan(alloc, branches, 100).expect(rt, "a plan")
 }
 
 // What stands between a line's spaces.
-fn words_of(alloc: Global, line: &str) -> Result<Vec<String>, Memory> {
+fn words_of(rt: &impl Abort, alloc: Global, line: &str) -> Vec<String> {
     let mut words = Vec::new(alloc);
     for word in line.split(' ') {
-        words.push(String::from_str(alloc, word)?)?;
+        let word = String::from_str(alloc, word).expect(rt, "memory");
+        words.push(word).expect(rt, "memory");
     }
-    Ok(words)
+    words
 }
 
 // What the marks of words come to in a tree, where they ask for a rewind.
@@ -59,16 +58,14 @@ fn aimed_in(alloc: Global, plan: &BranchPlan, words: &[String]) -> Option<Aimed>
 }
 
 // What the marks of a line come to in that tree.
-fn aimed(alloc: Global, line: &str) -> Option<Aimed> {
-    let (Ok(words), Ok(plan)) = (words_of(alloc, line), tree(alloc)) else {
-        return None;
-    };
-    aimed_in(alloc, &plan, words.as_slice())
+fn aimed(rt: &impl Abort, alloc: Global, line: &str) -> Option<Aimed> {
+    let words = words_of(rt, alloc, line);
+    aimed_in(alloc, &tree(rt, alloc), words.as_slice())
 }
 
 // Whether all marks of a line name branches, or the mark of this index is the first that doesn't.
-fn misses(alloc: Global, line: &str, wanted: Option<usize>) -> bool {
-    match aimed(alloc, line) {
+fn misses(rt: &impl Abort, alloc: Global, line: &str, wanted: Option<usize>) -> bool {
+    match aimed(rt, alloc, line) {
         Some(Aimed::At(_)) => wanted.is_none(),
         Some(Aimed::NoBranch(index)) => wanted == Some(index),
         None => false,
@@ -76,8 +73,8 @@ fn misses(alloc: Global, line: &str, wanted: Option<usize>) -> bool {
 }
 
 // Whether a line's marks name these targets.
-fn aims_at(alloc: Global, line: &str, wanted: &[Target]) -> bool {
-    match aimed(alloc, line) {
+fn aims_at(rt: &impl Abort, alloc: Global, line: &str, wanted: &[Target]) -> bool {
+    match aimed(rt, alloc, line) {
         Some(Aimed::At(targets)) => targets.as_slice() == wanted,
         _ => false,
     }
@@ -94,7 +91,7 @@ const LINES: [(&str, Option<usize>); 4] = [
 fn marks_name_whole_branches(rt: HostRuntime) {
     let alloc = rt.alloc();
     for (line, wanted) in LINES.iter() {
-        holds(&rt, misses(alloc, line, *wanted));
+        holds(&rt, misses(&rt, alloc, line, *wanted));
     }
     let wanted = [
         Target {
@@ -110,7 +107,10 @@ fn marks_name_whole_branches(rt: HostRuntime) {
             event: 2,
         },
     ];
-    holds(&rt, aims_at(alloc, "rewind s root:0 x-1:0007 x:2", &wanted));
+    holds(
+        &rt,
+        aims_at(&rt, alloc, "rewind s root:0 x-1:0007 x:2", &wanted),
+    );
     equal(&rt, first_past(&[6, 2, 7], &wanted), None);
     let past = Some(Past { index: 1, last: 6 });
     equal(&rt, first_past(&[6, 1, 6], &wanted), past);

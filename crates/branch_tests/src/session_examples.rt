@@ -1,6 +1,6 @@
 //! A session over the shelf that workers of a small course give back.
 
-ghost use Rattle.std.specs.Prelude.{◌≡◌, IfOk, IfErr, OnOk, length};
+ghost use Rattle.std.specs.Prelude.{◌≡◌};
 ghost use Rattle.branch_workers.specs.Example.{small};
 
 use crate::facts::{equal, holds};
@@ -9,57 +9,43 @@ use crate::small_course::{latency, two_branches};
 use branch_tree::{Branch, Name, Stop};
 use checkpoint_shelf::ClosedShelf;
 use kernel_copy::{Checkpoint, Course};
-use market_types::{Memory, Sequence, Time, Trace};
+use market_types::{Sequence, Time, Trace};
 use outside::{Counted, Steps};
 use session_desk::{Session, SessionError, forks_by_number};
 use std::alloc::Global;
+use std::process::Abort;
 use std::sync::Arc;
 
 // A session over a course, whose branches leave at event numbers.
-fn begun(alloc: Global, course: &Arc<Course>) -> Result<Session, Memory>
-    ensures { IfOk result (λ s. s.course ≡ course.now.value) }
+fn begun(rt: &impl Abort, alloc: Global, course: &Arc<Course>) -> Session
+    ensures { result.course ≡ course.now.value }
 {
     if !forks_by_number(course.plan()) {
-        return Err(Memory);
+        panic!(rt; "a branch leaves at a time");
     }
-    Session::open(alloc, course)
+    Session::open(alloc, course).expect(rt, "memory")
 }
 
 // Whether a branch of this name leaves the root at event 2 and makes the latency 50.
-fn fork(alloc: Global, session: &mut Session, name: u8) -> bool
+fn fork(rt: &impl Abort, alloc: Global, session: &mut Session, name: u8) -> bool
     requires { session.old.course.opening ≡ small }
     ensures { session.new.course ≡ session.old.course }
 {
-    let Ok(edits) = latency(alloc, 50) else {
-        return false;
-    };
-    let Some(name) = Name::new(&[name]) else {
-        return false;
-    };
     let branch = Branch {
-        name,
+        name: Name::new(&[name]).expect(rt, "a name"),
         parent: 0,
         stop: Stop::At(2),
-        edits: Sequence::new(edits),
+        edits: Sequence::new(latency(rt, alloc, 50)),
     };
-    match session.fork(branch) {
-        Ok(()) => true,
-        Err(_) => false,
-    }
+    session.fork(branch).is_ok()
 }
 
 // Whether a branch makes the latency 7.
-fn edit(alloc: Global, session: &mut Session, branch: u16) -> bool
+fn edit(rt: &impl Abort, alloc: Global, session: &mut Session, branch: u16) -> bool
     requires { session.old.course.opening ≡ small }
     ensures { session.new.course ≡ session.old.course }
 {
-    let Ok(edits) = latency(alloc, 7) else {
-        return false;
-    };
-    match session.edit(branch, edits) {
-        Ok(()) => true,
-        Err(_) => false,
-    }
+    session.edit(branch, latency(rt, alloc, 7)).is_ok()
 }
 
 // The time of a branch's state after so many events, or why there is none; and how many events were counted.
@@ -114,18 +100,12 @@ fn last(
 #[test]
 fn a_session_over_a_small_course(rt: HostRuntime) {
     let alloc = rt.alloc();
-    let Ok(course) = two_branches(alloc, Stop::At(2)) else {
-        panic!(rt; "out of memory");
-    };
-    let Ok(shelf) = left(&rt, alloc, &course, 128) else {
-        panic!(rt; "out of memory");
-    };
-    let Ok(mut session) = begun(alloc, &course) else {
-        panic!(rt; "a branch leaves at a time");
-    };
-    holds(&rt, fork(alloc, &mut session, b'v'));
+    let course = two_branches(&rt, alloc, Stop::At(2));
+    let shelf = left(&rt, alloc, &course, 128);
+    let mut session = begun(&rt, alloc, &course);
+    holds(&rt, fork(&rt, alloc, &mut session, b'v'));
     equal(&rt, came(&session, &shelf, 3, 5), (Ok(1055), 3));
-    holds(&rt, edit(alloc, &mut session, 1));
+    holds(&rt, edit(&rt, alloc, &mut session, 1));
     equal(&rt, came(&session, &shelf, 1, 5), (Ok(1012), 3));
     assert!(rt; session.undo().is_ok());
     equal(&rt, came(&session, &shelf, 2, 4), (Ok(1005), 2));

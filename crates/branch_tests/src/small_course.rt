@@ -1,6 +1,6 @@
 //! Courses of a market of two watchers.
 
-ghost use Rattle.std.specs.Prelude.{◌≡◌, ◌≤◌, IfOk, OnOk};
+ghost use Rattle.std.specs.Prelude.{◌≡◌, ◌≤◌};
 ghost use Rattle.branch_tree.specs.declared.branch.Branch.{Branch};
 ghost use Rattle.market_floor.specs.Opening.{IsOpening};
 ghost use Rattle.market_floor.specs.OpeningWorked.{watcher};
@@ -13,8 +13,9 @@ use kernel_copy::Course;
 use market_floor::Opening;
 use market_floor::opening_worked::{markets_are_openings, opening};
 use market_rules::Edit;
-use market_types::{Memory, Sequence, Time};
+use market_types::{Sequence, Time};
 use std::alloc::Global;
+use std::process::Abort;
 use std::sync::Arc;
 
 // A watcher that first wakes at 1000.
@@ -34,131 +35,126 @@ fn watching() -> TraderSetting
 }
 
 // Two watchers.
-fn traders(alloc: Global) -> Result<Vec<TraderSetting>, Memory>
-    ensures { IfOk result (λ v. v.items ≡ two_watchers) }
+fn traders(rt: &impl Abort, alloc: Global) -> Vec<TraderSetting>
+    ensures { result.items ≡ two_watchers }
 {
     let mut traders = Vec::new(alloc);
-    traders.push(watching())?;
-    traders.push(watching())?;
-    Ok(traders)
+    traders.push(watching()).expect(rt, "memory");
+    traders.push(watching()).expect(rt, "memory");
+    traders
 }
 
 // A market of two watchers.
-pub(crate) fn market(alloc: Global) -> Result<Opening, Memory>
-    ensures opening { IfOk result IsOpening }
-    ensures made { IfOk result (λ o. o ≡ small) }
+pub(crate) fn market(rt: &impl Abort, alloc: Global) -> Opening
+    ensures opening { IsOpening result }
+    ensures made { result ≡ small }
 {
     markets_are_openings();
-    let traders = traders(alloc)?;
-    let o = opening(alloc, 2000, 100, 0, traders)?;
-    Ok(o)
+    opening(alloc, 2000, 100, 0, traders(rt, alloc)).expect(rt, "memory")
+}
+
+// A branch that has these edits.
+fn branch(rt: &impl Abort, name: &[u8], parent: u16, stop: Stop, edits: Vec<Edit>) -> Branch
+    ensures parent { result.parent ≡ parent }
+    ensures edits { result.edits ≡ edits.items }
+{
+    Branch {
+        name: Name::new(name).expect(rt, "a name"),
+        parent,
+        stop,
+        edits: Sequence::new(edits),
+    }
 }
 
 // The root alone.
-pub(crate) fn root(alloc: Global) -> Result<Vec<Branch>, Memory>
-    ensures { IfOk result (λ v. AreBranches v.items) }
+pub(crate) fn root(rt: &impl Abort, alloc: Global) -> Vec<Branch>
+    ensures { AreBranches result.items }
 {
-    let Some(name) = Name::new(b"root") else {
-        return Err(Memory);
-    };
+    let root = branch(rt, b"root", 0, Stop::At(0), Vec::new(alloc));
     let mut branches = Vec::new(alloc);
-    branches.push(Branch {
-        name,
-        parent: 0,
-        stop: Stop::At(0),
-        edits: Sequence::new(Vec::new(alloc)),
-    })?;
-    Ok(branches)
+    branches.push(root).expect(rt, "memory");
+    branches
 }
 
 // No edit.
-pub(crate) fn nothing(alloc: Global) -> Result<Vec<Edit>, Memory>
-    ensures { IfOk result (λ v. AreEdits small v.items) }
+pub(crate) fn nothing(alloc: Global) -> Vec<Edit>
+    ensures { AreEdits small result.items }
 {
-    Ok(Vec::new(alloc))
+    Vec::new(alloc)
 }
 
 // Another latency between all agents, in nanoseconds.
-pub(crate) fn latency(alloc: Global, base: Time) -> Result<Vec<Edit>, Memory>
+pub(crate) fn latency(rt: &impl Abort, alloc: Global, base: Time) -> Vec<Edit>
     requires { base ≤ 1000 }
-    ensures { IfOk result (λ v. AreEdits small v.items) }
+    ensures { AreEdits small result.items }
 {
-    let mut edits = Vec::new(alloc);
-    edits.push(Edit::Latency {
+    let edit = Edit::Latency {
         from: 0,
         to: 0,
         base,
         jitter: 0,
-    })?;
-    Ok(edits)
+    };
+    let mut edits = Vec::new(alloc);
+    edits.push(edit).expect(rt, "memory");
+    edits
 }
 
-// One branch more, if there was memory for its edits.
+// One branch more.
 pub(crate) fn fork(
+    rt: &impl Abort,
     branches: &mut Vec<Branch>,
     name: &[u8],
     parent: u16,
     stop: Stop,
-    edits: Result<Vec<Edit>, Memory>,
-) -> Result<(), Memory>
+    edits: Vec<Edit>,
+)
     requires before { AreBranches branches.old.items }
-    requires edits { IfOk edits (λ v. AreEdits small v.items) }
-    ensures { OnOk result (AreBranches branches.new.items) }
+    requires edits { AreEdits small edits.items }
+    ensures { AreBranches branches.new.items }
 {
-    let edits = edits?;
-    let Some(name) = Name::new(name) else {
-        return Err(Memory);
-    };
-    branches.push(Branch {
-        name,
-        parent,
-        stop,
-        edits: Sequence::new(edits),
-    })?;
-    Ok(())
+    let branch = branch(rt, name, parent, stop, edits);
+    branches.push(branch).expect(rt, "memory");
 }
 
 // The course of these branches.
-pub(crate) fn course_of(alloc: Global, branches: Vec<Branch>) -> Result<Arc<Course>, Memory>
+pub(crate) fn course_of(rt: &impl Abort, alloc: Global, branches: Vec<Branch>) -> Arc<Course>
     requires { AreBranches branches.items }
-    ensures { IfOk result (λ c. c.value.opening ≡ small) }
+    ensures { result.value.opening ≡ small }
 {
-    let opening = market(alloc)?;
-    let Ok(plan) = plan(alloc, branches, 100) else {
-        return Err(Memory);
-    };
-    Ok(Arc::new(alloc, Course::new(opening, plan))?)
+    let plan = plan(alloc, branches, 100).expect(rt, "a plan");
+    let course = Course::new(market(rt, alloc), plan);
+    Arc::new(alloc, course).expect(rt, "memory")
 }
 
 // A root and two branches that leave it at one stop: one makes the latency 50, and one makes it 7. Each runs to event 6.
-fn two_at(alloc: Global, stop: Stop) -> Result<Vec<Branch>, Memory>
-    ensures { IfOk result (λ v. AreBranches v.items) }
+fn two_at(rt: &impl Abort, alloc: Global, stop: Stop) -> Vec<Branch>
+    ensures { AreBranches result.items }
 {
-    let mut branches = root(alloc)?;
-    fork(&mut branches, b"x", 0, stop, latency(alloc, 50))?;
-    fork(&mut branches, b"y", 0, stop, latency(alloc, 7))?;
-    Ok(branches)
+    let mut branches = root(rt, alloc);
+    fork(rt, &mut branches, b"x", 0, stop, latency(rt, alloc, 50));
+    fork(rt, &mut branches, b"y", 0, stop, latency(rt, alloc, 7));
+    branches
 }
 
 // The same and a third branch, which changes nothing. They have five segments, and 18 events where they leave at event 2.
-pub(crate) fn three_at(alloc: Global, stop: Stop) -> Result<Vec<Branch>, Memory>
-    ensures { IfOk result (λ v. AreBranches v.items) }
+pub(crate) fn three_at(rt: &impl Abort, alloc: Global, stop: Stop) -> Vec<Branch>
+    ensures { AreBranches result.items }
 {
-    let mut branches = two_at(alloc, stop)?;
-    fork(&mut branches, b"z", 0, stop, nothing(alloc))?;
-    Ok(branches)
+    let mut branches = two_at(rt, alloc, stop);
+    fork(rt, &mut branches, b"z", 0, stop, nothing(alloc));
+    branches
 }
 
 // The course of the two branches.
-pub(crate) fn two_branches(alloc: Global, stop: Stop) -> Result<Arc<Course>, Memory>
-    ensures { IfOk result (λ c. c.value.opening ≡ small) }
+pub(crate) fn two_branches(rt: &impl Abort, alloc: Global, stop: Stop) -> Arc<Course>
+    ensures { result.value.opening ≡ small }
 {
-    course_of(alloc, two_at(alloc, stop)?)
+    course_of(rt, alloc, two_at(rt, alloc, stop))
 }
 
 // The course of the three branches.
-pub(crate) fn three_branches(alloc: Global, stop: Stop) -> Result<Arc<Course>, Memory>
-    ensures { IfOk result (λ c. c.value.opening ≡ small) }
+pub(crate) fn three_branches(rt: &impl Abort, alloc: Global, stop: Stop) -> Arc<Course>
+    ensures { result.value.opening ≡ small }
 {
-    course_of(alloc, three_at(alloc, stop)?)
+    course_of(rt, alloc, three_at(rt, alloc, stop))
 }

@@ -1,80 +1,85 @@
-ghost use Rattle.std.specs.Prelude.{◌≡◌, All, IfOk, OnOk, length};
+ghost use Rattle.std.specs.Prelude.{◌≡◌, All, length};
 ghost use Rattle.study_report.specs.Difference.{IsNumbered};
 ghost use Rattle.study_report.specs.declared.row.TableRow.{TableRow};
 
 use crate::facts::{equal, holds};
 use branch_tree::Name;
-use market_types::{Body, EditMark, End, Entry, FeedList, Memory, Record, Sequence, Trace};
+use market_types::{Body, EditMark, End, Entry, FeedList, Record, Sequence, Trace};
 use probe_desk::{Fees, Probe, Range, SpreadSum, Volume};
 use std::alloc::Global;
+use std::process::Abort;
 use study_report::{TableRow, first_difference, first_difference_of_parts, table};
 
 // A row of so many zeros; without a parent for the root.
 fn row(
+    rt: &impl Abort,
     alloc: Global,
     name: &[u8],
     parent: Option<Name>,
     stop: u32,
     difference: u32,
     values: usize,
-) -> Result<TableRow, Memory>
-    ensures { IfOk result (λ r. length r.values ≡ values) }
+) -> TableRow
+    ensures { length result.values ≡ values }
 {
-    let Some(name) = Name::new(name) else {
-        return Err(Memory);
-    };
-    let zeros: Vec<i128> = vec![in alloc; 0; values]?;
-    Ok(TableRow {
-        name,
+    let zeros: Vec<i128> = vec![in alloc; 0; values].expect(rt, "memory");
+    TableRow {
+        name: Name::new(name).expect(rt, "a name"),
         parent,
         stop,
         events: 6,
         end: End::Closed,
         difference,
         values: Sequence::new(zeros),
-    })
+    }
 }
 
-// Appends a row of so many values, if there was memory for it.
-fn add(rows: &mut Vec<TableRow>, values: usize, row: Result<TableRow, Memory>) -> Result<(), Memory>
+// Appends a row of so many values.
+fn add(rt: &impl Abort, rows: &mut Vec<TableRow>, values: usize, row: TableRow)
     requires rows { All (λ (r : TableRow). length r.values ≡ values) rows.old.items }
-    requires row { IfOk row (λ r. length r.values ≡ values) }
-    ensures { OnOk result (All (λ (r : TableRow). length r.values ≡ values) rows.new.items) }
+    requires row { length row.values ≡ values }
+    ensures { All (λ (r : TableRow). length r.values ≡ values) rows.new.items }
 {
-    let row = row?;
-    rows.push(row)?;
-    Ok(())
+    let _ = values;
+    rows.push(row).expect(rt, "memory");
+}
+
+// The row of a branch of the root at event 2, with four values.
+fn fork_row(rt: &impl Abort, alloc: Global, name: &[u8], difference: u32) -> TableRow
+    ensures { length result.values ≡ 4 }
+{
+    row(rt, alloc, name, Name::new(b"root"), 2, difference, 4)
 }
 
 // The rows of the root and of three branches.
-fn four_rows(alloc: Global) -> Result<Vec<TableRow>, Memory>
-    ensures { IfOk result (λ v. All (λ (r : TableRow). length r.values ≡ 4) v.items) }
+fn four_rows(rt: &impl Abort, alloc: Global) -> Vec<TableRow>
+    ensures { All (λ (r : TableRow). length r.values ≡ 4) result.items }
 {
-    let mut rows = Vec::new(alloc);
-    add(&mut rows, 4, row(alloc, b"root", None, 0, 0, 4))?;
-    add(&mut rows, 4, row(alloc, b"x", Name::new(b"root"), 2, 5, 4))?;
-    add(&mut rows, 4, row(alloc, b"y", Name::new(b"root"), 2, 5, 4))?;
-    add(&mut rows, 4, row(alloc, b"z", Name::new(b"root"), 2, 0, 4))?;
-    Ok(rows)
+    let mut rows = root_row(rt, alloc, 4);
+    add(rt, &mut rows, 4, fork_row(rt, alloc, b"x", 5));
+    add(rt, &mut rows, 4, fork_row(rt, alloc, b"y", 5));
+    add(rt, &mut rows, 4, fork_row(rt, alloc, b"z", 0));
+    rows
 }
 
 // The root's row alone, with so many values.
-fn root_row(alloc: Global, values: usize) -> Result<Vec<TableRow>, Memory>
-    ensures { IfOk result (λ v. All (λ (r : TableRow). length r.values ≡ values) v.items) }
+fn root_row(rt: &impl Abort, alloc: Global, values: usize) -> Vec<TableRow>
+    ensures { All (λ (r : TableRow). length r.values ≡ values) result.items }
 {
     let mut rows = Vec::new(alloc);
-    add(&mut rows, values, row(alloc, b"root", None, 0, 0, values))?;
-    Ok(rows)
+    let root = row(rt, alloc, b"root", None, 0, 0, values);
+    add(rt, &mut rows, values, root);
+    rows
 }
 
 // A probe of each kind.
-fn four_probes(alloc: Global) -> Result<[Box<dyn Probe>; 4], Memory> {
-    Ok([
-        Box::new(alloc, Volume::new())?,
-        Box::new(alloc, SpreadSum::new())?,
-        Box::new(alloc, Range::new())?,
-        Box::new(alloc, Fees::new())?,
-    ])
+fn four_probes(rt: &impl Abort, alloc: Global) -> [Box<dyn Probe>; 4] {
+    [
+        Box::new(alloc, Volume::new()).expect(rt, "memory"),
+        Box::new(alloc, SpreadSum::new()).expect(rt, "memory"),
+        Box::new(alloc, Range::new()).expect(rt, "memory"),
+        Box::new(alloc, Fees::new()).expect(rt, "memory"),
+    ]
 }
 
 // Whether this is the table of rows.
@@ -93,43 +98,39 @@ const OF_THREE: &[u8] =
 #[test]
 fn a_table_of_three_branches(rt: HostRuntime) {
     let alloc = rt.alloc();
-    let (Ok(probes), Ok(rows)) = (four_probes(alloc), four_rows(alloc)) else {
-        panic!(rt; "out of memory");
-    };
+    let probes = four_probes(&rt, alloc);
+    let rows = four_rows(&rt, alloc);
     holds(&rt, is_table(alloc, rows.as_slice(), &probes, OF_THREE));
 }
 
 const OF_NO_PROBE: &[u8] = b"branch,parent,stop,events,end,first_difference\nroot,,0,6,Closed,0\n";
 
 // So many probes of fees.
-fn fees(alloc: Global, count: u32) -> Result<Vec<Box<dyn Probe>>, Memory> {
+fn fees(rt: &impl Abort, alloc: Global, count: u32) -> Vec<Box<dyn Probe>> {
     let mut probes: Vec<Box<dyn Probe>> = Vec::new(alloc);
     for _ in 0..count {
-        probes.push(Box::new(alloc, Fees::new())?)?;
+        let probe = Box::new(alloc, Fees::new()).expect(rt, "memory");
+        probes.push(probe).expect(rt, "memory");
     }
-    Ok(probes)
+    probes
 }
 
 // How long the table of the root is with so many probes of fees.
-fn length_of_table(alloc: Global, count: u32) -> Result<usize, Memory> {
-    let probes = fees(alloc, count)?;
-    let rows = root_row(alloc, probes.len())?;
-    let text = table(alloc, rows.as_slice(), probes.as_slice())?;
-    Ok(text.len())
+fn length_of_table(rt: &impl Abort, alloc: Global, count: u32) -> usize {
+    let probes = fees(rt, alloc, count);
+    let rows = root_row(rt, alloc, probes.len());
+    table(alloc, rows.as_slice(), probes.as_slice())
+        .expect(rt, "memory")
+        .len()
 }
 
 #[test]
 fn no_probe_and_a_thousand(rt: HostRuntime) {
     let alloc = rt.alloc();
-    let Ok(rows) = root_row(alloc, 0) else {
-        panic!(rt; "out of memory");
-    };
+    let rows = root_row(&rt, alloc, 0);
     holds(&rt, is_table(alloc, rows.as_slice(), &[], OF_NO_PROBE));
     let wanted = OF_NO_PROBE.len() + 1000 * 5 + 1000 * 2;
-    holds(
-        &rt,
-        matches!(length_of_table(alloc, 1000), Ok(size) if size == wanted),
-    );
+    equal(&rt, length_of_table(&rt, alloc, 1000), wanted);
 }
 
 // A wakeup of this number and this time.
@@ -151,36 +152,43 @@ fn wakeup(alloc: Global, number: u32, time: u64) -> Record
     }
 }
 
+// The edit before an event.
+fn mark(alloc: Global, number: u32) -> EditMark {
+    EditMark {
+        events: number,
+        time: 1000,
+        branch: 0,
+        index: 0,
+        letter: b'h',
+        feed: FeedList::new(alloc),
+    }
+}
+
 // So many wakeups, each after an edit; from the third on they come at this time.
-fn run(alloc: Global, count: u32, later: u64) -> Result<Trace, Memory>
-    ensures { IfOk result (λ trace. IsNumbered trace.list) }
+fn run(rt: &impl Abort, alloc: Global, count: u32, later: u64) -> Trace
+    ensures { IsNumbered result.list }
 {
     let mut trace = Trace::new(alloc);
     for number in 0..count {
-        trace.push(Entry::Edit(EditMark {
-            events: number,
-            time: 1000,
-            branch: 0,
-            index: 0,
-            letter: b'h',
-            feed: FeedList::new(alloc),
-        }))?;
+        let Ok(()) = trace.push(Entry::Edit(mark(alloc, number))) else {
+            panic!(rt; "out of memory");
+        };
         let time = if number < 2 { 1000 } else { later };
         let event = wakeup(alloc, number + 1, time);
-        trace.push(Entry::Event(event))?;
+        let Ok(()) = trace.push(Entry::Event(event)) else {
+            panic!(rt; "out of memory");
+        };
     }
-    Ok(trace)
+    trace
 }
 
 #[test]
 fn runs_part_at_their_first_difference(rt: HostRuntime) {
     let alloc = rt.alloc();
-    let (Ok(base), Ok(same)) = (run(alloc, 3, 1010), run(alloc, 3, 1010)) else {
-        panic!(rt; "out of memory");
-    };
-    let (Ok(other), Ok(short)) = (run(alloc, 3, 1055), run(alloc, 2, 1010)) else {
-        panic!(rt; "out of memory");
-    };
+    let base = run(&rt, alloc, 3, 1010);
+    let same = run(&rt, alloc, 3, 1010);
+    let other = run(&rt, alloc, 3, 1055);
+    let short = run(&rt, alloc, 2, 1010);
     equal(&rt, first_difference(&base, &same), 0);
     equal(&rt, first_difference(&base, &other), 3);
     equal(&rt, first_difference(&base, &short), 3);
@@ -191,9 +199,8 @@ fn runs_part_at_their_first_difference(rt: HostRuntime) {
 fn runs_part_in_parts_too(rt: HostRuntime) {
     let alloc = rt.alloc();
     let nothing = Trace::new(alloc);
-    let (Ok(base), Ok(other)) = (run(alloc, 3, 1010), run(alloc, 3, 1055)) else {
-        panic!(rt; "out of memory");
-    };
+    let base = run(&rt, alloc, 3, 1010);
+    let other = run(&rt, alloc, 3, 1055);
     let found = first_difference_of_parts(&[&nothing, &other], &[&base, &nothing]);
     equal(&rt, found, 3);
 }

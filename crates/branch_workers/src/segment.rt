@@ -46,7 +46,9 @@ fn end_of<R: Wait, G>(
     let stop = shift.course.segment(segment).stop;
     let event = number_of_end(stop);
     let end = wait_for(rt, shift.shelf, seat, Key { segment, event })?;
-    end.resume(shift.alloc)
+    let kernel = end.resume(shift.alloc);
+    drop(end);
+    kernel
 }
 
 // The kernel at the start of a segment, which is the opening's or that of its parent's end, once the branch's edits were made where
@@ -79,7 +81,10 @@ fn kernel_at_start<R: Wait, G>(
         }
         Some(parent) => {
             let mut kernel = end_of(rt, shift, seat, parent)?;
-            go_on(shift.alloc, course, g.branch, parent, &mut kernel, trace)?;
+            let Ok(()) = go_on(shift.alloc, course, g.branch, parent, &mut kernel, trace) else {
+                drop(kernel);
+                return Err(Memory);
+            };
             Ok(kernel)
         }
     }
@@ -115,10 +120,19 @@ fn advance<R: Wait, G, L: Ledger>(
     let most = shift.course.opening().limit;
     let mut entries = Trace::new(shift.alloc);
     let kernel = kernel_at_start(rt, shift, seat, segment, &mut entries)?;
-    let kept = Kept::of(shift.alloc, shift.keep, entries)?;
+    let Ok(kept) = Kept::of(shift.alloc, shift.keep, entries) else {
+        drop(kernel);
+        return Err(Memory);
+    };
     let mut ran = Ran { kept, kernel };
-    pass_grid(shift, seat, segment, &mut ran, steps)?;
-    continue_to(shift, segment, most, &mut ran, steps)?;
+    let Ok(()) = pass_grid(shift, seat, segment, &mut ran, steps) else {
+        drop(ran);
+        return Err(Memory);
+    };
+    let Ok(()) = continue_to(shift, segment, most, &mut ran, steps) else {
+        drop(ran);
+        return Err(Memory);
+    };
     Ok(ran)
 }
 
@@ -138,7 +152,7 @@ fn shelve(shelf: &Shelf<Checkpoint>, seat: &mut ShelfSeat<Checkpoint>, end: Arc<
     let key = end.key();
     match shelf.begin(seat, key) {
         Begun::Turn(turn) => shelf.publish(seat, turn, end),
-        Begun::Taken(_) => {}
+        Begun::Taken(_) => drop(end),
     }
 }
 
@@ -214,7 +228,10 @@ pub fn run_segment<R: Wait, G: Gate, L: Ledger>(
     let made = advance(rt, shift, seat, segment, &mut own);
     steps.join(own);
     let ran = made?;
-    shelve_end(shift, seat, segment, &ran.kernel)?;
+    let Ok(()) = shelve_end(shift, seat, segment, &ran.kernel) else {
+        drop(ran);
+        return Err(Memory);
+    };
     let outcome = outcome_at(shift.alloc, shift.course.opening(), segment, ran)?;
     shift.shelf.count(seat);
     Ok(outcome)

@@ -15,11 +15,12 @@ pub(crate) fn put_stock(
     ensures { Puts (take_stock stocks closing.old stock) closing.new result }
 {
     let count = closing.stocks.len();
-    if count >= usize::from(stocks) || usize::from(stock.stock) != count {
-        return Err(Misplaced::Order);
+    if count < usize::from(stocks) && usize::from(stock.stock) == count {
+        closing.stocks.push(stock)?;
+        Ok(())
+    } else {
+        Err(Misplaced::Order)
     }
-    closing.stocks.push(stock)?;
-    Ok(())
 }
 
 // The next live order, behind all stocks and before the agents.

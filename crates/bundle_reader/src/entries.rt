@@ -26,11 +26,12 @@ fn closed(alloc: Global, mut entries: Trace, last: Last) -> Result<(Trace, FeedL
     ensures entries { IfOk result (λ p. p.0.list ≡ all_entries entries.list (last_told last)) }
     ensures before { IfOk result (λ p. p.1.list ≡ before_next (last_told last)) }
 {
-    match last {
+    let entry = match last {
         Last::Apart(before) => return Ok((entries, before)),
-        Last::Event(event) => entries.push(Entry::Event(event))?,
-        Last::Edit(edit) => entries.push(Entry::Edit(edit))?,
-    }
+        Last::Event(event) => Entry::Event(event),
+        Last::Edit(edit) => Entry::Edit(edit),
+    };
+    entries.push(entry)?;
     Ok((entries, FeedList::new(alloc)))
 }
 
@@ -140,7 +141,9 @@ fn take_message(
 fn belongs(edit: &EditMark, message: &Feed) -> bool
     ensures { result ≡ belongs (edit_told edit.now) message.now }
 {
-    matches!(edit.letter, b'h' | b'r') && edit.feed.is_empty() && message.time == edit.time
+    (edit.letter == b'h' || edit.letter == b'r')
+        && edit.feed.is_empty()
+        && message.time == edit.time
 }
 
 // A trading action more: that of the last edit, or of the next event.

@@ -81,11 +81,11 @@ impl Reading {
     {
         match self {
             Reading::Start => None,
-            Reading::Between(whole)
-            | Reading::Opening(whole, _)
-            | Reading::Entries(whole, _, _, _)
-            | Reading::Ended(whole, _, _, _)
-            | Reading::Closing(whole, _, _, _, _) => Some(whole.header.stocks),
+            Reading::Between(whole) => Some(whole.header.stocks),
+            Reading::Opening(whole, _) => Some(whole.header.stocks),
+            Reading::Entries(whole, _, _, _) => Some(whole.header.stocks),
+            Reading::Ended(whole, _, _, _) => Some(whole.header.stocks),
+            Reading::Closing(whole, _, _, _, _) => Some(whole.header.stocks),
             Reading::End(bundle) => Some(bundle.stocks),
         }
     }

@@ -45,19 +45,22 @@ impl Checkpoint {
         requires state { kernel.now ≡ state_at course.now.value key }
         ensures { IfOk result (λ c. c.value ≡ record { course = course.now.value; key = key; state = kernel.now }) }
     {
-        let kernel = kernel.copy(alloc)?;
-        let shared = match Arc::try_clone(course) {
-            Ok(shared) => shared,
-            Err(_) => return Err(Memory),
+        let Ok(shared) = Arc::try_clone(course) else {
+            return Err(Memory);
         };
-        match Arc::new(
-            alloc,
-            Checkpoint {
-                course: shared,
-                key,
-                kernel,
-            },
-        ) {
+        let kernel = match kernel.copy(alloc) {
+            Ok(kernel) => kernel,
+            Err(refused) => {
+                drop(shared);
+                return Err(refused);
+            }
+        };
+        let kept = Checkpoint {
+            course: shared,
+            key,
+            kernel,
+        };
+        match Arc::new(alloc, kept) {
             Ok(kept) => Ok(kept),
             Err(_) => Err(Memory),
         }

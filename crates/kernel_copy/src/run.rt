@@ -1,6 +1,6 @@
 //! How a segment of a course is run, from where it goes on to what its end tells.
 
-ghost use Rattle.std.specs.Prelude.{◌≡◌, ◌<◌, ◌≤◌, ◌+◌, ◌-◌, ◌^◌, [], Some, OnOk, IfOk, length, option_map, nat_lt, All};
+ghost use Rattle.std.specs.Prelude.{◌≡◌, ◌<◌, ◌≤◌, ◌+◌, ◌-◌, ◌^◌, [], Some, Ok, OnOk, IfOk, length, option_map, nat_lt, All};
 ghost use Rattle.branch_tree.specs.Planned.{IsTree};
 ghost use Rattle.branch_tree.specs.Segments.{segments_in, segment_at, last_of};
 ghost use Rattle.kernel_core.specs.Edited.{IsEditOf, edited_from};
@@ -281,6 +281,32 @@ pub fn go_on(
     apply_all(alloc, course.opening(), branch, edits, kernel, trace)
 }
 
+// What a segment's run tells, with its closing if there was memory for it.
+fn told(
+    segment: u32,
+    events: u32,
+    kept: Kept,
+    closing: Result<Closing, Memory>,
+) -> Result<Outcome, Memory>
+    ensures segment { IfOk result (λ x. x.segment ≡ segment) }
+    ensures kept { IfOk result (λ x. kept_told x.kept ≡ kept_told kept) }
+    ensures events { IfOk result (λ x. x.events ≡ events) }
+    ensures closing { IfOk result (λ x. closing ≡ Ok x.closing) }
+{
+    match closing {
+        Ok(closing) => Ok(Outcome {
+            segment,
+            events,
+            kept,
+            closing,
+        }),
+        Err(refused) => {
+            drop(kept);
+            Err(refused)
+        }
+    }
+}
+
 /// What a segment's run tells.
 ///
 /// # Errors
@@ -292,11 +318,8 @@ pub fn outcome_at(alloc: Global, o: &Opening, segment: u32, ran: Ran) -> Result<
     ensures events { IfOk result (λ x. x.events ≡ ran.kernel.events) }
     ensures closing { IfOk result (λ x. x.closing ≡ closing_at o.now ran.kernel) }
 {
-    let closing = closing_of(alloc, o, &ran.kernel)?;
-    Ok(Outcome {
-        segment,
-        events: ran.kernel.events(),
-        kept: ran.kept,
-        closing,
-    })
+    let closing = closing_of(alloc, o, &ran.kernel);
+    let events = ran.kernel.events();
+    drop(ran.kernel);
+    told(segment, events, ran.kept, closing)
 }

@@ -33,10 +33,7 @@ impl Model for Floor {
 fn cash_of(alloc: Global, traders: &[TraderSetting]) -> Result<Vec<i64>, Memory>
     ensures { IfOk result (λ v. v.items ≡ map (λ s. s.cash) traders.now) }
 {
-    let mut cash = Vec::new(alloc);
-    for setting in traders {
-        cash.push(setting.cash)?;
-    }
+    let cash = traders.iter().map(|setting| setting.cash).collect(alloc)?;
     Ok(cash)
 }
 

@@ -114,6 +114,7 @@ pub fn rewind<L: Ledger>(
         Ok(rewound) => {
             let events = rewound.kernel.events();
             if events < event {
+                drop(rewound);
                 return Err(RewindError::NoEvent(events));
             }
             Ok(rewound)

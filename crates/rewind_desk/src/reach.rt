@@ -82,8 +82,12 @@ fn arrive<L: Ledger>(
     let stop = course.segment(segment).stop;
     let kept = Kept::Entries(Packed::new(alloc));
     let mut ran = Ran { kept, kernel };
-    ran.run_to(alloc, o, stop, event, steps)?;
+    let Ok(_) = ran.run_to(alloc, o, stop, event, steps) else {
+        drop(ran);
+        return Err(Memory);
+    };
     let more = has_more(o, stop, &ran.kernel);
+    drop(ran.kept);
     Ok(Arrival {
         kernel: ran.kernel,
         has_more: more,
@@ -182,7 +186,12 @@ fn from_parent<L: Ledger>(
 {
     let branch = course.segment(segment).branch;
     let mut trace = Trace::new(alloc);
-    go_on(alloc, course, branch, parent, &mut kernel, &mut trace)?;
+    let Ok(()) = go_on(alloc, course, branch, parent, &mut kernel, &mut trace) else {
+        drop(kernel);
+        drop(trace);
+        return Err(Memory);
+    };
+    drop(trace);
     let arrival = arrive(alloc, course, segment, event, kernel, steps)?;
     Ok(arrival)
 }

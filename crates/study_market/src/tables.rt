@@ -26,15 +26,28 @@ impl Model for SeriesTables {
     ghost view = { λ t. t.tables.items };
 }
 
+// Appends no rows of so many stocks.
+fn add_empty(
+    tables: &mut Vec<Sequence<SeriesRow>>,
+    alloc: Global,
+    count: usize,
+) -> Result<(), Memory>
+    requires { tables.old.items ≡ [] }
+    ensures { OnOk result (tables.new.items ≡ replicate count []) }
+{
+    for _turn in 0..count {
+        tables.push(Sequence::empty(alloc))?;
+    }
+    Ok(())
+}
+
 impl SeriesTables {
     /// No rows of so many stocks.
     pub fn empty(alloc: Global, count: usize) -> Result<SeriesTables, Memory>
         ensures { IfOk result (λ t. t ≡ replicate count []) }
     {
         let mut tables = Vec::new(alloc);
-        for _turn in 0..count {
-            tables.push(Sequence::empty(alloc))?;
-        }
+        add_empty(&mut tables, alloc, count)?;
         Ok(SeriesTables { tables })
     }
 

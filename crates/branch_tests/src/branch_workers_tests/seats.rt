@@ -16,7 +16,6 @@ use branch_workers::{Shift, open_shelf, run_segment};
 use checkpoint_shelf::{Begun, Found, Key, PlaceWord, Shelf, ShelfSeat, Turn};
 use kernel_copy::laws::segments_have_few_events;
 use kernel_copy::{Checkpoint, Course, Keep, Outcome};
-use market_types::Memory;
 use outside::{Counted, OpenGate, Steps};
 use std::alloc::Global;
 use std::process::Abort;
@@ -82,48 +81,42 @@ struct Told {
 }
 
 // One seat runs a course's first segment, and another, which ran nothing before, the segment 2.
-fn two_seats<R: Wait>(rt: &R, alloc: Global, course: &Arc<Course>) -> Result<Option<Told>, Memory> {
-    let (shelf, seats) = open_shelf(alloc, course, 5, 1, 2)?;
+fn two_seats<R: Abort + Wait>(rt: &R, alloc: Global, course: &Arc<Course>) -> Told {
+    let (shelf, seats) = open_shelf(alloc, course, 5, 1, 2).expect(rt, "memory");
     if course.plan().segments().len() < 3 {
-        return Ok(None);
+        panic!(rt; "too few segments");
     }
-    let Some((mut zero, mut one)) = two_new(&shelf, seats) else {
-        return Ok(None);
-    };
+    let (mut zero, mut one) = two_new(&shelf, seats).expect(rt, "two seats");
     let (first, first_ticks) = claim_and_run(rt, alloc, course, &shelf, &mut zero, 0);
     let (child, child_ticks) = claim_and_run(rt, alloc, course, &shelf, &mut one, 2);
-    Ok(Some(Told {
+    Told {
         first,
         first_ticks,
         child,
         child_ticks,
-    }))
+    }
 }
 
 // How many entries an outcome has, of which the first is an edit.
-fn edited_entries(alloc: Global, outcome: &Outcome) -> Option<usize> {
+fn edited_entries(rt: &impl Abort, alloc: Global, outcome: &Outcome) -> Option<usize> {
     let entries = entries_of(outcome)?;
-    match begins_with_an_edit(alloc, entries) {
-        Ok(true) => Some(entries.len()),
-        _ => None,
+    if begins_with_an_edit(rt, alloc, entries) {
+        Some(entries.len())
+    } else {
+        None
     }
 }
 
 #[test]
 fn a_child_by_a_seat_without_the_parents_state(rt: HostRuntime) {
     let alloc = rt.alloc();
-    let Ok(course) = course(alloc, Stop::At(2)) else {
-        panic!(rt; "out of memory");
-    };
-    let Ok(Some(told)) = two_seats(&rt, alloc, &course) else {
-        panic!(rt; "no seats");
-    };
-    let (Some(first), Some(child)) = (told.first, told.child) else {
-        panic!(rt; "a segment was claimed, or there was no memory");
-    };
+    let course = course(&rt, alloc, Stop::At(2));
+    let told = two_seats(&rt, alloc, &course);
+    let first = told.first.expect(&rt, "the first outcome");
+    let child = told.child.expect(&rt, "the child's outcome");
     equal(&rt, (first.events, told.first_ticks), (2, 2));
     equal(&rt, (child.events, told.child_ticks), (6, 4));
-    equal(&rt, edited_entries(alloc, &child), Some(5));
+    equal(&rt, edited_entries(&rt, alloc, &child), Some(5));
 }
 
 // The word at which `begin` of a key gave a seat no turn; a turn is spent with no value.
@@ -238,51 +231,43 @@ fn word_without_value(
 // Two keys share the one place of a course's grid. One seat, which ran the course's first segment, has the turn to write the
 // place for the first key while another begins the second key and runs its segment. Behind it stands the place's word once
 // the turn was spent with no value.
-fn beside_a_turn<R: Wait>(
+fn beside_a_turn<R: Abort + Wait>(
     rt: &R,
     alloc: Global,
     course: &Arc<Course>,
     first: Key,
     second: Key,
-) -> Result<Option<(Met, Option<PlaceWord>)>, Memory> {
-    let (shelf, seats) = open_shelf(alloc, course, 5, 1, 2)?;
+) -> (Met, Option<PlaceWord>) {
+    let (shelf, seats) = open_shelf(alloc, course, 5, 1, 2).expect(rt, "memory");
     let segments = course.plan().segments().len();
     if segments <= first.segment as usize || segments <= second.segment as usize {
-        return Ok(None);
+        panic!(rt; "too few segments");
     }
     if shelf.place_of(first).is_none() || shelf.place_of(second).is_none() {
-        return Ok(None);
+        panic!(rt; "no place");
     }
-    let Some((mut zero, mut one)) = two_new(&shelf, seats) else {
-        return Ok(None);
-    };
+    let (mut zero, mut one) = two_new(&shelf, seats).expect(rt, "two seats");
     let _ = claim_and_run(rt, alloc, course, &shelf, &mut zero, 0);
-    let Some(turn) = claim_and_begin(&shelf, &mut zero, first) else {
-        return Ok(None);
-    };
+    let turn = claim_and_begin(&shelf, &mut zero, first).expect(rt, "a turn");
     let met = claim_meet_and_run(rt, alloc, course, &shelf, &mut one, second);
     shelf.abandon(&mut zero, turn);
     let after = word_without_value(&shelf, &mut one, second);
-    Ok(met.map(|met| (met, after)))
+    (met.expect(rt, "a claim"), after)
 }
 
 // What the seat tells that found the place taken.
 fn is_met(rt: &impl Abort, alloc: Global, met: &Met) {
     equal(rt, met.word, Some(PlaceWord::Writing(0)));
-    let Some(outcome) = &met.outcome else {
-        panic!(rt; "no memory");
-    };
+    let outcome = met.outcome.as_ref().expect(rt, "memory");
     equal(rt, (outcome.segment, outcome.events, met.ticks), (2, 6, 4));
-    equal(rt, edited_entries(alloc, outcome), Some(5));
+    equal(rt, edited_entries(rt, alloc, outcome), Some(5));
 }
 
 // A seat finds the place of its own key taken: its run goes on without a copy there, and tells what it tells.
 #[test]
 fn a_run_beside_anothers_turn(rt: HostRuntime) {
     let alloc = rt.alloc();
-    let Ok(course) = course(alloc, Stop::At(2)) else {
-        panic!(rt; "out of memory");
-    };
+    let course = course(&rt, alloc, Stop::At(2));
     let first = Key {
         segment: 1,
         event: 5,
@@ -291,9 +276,7 @@ fn a_run_beside_anothers_turn(rt: HostRuntime) {
         segment: 2,
         event: 5,
     };
-    let Ok(Some((met, after))) = beside_a_turn(&rt, alloc, &course, first, second) else {
-        panic!(rt; "no seats, or no turn");
-    };
+    let (met, after) = beside_a_turn(&rt, alloc, &course, first, second);
     is_met(&rt, alloc, &met);
     equal(&rt, after, Some(PlaceWord::Free));
 }

@@ -17,8 +17,8 @@ pass_grid-requires-clause-underway g c =
     let k : CourseTold = c.args.shift.now.course.now.value in
     let keep = c.args.shift.now.keep in
     let r : Run = record { state = c.in_ok-kernel.kernel; entries = c.kernel_at_start.new.trace.list } in
-    let first : RanTold = record { state = c.in_ok-kernel.kernel; kept = kept_told c.in_ok-kept.kept } in
-    let told : first ≡ ran_as keep r = ap (λ (x : KeptTold). let y : RanTold = record { state = c.in_ok-kernel.kernel; kept = x } in y) c.in_ok-kept.ensures in
+    let first : RanTold = record { state = c.in_ok-kernel.kernel; kept = kept_told c.in-Ok.kept } in
+    let told : first ≡ ran_as keep r = ap (λ (x : KeptTold). let y : RanTold = record { state = c.in_ok-kernel.kernel; kept = x } in y) c.in-Ok.ensures in
     begins k keep c.args.segment first r told c.in_ok-kernel.ensures.state c.in_ok-kernel.ensures.fits
 
 pub pass_grid-requires-clause-begins : goal.pass_grid-requires-clause-begins
@@ -34,18 +34,18 @@ pub continue_to-requires-clause-underway : goal.continue_to-requires-clause-unde
 continue_to-requires-clause-underway g c =
     let k : CourseTold = c.args.shift.now.course.now.value in
     let most = ap (λ (o : Opening). o.limit) c.opening.ensures.value ∙ ap (λ (x : CourseTold). x.opening.limit) c.deref-2.ensures in
-    subst (λ (m : ℕ). IsUnderway k c.args.shift.now.keep c.args.segment m (ran_told c.pass_grid.new.ran)) (sym most) c.in_ok-pass_grid.ensures.underway
+    subst (λ (m : ℕ). IsUnderway k c.args.shift.now.keep c.args.segment m (ran_told c.pass_grid.new.ran)) (sym most) c.in-Ok-pass_grid.ensures.underway
 
-pub returns-in_err-pass_grid-clause-most : goal.returns-in_err-pass_grid-clause-most
-returns-in_err-pass_grid-clause-most g c =
+pub returns-in_default-pass_grid-clause-most : goal.returns-in_default-pass_grid-clause-most
+returns-in_default-pass_grid-clause-most g c =
     let k : CourseTold = c.args.shift.now.course.now.value in
     let first = ap (λ (r : Run). r.state.events) c.in_ok-kernel.ensures.state in
     let course : IsCourse k = subst IsCourse c.deref.ensures c.is_course.ensures in
     let own = own-is k.opening k.plan c.args.segment (course-tree k course) course.limit c.requires.segment in
     omega (arith, c.pass_grid.ensures.few, c.pass_grid.ensures.ticks)
 
-pub returns-in_err-continue_to-clause-most : goal.returns-in_err-continue_to-clause-most
-returns-in_err-continue_to-clause-most g c =
+pub returns-in_default-continue_to-clause-most : goal.returns-in_default-continue_to-clause-most
+returns-in_default-continue_to-clause-most g c =
     let k : CourseTold = c.args.shift.now.course.now.value in
     let first = ap (λ (r : Run). r.state.events) c.in_ok-kernel.ensures.state in
     let course : IsCourse k = subst IsCourse c.deref.ensures c.is_course.ensures in
@@ -59,7 +59,7 @@ returns-clause-ran g c =
     let s = c.args.segment in
     let course : IsCourse k = subst IsCourse c.deref.ensures c.is_course.ensures in
     let most = ap (λ (o : Opening). o.limit) c.opening.ensures.value ∙ ap (λ (x : CourseTold). x.opening.limit) c.deref-2.ensures in
-    c.in_ok-continue_to.ensures.ran
+    c.in-Ok-continue_to.ensures.ran
     ∙ ap (λ (m : ℕ). ran_as keep (until_part k.opening (segment_at k.plan s).stop m (run_at_start k s))) most
     ∙ ap (λ (r : Run). ran_as keep r) (runs_whole k s course c.requires.segment)
 
@@ -72,7 +72,7 @@ returns-clause-rose g c =
     let course : IsCourse k = subst IsCourse c.deref.ensures c.is_course.ensures in
     let most = ap (λ (o : Opening). o.limit) c.opening.ensures.value ∙ ap (λ (x : CourseTold). x.opening.limit) c.deref-2.ensures in
     let last = ap (λ (x : RanTold). x.state.events)
-    (c.in_ok-continue_to.ensures.ran
+    (c.in-Ok-continue_to.ensures.ran
     ∙ ap (λ (m : ℕ). ran_as keep (until_part k.opening (segment_at k.plan s).stop m (run_at_start k s))) most
     ∙ ap (λ (r : Run). ran_as keep r) (runs_whole k s course c.requires.segment)) in
     let own = own-is k.opening k.plan s (course-tree k course) course.limit c.requires.segment in

@@ -31,13 +31,13 @@ returns-in_ok-kernel-in-None-clause-state g c =
     ∙ sym (started-first k.opening k.plan x none)
     ∙ ap (λ (y : CourseTold). run_at_start y c.args.segment) c.deref-course.ensures
 
-pub returns-in_ok-go_on-in-Some-clause-state : goal.returns-in_ok-go_on-in-Some-clause-state
-returns-in_ok-go_on-in-Some-clause-state g c =
+pub returns-in-Ok-clause-state : goal.returns-in-Ok-clause-state
+returns-in-Ok-clause-state g c =
     let k : CourseTold = c.deref-course.result.now in
     let x = segment_at k.plan c.args.segment in
     let q = c.in-Some.parent in
     let some : x.parent ≡ Some q = sym (ap (λ (y : Segment). y.parent) c.segment-g.ensures.value) ∙ c.in-Some.is in
-    c.in_ok-go_on-in-Some.ensures.state
+    c.in-Ok.ensures.state
     ∙ ap (λ (y : Segment). started_from k.opening k.plan y.branch (Some q)) c.segment-g.ensures.value
     ∙ sym (started-goes k.opening k.plan x q some)
     ∙ ap (λ (y : CourseTold). run_at_start y c.args.segment) c.deref-course.ensures

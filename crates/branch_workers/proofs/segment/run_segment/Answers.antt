@@ -19,11 +19,3 @@ returns-clause-outcome g c =
     let tells = c.in_ok-outcome.ensures in
     outcome-is k c.args.shift.now.keep c.args.segment x _ _ _ _ (subst IsCourse c.deref.ensures c.is_course.ensures) c.requires.segment c.in_ok-ran.ensures.ran tells.segment tells.kept tells.events
     (tells.closing ∙ ap (λ (o : Opening). closing_at o c.in_ok-ran.ran.kernel) opening)
-
--- what holds in any case holds of an `Err`
-any-err : {X E A : Type 0} (r : Result X E) → A → OnErr r A
-any-err (Ok x) a = tt
-any-err (Err e) a = a
-
-pub returns-in_err-shelve_end-clause-uncounted : goal.returns-in_err-shelve_end-clause-uncounted
-returns-in_err-shelve_end-clause-uncounted g c = any-err c.from_residual-in_err-shelve_end.result (c.shelve_end.ensures.stays.counts ∙ c.advance-made.ensures.stays.counts)
