@@ -1,15 +1,19 @@
 //! Edits of the floor.
 
-ghost use Rattle.std.specs.Prelude.{◌≡◌, ◌<◌, ℕ, All, IfOk, OnOk, OnErr, length};
+ghost use Rattle.std.specs.Prelude.{◌≡◌, ◌<◌, ◌^◌, ◌+ℤ◌, ℕ, true, All, IfOk, OnOk, OnErr, length};
+ghost use Rattle.agent_shell.specs.Parameters.{IsOwnParam};
+ghost use Rattle.agent_shell.specs.Trader.{trader_with};
+ghost use Rattle.market_rules.specs.EditRanges.{is_near_zero};
 ghost use Rattle.exchange_agent.specs.Changes.{changed_by};
-ghost use Rattle.market_floor.specs.Edited.{IsEdit, edited_floor};
-ghost use Rattle.market_floor.specs.Floor.{with_exchange};
+ghost use Rattle.market_floor.specs.Edited.{IsAgent, IsEdit, edited_floor};
+ghost use Rattle.market_floor.specs.Floor.{offset_at, party_at, with_exchange, with_offset, with_party};
+ghost use Rattle.market_floor.specs.Party.{with_trader};
 ghost use Rattle.market_floor.specs.Sound.{IsSoundFloor};
 
 use crate::floor::Floor;
 use exchange_agent::laws::books_stay_short;
-use market_rules::{Change, Edit};
-use market_types::{FeedList, Memory, StockNo, Time};
+use market_rules::{Change, Edit, Param};
+use market_types::{AgentNo, FeedList, Memory, StockNo, Time};
 use std::alloc::Global;
 
 impl Floor {
@@ -36,6 +40,36 @@ impl Floor {
         Ok(feed)
     }
 
+    // A parameter of a trader becomes this one.
+    fn set(&mut self, agent: AgentNo, name: Param, value: u64)
+        requires agent { IsAgent (length self.old.parties) agent }
+        requires param { IsOwnParam (party_at self.old agent).trader.setting.kind name value }
+        ensures floor { self.new ≡ with_party agent (with_trader (trader_with name value (party_at self.old agent).trader) (party_at self.old agent)) self.old }
+        ensures sound { (n : ℕ) → IsSoundFloor n self.old → IsSoundFloor n self.new }
+    {
+        self.parties[usize::from(agent) - 1].set(name, value);
+    }
+
+    // A trader sends nothing from now on.
+    fn silence(&mut self, agent: AgentNo)
+        requires { IsAgent (length self.old.parties) agent }
+        ensures floor { self.new ≡ with_party agent (record (party_at self.old agent) { silent = true }) self.old }
+        ensures sound { (n : ℕ) → IsSoundFloor n self.old → IsSoundFloor n self.new }
+    {
+        self.parties[usize::from(agent) - 1].silence();
+    }
+
+    // The value of a stock is shifted by so much more.
+    fn shift(&mut self, stock: StockNo, offset: i64)
+        requires stock { stock < length self.old.offsets }
+        requires step { is_near_zero 2000000000 offset ≡ true }
+        requires near { is_near_zero (2 ^ 62) (offset_at self.old stock) ≡ true }
+        ensures floor { self.new ≡ with_offset stock (offset_at self.old stock +ℤ offset) self.old }
+        ensures sound { (n : ℕ) → IsSoundFloor n self.old → IsSoundFloor n self.new }
+    {
+        self.offsets[usize::from(stock)] += offset;
+    }
+
     /// Makes an edit at a time, in nanoseconds past midnight, and gives its feed. Edits of latencies and injected
     /// messages leave the floor as it is.
     ///
@@ -60,15 +94,15 @@ impl Floor {
             Edit::Halt { stock } => self.change(alloc, time, *stock, &Change::Halt),
             Edit::Resume { stock } => self.change(alloc, time, *stock, &Change::Resume),
             Edit::Agent { agent, name, value } => {
-                self.parties[usize::from(*agent) - 1].set(*name, *value);
+                self.set(*agent, *name, *value);
                 Ok(FeedList::new(alloc))
             }
             Edit::Silence { agent } => {
-                self.parties[usize::from(*agent) - 1].silence();
+                self.silence(*agent);
                 Ok(FeedList::new(alloc))
             }
             Edit::Series { stock, offset } => {
-                self.offsets[usize::from(*stock)] += *offset;
+                self.shift(*stock, *offset);
                 Ok(FeedList::new(alloc))
             }
             Edit::Latency { .. } | Edit::Inject { .. } => Ok(FeedList::new(alloc)),

@@ -2,11 +2,11 @@
 
 ghost use Rattle.std.specs.Prelude.{◌≡◌, ◌<◌, ◌≤◌, ◌+◌, ◌++◌, ◌^◌, ℕ, true, IfOk, OnOk, OnErr};
 ghost use Rattle.agent_shell.specs.Bounds.{AreSendings, IsAfter};
-ghost use Rattle.agent_shell.specs.Decide.{quoted};
+ghost use Rattle.agent_shell.specs.Decide.{choice_of, chosen, quoted};
 ghost use Rattle.agent_shell.specs.Parameters.{IsOwnParam, IsSetting};
 ghost use Rattle.agent_shell.specs.Parts.{trader_of};
 ghost use Rattle.agent_shell.specs.Sight.{sight_of};
-ghost use Rattle.agent_shell.specs.Sound.{IsTrader};
+ghost use Rattle.agent_shell.specs.Sound.{IsOwn, IsTrader};
 ghost use Rattle.agent_shell.specs.Trader.{IsReady, told_of, trader_at_opening, trader_with};
 ghost use Rattle.market_floor.specs.Party.{party_at_opening, reacted, with_trader};
 ghost use Rattle.market_floor.specs.Past.{IsPast};
@@ -46,6 +46,53 @@ impl Model for Party {
     } };
 }
 
+// What a trader does with a quote of a stock that trades, but for its count of quotes.
+fn trade_on(
+    parts: &mut Parts,
+    past: &mut History,
+    view: &View,
+    quote: &Quote,
+    out: &mut Sends,
+) -> Result<(), Memory>
+    requires sound { IsTrader (trader_of past.old parts.old) }
+    requires past { IsPast parts.old.setting.kind past.old }
+    requires stream { parts.old.stream ≡ parts.old.shell.orders.agent }
+    requires ready { IsReady (trader_of past.old parts.old) }
+    ensures orders { OnOk result (parts.new.shell.orders ≡ (chosen (sight_of view.now) (trader_of past.old parts.old) (choice_of (sight_of view.now) (trader_of past.old parts.old) quote.now)).trader.orders) }
+    ensures draws { OnOk result (parts.new.draws ≡ (chosen (sight_of view.now) (trader_of past.old parts.old) (choice_of (sight_of view.now) (trader_of past.old parts.old) quote.now)).trader.draws) }
+    ensures middles { OnOk result (past.new ≡ (choice_of (sight_of view.now) (trader_of past.old parts.old) quote.now).past) }
+    ensures sends { OnOk result (out.new.list ≡ out.old.list ++ (chosen (sight_of view.now) (trader_of past.old parts.old) (choice_of (sight_of view.now) (trader_of past.old parts.old) quote.now)).sends) }
+    ensures own { IsOwn parts.new.shell.orders }
+    ensures past { IsPast parts.old.setting.kind past.new }
+    ensures setting { parts.new.setting ≡ parts.old.setting }
+    ensures stream { parts.new.stream ≡ parts.new.shell.orders.agent }
+    ensures quotes { parts.new.quotes ≡ parts.old.quotes }
+    ensures unmoved { OnErr result (trader_of past.new parts.new ≡ trader_of past.old parts.old) }
+    ensures nothing_sent { OnErr result (out.new.list ≡ out.old.list) }
+{
+    match parts.setting.kind {
+        Kind::Watcher | Kind::Noise { .. } | Kind::Value { .. } => take(parts, view, quote, out),
+        Kind::Momentum { size, short, long } => {
+            follow(parts, past, view, quote, size, short, long, out)
+        }
+        Kind::Maker {
+            size,
+            half,
+            step,
+            levels,
+            pause,
+        } => {
+            let each = Levels {
+                size,
+                half,
+                step,
+                pause,
+            };
+            make(parts, view, quote, &each, levels, out)
+        }
+    }
+}
+
 // What a trader does with a quote.
 fn take_quote(
     parts: &mut Parts,
@@ -67,29 +114,7 @@ fn take_quote(
     ensures nothing_sent { OnErr result (out.new.list ≡ out.old.list) }
 {
     if quote.state == b'T' {
-        match parts.setting.kind {
-            Kind::Watcher | Kind::Noise { .. } | Kind::Value { .. } => {
-                take(parts, view, quote, out)?;
-            }
-            Kind::Momentum { size, short, long } => {
-                follow(parts, past, view, quote, size, short, long, out)?;
-            }
-            Kind::Maker {
-                size,
-                half,
-                step,
-                levels,
-                pause,
-            } => {
-                let each = Levels {
-                    size,
-                    half,
-                    step,
-                    pause,
-                };
-                make(parts, view, quote, &each, levels, out)?;
-            }
-        }
+        trade_on(parts, past, view, quote, out)?;
     }
     parts.quotes += 1;
     Ok(())
@@ -204,7 +229,10 @@ impl Party {
         ensures { IfOk result (λ p. p ≡ self.now) }
     {
         let parts = self.parts.copy()?;
-        let past = self.past.copy()?;
+        let Ok(past) = self.past.copy() else {
+            drop(parts);
+            return Err(Memory);
+        };
         Ok(Party {
             parts,
             past,

@@ -5,15 +5,15 @@ ghost use Rattle.std.specs.List.{enumerate_from};
 ghost use Rattle.toml.specs.Data.{as_table};
 ghost use Rattle.toml.specs.View.{table_view, view};
 ghost use Rattle.fundamental_series.specs.Made.{by_rule};
-ghost use Rattle.fundamental_series.specs.Ranges.{AreRows};
+ghost use Rattle.fundamental_series.specs.Ranges.{AreRows, IsInRange};
 ghost use Rattle.study_file.specs.Keys.{passes};
 ghost use Rattle.study_file.specs.Values.{first_failing};
 ghost use Rattle.study_market.specs.MarketRules.{span_of, key_broken as rule_3};
 ghost use Rattle.study_market.specs.StockRules.{stocks as stocks_of, has_prices, has_pace, goes_by as by_word, stock_count_broken as rule_10, prices_broken as rule_16, pace_broken as rule_17};
 ghost use Rattle.study_market.specs.Rows.{rows_of};
-ghost use Rattle.study_market.specs.Entries.{entry_of};
+ghost use Rattle.study_market.specs.Entries.{entry_of, natural_at as natural_of};
 ghost use Rattle.study_market.specs.Market.{key_of};
-ghost use Rattle.study_market.specs.Stocks.{rule_made_of, series_in, series_of, HaveRows};
+ghost use Rattle.study_market.specs.Stocks.{rule_made_of, series_rule_of, series_in, series_of, HaveRows};
 
 use crate::entries::natural_at;
 use crate::market_parts::{close, key, start};
@@ -23,6 +23,28 @@ use fundamental_series::{Series, SeriesRule, series_by_rule, series_from_rows};
 use market_types::{Memory, Sequence, StockNo};
 use std::alloc::Global;
 use study_file::{Table, Value};
+
+// The number at a key, which is one of 32 bits.
+fn small_at(table: &Table, key: &str) -> u32
+    requires { natural_of key.now (table_view table.now) ≤ 4294967295 }
+    ensures { result ≡ natural_of key.now (table_view table.now) }
+{
+    natural_at(table, key) as u32
+}
+
+// The rule of a stock's values.
+fn series_rule(stock: &Table) -> SeriesRule
+    requires { IsInRange (series_rule_of (table_view stock.now)) }
+    ensures { result ≡ series_rule_of (table_view stock.now) }
+{
+    SeriesRule {
+        start: small_at(stock, "start"),
+        mean: small_at(stock, "mean"),
+        pull: small_at(stock, "pull"),
+        shock: small_at(stock, "shock"),
+        every: natural_at(stock, "every"),
+    }
+}
 
 // The values of a stock by its rule.
 fn made_by_rule(
@@ -38,13 +60,7 @@ fn made_by_rule(
     requires pace { has_pace (span_of (table_view table.now)) (table_view stock.now) ≡ true }
     ensures { IfOk result (λ s. s ≡ by_rule (rule_made_of (table_view table.now) number (table_view stock.now))) }
 {
-    let rule = SeriesRule {
-        start: natural_at(stock, "start") as u32,
-        mean: natural_at(stock, "mean") as u32,
-        pull: natural_at(stock, "pull") as u32,
-        shock: natural_at(stock, "shock") as u32,
-        every: natural_at(stock, "every"),
-    };
+    let rule = series_rule(stock);
     series_by_rule(alloc, key, number, &rule, start(table), close(table))
 }
 

@@ -1,0 +1,8 @@
+use Rattle.std.proofs.lemmas.List.{length-set}
+use Rattle.market_floor.proofs.Sounds.{shifted-sound}
+use Rattle.market_floor.proofs.floor.Floor.shift.Goals as goal
+
+pub returns-clause-sound : goal.returns-clause-sound
+returns-clause-sound c =
+    let i = c.self.inside in
+    λ n h. shifted-sound n c.args.self.now i.exchange i.parties.items i.offsets.items _ c.self.view_is (length-set i.offsets.items c.from.result _) h
