@@ -50,7 +50,11 @@ pub(crate) fn market(rt: &impl Abort, alloc: Global) -> Opening
     ensures made { result ≡ small }
 {
     markets_are_openings();
-    opening(alloc, 2000, 100, 0, traders(rt, alloc)).expect(rt, "memory")
+    let traders = traders(rt, alloc);
+    let Ok(o) = opening(alloc, 2000, 100, 0, traders) else {
+        panic!(rt; "out of memory");
+    };
+    o
 }
 
 // A branch that has these edits.

@@ -41,7 +41,7 @@ fn has_strange_terms(hidden: bool, e: &Enter) -> bool
     has_strange_display(hidden, e)
         || e.minimum != 0
         || e.cross != b'N'
-        || !matches!(e.tif, 0 | 99_998 | 99_999)
+        || !(e.tif == 0 || e.tif == 99_998 || e.tif == 99_999)
 }
 
 // The shares are 0 or above 999,999.

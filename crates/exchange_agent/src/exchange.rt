@@ -40,8 +40,14 @@ fn listings(alloc: Global, stocks: &[StockRules], traders: usize) -> Result<Vec<
 {
     let mut listings = Vec::new(alloc);
     for rules in stocks {
-        let listing = Listing::open(alloc, rules, traders)?;
-        listings.push(listing)?;
+        let Ok(listing) = Listing::open(alloc, rules, traders) else {
+            drop(listings);
+            return Err(Memory);
+        };
+        let Ok(()) = listings.push(listing) else {
+            drop(listings);
+            return Err(Memory);
+        };
     }
     Ok(listings)
 }
@@ -52,8 +58,14 @@ fn copies(alloc: Global, stocks: &[Listing]) -> Result<Vec<Listing>, Memory>
 {
     let mut listings = Vec::new(alloc);
     for listing in stocks {
-        let listing = listing.copy(alloc)?;
-        listings.push(listing)?;
+        let Ok(listing) = listing.copy(alloc) else {
+            drop(listings);
+            return Err(Memory);
+        };
+        let Ok(()) = listings.push(listing) else {
+            drop(listings);
+            return Err(Memory);
+        };
     }
     Ok(listings)
 }
@@ -91,7 +103,10 @@ impl Exchange {
         ensures { IfOk result (λ x. x ≡ opened stocks.now cash.now hidden) }
     {
         let stocks = listings(alloc, stocks, cash.len())?;
-        let cash = accounts(alloc, cash)?;
+        let Ok(cash) = accounts(alloc, cash) else {
+            drop(stocks);
+            return Err(Memory);
+        };
         Ok(Exchange {
             stocks,
             cash,
@@ -111,8 +126,14 @@ impl Exchange {
         ensures { IfOk result (λ x. x ≡ self.now) }
     {
         let stocks = copies(alloc, self.stocks.as_slice())?;
-        let cash = copied(alloc, self.cash.as_slice())?;
-        let pairs = self.pairs.copy(alloc)?;
+        let Ok(cash) = copied(alloc, self.cash.as_slice()) else {
+            drop(stocks);
+            return Err(Memory);
+        };
+        let Ok(pairs) = self.pairs.copy(alloc) else {
+            drop(stocks);
+            return Err(Memory);
+        };
         Ok(Exchange {
             stocks,
             cash,

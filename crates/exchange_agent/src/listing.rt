@@ -46,7 +46,10 @@ impl Listing {
         ensures { IfOk result (λ k. stock_of k ≡ listed traders rules.now) }
     {
         let ticks = rules.ticks.copy(alloc)?;
-        let positions = vec![in alloc; 0; traders]?;
+        let Ok(positions) = vec![in alloc; 0; traders] else {
+            drop(ticks);
+            return Err(Memory);
+        };
         Ok(Listing {
             symbol: rules.symbol,
             ticks,
@@ -65,8 +68,15 @@ impl Listing {
         ensures { IfOk result (λ k. stock_of k ≡ stock_of self.now) }
     {
         let ticks = self.ticks.copy(alloc)?;
-        let book = self.book.copy(alloc)?;
-        let positions = copied(alloc, self.positions.as_slice())?;
+        let Ok(book) = self.book.copy(alloc) else {
+            drop(ticks);
+            return Err(Memory);
+        };
+        let Ok(positions) = copied(alloc, self.positions.as_slice()) else {
+            drop(ticks);
+            drop(book);
+            return Err(Memory);
+        };
         Ok(Listing {
             symbol: self.symbol,
             ticks,

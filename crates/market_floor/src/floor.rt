@@ -45,7 +45,14 @@ fn open_all(alloc: Global, o: &Opening) -> Result<Vec<Party>, Memory>
 {
     let mut parties = Vec::new(alloc);
     for (i, setting) in o.traders.as_slice().iter().enumerate() {
-        parties.push(Party::open(alloc, i as u16 + 1, setting)?)?;
+        let Ok(party) = Party::open(alloc, i as u16 + 1, setting) else {
+            drop(parties);
+            return Err(Memory);
+        };
+        let Ok(()) = parties.push(party) else {
+            drop(parties);
+            return Err(Memory);
+        };
     }
     Ok(parties)
 }
@@ -56,7 +63,14 @@ fn copy_all(alloc: Global, parties: &[Party]) -> Result<Vec<Party>, Memory>
 {
     let mut copies = Vec::new(alloc);
     for party in parties {
-        copies.push(party.copy()?)?;
+        let Ok(copy) = party.copy() else {
+            drop(copies);
+            return Err(Memory);
+        };
+        let Ok(()) = copies.push(copy) else {
+            drop(copies);
+            return Err(Memory);
+        };
     }
     Ok(copies)
 }
@@ -74,8 +88,15 @@ impl Floor {
     {
         let cash = cash_of(alloc, o.traders.as_slice())?;
         let exchange = Exchange::open(alloc, o.stocks.as_slice(), cash.as_slice(), o.hidden)?;
-        let parties = open_all(alloc, o)?;
-        let offsets = vec![in alloc; 0i64; o.stocks.len()]?;
+        let Ok(parties) = open_all(alloc, o) else {
+            drop(exchange);
+            return Err(Memory);
+        };
+        let Ok(offsets) = vec![in alloc; 0i64; o.stocks.len()] else {
+            drop(exchange);
+            drop(parties);
+            return Err(Memory);
+        };
         Ok(Floor {
             exchange,
             parties,
@@ -91,8 +112,15 @@ impl Floor {
         ensures { IfOk result (λ f. f ≡ self.now) }
     {
         let exchange = self.exchange.copy(alloc)?;
-        let parties = copy_all(alloc, self.parties.as_slice())?;
-        let offsets = copied(alloc, self.offsets.as_slice())?;
+        let Ok(parties) = copy_all(alloc, self.parties.as_slice()) else {
+            drop(exchange);
+            return Err(Memory);
+        };
+        let Ok(offsets) = copied(alloc, self.offsets.as_slice()) else {
+            drop(exchange);
+            drop(parties);
+            return Err(Memory);
+        };
         Ok(Floor {
             exchange,
             parties,

@@ -229,7 +229,10 @@ impl Party {
         ensures { IfOk result (λ p. p ≡ self.now) }
     {
         let parts = self.parts.copy()?;
-        let past = self.past.copy()?;
+        let Ok(past) = self.past.copy() else {
+            drop(parts);
+            return Err(Memory);
+        };
         Ok(Party {
             parts,
             past,

@@ -2,4 +2,4 @@ use Rattle.branch_workers.specs.Example.{AreBranches}
 use Rattle.branch_tests.proofs.branch_examples.deep.Given as goal
 
 abbrev pub invariant-loop-k : goal.invariant-loop-k
-invariant-loop-k l = AreBranches l.branches.items
+invariant-loop-k g l = AreBranches l.branches.items

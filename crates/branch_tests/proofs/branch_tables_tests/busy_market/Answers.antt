@@ -35,6 +35,6 @@ all =
     (All-cons P (watcher 1000) (watcher 1003 ∷ []) early (All-cons P (watcher 1003) [] late (All-nil P)))
 
 pub returns-clause-opening : goal.returns-clause-opening
-returns-clause-opening c =
+returns-clause-opening g c =
     let made : IsOpening (market_of 2000 100 3 three) = c.markets_are_openings.ensures 2000 100 3 three (lit≤ tt) (lit≤ tt) (lit≤ tt) (lit≤ tt) (lit≤ tt) (lit≤ tt) (lit≤ tt) all in
-    subst IsOpening (sym c.in_ok-o.ensures) (subst (λ (ts : List TraderSetting). IsOpening (market_of 2000 100 3 ts)) (sym c.in_ok-traders.ensures) made)
+    subst IsOpening (sym c.in-Ok.ensures) (subst (λ (ts : List TraderSetting). IsOpening (market_of 2000 100 3 ts)) (sym c.three.ensures) made)

@@ -10,6 +10,6 @@ pub frames_of-requires : goal.frames_of-requires
 frames_of-requires g c =
     let k : CourseTold = c.args.course.now.value in
     let course = subst IsCourse c.deref.ensures c.is_course.ensures in
-    let os = c.in_ok-worked.worked.outcomes.items in
+    let os = c.in-Ok.worked.outcomes.items in
     moved c.as_slice.result.now os c.as_slice.ensures.value (λ (o : Outcome). IsWritable (kept_told o.kept))
-    (outcomes_timely k c.args.keep (λ s l. c.courses_stay_in_range.ensures.segments k s course l) os c.in_ok-worked.ensures.outcomes)
+    (outcomes_timely k c.args.keep (λ s l. c.courses_stay_in_range.ensures.segments k s course l) os c.in-Ok.ensures.outcomes)

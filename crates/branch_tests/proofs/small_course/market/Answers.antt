@@ -24,6 +24,6 @@ both =
     All-cons P (watcher 1000) (watcher 1000 ∷ []) (one two) (All-cons P (watcher 1000) [] (one two) (All-nil P))
 
 pub returns-clause-opening : goal.returns-clause-opening
-returns-clause-opening c =
+returns-clause-opening g c =
     let made : IsOpening (market_of 2000 100 0 two) = c.markets_are_openings.ensures 2000 100 0 two (lit≤ tt) (lit≤ tt) (lit≤ tt) (lit≤ tt) (lit≤ tt) (lit≤ tt) (lit≤ tt) both in
-    subst IsOpening (sym c.in_ok-o.ensures) (subst (λ (ts : List TraderSetting). IsOpening (market_of 2000 100 0 ts)) (sym c.in_ok-traders.ensures) made)
+    subst IsOpening (sym c.in-Ok.ensures) (subst (λ (ts : List TraderSetting). IsOpening (market_of 2000 100 0 ts)) (sym c.traders.ensures) made)

@@ -5,10 +5,10 @@ use Rattle.study_report.proofs.Numbered.{numbered_more}
 use Rattle.branch_tests.proofs.study_report_tests.run.Goals as goal
 
 pub loop-number-preserved : goal.loop-number-preserved
-loop-number-preserved c =
+loop-number-preserved g c =
     numbered_more c.loop-number.trace.list c.push.new.self.list c.push-in-loop-number.new.self.list _ _ c.loop-number.number
-    (ap (λ (t : Room EntryTold). t.list) c.in_ok-push.ensures.pushed)
-    (ap (λ (t : Room EntryTold). t.list) c.in_ok-push-2.ensures.pushed)
+    (ap (λ (t : Room EntryTold). t.list) c.in-Ok.ensures.pushed)
+    (ap (λ (t : Room EntryTold). t.list) c.in-Ok-push.ensures.pushed)
     c.wakeup-event.ensures
     c.loop-number.invariant.0
     c.loop-number.invariant.1

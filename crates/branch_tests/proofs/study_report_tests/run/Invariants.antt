@@ -3,4 +3,4 @@ use Rattle.study_report.specs.Difference.{AreNumbered, events_in}
 use Rattle.branch_tests.proofs.study_report_tests.run.Given as goal
 
 abbrev pub invariant-loop-number : goal.invariant-loop-number
-invariant-loop-number l = AreNumbered 1 (events_in l.trace.list) × (length (events_in l.trace.list) ≡ l.number)
+invariant-loop-number g l = AreNumbered 1 (events_in l.trace.list) × (length (events_in l.trace.list) ≡ l.number)
