@@ -5,6 +5,7 @@ ghost use Rattle.shelf_core.specs.Plan.{place_count};
 ghost use Rattle.checkpoint_shelf.specs.Plans.{PlanFits, SeatsFit};
 ghost use Rattle.checkpoint_shelf.specs.Holds.{AboutFits, led, follower};
 ghost use Rattle.checkpoint_shelf.specs.Seats.{NewFrom};
+ghost use Rattle.checkpoint_shelf.specs.Told.{told_of};
 
 use crate::about::About;
 use crate::law::Cuts;
@@ -43,11 +44,17 @@ fn lay<C: Shelved + Drop>(
 {
     let count = about.plan.forks.len() + about.plan.places as usize;
     let Ok(words) = Vec::from_elem(alloc, 0u64, 1 + count + about.plan.segments as usize) else {
+        drop(about);
         return Err(Memory);
     };
     match Table::vacant(alloc, words.as_slice(), count, &about) {
-        Err(_) => Err(Memory),
+        Err(_) => {
+            drop(words);
+            drop(about);
+            Err(Memory)
+        }
         Ok((table, seat)) => {
+            drop(words);
             let About {
                 plan,
                 seats: _,
@@ -78,6 +85,41 @@ fn keep_first<C: Shelved>(all: &mut Vec<ShelfSeat<C>>, seat: ShelfSeat<C>) -> Re
     }
 }
 
+// The seats of a table, by the first of them, in the order of their numbers.
+fn seated<C: Shelved>(
+    alloc: Global,
+    table: &Inner<C>,
+    mut first: InnerSeat<C>,
+    seats: u32,
+) -> Result<Vec<ShelfSeat<C>>, Memory>
+    requires words { 0 < table.now.table_id.words }
+    requires fits { AboutFits table.now.key }
+    requires seats { seats ≡ table.now.key.seats }
+    requires table { first.table_id ≡ table.now.table_id }
+    requires first { first.me ≡ (led table.now.key 1, []) }
+    ensures count { IfOk result (λ r. length r.items ≡ seats) }
+    ensures each { IfOk result (λ r. NewFrom (told_of table.now.table_id table.now.key) 0 r.items) }
+{
+    let mut all = Vec::new(alloc);
+    for number in 1..seats {
+        let seat = cut(table, &mut first, number);
+        let Ok(()) = keep(&mut all, ShelfSeat { seat, number }) else {
+            drop(all);
+            drop(first);
+            return Err(Memory);
+        };
+    }
+    let seat = ShelfSeat {
+        seat: first,
+        number: 0,
+    };
+    let Ok(()) = keep_first(&mut all, seat) else {
+        drop(all);
+        return Err(Memory);
+    };
+    Ok(all)
+}
+
 impl<C: Shelved + Drop> Shelf<C> {
     /// A shelf that is laid out for a plan, and its seats, in the order of their numbers.
     ///
@@ -101,17 +143,11 @@ impl<C: Shelved + Drop> Shelf<C> {
             seats,
             course: Snapshot::of(course),
         };
-        let (shelf, mut first) = lay(alloc, about)?;
-        let mut all = Vec::new(alloc);
-        for number in 1..seats {
-            let seat = cut(&shelf.table.shared, &mut first, number);
-            keep(&mut all, ShelfSeat { seat, number })?;
-        }
-        let seat = ShelfSeat {
-            seat: first,
-            number: 0,
+        let (shelf, first) = lay(alloc, about)?;
+        let Ok(all) = seated(alloc, &shelf.table.shared, first, seats) else {
+            drop(shelf);
+            return Err(Memory);
         };
-        keep_first(&mut all, seat)?;
         Ok((shelf, all))
     }
 }

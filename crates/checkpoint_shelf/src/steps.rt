@@ -1,6 +1,6 @@
 //! The steps on the words of places, each through a seat of the table.
 
-ghost use Rattle.std.specs.Prelude.{◌≡◌, ◌≢◌, ℕ, ◌+◌, ◌<◌, ◌∷◌, [], Some, None, true, false, IfOk, IfErr, IfSome, IfNone};
+ghost use Rattle.std.specs.Prelude.{◌≡◌, ◌≢◌, ℕ, ◌+◌, ◌<◌, ◌∷◌, [], Some, None, true, false, IfOk, IfErr, IfSome, IfNone, IsSome};
 ghost use Rattle.std.specs.Arc.{arc_value};
 ghost use Rattle.atomic_table.specs.Table.{rest};
 ghost use Rattle.shelf_core.specs.Plan.{place_of, place_count};
@@ -82,6 +82,22 @@ pub(crate) fn take_turn<C: Shelved + Drop, B: Aim>(
     None
 }
 
+// Ends what a slot gave, where it held no value.
+fn end_none<C: Shelved>(held: Held<C>)
+    requires { held ≡ None }
+{
+    let None = held else { unreachable!() };
+}
+
+// The value that a slot gave.
+fn held_value<C: Shelved>(held: Held<C>) -> Arc<C>
+    requires { IsSome held }
+    ensures { held ≡ Some result }
+{
+    let Some(value) = held else { unreachable!() };
+    value
+}
+
 // Spends a turn: the value goes to its place.
 pub(crate) fn hand_in<C: Shelved, B: Aim>(
     table: &Inner<C>,
@@ -107,7 +123,7 @@ pub(crate) fn hand_in<C: Shelved, B: Aim>(
     let _ = number;
     table.load::<Brings>(seat, place as usize + 1);
     let before = table.exchange(seat, place as usize, Some(value));
-    let None = before else { unreachable!() };
+    end_none(before);
     table.store::<Publishes<B>>(seat, place as usize + 1, encode(PlaceWord::Ready(key)));
 }
 
@@ -160,8 +176,7 @@ pub(crate) fn lend<C: Shelved, B: Aim>(
         return Err(decode(found));
     }
     let held = table.exchange(seat, place as usize, None);
-    let Some(value) = held else { unreachable!() };
-    Ok(value)
+    Ok(held_value(held))
 }
 
 // Returns the value that the seat has on loan.
@@ -188,6 +203,6 @@ pub(crate) fn give_back<C: Shelved, B: Aim>(
 {
     let _ = number;
     let before = table.exchange(seat, place as usize, Some(value));
-    let None = before else { unreachable!() };
+    end_none(before);
     table.store::<Returns<B>>(seat, place as usize + 1, encode(PlaceWord::Ready(key)));
 }

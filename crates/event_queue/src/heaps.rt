@@ -264,7 +264,10 @@ fn copied_heap(
 {
     let dues = copied(alloc, heap.as_slice())?;
     let mut copy = BinaryHeap::from(dues);
-    copy.reserve(total - heap.len())?;
+    let Ok(()) = copy.reserve(total - heap.len()) else {
+        drop(copy);
+        return Err(Memory);
+    };
     Ok(copy)
 }
 

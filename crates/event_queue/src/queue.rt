@@ -183,9 +183,21 @@ impl Queue {
         ensures { IfOk result (λ q. q.list ≡ self.now.list) }
     {
         let heaps = self.heaps.copy(alloc, self.slots.len())?;
-        let slots = copied(alloc, self.slots.as_slice())?;
-        let mut free = copied(alloc, self.free.as_slice())?;
-        free.reserve(self.heaps.len())?;
+        let Ok(slots) = copied(alloc, self.slots.as_slice()) else {
+            drop(heaps);
+            return Err(Memory);
+        };
+        let Ok(mut free) = copied(alloc, self.free.as_slice()) else {
+            drop(slots);
+            drop(heaps);
+            return Err(Memory);
+        };
+        let Ok(()) = free.reserve(self.heaps.len()) else {
+            drop(free);
+            drop(slots);
+            drop(heaps);
+            return Err(Memory);
+        };
         Ok(Queue { heaps, slots, free })
     }
 

@@ -24,9 +24,9 @@ pub exchange-before-requires : goal.exchange-before-requires
 exchange-before-requires g c = let x = c.load.ensures.2 c.args.table.now.key c.requires.seat.about c.args.place (omega arith) in
     (c.load.ensures.0 ∙ c.requires.table, (None, x.2.1 ∙ ap (λ l. (c.args.place, None) ∷ rest l) (sym x.2.1)))
 
-pub unreachable-requires : goal.unreachable-requires
-unreachable-requires g c = let x = c.load.ensures.2 c.args.table.now.key c.requires.seat.about c.args.place (omega arith) in
-    let is : c.exchange-before.result ≡ None = front_is _ _ _ _ _ c.exchange-before.ensures.2 x.2.1 in c.in_default.not-None is
+pub end_none-requires : goal.end_none-requires
+end_none-requires g c = let x = c.load.ensures.2 c.args.table.now.key c.requires.seat.about c.args.place (omega arith) in
+    let is : c.exchange-before.result ≡ None = front_is _ _ _ _ _ c.exchange-before.ensures.2 x.2.1 in is
 
 pub encode-requires : goal.encode-requires
 encode-requires g c = key_fits c.args.table.now.key.plan c.args.key c.args.place c.requires.seat.fits.plan c.requires.place

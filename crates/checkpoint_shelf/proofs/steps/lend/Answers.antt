@@ -1,4 +1,4 @@
-use Rattle.std.proofs.Common.{arith, ◌≡◌, sym, ap, ◌∙◌, subst, ◌∷◌, Some, None, eq-eqb, ne_eqb}
+use Rattle.std.proofs.Common.{arith, ◌≡◌, refl, sym, ap, ◌∙◌, subst, ◌∷◌, Some, None, eq-eqb, ne_eqb}
 use Rattle.shelf_core.specs.Plan.{place_of}
 use Rattle.shelf_core.specs.After.{with_loan}
 use Rattle.shelf_core.specs.declared.words.PlaceWord.TheVariants.{Ready, Lent}
@@ -45,16 +45,16 @@ exchange-held-requires g c = let all = c.compare_exchange-found.ensures.2 c.args
     let x = at_true _ _ _ (eq-eqb c.compare_exchange-found.result c.encode-old.result c.if-found-old.false) all in
     (c.compare_exchange-found.ensures.0 ∙ c.requires.table, (Some x.0, x.4 ∙ ap (λ l. (c.args.place, Some x.0) ∷ rest l) (sym x.4)))
 
-pub unreachable-requires : goal.unreachable-requires
-unreachable-requires g c = let all = c.compare_exchange-found.ensures.2 c.args.table.now.key c.requires.seat.about c.args.place (omega arith) in
+pub held_value-requires : goal.held_value-requires
+held_value-requires g c = let all = c.compare_exchange-found.ensures.2 c.args.table.now.key c.requires.seat.about c.args.place (omega arith) in
     let x = at_true _ _ _ (eq-eqb c.compare_exchange-found.result c.encode-old.result c.if-found-old.false) all in
-    let is : c.exchange-held.result ≡ Some x.0 = front_is _ _ _ _ _ c.exchange-held.ensures.2 x.4 in c.in_default.not-Some x.0 is
+    let is : c.exchange-held.result ≡ Some x.0 = front_is _ _ _ _ _ c.exchange-held.ensures.2 x.4 in subst Rattle.std.specs.Option.IsSome (sym is) refl
 
 pub returns-clause-lent : goal.returns-clause-lent
 returns-clause-lent g c = let all = c.compare_exchange-found.ensures.2 c.args.table.now.key c.requires.seat.about c.args.place (omega arith) in
     let x = at_true _ _ _ (eq-eqb c.compare_exchange-found.result c.encode-old.result c.if-found-old.false) all in
     let is : c.exchange-held.result ≡ Some x.0 = front_is _ _ _ _ _ c.exchange-held.ensures.2 x.4 in
-    let same : x.0 ≡ c.in-Some.value = some_same _ _ (sym is ∙ c.in-Some.is) in
+    let same : x.0 ≡ c.held_value.result = some_same _ _ (sym is ∙ c.held_value.ensures) in
     let e = c.exchange-held.ensures.3 in
     let aim = c.requires.aim in (
       subst (λ a. g.C.Shelved.key_of (arc_value a) ≡ c.args.key) same (x.1 ∙ aim),

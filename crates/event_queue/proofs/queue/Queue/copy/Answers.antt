@@ -10,7 +10,7 @@ invariant_of-result c =
     let w = c.in_ok-heaps.heaps.list in
     let slots = c.self.inside.slots.items in
     let free = c.self.inside.free.items in
-    let same_slots : slots ≡ c.in_ok-slots.slots.items = search rules in
+    let same_slots : slots ≡ c.in-Ok.slots.items = search rules in
     let same_free : free ≡ c.reserve.new.self.items = search rules in
     let p = copied slots free v w i.shared_out i.told i.apart c.in_ok-heaps.ensures.same in
     record {
@@ -30,6 +30,6 @@ returns c =
     let w = c.in_ok-heaps.heaps.list in
     let slots = c.self.inside.slots.items in
     let free = c.self.inside.free.items in
-    let same_slots : c.in_ok-slots.slots.items ≡ slots = search rules in
+    let same_slots : c.in-Ok.slots.items ≡ slots = search rules in
     let p = copied slots free v w i.shared_out i.told i.apart c.in_ok-heaps.ensures.same in
     rw (same_slots, p.same) (ap (λ (r : Room _). r.list) c.self.view_is)

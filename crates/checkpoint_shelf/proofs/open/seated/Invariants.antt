@@ -2,12 +2,12 @@ use Rattle.std.proofs.Common.{◌≡◌, ◌+◌, [], length}
 use Rattle.checkpoint_shelf.specs.Holds.{led}
 use Rattle.checkpoint_shelf.specs.Seats.{NewFrom}
 use Rattle.checkpoint_shelf.specs.Told.{told_of}
-use Rattle.checkpoint_shelf.proofs.shelf.Shelf.open.Given as goal
+use Rattle.checkpoint_shelf.proofs.open.seated.Given as goal
 
 abbrev pub invariant-loop-number : goal.invariant-loop-number
 invariant-loop-number g l = record {
-  table : l.first.table_id ≡ l.shelf-inside.table.shared.table_id;
-  first : l.first.me ≡ (led l.shelf-inside.table.shared.key l.number, []);
+  table : l.first.table_id ≡ l.table.table_id;
+  first : l.first.me ≡ (led l.table.key l.number, []);
   len : length l.all.items + 1 ≡ l.number;
-  each : NewFrom (told_of l.shelf-inside.table.shared.table_id l.shelf-inside.table.shared.key) 1 l.all.items;
+  each : NewFrom (told_of l.table.table_id l.table.key) 1 l.all.items;
 }
