@@ -145,6 +145,7 @@ fn run<R: Abort + Threads + Wait + Sync>(
     let simulated = simulate(rt, alloc, &course, keep);
     let bundle = bundle(rt, alloc, &course, keep, &simulated.outcomes);
     let last = last(rt, alloc, &course, keep, &simulated.outcomes);
+    drop(course);
     Written {
         ticks: simulated.ticks,
         outcomes: simulated.outcomes,
@@ -211,6 +212,7 @@ fn three_branches(rt: HostRuntime) {
         let run = run(&rt, alloc, Keep::Entries, three_at(&rt, alloc, stop));
         is_told(&rt, &run, 18, &OF_THREE, (3255, 550_129_052_676));
         equal(&rt, digest(run.last.as_slice()), (799, 1_096_420_110_848));
+        drop(run);
     }
 }
 
@@ -257,8 +259,10 @@ fn branches_by_time(rt: HostRuntime) {
     let alloc = rt.alloc();
     let slow = run(&rt, alloc, Keep::Entries, slow_by_time(&rt, alloc));
     is_told(&rt, &slow, 8, &OF_SLOW, (1637, 356_322_517_250));
+    drop(slow);
     let low = run(&rt, alloc, Keep::Entries, low_by_time(&rt, alloc));
     is_told(&rt, &low, 14, &OF_LOW, (2416, 315_712_857_091));
+    drop(low);
 }
 
 // A branch of a branch where both fork at the last event.
@@ -285,6 +289,7 @@ fn empty_segments(rt: HostRuntime) {
     let alloc = rt.alloc();
     let run = run(&rt, alloc, Keep::Entries, at_the_last(&rt, alloc));
     is_told(&rt, &run, 6, &OF_EMPTY, (2416, 405_230_435_075));
+    drop(run);
 }
 
 // Branches that leave when the root has closed: with the bid, and with a halt behind it and before it.
@@ -328,6 +333,7 @@ fn edits_in_both_orders(rt: HostRuntime) {
     let alloc = rt.alloc();
     let run = run(&rt, alloc, Keep::Entries, revived(&rt, alloc));
     is_told(&rt, &run, 12, &OF_REVIVED, (3984, 841_970_850_564));
+    drop(run);
 }
 
 // A branch in which the first watcher is silenced at event 2.
@@ -353,6 +359,8 @@ fn a_silenced_watcher(rt: HostRuntime) {
     let frames = run(&rt, alloc, Keep::Frames, silenced(&rt, alloc));
     equal(&rt, frames.ticks, run.ticks);
     holds(&rt, frames.bundle.as_slice() == run.bundle.as_slice());
+    drop(frames);
+    drop(run);
 }
 
 // The name of a branch of a number below 256: two letters.
@@ -398,6 +406,7 @@ fn wide_and_deep_trees(rt: HostRuntime) {
         digest(wide.bundle.as_slice()),
         (204_818, 276_323_116_800),
     );
+    drop(wide);
     let deep = run(&rt, alloc, Keep::Entries, deep(&rt, alloc));
     equal(&rt, (deep.ticks, deep.outcomes.len()), (210, 121));
     equal(
@@ -405,13 +414,17 @@ fn wide_and_deep_trees(rt: HostRuntime) {
         digest(deep.bundle.as_slice()),
         (85_418, 1_091_373_565_245),
     );
+    drop(deep);
 }
 
 // The closing of the opening's state.
 fn first_closing(rt: &impl Abort, alloc: Global) -> Closing {
     let o = market(rt, alloc);
     let kernel = Kernel::open(alloc, &o).expect(rt, "memory");
-    closing_of(alloc, &o, &kernel).expect(rt, "memory")
+    let closing = closing_of(alloc, &o, &kernel).expect(rt, "memory");
+    drop(kernel);
+    drop(o);
+    closing
 }
 
 #[test]
@@ -438,4 +451,5 @@ fn the_closing_of_the_opening(rt: HostRuntime) {
             (false, 1000, 1),
         );
     }
+    drop(closing);
 }

@@ -161,6 +161,9 @@ fn four_probes_on_three_branches(rt: HostRuntime) {
         &rt,
         is_table(alloc, &course, &ran.outcomes, &mut probes, OF_FOUR_PROBES),
     );
+    drop(ran);
+    drop(course);
+    drop(probes);
 }
 
 const OF_NO_PROBE: &[u8] =
@@ -175,6 +178,8 @@ fn no_probe_on_three_branches(rt: HostRuntime) {
         &rt,
         is_table(alloc, &course, &ran.outcomes, &mut [], OF_NO_PROBE),
     );
+    drop(ran);
+    drop(course);
 }
 
 // A probe of what was put back.
@@ -200,4 +205,7 @@ fn a_probe_of_what_was_put_back(rt: HostRuntime) {
         &rt,
         is_table(alloc, &course, &ran.outcomes, &mut probes, OF_PUT_BACKS),
     );
+    drop(ran);
+    drop(course);
+    drop(probes);
 }

@@ -66,8 +66,10 @@ fn worked<R: Abort + Threads + Wait + Sync, G: Gate + Sync>(
     let worked = work(rt, alloc, course, setup, gate, &mut steps);
     let ticks = steps.close();
     let worked = worked.expect(rt, "memory");
+    let held = held(&worked.shelf);
+    drop(worked.shelf);
     let told = Told {
-        held: held(&worked.shelf),
+        held,
         outcomes: worked.outcomes,
     };
     (told, ticks)
@@ -170,7 +172,9 @@ fn frames<R: Abort + Threads + Wait + Sync>(
     let Ok(worked) = worked else {
         panic!(rt; "out of memory");
     };
-    frames_of(rt, alloc, worked.outcomes.as_slice())
+    let bytes = frames_of(rt, alloc, worked.outcomes.as_slice());
+    drop(worked);
+    bytes
 }
 
 // So many workers with so many places: they count as many steps as one worker does, so many states stand on the shelf, and each
@@ -189,6 +193,7 @@ fn many_at<R: Abort + Threads + Wait + Sync>(
     for (a, b) in alone.iter().zip(told.outcomes.iter()) {
         are_one(rt, alloc, a, b);
     }
+    drop(told);
 }
 
 // The frames that workers keep are those of the entries.
@@ -221,6 +226,8 @@ fn three_at<R: Abort + Threads + Wait + Sync>(rt: &R, alloc: Global, stop: Stop)
         );
     }
     frames_are_those_of_entries(rt, alloc, &course);
+    drop(alone);
+    drop(course);
 }
 
 // They leave the root at event 2, or right before the time of the next.
@@ -241,5 +248,7 @@ fn two_segments_at_once(rt: HostRuntime) {
         let (told, ticks) = worked(&rt, alloc, &course, 1, 2, &gate);
         equal(&rt, (told.outcomes.len(), ticks), (5, 18));
         equal(&rt, (gate.exceeded(), gate.passes()), (false, 5));
+        drop(told);
     }
+    drop(course);
 }

@@ -181,15 +181,17 @@ fn is_split(trace: &Trace, mut counts: &[u8]) -> bool {
 }
 
 // Whether what was read is a row's answer.
-fn is_answer(read: &Result<Bundle, BundleError>, answer: Result<&[u8], usize>) -> bool {
-    match (read, answer) {
+fn is_answer(read: Result<Bundle, BundleError>, answer: Result<&[u8], usize>) -> bool {
+    let told = match (&read, answer) {
         (Ok(bundle), Ok(counts)) => match bundle.branches.get(0) {
             Some(branch) => is_split(&branch.entries, counts),
             None => false,
         },
         (Err(BundleError::BadOrder(offset)), Err(at)) => offset.wrapping_sub(BEFORE.len()) == at,
         _ => false,
-    }
+    };
+    drop(read);
+    told
 }
 
 #[test]
@@ -214,6 +216,7 @@ fn the_empty_run(rt: HostRuntime) {
         root.closing.stocks.len() == 1 && root.closing.orders.len() == 0,
     );
     equal(&rt, root.closing.agents.len(), 2);
+    drop(bundle);
 }
 
 #[test]
@@ -223,11 +226,8 @@ fn each_cut(rt: HostRuntime) {
         if STARTS.contains(&n) {
             start = n;
         }
-        let read = read_bundle(rt.alloc(), &EMPTY_RUN[..n]);
-        holds(
-            &rt,
-            matches!(read, Err(BundleError::Cut(left)) if left == n.wrapping_sub(start)),
-        );
+        let cut = read_bundle(rt.alloc(), &EMPTY_RUN[..n]).err();
+        equal(&rt, cut, Some(BundleError::Cut(n.wrapping_sub(start))));
     }
 }
 
@@ -267,6 +267,6 @@ fn bundle_of(rt: &impl Abort, alloc: Global, letters: &[u8]) -> Vec<u8> {
 fn the_split_of_the_feed(rt: HostRuntime) {
     for (letters, answer) in SPLITS.iter() {
         let bytes = bundle_of(&rt, rt.alloc(), letters);
-        holds(&rt, is_answer(&read_bundle(rt.alloc(), &bytes), *answer));
+        holds(&rt, is_answer(read_bundle(rt.alloc(), &bytes), *answer));
     }
 }

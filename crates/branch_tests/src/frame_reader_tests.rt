@@ -18,17 +18,19 @@ const AGENT: &[u8] =
 // What was read of bytes.
 type Read<'a> = Result<(Frame, &'a [u8]), FrameError>;
 
-fn is_header(read: &Read) -> bool {
-    match read {
+fn is_header(read: Read) -> bool {
+    let told = match &read {
         Ok((Frame::Header(h), rest)) => {
             h.agents == 3 && h.stocks == 1 && h.branches == 2 && rest.len() == 16
         }
         _ => false,
-    }
+    };
+    drop(read);
+    told
 }
 
-fn is_root(read: &Read) -> bool {
-    match read {
+fn is_root(read: Read) -> bool {
+    let told = match &read {
         Ok((Frame::Branch(b), rest)) => {
             b.name.as_slice() == b"root".as_slice()
                 && b.stop == 100
@@ -36,11 +38,13 @@ fn is_root(read: &Read) -> bool {
                 && rest.is_empty()
         }
         _ => false,
-    }
+    };
+    drop(read);
+    told
 }
 
-fn is_agent(read: &Read) -> bool {
-    match read {
+fn is_agent(read: Read) -> bool {
+    let told = match &read {
         Ok((Frame::Agent(a), rest)) => {
             a.silenced
                 && a.own_position == -8
@@ -51,23 +55,29 @@ fn is_agent(read: &Read) -> bool {
                 && rest.is_empty()
         }
         _ => false,
-    }
+    };
+    drop(read);
+    told
 }
 
-fn is_message(read: &Read, message: Feed) -> bool {
-    match read {
+fn is_message(read: Read, message: Feed) -> bool {
+    let told = match &read {
         Ok((Frame::Message(m), rest)) => *m == message && rest.is_empty(),
         _ => false,
-    }
+    };
+    drop(read);
+    told
 }
 
-fn is_event(read: &Result<Option<Frame>, Memory>) -> bool {
-    match read {
+fn is_event(read: Result<Option<Frame>, Memory>) -> bool {
+    let told = match &read {
         Ok(Some(Frame::Event(e))) => {
             e.put_back && e.fee == -2 && e.seq == 7 && e.body == Body::Ask(2)
         }
         _ => false,
-    }
+    };
+    drop(read);
+    told
 }
 
 // A header's frame and a root's.
@@ -82,8 +92,8 @@ fn heads(rt: &impl Abort, alloc: Global) -> Vec<u8> {
 fn heads_are_read_back(rt: HostRuntime) {
     let alloc = rt.alloc();
     let bytes = heads(&rt, alloc);
-    holds(&rt, is_header(&next_frame(alloc, None, &bytes)));
-    holds(&rt, is_root(&next_frame(alloc, None, from(&bytes, 11))));
+    holds(&rt, is_header(next_frame(alloc, None, &bytes)));
+    holds(&rt, is_root(next_frame(alloc, None, from(&bytes, 11))));
     let short = next_frame(alloc, None, b"\x00\x01?").err();
     equal(&rt, short, Some(FrameError::Bad));
     let cut = next_frame(alloc, None, from(&bytes, 26)).err();
@@ -93,8 +103,8 @@ fn heads_are_read_back(rt: HostRuntime) {
 #[test]
 fn an_agent_is_read_back(rt: HostRuntime) {
     let alloc = rt.alloc();
-    holds(&rt, is_agent(&next_frame(alloc, Some(2), AGENT)));
-    holds(&rt, is_agent(&next_frame(alloc, None, AGENT)));
+    holds(&rt, is_agent(next_frame(alloc, Some(2), AGENT)));
+    holds(&rt, is_agent(next_frame(alloc, None, AGENT)));
     let other = next_frame(alloc, Some(1), AGENT).err();
     equal(&rt, other, Some(FrameError::Bad));
 }
@@ -119,9 +129,9 @@ fn start(rt: &impl Abort, alloc: Global) -> Vec<u8> {
 #[test]
 fn bodies_and_messages(rt: HostRuntime) {
     let alloc = rt.alloc();
-    holds(&rt, is_event(&read_payload(alloc, None, EVENT)));
+    holds(&rt, is_event(read_payload(alloc, None, EVENT)));
     let bytes = start(&rt, alloc);
-    holds(&rt, is_message(&next_frame(alloc, Some(1), &bytes), START));
-    holds(&rt, !is_event(&read_payload(alloc, None, b"q")));
+    holds(&rt, is_message(next_frame(alloc, Some(1), &bytes), START));
+    holds(&rt, !is_event(read_payload(alloc, None, b"q")));
     holds(&rt, Name::new(b"").is_none());
 }

@@ -37,7 +37,9 @@ pub(crate) fn left<R: Abort + Threads + Wait + Sync>(
     };
     let worked = work(rt, alloc, course, setup, &OpenGate, &mut steps);
     let _ = steps.close();
-    worked.expect(rt, "memory").shelf
+    let worked = worked.expect(rt, "memory");
+    drop(worked.outcomes);
+    worked.shelf
 }
 
 // What a rewind came to: the events of the state, and of the one from which it was reached; or why it is refused. And
@@ -53,7 +55,11 @@ fn came(
 {
     let mut steps: Steps<Counted> = Steps::new();
     let came = match rewind(alloc, course, shelf, branch, event, &mut steps) {
-        Ok(rewound) => Ok((rewound.kernel.events(), rewound.from)),
+        Ok(rewound) => {
+            let told = (rewound.kernel.events(), rewound.from);
+            drop(rewound);
+            Ok(told)
+        }
         Err(refused) => Err(refused),
     };
     (came, steps.close())
@@ -88,6 +94,8 @@ fn rewound<R: Abort + Threads + Wait + Sync>(rt: &R, alloc: Global, stop: Stop, 
             (*told, *ticks),
         );
     }
+    drop(shelf);
+    drop(course);
 }
 
 const EARLY: [Row; 6] = [
@@ -134,6 +142,9 @@ fn nearest_at<R: Abort + Threads + Wait + Sync>(rt: &R, alloc: Global, stop: Sto
         equal(rt, near(&course, &forks, event), without);
         equal(rt, near(&course, &all, event), with);
     }
+    drop(all);
+    drop(forks);
+    drop(course);
 }
 
 #[test]

@@ -60,7 +60,11 @@ fn came(
     let _ = session.tree();
     let mut steps: Steps<Counted> = Steps::new();
     let came = match session.state(shelf, branch, event, &mut steps) {
-        Ok(kernel) => Ok(kernel.time()),
+        Ok(kernel) => {
+            let time = kernel.time();
+            drop(kernel);
+            Ok(time)
+        }
         Err(refused) => Err(refused),
     };
     (came, steps.close())
@@ -89,7 +93,11 @@ fn last(
     let _ = session.tree();
     let mut steps: Steps<Counted> = Steps::new();
     let last = match session.full(shelf, branch, &mut steps) {
-        Ok(kernel) => Ok(kernel.events()),
+        Ok(kernel) => {
+            let events = kernel.events();
+            drop(kernel);
+            Ok(events)
+        }
         Err(refused) => Err(refused),
     };
     (last, steps.close())
@@ -121,4 +129,7 @@ fn a_session_over_a_small_course(rt: HostRuntime) {
     );
     equal(&rt, last(&session, &shelf, 1), (Ok(6), 4));
     equal(&rt, recorded(alloc, &session, 1), (Ok(7), 6));
+    drop(session);
+    drop(shelf);
+    drop(course);
 }

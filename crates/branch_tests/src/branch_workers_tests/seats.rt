@@ -89,6 +89,9 @@ fn two_seats<R: Abort + Wait>(rt: &R, alloc: Global, course: &Arc<Course>) -> To
     let (mut zero, mut one) = two_new(&shelf, seats).expect(rt, "two seats");
     let (first, first_ticks) = claim_and_run(rt, alloc, course, &shelf, &mut zero, 0);
     let (child, child_ticks) = claim_and_run(rt, alloc, course, &shelf, &mut one, 2);
+    drop(zero);
+    drop(one);
+    drop(shelf);
     Told {
         first,
         first_ticks,
@@ -117,6 +120,9 @@ fn a_child_by_a_seat_without_the_parents_state(rt: HostRuntime) {
     equal(&rt, (first.events, told.first_ticks), (2, 2));
     equal(&rt, (child.events, told.child_ticks), (6, 4));
     equal(&rt, edited_entries(&rt, alloc, &child), Some(5));
+    drop(first);
+    drop(child);
+    drop(course);
 }
 
 // The word at which `begin` of a key gave a seat no turn; a turn is spent with no value.
@@ -252,6 +258,9 @@ fn beside_a_turn<R: Abort + Wait>(
     let met = claim_meet_and_run(rt, alloc, course, &shelf, &mut one, second);
     shelf.abandon(&mut zero, turn);
     let after = word_without_value(&shelf, &mut one, second);
+    drop(zero);
+    drop(one);
+    drop(shelf);
     (met.expect(rt, "a claim"), after)
 }
 
@@ -279,4 +288,6 @@ fn a_run_beside_anothers_turn(rt: HostRuntime) {
     let (met, after) = beside_a_turn(&rt, alloc, &course, first, second);
     is_met(&rt, alloc, &met);
     equal(&rt, after, Some(PlaceWord::Free));
+    drop(met);
+    drop(course);
 }
