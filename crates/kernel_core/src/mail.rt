@@ -58,15 +58,23 @@ fn latency(
     groups.delay(group_number(o, from), group_number(o, to), word)
 }
 
+// A queue with room for as many messages as may wait.
+fn roomy(mut queue: Queue) -> Result<Queue, Memory>
+    requires { length queue.list ≤ most_waiting }
+    ensures list { IfOk result (λ q. q.list ≡ queue.list) }
+    ensures room { IfOk result (λ q. most_waiting ≤ length q.list + q.spare) }
+{
+    queue.reserve(MOST_WAITING - queue.len())?;
+    Ok(queue)
+}
+
 impl Mail {
     /// Nothing waits, with room for as many messages as may wait.
     pub fn new(alloc: Global) -> Result<Mail, Memory>
         ensures { IfOk result (λ p. p ≡ nothing_waits) }
     {
-        let mut queue = Queue::new(alloc);
-        queue.reserve(MOST_WAITING)?;
         Ok(Mail {
-            queue,
+            queue: roomy(Queue::new(alloc))?,
             next_seq: 0,
             dropped: 0,
             jitter: Jitter::new(),
@@ -77,10 +85,8 @@ impl Mail {
     pub fn copy(&self, alloc: Global) -> Result<Mail, Memory>
         ensures { IfOk result (λ p. p ≡ self.now) }
     {
-        let mut queue = self.queue.copy(alloc)?;
-        queue.reserve(MOST_WAITING - queue.len())?;
         Ok(Mail {
-            queue,
+            queue: roomy(self.queue.copy(alloc)?)?,
             next_seq: self.next_seq,
             dropped: self.dropped,
             jitter: Jitter::new(),
