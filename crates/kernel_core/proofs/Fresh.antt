@@ -11,9 +11,10 @@ use Rattle.market_floor.specs.declared.opening.Opening.{Opening}
 use Rattle.kernel_core.specs.Due.{due_by, until_time}
 use Rattle.kernel_core.specs.Seen.{IsEvent, afresh, first_of, folded, listed, message_or_vacant}
 use Rattle.kernel_core.specs.State.{State}
-use Rattle.kernel_core.specs.Step.{Happened, end_of, event_of, step_of}
+use Rattle.kernel_core.specs.declared.stepped.Stepped.TheVariants.{Ended}
+use Rattle.kernel_core.specs.Step.{Happened, answer_by, end_of, event_of, step_of}
 use Rattle.kernel_core.specs.Until.{Run, with_event, advanced, advanced_by, until, behind}
-use Rattle.kernel_core.proofs.Runs.{advanced_by-add, advanced_going, advanced_more, event-events, part_within, run-time, until_ended}
+use Rattle.kernel_core.proofs.Runs.{advanced_by-add, advanced_going, advanced_more, ended_from, event-events, part_within, run-time, until_ended}
 use Rattle.kernel_core.proofs.Stops.{advanced-events, advanced_by-behind, until-behind}
 use Rattle.kernel_core.proofs.Times.{due-going, time-behind, time-grows, time-over, time-some, time-step}
 
@@ -109,6 +110,13 @@ between-one o s q m going next is =
 
 pub one-timely : (e : EntryTold) → IsTimely e → All IsTimely (e ∷ [])
 one-timely e h = All-cons IsTimely e [] h (All-nil IsTimely)
+
+some-or-none : (x : Option End) (e : End) → x ≡ None → x ≡ Some e → ⊥
+some-or-none x e none some = cc
+
+-- a state with a due message doesn't answer its end
+pub due-unended : (o : Opening) (w : ℕ) (s : State) (e : End) → due_by o w s ≡ true → Ended e ≡ answer_by s (end_of o s) → ⊥
+due-unended o w s e due is = some-or-none (end_of o s) e (due-going o w s due) (ended_from s (end_of o s) e is)
 
 -- All that a run adds are events.
 events-append : (xs ys : List EntryTold) → AllByRecursion IsEvent xs → AllByRecursion IsEvent ys → AllByRecursion IsEvent (xs ++ ys)

@@ -1,6 +1,6 @@
 //! The small parts of a study's bundle: all but the entries.
 
-ghost use Rattle.std.specs.Prelude.{◌≡◌, ◌<◌, ◌++◌, OnOk, OnErr, IfOk, length};
+ghost use Rattle.std.specs.Prelude.{◌≡◌, ◌<◌, ◌+◌, ◌++◌, OnOk, OnErr, IfOk, length};
 ghost use Rattle.bundle_frames.specs.Frames.{branch_frame, end_frame};
 ghost use Rattle.branch_tree.specs.Plan.{branch_at};
 ghost use Rattle.kernel_copy.specs.Full.{full_run};
@@ -16,6 +16,27 @@ use kernel_copy::Course;
 use market_types::Memory;
 use std::alloc::Global;
 
+// How many agents a course has, with the exchange.
+fn agents(course: &Course) -> u16
+    ensures { result ≡ length course.now.opening.traders + 1 }
+{
+    course.opening().traders.as_slice().len() as u16 + 1
+}
+
+// How many stocks a course has.
+fn stocks(course: &Course) -> u16
+    ensures { result ≡ length course.now.opening.stocks }
+{
+    course.opening().stocks.as_slice().len() as u16
+}
+
+// How many branches a course has.
+fn branches(course: &Course) -> u16
+    ensures { result ≡ length course.now.plan.branches }
+{
+    course.plan().branches().len() as u16
+}
+
 /// Appends the header of a study's bundle.
 ///
 /// # Errors
@@ -24,11 +45,7 @@ pub fn write_header(course: &Course, out: &mut Vec<u8>) -> Result<(), Memory>
     ensures appended { OnOk result (out.new.items ≡ out.old.items ++ header_of course.now) }
     ensures refused { OnErr result (out.new.items ≡ out.old.items) }
 {
-    let o = course.opening();
-    let agents = o.traders.as_slice().len() as u16 + 1;
-    let stocks = o.stocks.as_slice().len() as u16;
-    let branches = course.plan().branches().len() as u16;
-    put_header(out, agents, stocks, branches)
+    put_header(out, agents(course), stocks(course), branches(course))
 }
 
 /// Appends the frame of a branch with this event number as its stop. The root's parent is written as 65,535.

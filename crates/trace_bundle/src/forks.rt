@@ -1,7 +1,7 @@
 //! Where branches leave their parents.
 
 ghost use Rattle.std.specs.Prelude.{◌≡◌, ◌<◌, ℕ, Some, length};
-ghost use Rattle.branch_tree.specs.Segments.{origin_of, segments_in};
+ghost use Rattle.branch_tree.specs.Segments.{count_before, origin_of, segments_in};
 ghost use Rattle.kernel_copy.specs.Segmentwise.{parent_end};
 ghost use Rattle.trace_bundle.specs.Bundle.{stop_written as stop_of};
 ghost use Rattle.trace_bundle.specs.Ran.{IsRunOf};
@@ -10,14 +10,24 @@ use crate::RunOutcomes;
 use branch_tree::Stop;
 use kernel_copy::Course;
 
+// The first segment of a branch.
+fn first_segment(course: &Course, branch: u16) -> u32
+    requires { branch < length course.now.plan.branches }
+    ensures value { result ≡ count_before course.now.plan.branches branch }
+    ensures exists { result < length (segments_in course.now.plan) }
+{
+    let numbers = course.plan().segments_of(branch);
+    numbers[0]
+}
+
 // The segment from whose end a branch goes on; none for the root.
 fn origin(course: &Course, branch: u16) -> Option<u32>
     requires { branch < length course.now.plan.branches }
     ensures value { result ≡ origin_of course.now.plan.branches branch }
     ensures exists { (q : ℕ) → result ≡ Some q → q < length (segments_in course.now.plan) }
 {
-    let numbers = course.plan().segments_of(branch);
-    course.segment(numbers[0]).parent
+    let first = first_segment(course, branch);
+    course.segment(first).parent
 }
 
 // How many events the state has in which a branch leaves its parent.

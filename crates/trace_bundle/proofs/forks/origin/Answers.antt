@@ -1,31 +1,18 @@
-use Rattle.std.proofs.Common.{◌<◌, ℕ, List, length, get_or, sym, ap, ◌∙◌, subst, arith}
+use Rattle.std.proofs.Common.{ℕ, ap, ◌∙◌, arith}
 use Rattle.branch_tree.specs.declared.segment.Segment.{Segment}
-use Rattle.branch_tree.specs.Plan.{Plan}
-use Rattle.branch_tree.specs.Segments.{numbers_of, segment_at, segments_in}
+use Rattle.branch_tree.specs.Segments.{segment_at}
 use Rattle.kernel_copy.specs.Courses.{CourseTold}
-use Rattle.trace_bundle.proofs.Origins.{first-exists, first-number, first-parent}
+use Rattle.trace_bundle.proofs.Origins.{first-parent}
 use Rattle.trace_bundle.proofs.forks.origin.Goals as goal
-
-pub segment-requires : goal.segment-requires
-segment-requires c =
-    let k : CourseTold = c.args.course.now in
-    let b = c.args.branch in
-    let number = ap (λ (ns : List ℕ). get_or ns 0 0) (c.segments_of-numbers.ensures ∙ ap (λ (p : Plan). numbers_of p b) c.plan.ensures.value) ∙ first-number k.plan b 0 in
-    subst (λ (n : ℕ). n < length (segments_in k.plan)) (sym number) (first-exists k.plan b c.requires)
 
 pub returns-clause-value : goal.returns-clause-value
 returns-clause-value c =
     let k : CourseTold = c.args.course.now in
-    let b = c.args.branch in
-    let number = ap (λ (ns : List ℕ). get_or ns 0 0) (c.segments_of-numbers.ensures ∙ ap (λ (p : Plan). numbers_of p b) c.plan.ensures.value) ∙ first-number k.plan b 0 in
     ap (λ (g : Segment). g.parent) c.segment.ensures.value
-    ∙ ap (λ (n : ℕ). (segment_at k.plan n).parent) number
-    ∙ first-parent k.plan b c.requires
+    ∙ ap (λ (n : ℕ). (segment_at k.plan n).parent) c.first_segment-first.ensures.value
+    ∙ first-parent k.plan c.args.branch c.requires
 
 pub returns-clause-exists : goal.returns-clause-exists
 returns-clause-exists c q is =
-    let k : CourseTold = c.args.course.now in
-    let b = c.args.branch in
-    let number = ap (λ (ns : List ℕ). get_or ns 0 0) (c.segments_of-numbers.ensures ∙ ap (λ (p : Plan). numbers_of p b) c.plan.ensures.value) ∙ first-number k.plan b 0 in
     let earlier = (c.segment.ensures.parent q is).earlier in
-    omega (arith, earlier, number, first-exists k.plan b c.requires)
+    omega (arith, earlier, c.first_segment-first.ensures.exists)

@@ -1,4 +1,4 @@
-use Rattle.std.proofs.Common.{◌≡◌, ◌+◌, ◌<◌, ◌≤◌, ◌^◌, None, length, refl, sym, ap, ◌∙◌, subst, arith, slice_index, slice_set}
+use Rattle.std.proofs.Common.{◌≡◌, ◌+◌, ◌<◌, ◌≤◌, ◌^◌, None, length, refl, sym, ap, ◌∙◌, subst, arith, slice_set}
 use Rattle.std.proofs.lemmas.List.{length-set}
 use Rattle.std.proofs.lemmas.List.Elements.{All-nil}
 use Rattle.market_types.specs.declared.feed.Feed.{Feed}
@@ -12,10 +12,8 @@ use Rattle.kernel_core.specs.SoundMail.{IsSoundMail}
 use Rattle.kernel_core.specs.State.{State}
 use Rattle.kernel_core.specs.Step.{Fits, Happened, end_of, event_back, event_delivered, event_of}
 use Rattle.kernel_core.specs.View.{state_of}
-use Rattle.kernel_core.proofs.Fresh.{first-is}
-use Rattle.kernel_core.proofs.Making.{at-some, back-made, delivered-made}
-use Rattle.kernel_core.proofs.Runs.{event-busy, event-free}
-use Rattle.kernel_core.proofs.Sound.{IsOfSize, fits-after, next-is, next-within, own-read, sound-after}
+use Rattle.kernel_core.proofs.Making.{at-some, back-made, back-same, delivered-made, delivered-same, taken-same}
+use Rattle.kernel_core.proofs.Sound.{IsOfSize, fits-after, next-is, next-within, sound-after}
 use Rattle.kernel_core.proofs.kernel.Kernel.happen.Goals as goal
 
 pub index-own-requires : goal.index-own-requires
@@ -52,16 +50,8 @@ returns-then-m-own-clause-state g c =
     let o = c.args.o.now in
     let m = c.in-Ok.m.now in
     let until = c.index-own.result.now in
-    let first : m ≡ first_of s = first-is (state_of k) m (sym c.in-Ok.ensures.least) ∙ ap first_of c.self.view_is in
-    let within = next-within c.mail_stays_sound.ensures.next (state_of k) m c.self.invariant c.in-Ok.ensures.least in
-    let read = own-read (state_of k) s c.from-to.result m.to until c.self.view_is within c.from-to.ensures c.index-own.ensures in
-    let own : until ≡ slice_index s.own (first_of s).to = read ∙ ap (λ (x : Message). slice_index s.own x.to) first in
-    let time = ap (λ (x : Message). x.time) first in
-    let same : event_back o (state_of k) m until ≡ event_of o s (first_of s) =
-    ap (λ (q : State). event_back o q m until) c.self.view_is
-    ∙ ap (λ (x : Message). event_back o s x until) first
-    ∙ ap (event_back o s (first_of s)) own
-    ∙ sym (event-busy o s (first_of s) (omega (arith, own, time, c.if-m-own.true))) in
+    let later : m.time < until = omega (arith, c.if-m-own.true) in
+    let same : event_back o (state_of k) m until ≡ event_of o s (first_of s) = back-same c.mail_stays_sound.ensures.next o (state_of k) s m c.from-to.result until c.self.invariant c.self.view_is c.in-Ok.ensures.least c.from-to.ensures c.index-own.ensures later in
     let post = at-some (λ (x : Message). c.delay_least.new.self ≡ put_back k.mail x until) _ m (sym c.in-Ok.ensures.least) c.delay_least.ensures.back in
     back-made o (state_of k) m until c.applied_by-self-inside.result c.delay_least.new.self c.tell_back.new.floor c.applied_by-self-inside.ensures.value post c.in_ok-kept.ensures.floor
     ∙ ap (λ (h : Happened). h.state) same
@@ -73,18 +63,9 @@ returns-then-m-own-clause-taken g c kept =
     let o = c.args.o.now in
     let m = c.in-Ok.m.now in
     let until = c.index-own.result.now in
-    let first : m ≡ first_of s = first-is (state_of k) m (sym c.in-Ok.ensures.least) ∙ ap first_of c.self.view_is in
-    let within = next-within c.mail_stays_sound.ensures.next (state_of k) m c.self.invariant c.in-Ok.ensures.least in
-    let read = own-read (state_of k) s c.from-to.result m.to until c.self.view_is within c.from-to.ensures c.index-own.ensures in
-    let own : until ≡ slice_index s.own (first_of s).to = read ∙ ap (λ (x : Message). slice_index s.own x.to) first in
-    let time = ap (λ (x : Message). x.time) first in
-    let same : event_back o (state_of k) m until ≡ event_of o s (first_of s) =
-    ap (λ (q : State). event_back o q m until) c.self.view_is
-    ∙ ap (λ (x : Message). event_back o s x until) first
-    ∙ ap (event_back o s (first_of s)) own
-    ∙ sym (event-busy o s (first_of s) (omega (arith, own, time, c.if-m-own.true))) in
-    c.in_ok-kept.ensures.taken kept ∙ ap (λ (t : g.K.Keeper.Told). g.K.Keeper.with t (event_back o (state_of k) m until).entry) c.in_ok-room.ensures.same
-    ∙ ap (λ (h : Happened). g.K.Keeper.with (g.K.Keeper.told c.args.keeper.now) h.entry) same
+    let later : m.time < until = omega (arith, c.if-m-own.true) in
+    let same : event_back o (state_of k) m until ≡ event_of o s (first_of s) = back-same c.mail_stays_sound.ensures.next o (state_of k) s m c.from-to.result until c.self.invariant c.self.view_is c.in-Ok.ensures.least c.from-to.ensures c.index-own.ensures later in
+    taken-same g.K.Keeper.with (g.K.Keeper.told c.args.keeper.now) _ _ (event_back o (state_of k) m until) (event_of o s (first_of s)) (c.in_ok-kept.ensures.taken kept) c.in_ok-room.ensures.same same
 
 pub returns-then-m-own-clause-timely : goal.returns-then-m-own-clause-timely
 returns-then-m-own-clause-timely g c =
@@ -93,16 +74,8 @@ returns-then-m-own-clause-timely g c =
     let o = c.args.o.now in
     let m = c.in-Ok.m.now in
     let until = c.index-own.result.now in
-    let first : m ≡ first_of s = first-is (state_of k) m (sym c.in-Ok.ensures.least) ∙ ap first_of c.self.view_is in
-    let within = next-within c.mail_stays_sound.ensures.next (state_of k) m c.self.invariant c.in-Ok.ensures.least in
-    let read = own-read (state_of k) s c.from-to.result m.to until c.self.view_is within c.from-to.ensures c.index-own.ensures in
-    let own : until ≡ slice_index s.own (first_of s).to = read ∙ ap (λ (x : Message). slice_index s.own x.to) first in
-    let time = ap (λ (x : Message). x.time) first in
-    let same : event_back o (state_of k) m until ≡ event_of o s (first_of s) =
-    ap (λ (q : State). event_back o q m until) c.self.view_is
-    ∙ ap (λ (x : Message). event_back o s x until) first
-    ∙ ap (event_back o s (first_of s)) own
-    ∙ sym (event-busy o s (first_of s) (omega (arith, own, time, c.if-m-own.true))) in
+    let later : m.time < until = omega (arith, c.if-m-own.true) in
+    let same : event_back o (state_of k) m until ≡ event_of o s (first_of s) = back-same c.mail_stays_sound.ensures.next o (state_of k) s m c.from-to.result until c.self.invariant c.self.view_is c.in-Ok.ensures.least c.from-to.ensures c.index-own.ensures later in
     let here : IsTimely (event (event_back o (state_of k) m until).entry) = (c.in_ok-kept.ensures.timely, All-nil (λ (f : Feed). f.time < 2 ^ 48)) in
     subst (λ (h : Happened). IsTimely (event h.entry)) same here
 
@@ -185,15 +158,8 @@ returns-clause-state g c =
     let o = c.args.o.now in
     let m = c.in-Ok.m.now in
     let busy = c.index-own.result.now in
-    let first : m ≡ first_of s = first-is (state_of k) m (sym c.in-Ok.ensures.least) ∙ ap first_of c.self.view_is in
-    let within = next-within c.mail_stays_sound.ensures.next (state_of k) m c.self.invariant c.in-Ok.ensures.least in
-    let read = own-read (state_of k) s c.from-to.result m.to busy c.self.view_is within c.from-to.ensures c.index-own.ensures in
-    let own : busy ≡ slice_index s.own (first_of s).to = read ∙ ap (λ (x : Message). slice_index s.own x.to) first in
-    let time = ap (λ (x : Message). x.time) first in
-    let same : event_delivered o (state_of k) m ≡ event_of o s (first_of s) =
-    ap (λ (q : State). event_delivered o q m) c.self.view_is
-    ∙ ap (λ (x : Message). event_delivered o s x) first
-    ∙ sym (event-free o s (first_of s) (omega (arith, own, time, c.if-m-own.false))) in
+    let free : busy ≤ m.time = omega (arith, c.if-m-own.false) in
+    let same : event_delivered o (state_of k) m ≡ event_of o s (first_of s) = delivered-same c.mail_stays_sound.ensures.next o (state_of k) s m c.from-to.result busy c.self.invariant c.self.view_is c.in-Ok.ensures.least c.from-to.ensures c.index-own.ensures free in
     let h = c.tell_delivery.new.out in
     let until = m.time + h.delay in
     let gone = at-some (λ (x : Message). c.drop_least.new.self ≡ taken k.mail x) _ m (sym c.in-Ok.ensures.least) c.drop_least.ensures.left in
@@ -211,17 +177,9 @@ returns-clause-taken g c kept =
     let o = c.args.o.now in
     let m = c.in-Ok.m.now in
     let busy = c.index-own.result.now in
-    let first : m ≡ first_of s = first-is (state_of k) m (sym c.in-Ok.ensures.least) ∙ ap first_of c.self.view_is in
-    let within = next-within c.mail_stays_sound.ensures.next (state_of k) m c.self.invariant c.in-Ok.ensures.least in
-    let read = own-read (state_of k) s c.from-to.result m.to busy c.self.view_is within c.from-to.ensures c.index-own.ensures in
-    let own : busy ≡ slice_index s.own (first_of s).to = read ∙ ap (λ (x : Message). slice_index s.own x.to) first in
-    let time = ap (λ (x : Message). x.time) first in
-    let same : event_delivered o (state_of k) m ≡ event_of o s (first_of s) =
-    ap (λ (q : State). event_delivered o q m) c.self.view_is
-    ∙ ap (λ (x : Message). event_delivered o s x) first
-    ∙ sym (event-free o s (first_of s) (omega (arith, own, time, c.if-m-own.false))) in
-    c.in_ok-kept-2.ensures.taken kept ∙ ap (λ (t : g.K.Keeper.Told). g.K.Keeper.with t (event_delivered o (state_of k) m).entry) c.in_ok-room.ensures.same
-    ∙ ap (λ (h : Happened). g.K.Keeper.with (g.K.Keeper.told c.args.keeper.now) h.entry) same
+    let free : busy ≤ m.time = omega (arith, c.if-m-own.false) in
+    let same : event_delivered o (state_of k) m ≡ event_of o s (first_of s) = delivered-same c.mail_stays_sound.ensures.next o (state_of k) s m c.from-to.result busy c.self.invariant c.self.view_is c.in-Ok.ensures.least c.from-to.ensures c.index-own.ensures free in
+    taken-same g.K.Keeper.with (g.K.Keeper.told c.args.keeper.now) _ _ (event_delivered o (state_of k) m) (event_of o s (first_of s)) (c.in_ok-kept-2.ensures.taken kept) c.in_ok-room.ensures.same same
 
 pub returns-clause-timely : goal.returns-clause-timely
 returns-clause-timely g c =
@@ -230,15 +188,8 @@ returns-clause-timely g c =
     let o = c.args.o.now in
     let m = c.in-Ok.m.now in
     let busy = c.index-own.result.now in
-    let first : m ≡ first_of s = first-is (state_of k) m (sym c.in-Ok.ensures.least) ∙ ap first_of c.self.view_is in
-    let within = next-within c.mail_stays_sound.ensures.next (state_of k) m c.self.invariant c.in-Ok.ensures.least in
-    let read = own-read (state_of k) s c.from-to.result m.to busy c.self.view_is within c.from-to.ensures c.index-own.ensures in
-    let own : busy ≡ slice_index s.own (first_of s).to = read ∙ ap (λ (x : Message). slice_index s.own x.to) first in
-    let time = ap (λ (x : Message). x.time) first in
-    let same : event_delivered o (state_of k) m ≡ event_of o s (first_of s) =
-    ap (λ (q : State). event_delivered o q m) c.self.view_is
-    ∙ ap (λ (x : Message). event_delivered o s x) first
-    ∙ sym (event-free o s (first_of s) (omega (arith, own, time, c.if-m-own.false))) in
+    let free : busy ≤ m.time = omega (arith, c.if-m-own.false) in
+    let same : event_delivered o (state_of k) m ≡ event_of o s (first_of s) = delivered-same c.mail_stays_sound.ensures.next o (state_of k) s m c.from-to.result busy c.self.invariant c.self.view_is c.in-Ok.ensures.least c.from-to.ensures c.index-own.ensures free in
     let here : IsTimely (event (event_delivered o (state_of k) m).entry) = (c.in_ok-kept-2.ensures.timely, c.in_ok-kept-2.ensures.own_timely) in
     subst (λ (h : Happened). IsTimely (event h.entry)) same here
 

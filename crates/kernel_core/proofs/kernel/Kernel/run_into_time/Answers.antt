@@ -3,7 +3,7 @@ use Rattle.kernel_core.specs.Seen.{folded}
 use Rattle.kernel_core.specs.State.{State}
 use Rattle.kernel_core.specs.Step.{raised}
 use Rattle.kernel_core.specs.Until.{Run}
-use Rattle.kernel_core.proofs.Fresh.{between, on-kept, on-made, on-timely, time-done, time-more, time-part, time-part-due, time-run}
+use Rattle.kernel_core.proofs.Fresh.{between, due-unended, on-kept, on-made, on-timely, time-done, time-more, time-part, time-part-due, time-run}
 use Rattle.kernel_core.proofs.kernel.Kernel.run_into_time.Goals as goal
 
 pub events-preserved : goal.events-preserved
@@ -50,6 +50,67 @@ returns-clause-within g c =
 
 pub returns-clause-time : goal.returns-clause-time
 returns-clause-time g c before = time-run c.args.o.now c.args.self.now c.events.self c.events.invariant.made before
+
+-- a state with a due message has an event
+pub returns-in-Ended-clause-answer : goal.returns-in-Ended-clause-answer
+returns-in-Ended-clause-answer g c =
+    absurd (due-unended c.args.o.now c.args.when c.events.self c.in-Ended.end (c.is_due.ensures.going c.events-test.true).1 (sym c.in-Ended.is ∙ c.in_ok-end.ensures.answer))
+
+pub returns-in-Ended-clause-reached : goal.returns-in-Ended-clause-reached
+returns-in-Ended-clause-reached g c =
+    absurd (due-unended c.args.o.now c.args.when c.events.self c.in-Ended.end (c.is_due.ensures.going c.events-test.true).1 (sym c.in-Ended.is ∙ c.in_ok-end.ensures.answer))
+
+pub returns-in-Ended-clause-ran : goal.returns-in-Ended-clause-ran
+returns-in-Ended-clause-ran g c =
+    absurd (due-unended c.args.o.now c.args.when c.events.self c.in-Ended.end (c.is_due.ensures.going c.events-test.true).1 (sym c.in-Ended.is ∙ c.in_ok-end.ensures.answer))
+
+pub returns-in-Ended-clause-kept : goal.returns-in-Ended-clause-kept
+returns-in-Ended-clause-kept g c =
+    absurd (due-unended c.args.o.now c.args.when c.events.self c.in-Ended.end (c.is_due.ensures.going c.events-test.true).1 (sym c.in-Ended.is ∙ c.in_ok-end.ensures.answer))
+
+pub returns-in-Ended-clause-made : goal.returns-in-Ended-clause-made
+returns-in-Ended-clause-made g c =
+    absurd (due-unended c.args.o.now c.args.when c.events.self c.in-Ended.end (c.is_due.ensures.going c.events-test.true).1 (sym c.in-Ended.is ∙ c.in_ok-end.ensures.answer))
+
+pub returns-in-Ended-clause-made_kept : goal.returns-in-Ended-clause-made_kept
+returns-in-Ended-clause-made_kept g c =
+    absurd (due-unended c.args.o.now c.args.when c.events.self c.in-Ended.end (c.is_due.ensures.going c.events-test.true).1 (sym c.in-Ended.is ∙ c.in_ok-end.ensures.answer))
+
+pub returns-in-Ended-clause-timely : goal.returns-in-Ended-clause-timely
+returns-in-Ended-clause-timely g c =
+    absurd (due-unended c.args.o.now c.args.when c.events.self c.in-Ended.end (c.is_due.ensures.going c.events-test.true).1 (sym c.in-Ended.is ∙ c.in_ok-end.ensures.answer))
+
+pub returns-in-Ended-clause-ticks : goal.returns-in-Ended-clause-ticks
+returns-in-Ended-clause-ticks g c =
+    absurd (due-unended c.args.o.now c.args.when c.events.self c.in-Ended.end (c.is_due.ensures.going c.events-test.true).1 (sym c.in-Ended.is ∙ c.in_ok-end.ensures.answer))
+
+pub returns-in-Ended-clause-grows : goal.returns-in-Ended-clause-grows
+returns-in-Ended-clause-grows g c =
+    absurd (due-unended c.args.o.now c.args.when c.events.self c.in-Ended.end (c.is_due.ensures.going c.events-test.true).1 (sym c.in-Ended.is ∙ c.in_ok-end.ensures.answer))
+
+pub returns-in-Ended-clause-within : goal.returns-in-Ended-clause-within
+returns-in-Ended-clause-within g c =
+    absurd (due-unended c.args.o.now c.args.when c.events.self c.in-Ended.end (c.is_due.ensures.going c.events-test.true).1 (sym c.in-Ended.is ∙ c.in_ok-end.ensures.answer))
+
+pub returns-in-Ended-clause-time : goal.returns-in-Ended-clause-time
+returns-in-Ended-clause-time g c =
+    absurd (due-unended c.args.o.now c.args.when c.events.self c.in-Ended.end (c.is_due.ensures.going c.events-test.true).1 (sym c.in-Ended.is ∙ c.in_ok-end.ensures.answer))
+
+pub returns-in-Ended-clause-offsets : goal.returns-in-Ended-clause-offsets
+returns-in-Ended-clause-offsets g c =
+    absurd (due-unended c.args.o.now c.args.when c.events.self c.in-Ended.end (c.is_due.ensures.going c.events-test.true).1 (sym c.in-Ended.is ∙ c.in_ok-end.ensures.answer))
+
+pub returns-in-Ended-clause-editable : goal.returns-in-Ended-clause-editable
+returns-in-Ended-clause-editable g c =
+    absurd (due-unended c.args.o.now c.args.when c.events.self c.in-Ended.end (c.is_due.ensures.going c.events-test.true).1 (sym c.in-Ended.is ∙ c.in_ok-end.ensures.answer))
+
+pub returns-in-Ended-clause-drops : goal.returns-in-Ended-clause-drops
+returns-in-Ended-clause-drops g c =
+    absurd (due-unended c.args.o.now c.args.when c.events.self c.in-Ended.end (c.is_due.ensures.going c.events-test.true).1 (sym c.in-Ended.is ∙ c.in_ok-end.ensures.answer))
+
+pub returns-in-Ended-clause-fitting : goal.returns-in-Ended-clause-fitting
+returns-in-Ended-clause-fitting g c =
+    absurd (due-unended c.args.o.now c.args.when c.events.self c.in-Ended.end (c.is_due.ensures.going c.events-test.true).1 (sym c.in-Ended.is ∙ c.in_ok-end.ensures.answer))
 
 -- after want of memory
 pub returns-in_err-end-clause-made : goal.returns-in_err-end-clause-made

@@ -1,14 +1,10 @@
-use Rattle.std.proofs.Common.{◌≡◌, Bool, true, All, sym, ap, ◌∙◌, subst}
-use Rattle.market_types.specs.Timely.{IsTimely}
-use Rattle.market_types.specs.Told.{event}
-use Rattle.kernel_core.specs.Seen.{first_of, folded}
+use Rattle.std.proofs.Common.{◌≡◌, Bool, true, ap, ◌∙◌}
+use Rattle.kernel_core.specs.Seen.{first_of}
 use Rattle.kernel_core.specs.State.{State}
 use Rattle.kernel_core.specs.Step.{event_of}
-use Rattle.kernel_core.specs.Until.{Run}
-use Rattle.kernel_core.proofs.Fresh.{between-one, one-timely}
 use Rattle.kernel_core.proofs.Kept.{event-offsets, event-settings, settings_of}
 use Rattle.kernel_core.proofs.Possible.{edit-kept}
-use Rattle.kernel_core.proofs.Making.{if-ok, on-ok}
+use Rattle.kernel_core.proofs.Making.{IsOne, if-ok, on-ok, one-kept, one-made, one-state, one-told}
 use Rattle.kernel_core.proofs.kernel.Kernel.step_into.Goals as goal
 
 -- the event
@@ -16,32 +12,24 @@ pub returns-then-kept-clause-kept : goal.returns-then-kept-clause-kept
 returns-then-kept-clause-kept g c =
     let o = c.args.o.now in
     let s = c.args.self.now in
-    let m = first_of s in
-    let next = on-ok c.in_ok-kept.field-0 c.in-Ok.kept c.in-Ok.is c.in_ok-kept.ensures.next in
-    let going = on-ok c.in_ok-kept.field-0 c.in-Ok.kept c.in-Ok.is c.in_ok-kept.ensures.going in
-    let state = on-ok c.in_ok-kept.field-0 c.in-Ok.kept c.in-Ok.is c.in_ok-kept.ensures.state in
+    let one : IsOne o s c.happen.new.self = one-made o s c.happen.new.self c.in_ok-kept.field-0 c.in-Ok.kept c.in-Ok.is c.in_ok-kept.ensures.going c.in_ok-kept.ensures.next c.in_ok-kept.ensures.state in
     let take = g.K.Keeper.with in
-    let taken = if-ok (λ (kept : Bool). kept ≡ true → g.K.Keeper.told c.happen.new.keeper ≡ take (g.K.Keeper.told c.args.keeper.now) (event_of o s m).entry) c.in_ok-kept.field-0 c.in-Ok.kept c.in-Ok.is c.in_ok-kept.ensures.taken in
-    taken c.if-kept.true
-    ∙ sym (ap (λ (r : Run). folded take (g.K.Keeper.told c.args.keeper.now) r.entries) (between-one o s c.happen.new.self m going next state))
+    let taken = if-ok (λ (kept : Bool). kept ≡ true → g.K.Keeper.told c.happen.new.keeper ≡ take (g.K.Keeper.told c.args.keeper.now) (event_of o s (first_of s)).entry) c.in_ok-kept.field-0 c.in-Ok.kept c.in-Ok.is c.in_ok-kept.ensures.taken in
+    one-kept take (g.K.Keeper.told c.args.keeper.now) (g.K.Keeper.told c.happen.new.keeper) o s c.happen.new.self one (taken c.if-kept.true)
 
 pub returns-then-kept-clause-made : goal.returns-then-kept-clause-made
 returns-then-kept-clause-made g c =
+    let o = c.args.o.now in
     let s = c.args.self.now in
-    let next = on-ok c.in_ok-kept.field-0 c.in-Ok.kept c.in-Ok.is c.in_ok-kept.ensures.next in
-    let going = on-ok c.in_ok-kept.field-0 c.in-Ok.kept c.in-Ok.is c.in_ok-kept.ensures.going in
-    let state = on-ok c.in_ok-kept.field-0 c.in-Ok.kept c.in-Ok.is c.in_ok-kept.ensures.state in
-    sym (ap (λ (r : Run). r.state) (between-one c.args.o.now s c.happen.new.self (first_of s) going next state))
+    let one : IsOne o s c.happen.new.self = one-made o s c.happen.new.self c.in_ok-kept.field-0 c.in-Ok.kept c.in-Ok.is c.in_ok-kept.ensures.going c.in_ok-kept.ensures.next c.in_ok-kept.ensures.state in
+    one-state o s c.happen.new.self one
 
 pub returns-then-kept-clause-timely : goal.returns-then-kept-clause-timely
 returns-then-kept-clause-timely g c =
     let o = c.args.o.now in
     let s = c.args.self.now in
-    let next = on-ok c.in_ok-kept.field-0 c.in-Ok.kept c.in-Ok.is c.in_ok-kept.ensures.next in
-    let going = on-ok c.in_ok-kept.field-0 c.in-Ok.kept c.in-Ok.is c.in_ok-kept.ensures.going in
-    let state = on-ok c.in_ok-kept.field-0 c.in-Ok.kept c.in-Ok.is c.in_ok-kept.ensures.state in
-    subst (λ (r : Run). All IsTimely r.entries) (sym (between-one o s c.happen.new.self (first_of s) going next state))
-    (one-timely (event (event_of o s (first_of s)).entry) (on-ok c.in_ok-kept.field-0 c.in-Ok.kept c.in-Ok.is c.in_ok-kept.ensures.timely))
+    let one : IsOne o s c.happen.new.self = one-made o s c.happen.new.self c.in_ok-kept.field-0 c.in-Ok.kept c.in-Ok.is c.in_ok-kept.ensures.going c.in_ok-kept.ensures.next c.in_ok-kept.ensures.state in
+    one-told o s c.happen.new.self one (on-ok c.in_ok-kept.field-0 c.in-Ok.kept c.in-Ok.is c.in_ok-kept.ensures.timely)
 
 pub returns-then-kept-clause-offsets : goal.returns-then-kept-clause-offsets
 returns-then-kept-clause-offsets g c = ap (λ (s : State). s.floor.offsets) (on-ok c.in_ok-kept.field-0 c.in-Ok.kept c.in-Ok.is c.in_ok-kept.ensures.state) ∙ event-offsets c.args.o.now c.args.self.now (first_of c.args.self.now)
@@ -56,21 +44,17 @@ returns-then-kept-clause-editable g c e h =
 -- the event, which the keeper refused
 pub returns-clause-made : goal.returns-clause-made
 returns-clause-made g c =
+    let o = c.args.o.now in
     let s = c.args.self.now in
-    let next = on-ok c.in_ok-kept.field-0 c.in-Ok.kept c.in-Ok.is c.in_ok-kept.ensures.next in
-    let going = on-ok c.in_ok-kept.field-0 c.in-Ok.kept c.in-Ok.is c.in_ok-kept.ensures.going in
-    let state = on-ok c.in_ok-kept.field-0 c.in-Ok.kept c.in-Ok.is c.in_ok-kept.ensures.state in
-    sym (ap (λ (r : Run). r.state) (between-one c.args.o.now s c.happen.new.self (first_of s) going next state))
+    let one : IsOne o s c.happen.new.self = one-made o s c.happen.new.self c.in_ok-kept.field-0 c.in-Ok.kept c.in-Ok.is c.in_ok-kept.ensures.going c.in_ok-kept.ensures.next c.in_ok-kept.ensures.state in
+    one-state o s c.happen.new.self one
 
 pub returns-clause-timely : goal.returns-clause-timely
 returns-clause-timely g c =
     let o = c.args.o.now in
     let s = c.args.self.now in
-    let next = on-ok c.in_ok-kept.field-0 c.in-Ok.kept c.in-Ok.is c.in_ok-kept.ensures.next in
-    let going = on-ok c.in_ok-kept.field-0 c.in-Ok.kept c.in-Ok.is c.in_ok-kept.ensures.going in
-    let state = on-ok c.in_ok-kept.field-0 c.in-Ok.kept c.in-Ok.is c.in_ok-kept.ensures.state in
-    subst (λ (r : Run). All IsTimely r.entries) (sym (between-one o s c.happen.new.self (first_of s) going next state))
-    (one-timely (event (event_of o s (first_of s)).entry) (on-ok c.in_ok-kept.field-0 c.in-Ok.kept c.in-Ok.is c.in_ok-kept.ensures.timely))
+    let one : IsOne o s c.happen.new.self = one-made o s c.happen.new.self c.in_ok-kept.field-0 c.in-Ok.kept c.in-Ok.is c.in_ok-kept.ensures.going c.in_ok-kept.ensures.next c.in_ok-kept.ensures.state in
+    one-told o s c.happen.new.self one (on-ok c.in_ok-kept.field-0 c.in-Ok.kept c.in-Ok.is c.in_ok-kept.ensures.timely)
 
 pub returns-clause-offsets : goal.returns-clause-offsets
 returns-clause-offsets g c = ap (λ (s : State). s.floor.offsets) (on-ok c.in_ok-kept.field-0 c.in-Ok.kept c.in-Ok.is c.in_ok-kept.ensures.state) ∙ event-offsets c.args.o.now c.args.self.now (first_of c.args.self.now)
