@@ -64,7 +64,10 @@ fn roomy(mut queue: Queue) -> Result<Queue, Memory>
     ensures list { IfOk result (λ q. q.list ≡ queue.list) }
     ensures room { IfOk result (λ q. most_waiting ≤ length q.list + q.spare) }
 {
-    queue.reserve(MOST_WAITING - queue.len())?;
+    let Ok(()) = queue.reserve(MOST_WAITING - queue.len()) else {
+        drop(queue);
+        return Err(Memory);
+    };
     Ok(queue)
 }
 
