@@ -94,7 +94,9 @@ fn rewound<L: Ledger>(
     ensures most { steps.new ≤ steps.old + session.now.course.opening.limit }
 {
     let kernel = session.state(shelf, branch, event, steps)?;
-    match state_bytes(alloc, session, branch, event, &kernel) {
+    let bytes = state_bytes(alloc, session, branch, event, &kernel);
+    drop(kernel);
+    match bytes {
         Ok(bytes) => Ok(bytes),
         Err(Memory) => Err(SessionError::Memory),
     }
@@ -117,7 +119,11 @@ fn closed<L: Ledger>(
     ensures most { steps.new ≤ steps.old + session.now.course.opening.limit }
 {
     match session.full(shelf, branch, steps) {
-        Ok(kernel) => closing_bytes(alloc, session, branch, &kernel),
+        Ok(kernel) => {
+            let bytes = closing_bytes(alloc, session, branch, &kernel);
+            drop(kernel);
+            bytes
+        }
         Err(_) => Err(Memory),
     }
 }
@@ -139,7 +145,10 @@ fn entries<L: Ledger>(
     let mut trace = Trace::new(alloc);
     match session.records(branch, &mut trace, steps) {
         Ok(()) => Ok(trace),
-        Err(_) => Err(Memory),
+        Err(_) => {
+            drop(trace);
+            Err(Memory)
+        }
     }
 }
 

@@ -65,6 +65,7 @@ impl Session {
             Ok(kernel) => {
                 let events = kernel.events();
                 if events < event {
+                    drop(kernel);
                     return Err(SessionError::NoEvent(events));
                 }
                 Ok(kernel)
@@ -147,7 +148,10 @@ impl Session {
         }
         let most = self.course().opening().limit;
         match recorded(self, branch, most, trace, steps) {
-            Ok(_) => Ok(()),
+            Ok(kernel) => {
+                drop(kernel);
+                Ok(())
+            }
             Err(Memory) => Err(SessionError::Memory),
         }
     }

@@ -59,7 +59,12 @@ pub(crate) fn reach<L: Ledger>(
     let before = event.min(stop_of(session, branch));
     let mut kernel = reach(session, shelf, parent, before, steps)?;
     let mut trace = Trace::new(session.allocator());
-    go_onward(session, branch, event, &mut kernel, &mut trace, steps)?;
+    let Ok(()) = go_onward(session, branch, event, &mut kernel, &mut trace, steps) else {
+        drop(kernel);
+        drop(trace);
+        return Err(Memory);
+    };
+    drop(trace);
     Ok(kernel)
 }
 
@@ -83,7 +88,10 @@ fn record_root<L: Ledger>(
     let alloc = session.allocator();
     let o = session.course().opening();
     let mut kernel = Kernel::open(alloc, o)?;
-    kernel.run_until(alloc, o, event, trace, steps)?;
+    let Ok(_) = kernel.run_until(alloc, o, event, trace, steps) else {
+        drop(kernel);
+        return Err(Memory);
+    };
     Ok(kernel)
 }
 
@@ -115,6 +123,9 @@ pub(crate) fn recorded<L: Ledger>(
     let parent = parent_of(session, branch);
     let before = event.min(stop_of(session, branch));
     let mut kernel = recorded(session, parent, before, trace, steps)?;
-    go_onward(session, branch, event, &mut kernel, trace, steps)?;
+    let Ok(()) = go_onward(session, branch, event, &mut kernel, trace, steps) else {
+        drop(kernel);
+        return Err(Memory);
+    };
     Ok(kernel)
 }

@@ -87,7 +87,7 @@ returns-clause-state g t c =
     let h = c.parent_of-parent.ensures.session in
     let f = is-further s b h c.requires.exists (sym c.is_kept.ensures ∙ c.if-is_kept.false) in
     let first : Run = record { state = c.in_ok-kernel.kernel; entries = c.new-trace.result.list } in
-    ap (λ (r : Run). r.state) c.in_ok-go_onward.ensures.ran
+    ap (λ (r : Run). r.state) c.in-Ok.ensures.ran
     ∙ reach-onward s b c.args.event c.stop_of.result c.parent_of-parent.result c.min-before.result first h f.later c.requires.exists c.stop_of.ensures c.requires.within c.parent_of-parent.ensures.value c.min-before.ensures
     c.in_ok-kernel.ensures.state
 
