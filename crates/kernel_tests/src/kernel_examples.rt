@@ -261,7 +261,9 @@ fn each_kind(rt: &impl Abort, alloc: Global, o: &Opening, trace: &mut Trace) -> 
         (0, order(b'A', 100)),
         (0, shifted(-5)),
     ];
-    branch(rt, alloc, o, &edits, 0, trace)
+    let kernel = branch(rt, alloc, o, &edits, 0, trace);
+    drop(edits);
+    kernel
 }
 
 // Whether the first trader is silenced, the offset of the first stock, and its tick at 10.01 dollars.
@@ -299,6 +301,9 @@ fn each_kind_of_edit_is_made(rt: HostRuntime) {
         &rt,
         first_of_all(&kernel, &o) == (true, -5, 500) && kernel.counts().waiting == 2,
     );
+    drop(kernel);
+    drop(trace);
+    drop(o);
 }
 
 // An event's time, its message's number, whether it was put back, and until when its receiver is busy.
@@ -351,6 +356,9 @@ fn a_busy_exchange_puts_back(rt: HostRuntime) {
         &rt,
         kernel.end(&o) == Some(End::Closed) && counts.waiting == 3 && counts.next_seq == 12,
     );
+    drop(kernel);
+    drop(trace);
+    drop(o);
 }
 
 // The messages that wait, in their order.
@@ -369,7 +377,12 @@ fn due(rt: &impl Abort, alloc: Global, o: &Opening, jitter: u32) -> Option<Time>
     let edits = [(0, latency(0, jitter))];
     let kernel = branch(rt, alloc, o, &edits, 1, &mut trace);
     let messages = waiting(rt, alloc, &kernel);
-    messages.iter().find(|m| m.seq == 1).map(|m| m.time)
+    let time = messages.iter().find(|m| m.seq == 1).map(|m| m.time);
+    drop(messages);
+    drop(kernel);
+    drop(edits);
+    drop(trace);
+    time
 }
 
 // A jitter, and when the message is then due: the word of number 1 under the zero key is 2,419,978,656.
@@ -382,6 +395,7 @@ fn a_latency_is_drawn_by_number(rt: HostRuntime) {
     for (jitter, time) in DUE.iter() {
         equal(&rt, due(&rt, alloc, &o, *jitter), Some(*time));
     }
+    drop(o);
 }
 
 // Why a run has ended, after how many events, at which time, how many messages wait, the next number, and how many
@@ -397,14 +411,17 @@ fn ending(rt: &impl Abort, alloc: Global, o: &Opening, edits: &[(u32, Edit)]) ->
     let mut trace = Trace::new(alloc);
     let k = branch(rt, alloc, o, edits, 100_000, &mut trace);
     let told = k.counts();
-    (
+    let ending = (
         k.end(o),
         k.events(),
         k.time(),
         told.waiting,
         told.next_seq,
         told.dropped,
-    )
+    );
+    drop(k);
+    drop(trace);
+    ending
 }
 
 // An order that is due goes on with a run that was closed.
@@ -415,6 +432,8 @@ fn a_closed_run_goes_on(rt: HostRuntime) {
     let edits = [(50, order(b'A', 100))];
     let told = ending(&rt, alloc, &o, &edits);
     holds(&rt, told == (Some(End::Closed), 8, 1115, 2, 10, 0));
+    drop(edits);
+    drop(o);
 }
 
 // An order that is due goes on with a run that was quiet.
@@ -425,6 +444,8 @@ fn a_quiet_run_goes_on(rt: HostRuntime) {
     let edits = [(0, Edit::Silence { agent: 1 }), (50, order(b'A', 100))];
     let told = ending(&rt, alloc, &o, &edits);
     holds(&rt, told == (Some(End::Quiet), 3, 1105, 0, 3, 0));
+    drop(edits);
+    drop(o);
 }
 
 const FULL: Ending = (
@@ -446,4 +467,6 @@ fn an_order_into_a_full_queue_is_dropped_and_counted(rt: HostRuntime) {
         (65_535, order(b'A', 100)),
     ];
     holds(&rt, ending(&rt, alloc, &o, &edits) == FULL);
+    drop(edits);
+    drop(o);
 }

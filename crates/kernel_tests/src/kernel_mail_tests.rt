@@ -151,7 +151,9 @@ fn waits(rt: &impl Abort, alloc: Global, mail: &Mail, hoped: &[(u64, u64, u16, u
     let Ok(messages) = mail.messages(alloc) else {
         panic!(rt; "out of memory");
     };
-    messages.iter().map(row).eq(hoped.iter().copied())
+    let are_these = messages.iter().map(row).eq(hoped.iter().copied());
+    drop(messages);
+    are_these
 }
 
 // The message that is put back: when it was due, and its number.
@@ -175,6 +177,10 @@ fn messages_are_due_by_their_own_draws(rt: HostRuntime) {
     equal(&rt, put_back(&mut mail, 1500), Some((1017, 1)));
     holds(&rt, waits(&rt, alloc, &mail, &MOVED));
     holds(&rt, waits(&rt, alloc, &copy, &UNMOVED));
+    drop(copy);
+    drop(mail);
+    drop(groups);
+    drop(o);
 }
 
 #[test]
@@ -192,4 +198,7 @@ fn full_mail_drops_what_is_to_join(rt: HostRuntime) {
     equal(&rt, least(&copy), Some(65_536));
     equal(&rt, counts(&copy), (65_536, 65_537, 2));
     equal(&rt, counts(&mail), (65_536, 65_536, 0));
+    drop(copy);
+    drop(mail);
+    drop(o);
 }

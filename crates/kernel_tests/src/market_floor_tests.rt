@@ -199,6 +199,10 @@ fn a_watcher_wakes_and_hears(rt: HostRuntime) {
     let heard = deliver(&rt, alloc, &o, &mut floor, 1, 1017, 0, 1, QUOTE);
     equal(&rt, (heard.postings.len(), floor.traders()), (0, 1));
     equal(&rt, first_told(&rt, &floor), (1, 1));
+    drop(heard);
+    drop(woken);
+    drop(floor);
+    drop(o);
 }
 
 // The halt of 1400 is made with the question of that time.
@@ -212,6 +216,10 @@ fn a_halt_comes_at_its_time(rt: HostRuntime) {
     equal(&rt, (early.before.len(), early.delay), (0, 7));
     let late = deliver(&rt, alloc, &o, &mut floor, 1, 1400, 1, 0, Body::Ask(0));
     holds(&rt, is_quote(&late, b'H') && late.before.len() == 1);
+    drop(late);
+    drop(early);
+    drop(floor);
+    drop(o);
 }
 
 // How many feed messages the dated changes up to a time tell on a copy of a floor.
@@ -224,7 +232,10 @@ fn ruled_on_a_copy(rt: &impl Abort, alloc: Global, o: &Opening, floor: &Floor, t
     let Ok(feed) = copy.rule(alloc, o, 0, time) else {
         panic!(rt; "out of memory");
     };
-    feed.len()
+    let told = feed.len();
+    drop(feed);
+    drop(copy);
+    told
 }
 
 // A copy goes its own way: the halts are made on it alone.
@@ -235,6 +246,8 @@ fn a_copy_halts(rt: HostRuntime) {
     let floor = opened(&rt, alloc, &o);
     equal(&rt, ruled_on_a_copy(&rt, alloc, &o, &floor, 1600), 1);
     equal(&rt, applied_by(&o, 0, 1600), 2);
+    drop(floor);
+    drop(o);
 }
 
 // Edits a fresh floor at 1500, and how many feed messages that told.
@@ -257,8 +270,11 @@ fn edits_are_made(rt: HostRuntime) {
         edited(&rt, alloc, &mut floor, &Edit::Halt { stock: 0 }),
         1,
     );
+    drop(floor);
     let mut floor = opened(&rt, alloc, &o);
     edited(&rt, alloc, &mut floor, &Edit::Silence { agent: 1 });
     assert!(rt; floor.traders() == 1);
     holds(&rt, floor.silenced(1));
+    drop(floor);
+    drop(o);
 }

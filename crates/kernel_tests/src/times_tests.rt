@@ -58,7 +58,10 @@ fn reached(
     let mut kernel = branch(rt, alloc, o, edits, first, &mut trace);
     let (end, ticks) = timed(rt, alloc, o, &mut kernel, when, most, &mut trace);
     let due = kernel.due_by(o, when);
-    (end, ticks, kernel.events(), kernel.time(), due)
+    let told = (end, ticks, kernel.events(), kernel.time(), due);
+    drop(kernel);
+    drop(trace);
+    told
 }
 
 // After how many events a run goes on, up to when, how many events it may make, and what it reaches.
@@ -85,6 +88,7 @@ fn a_run_stops_at_a_time(rt: HostRuntime) {
         let told = reached(&rt, alloc, &o, &[], *first, *when, *most);
         holds(&rt, told == *hoped);
     }
+    drop(o);
 }
 
 // A silenced watcher asks for nothing when it wakes, so that no message waits.
@@ -95,6 +99,8 @@ fn a_run_up_to_a_time_tells_that_it_is_quiet(rt: HostRuntime) {
     let silence = [(0, Edit::Silence { agent: 1 })];
     let told = reached(&rt, alloc, &o, &silence, 0, 5000, 100);
     holds(&rt, told == (Some(End::Quiet), 1, 1, 1000, false));
+    drop(silence);
+    drop(o);
 }
 
 // A run that stops at a time and then goes on to its end.
@@ -124,5 +130,8 @@ fn a_run_that_stops_at_a_time_goes_on_as_if_it_had_not(rt: HostRuntime) {
             &rt,
             parts.end == whole.end && are_alike(&rt, alloc, &parts, &whole),
         );
+        drop(parts);
     }
+    drop(whole);
+    drop(o);
 }

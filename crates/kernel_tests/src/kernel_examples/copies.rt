@@ -56,14 +56,20 @@ fn tellings(rt: &impl Abort, alloc: Global, kernel: &Kernel) -> Vec<TraderTold> 
 fn wait_alike(rt: &impl Abort, alloc: Global, a: &Kernel, b: &Kernel) -> bool {
     let here = waiting(rt, alloc, a);
     let there = waiting(rt, alloc, b);
-    here.iter().copied().eq(there.iter().copied())
+    let is_same = here.iter().copied().eq(there.iter().copied());
+    drop(there);
+    drop(here);
+    is_same
 }
 
 // Whether the traders tell the same of themselves.
 fn tell_alike(rt: &impl Abort, alloc: Global, a: &Kernel, b: &Kernel) -> bool {
     let here = tellings(rt, alloc, a);
     let there = tellings(rt, alloc, b);
-    here.iter().copied().eq(there.iter().copied())
+    let is_same = here.iter().copied().eq(there.iter().copied());
+    drop(there);
+    drop(here);
+    is_same
 }
 
 fn noise() -> Kind
@@ -126,7 +132,10 @@ fn halfway(rt: &impl Abort, alloc: Global, o: &Opening) -> Kernel
     let mut trace = Trace::new(alloc);
     let silence = Edit::Silence { agent: 1 };
     let edits = [(100, latency(7, 9)), (200, silence), (300, shifted(250))];
-    branch(rt, alloc, o, &edits, 500, &mut trace)
+    let kernel = branch(rt, alloc, o, &edits, 500, &mut trace);
+    drop(edits);
+    drop(trace);
+    kernel
 }
 
 // A run to its end: why it ended, its state, and its trace.
@@ -173,4 +182,7 @@ fn a_copy_goes_on_as_its_kernel_does(rt: HostRuntime) {
     let b = gone_on(&rt, alloc, &o, copy);
     holds(&rt, a.end == Some(End::Closed) && a.kernel.events() > 1000);
     holds(&rt, b.end == a.end && are_alike(&rt, alloc, &a, &b));
+    drop(b);
+    drop(a);
+    drop(o);
 }

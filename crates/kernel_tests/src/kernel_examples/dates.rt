@@ -71,7 +71,11 @@ fn dated_ticks_hold_from_their_nanosecond_on(rt: HostRuntime) {
     let o = dated_market(&rt, alloc);
     let mut trace = Trace::new(alloc);
     let orders = [(0, order(b'A', 499)), (0, order(b'B', 500))];
-    branch(&rt, alloc, &o, &orders, 100, &mut trace);
+    drop(branch(&rt, alloc, &o, &orders, 100, &mut trace));
     let answers = answers_of(&rt, alloc, trace.as_slice());
     holds(&rt, answers.as_slice() == ANSWERS.as_slice());
+    drop(answers);
+    drop(orders);
+    drop(trace);
+    drop(o);
 }

@@ -43,4 +43,7 @@ fn a_step_is_one_event_and_one_tick(rt: HostRuntime) {
     holds(&rt, second == (Stepped::Event(2), 1));
     holds(&rt, third == (Stepped::Ended(End::Closed), 0));
     equal(&rt, trace.len(), 2);
+    drop(kernel);
+    drop(trace);
+    drop(o);
 }
