@@ -13,35 +13,35 @@ go_on-requires-clause-segment g c =
 pub arrive-requires-clause-on : goal.arrive-requires-clause-on
 arrive-requires-clause-on g c =
     let k : CourseTold = c.args.course.now in
-    let started = c.in_ok-go_on.ensures.state ∙ ap (λ (x : Segment). started_from k.opening k.plan x.branch (Some c.args.parent)) c.segment-branch.ensures.value in
+    let started = c.in-Ok.ensures.state ∙ ap (λ (x : Segment). started_from k.opening k.plan x.branch (Some c.args.parent)) c.segment-branch.ensures.value in
     from-parent k c.args.segment c.args.parent c.go_on.new.kernel c.go_on.new.trace.list c.segment-branch.ensures.course c.requires.segment c.requires.parent started
 
 pub arrive-requires-clause-early : goal.arrive-requires-clause-early
 arrive-requires-clause-early g c =
     let k : CourseTold = c.args.course.now in
-    let started = c.in_ok-go_on.ensures.state ∙ ap (λ (x : Segment). started_from k.opening k.plan x.branch (Some c.args.parent)) c.segment-branch.ensures.value in
+    let started = c.in-Ok.ensures.state ∙ ap (λ (x : Segment). started_from k.opening k.plan x.branch (Some c.args.parent)) c.segment-branch.ensures.value in
     omega (arith, c.requires.from, go-events k c.args.segment c.args.parent c.args.kernel c.go_on.new.kernel c.go_on.new.trace.list c.segment-branch.ensures.course c.requires.segment c.requires.parent c.requires.end started)
 
 pub arrive-requires-clause-count : goal.arrive-requires-clause-count
 arrive-requires-clause-count g c =
     let k : CourseTold = c.args.course.now in
-    let started = c.in_ok-go_on.ensures.state ∙ ap (λ (x : Segment). started_from k.opening k.plan x.branch (Some c.args.parent)) c.segment-branch.ensures.value in
+    let started = c.in-Ok.ensures.state ∙ ap (λ (x : Segment). started_from k.opening k.plan x.branch (Some c.args.parent)) c.segment-branch.ensures.value in
     omega (arith, c.requires.count, go-events k c.args.segment c.args.parent c.args.kernel c.go_on.new.kernel c.go_on.new.trace.list c.segment-branch.ensures.course c.requires.segment c.requires.parent c.requires.end started)
 
 pub returns-in_err-arrival-clause-most : goal.returns-in_err-arrival-clause-most
 returns-in_err-arrival-clause-most g c =
     let k : CourseTold = c.args.course.now in
-    let started = c.in_ok-go_on.ensures.state ∙ ap (λ (x : Segment). started_from k.opening k.plan x.branch (Some c.args.parent)) c.segment-branch.ensures.value in
+    let started = c.in-Ok.ensures.state ∙ ap (λ (x : Segment). started_from k.opening k.plan x.branch (Some c.args.parent)) c.segment-branch.ensures.value in
     omega (arith, c.arrive.ensures.most, go-events k c.args.segment c.args.parent c.args.kernel c.go_on.new.kernel c.go_on.new.trace.list c.segment-branch.ensures.course c.requires.segment c.requires.parent c.requires.end started)
 
 pub returns-clause-ticks : goal.returns-clause-ticks
 returns-clause-ticks g c =
     let k : CourseTold = c.args.course.now in
-    let started = c.in_ok-go_on.ensures.state ∙ ap (λ (x : Segment). started_from k.opening k.plan x.branch (Some c.args.parent)) c.segment-branch.ensures.value in
+    let started = c.in-Ok.ensures.state ∙ ap (λ (x : Segment). started_from k.opening k.plan x.branch (Some c.args.parent)) c.segment-branch.ensures.value in
     omega (arith, c.in_ok-arrival.ensures.ticks, go-events k c.args.segment c.args.parent c.args.kernel c.go_on.new.kernel c.go_on.new.trace.list c.segment-branch.ensures.course c.requires.segment c.requires.parent c.requires.end started)
 
 pub returns-clause-most : goal.returns-clause-most
 returns-clause-most g c =
     let k : CourseTold = c.args.course.now in
-    let started = c.in_ok-go_on.ensures.state ∙ ap (λ (x : Segment). started_from k.opening k.plan x.branch (Some c.args.parent)) c.segment-branch.ensures.value in
+    let started = c.in-Ok.ensures.state ∙ ap (λ (x : Segment). started_from k.opening k.plan x.branch (Some c.args.parent)) c.segment-branch.ensures.value in
     omega (arith, c.arrive.ensures.most, go-events k c.args.segment c.args.parent c.args.kernel c.go_on.new.kernel c.go_on.new.trace.list c.segment-branch.ensures.course c.requires.segment c.requires.parent c.requires.end started)
