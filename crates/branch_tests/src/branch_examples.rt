@@ -350,17 +350,21 @@ fn silenced(rt: &impl Abort, alloc: Global) -> Vec<Branch>
 #[test]
 fn a_silenced_watcher(rt: HostRuntime) {
     let alloc = rt.alloc();
-    let run = run(&rt, alloc, Keep::Entries, silenced(&rt, alloc));
-    equal(&rt, (run.ticks, run.outcomes.len()), (10, 3));
-    let outcomes = run.outcomes.as_slice();
+    let entries = run(&rt, alloc, Keep::Entries, silenced(&rt, alloc));
+    equal(&rt, (entries.ticks, entries.outcomes.len()), (10, 3));
+    let outcomes = entries.outcomes.as_slice();
     equal(&rt, heard(outcomes, 2, 1), Some((true, 1010, 0)));
     equal(&rt, heard(outcomes, 2, 2), Some((false, 1010, 1)));
-    equal(&rt, digest(run.bundle.as_slice()), (1637, 407_337_604_610));
+    equal(
+        &rt,
+        digest(entries.bundle.as_slice()),
+        (1637, 407_337_604_610),
+    );
     let frames = run(&rt, alloc, Keep::Frames, silenced(&rt, alloc));
-    equal(&rt, frames.ticks, run.ticks);
-    holds(&rt, frames.bundle.as_slice() == run.bundle.as_slice());
+    equal(&rt, frames.ticks, entries.ticks);
+    holds(&rt, frames.bundle.as_slice() == entries.bundle.as_slice());
     drop(frames);
-    drop(run);
+    drop(entries);
 }
 
 // The name of a branch of a number below 256: two letters.

@@ -1,6 +1,6 @@
 //! Courses of a market of two watchers.
 
-ghost use Rattle.std.specs.Prelude.{◌≡◌, ◌≤◌};
+ghost use Rattle.std.specs.Prelude.{◌≡◌, ◌≤◌, OnOk};
 ghost use Rattle.branch_tree.specs.declared.branch.Branch.{Branch};
 ghost use Rattle.market_floor.specs.Opening.{IsOpening};
 ghost use Rattle.market_floor.specs.OpeningWorked.{watcher};
@@ -13,7 +13,7 @@ use kernel_copy::Course;
 use market_floor::Opening;
 use market_floor::opening_worked::{markets_are_openings, opening};
 use market_rules::Edit;
-use market_types::{Sequence, Time};
+use market_types::{Memory, Sequence, Time};
 use std::alloc::Global;
 use std::process::Abort;
 use std::sync::Arc;
@@ -57,26 +57,20 @@ pub(crate) fn market(rt: &impl Abort, alloc: Global) -> Opening
     o
 }
 
-// A branch that has these edits.
-fn branch(rt: &impl Abort, name: &[u8], parent: u16, stop: Stop, edits: Vec<Edit>) -> Branch
-    ensures parent { result.parent ≡ parent }
-    ensures edits { result.edits ≡ edits.items }
-{
-    Branch {
-        name: Name::new(name).expect(rt, "a name"),
-        parent,
-        stop,
-        edits: Sequence::new(edits),
-    }
-}
-
 // The root alone.
 pub(crate) fn root(rt: &impl Abort, alloc: Global) -> Vec<Branch>
     ensures { AreBranches result.items }
 {
-    let root = branch(rt, b"root", 0, Stop::At(0), Vec::new(alloc));
+    let root = Branch {
+        name: Name::new(b"root").expect(rt, "a name"),
+        parent: 0,
+        stop: Stop::At(0),
+        edits: Sequence::new(Vec::new(alloc)),
+    };
     let mut branches = Vec::new(alloc);
-    branches.push(root).expect(rt, "memory");
+    let Ok(()) = branches.push(root) else {
+        panic!(rt; "out of memory");
+    };
     branches
 }
 
@@ -103,6 +97,16 @@ pub(crate) fn latency(rt: &impl Abort, alloc: Global, base: Time) -> Vec<Edit>
     edits
 }
 
+// Appends a branch whose edits can be made.
+fn add(branches: &mut Vec<Branch>, branch: Branch) -> Result<(), Memory>
+    requires before { AreBranches branches.old.items }
+    requires edits { AreEdits small branch.edits }
+    ensures { OnOk result (AreBranches branches.new.items) }
+{
+    branches.push(branch)?;
+    Ok(())
+}
+
 // One branch more.
 pub(crate) fn fork(
     rt: &impl Abort,
@@ -116,8 +120,15 @@ pub(crate) fn fork(
     requires edits { AreEdits small edits.items }
     ensures { AreBranches branches.new.items }
 {
-    let branch = branch(rt, name, parent, stop, edits);
-    branches.push(branch).expect(rt, "memory");
+    let branch = Branch {
+        name: Name::new(name).expect(rt, "a name"),
+        parent,
+        stop,
+        edits: Sequence::new(edits),
+    };
+    let Ok(()) = add(branches, branch) else {
+        panic!(rt; "out of memory");
+    };
 }
 
 // The course of these branches.
