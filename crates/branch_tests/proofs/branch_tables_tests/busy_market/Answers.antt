@@ -37,4 +37,4 @@ all =
 pub returns-clause-opening : goal.returns-clause-opening
 returns-clause-opening g c =
     let made : IsOpening (market_of 2000 100 3 three) = c.markets_are_openings.ensures 2000 100 3 three (lit≤ tt) (lit≤ tt) (lit≤ tt) (lit≤ tt) (lit≤ tt) (lit≤ tt) (lit≤ tt) all in
-    subst IsOpening (sym c.in-Ok.ensures) (subst (λ (ts : List TraderSetting). IsOpening (market_of 2000 100 3 ts)) (sym c.three.ensures) made)
+    subst IsOpening (sym c.in-Ok.ensures) (subst (λ (ts : List TraderSetting). IsOpening (market_of 2000 100 3 ts)) (sym c.three-traders.ensures) made)

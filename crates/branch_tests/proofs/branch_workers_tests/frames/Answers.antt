@@ -6,8 +6,8 @@ use Rattle.branch_workers.proofs.Gathering.{moved}
 use Rattle.branch_workers.proofs.Timing.{outcomes_timely}
 use Rattle.branch_tests.proofs.branch_workers_tests.frames.Goals as goal
 
-pub frames_of-requires : goal.frames_of-requires
-frames_of-requires g c =
+pub frames_of-bytes-requires : goal.frames_of-bytes-requires
+frames_of-bytes-requires g c =
     let k : CourseTold = c.args.course.now.value in
     let course = subst IsCourse c.deref.ensures c.is_course.ensures in
     let os = c.in-Ok.worked.outcomes.items in

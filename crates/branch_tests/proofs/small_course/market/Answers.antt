@@ -26,4 +26,4 @@ both =
 pub returns-clause-opening : goal.returns-clause-opening
 returns-clause-opening g c =
     let made : IsOpening (market_of 2000 100 0 two) = c.markets_are_openings.ensures 2000 100 0 two (lit≤ tt) (lit≤ tt) (lit≤ tt) (lit≤ tt) (lit≤ tt) (lit≤ tt) (lit≤ tt) both in
-    subst IsOpening (sym c.in-Ok.ensures) (subst (λ (ts : List TraderSetting). IsOpening (market_of 2000 100 0 ts)) (sym c.traders.ensures) made)
+    subst IsOpening (sym c.in-Ok.ensures) (subst (λ (ts : List TraderSetting). IsOpening (market_of 2000 100 0 ts)) (sym c.traders-traders.ensures) made)
