@@ -46,7 +46,7 @@ impl Model for Kernel {
 }
 
 /// The counters of the mail.
-#[derive(Clone, Copy, PartialEq, Eq, Debug)]
+#[derive(Clone, Copy, PartialEq, Eq)]
 pub struct KernelTold {
     /// The number of the next message that joins.
     pub next_seq: u64,
@@ -89,9 +89,19 @@ impl Kernel {
         ensures { IfOk result (λ k. k ≡ self.now) }
     {
         let mail = self.mail.copy(alloc)?;
-        let own = copied(alloc, self.own.as_slice())?;
-        let floor = self.floor.copy(alloc)?;
-        let groups = self.groups.copy(alloc)?;
+        let Ok(own) = copied(alloc, self.own.as_slice()) else {
+            drop(mail);
+            return Err(Memory);
+        };
+        let Ok(floor) = self.floor.copy(alloc) else {
+            drop(mail);
+            return Err(Memory);
+        };
+        let Ok(groups) = self.groups.copy(alloc) else {
+            drop(mail);
+            drop(floor);
+            return Err(Memory);
+        };
         Ok(Kernel {
             time: self.time,
             events: self.events,
