@@ -3,7 +3,7 @@
 use market_types::End;
 
 /// What a step did.
-#[derive(Clone, Copy, PartialEq, Eq)]
+#[derive(Clone, Copy, PartialEq, Eq, Debug)]
 pub enum Stepped {
     /// The event of this number was made.
     Event(u32),
