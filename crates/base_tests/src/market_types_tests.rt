@@ -30,7 +30,7 @@ fn event(alloc: Global, number: u32, feed: FeedList) -> Record {
 
 // Two closings in a list, and whether each call went well.
 fn joins_two(feed: &mut FeedList) -> bool {
-    feed.reserve(2).is_ok() && feed.push(closing(1)).is_ok() && feed.push(closing(2)).is_ok()
+    feed.reserve(2).is_ok() & feed.push(closing(1)).is_ok() & feed.push(closing(2)).is_ok()
 }
 
 // Whether the messages of a list have these times.
@@ -45,19 +45,25 @@ fn have_times(feed: &FeedList, times: &[u64]) -> bool {
 
 #[test]
 fn feeds_grow_and_are_copied(rt: HostRuntime) {
-    let mut feed = FeedList::new(rt.alloc());
-    holds(&rt, feed.is_empty() && feed.get(0).is_none());
+    let alloc = rt.alloc();
+    let mut feed = FeedList::new(alloc);
+    holds(&rt, feed.is_empty() & feed.get(0).is_none());
     holds(&rt, joins_two(&mut feed));
-    let copy = feed.copy(rt.alloc()).expect(&rt, "memory");
+    let copy = feed.copy(alloc).expect(&rt, "memory");
     holds(&rt, feed.append_copy(&copy).is_ok());
-    equal(&rt, (feed.len(), copy.len()), (4, 2));
+    holds(&rt, copy.len() == 2);
+    drop(copy);
+    holds(&rt, feed.len() == 4);
     holds(&rt, have_times(&feed, &[1, 2, 1, 2]));
+    drop(feed);
 }
 
 // Whether the second entry of a trace is event 7 with a fee of -3 and two feed messages.
 fn has_event_next(trace: &Trace) -> bool {
     match trace.get(1) {
-        Some(Entry::Event(last)) => { (last.number, last.fee, last.after.len()) == (7, -3, 2) }
+        Some(Entry::Event(last)) => {
+            (last.number == 7) & (last.fee == -3) & (last.after.len() == 2)
+        }
         _ => false,
     }
 }
@@ -72,23 +78,34 @@ fn one_event(rt: &impl Abort, alloc: Global) -> Trace {
     trace
 }
 
+// A trace grows by a copy of another, twice.
+fn grows_twice(longer: &mut Trace, trace: &Trace) -> bool {
+    longer.append_copy(trace).is_ok() & longer.append_copy(trace).is_ok()
+}
+
 #[test]
 fn traces_grow_and_are_copied(rt: HostRuntime) {
     let trace = one_event(&rt, rt.alloc());
     let mut longer = Trace::new(rt.alloc());
-    holds(&rt, longer.append_copy(&trace).is_ok());
-    holds(&rt, longer.append_copy(&trace).is_ok());
-    equal(&rt, (trace.len(), longer.len()), (1, 2));
+    holds(&rt, grows_twice(&mut longer, &trace));
+    holds(&rt, (trace.len() == 1) & (longer.len() == 2));
     holds(&rt, has_event_next(&longer));
+}
+
+// Three numbers and then those of a list join.
+fn join_four(numbers: &mut Roomy<u32>, last: Vec<u32>) -> bool {
+    numbers.reserve(1).is_ok()
+        & numbers.push(5).is_ok()
+        & numbers.append_slice(&[6, 7]).is_ok()
+        & numbers.append(last).is_ok()
 }
 
 #[test]
 fn numbers_grow(rt: HostRuntime) {
-    let last = [8].to_vec(rt.alloc()).expect(&rt, "memory");
-    let mut numbers: Roomy<u32> = Roomy::new(rt.alloc());
-    holds(&rt, numbers.reserve(1).is_ok());
-    holds(&rt, numbers.push(5).is_ok());
-    holds(&rt, numbers.append_slice(&[6, 7]).is_ok());
-    holds(&rt, numbers.append(last).is_ok());
+    let alloc = rt.alloc();
+    let mut numbers: Roomy<u32> = Roomy::new(alloc);
+    let last = [8].to_vec(alloc).expect(&rt, "memory");
+    holds(&rt, join_four(&mut numbers, last));
     holds(&rt, numbers.as_slice() == [5, 6, 7, 8].as_slice());
+    drop(numbers);
 }

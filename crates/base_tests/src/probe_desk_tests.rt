@@ -85,26 +85,33 @@ fn small_trace(rt: &impl Abort, alloc: Global) -> Trace {
     trace
 }
 
+// A probe more.
+fn join_probe(rt: &impl Abort, probes: &mut Vec<Box<dyn Probe>>, probe: Box<dyn Probe>) {
+    probes.push(probe).expect(rt, "memory");
+}
+
 // A probe of each kind.
 fn four_probes(rt: &impl Abort, alloc: Global) -> Vec<Box<dyn Probe>> {
     let mut probes: Vec<Box<dyn Probe>> = Vec::new(alloc);
     let volume = Box::new(alloc, Volume::new()).expect(rt, "memory");
-    probes.push(volume).expect(rt, "memory");
+    join_probe(rt, &mut probes, volume);
     let spreads = Box::new(alloc, SpreadSum::new()).expect(rt, "memory");
-    probes.push(spreads).expect(rt, "memory");
+    join_probe(rt, &mut probes, spreads);
     let range = Box::new(alloc, Range::new()).expect(rt, "memory");
-    probes.push(range).expect(rt, "memory");
+    join_probe(rt, &mut probes, range);
     let fees = Box::new(alloc, Fees::new()).expect(rt, "memory");
-    probes.push(fees).expect(rt, "memory");
+    join_probe(rt, &mut probes, fees);
     probes
 }
 
 // Whether the probes have these values.
 fn have(alloc: Global, probes: &[Box<dyn Probe>], hoped: &[i128]) -> bool {
-    match values(alloc, probes) {
-        Ok(told) => told.as_slice() == hoped,
-        Err(_) => false,
-    }
+    let Ok(told) = values(alloc, probes) else {
+        return false;
+    };
+    let is_so = told.as_slice() == hoped;
+    drop(told);
+    is_so
 }
 
 #[test]
