@@ -1,5 +1,5 @@
 -- Acts one after another: what was done, and what is still to come.
-use Rattle.std.proofs.Common.{◌≡◌, ◌<◌, ◌≤◌, ℕ, ◌+◌, ◌*◌, false, List, ◌∷◌, ◌++◌, Option, Some, None, length, get_or, drop, refl, sym, ap, ◌∙◌, subst, arith, ◌⊎◌, inl, inr, append_assoc, append-nil, Result, Ok, Err, IfErr, IsErr, IsErrAnd}
+use Rattle.std.proofs.Common.{◌≡◌, ◌<◌, ◌≤◌, ℕ, ◌+◌, ◌*◌, false, List, ◌∷◌, ◌++◌, Option, Some, None, length, get_or, drop, refl, sym, ap, ◌∙◌, subst, arith, ◌⊎◌, inl, inr, append_assoc, append-nil}
 use Rattle.std.proofs.lemmas.Bool.{cases_Bool}
 use Rattle.std.proofs.lemmas.List.{drop_all, drop_more}
 use Rattle.probe_desk.specs.Probe.{Meaning}
@@ -118,8 +118,3 @@ pub next-ends : (acts : List Act) (i : ℕ) (s first : SessionTold) (a : Act) (e
     → (e ≡ Memory) ⊎ ((p : PastAct) × (e ≡ NoEvent p) × (past_act first acts ≡ Some p))
 next-ends acts i s first a e within is past (inl memory) = inl memory
 next-ends acts i s first a e within is past (inr (p, same, act, last)) = inr (p, same, next-past acts i s first a p within is past act last)
-
--- an end that is handed on
-pub handed-on : {A : Type 0} (Q : SessionEnd → Type 0) (r : Result A SessionEnd) (e : SessionEnd) → IsErr r × IsErrAnd r (λ x. x ≡ e) → Q e → IfErr r Q
-handed-on Q (Ok done) e is why = absurd is.1
-handed-on Q (Err other) e is why = subst Q (sym is.1) why
