@@ -4,7 +4,7 @@ use Rattle.bundle_frames.specs.Frames.{end_frame}
 use Rattle.probe_desk.specs.Probe.{Meaning}
 use Rattle.session_desk.specs.Session.{first_session}
 use Rattle.session_answers.specs.Answered.{answer_of, session_bytes}
-use Rattle.session_answers.proofs.Turns.{all-answered, next-ends, one-more, one-within}
+use Rattle.session_answers.proofs.Turns.{all-answered, all-counted, all-there, next-ends, one-more, one-within}
 use Rattle.session_answers.proofs.carrying.carry_out.Goals as goal
 
 pub put_answer-requires-clause-count : goal.put_answer-requires-clause-count
@@ -57,3 +57,30 @@ returns-in-Ok-put_end-clause-bytes g c =
     c.in-Ok-put_end.ensures.appended
     ∙ ap (λ (xs : List ℕ). xs ++ end_frame (length acts))
     (all-answered _ _ _ _ acts _ c.loop-i.i c.loop-i.session c.loop-i.out.items c.loop-i.steps c.loop-i.invariant.way c.loop-i-test.false)
+
+pub returns-in-Ok-put_end-clause-within : goal.returns-in-Ok-put_end-clause-within
+returns-in-Ok-put_end-clause-within g c = all-there _ _ _ _ c.args.acts.now _ c.loop-i.i c.loop-i.session c.loop-i.out.items c.loop-i.steps c.loop-i.invariant.way c.loop-i-test.false
+
+pub returns-in-Ok-put_end-clause-rose : goal.returns-in-Ok-put_end-clause-rose
+returns-in-Ok-put_end-clause-rose g c = all-counted _ _ _ _ c.args.acts.now _ c.loop-i.i c.loop-i.session c.loop-i.out.items c.loop-i.steps c.loop-i.invariant.way c.loop-i-test.false
+
+pub returns-in-Ok-put_end-clause-most : goal.returns-in-Ok-put_end-clause-most
+returns-in-Ok-put_end-clause-most g c = omega (arith, c.loop-i.invariant.way.most)
+
+pub returns-in-Err-put_answer-clause-least : goal.returns-in-Err-put_answer-clause-least
+returns-in-Err-put_answer-clause-least g c = omega (arith, c.loop-i.invariant.way.least, c.in-Err-put_answer.ensures.least)
+
+pub returns-in-Err-put_answer-clause-meanings : goal.returns-in-Err-put_answer-clause-meanings
+returns-in-Err-put_answer-clause-meanings g c = c.in-Err-put_answer.ensures.meanings ∙ c.loop-i.invariant.meanings
+
+pub returns-in-Err-put_answer-clause-titles : goal.returns-in-Err-put_answer-clause-titles
+returns-in-Err-put_answer-clause-titles g c = c.in-Err-put_answer.ensures.titles ∙ c.loop-i.invariant.titles
+
+pub returns-in-Err-make-clause-least : goal.returns-in-Err-make-clause-least
+returns-in-Err-make-clause-least g c = omega (arith, c.loop-i.invariant.way.least, c.in-Ok-put_answer.ensures.least)
+
+pub returns-in-Err-make-clause-meanings : goal.returns-in-Err-make-clause-meanings
+returns-in-Err-make-clause-meanings g c = c.in-Ok-put_answer.ensures.meanings ∙ c.loop-i.invariant.meanings
+
+pub returns-in-Err-make-clause-titles : goal.returns-in-Err-make-clause-titles
+returns-in-Err-make-clause-titles g c = c.in-Ok-put_answer.ensures.titles ∙ c.loop-i.invariant.titles
