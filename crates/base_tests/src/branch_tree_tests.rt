@@ -33,12 +33,15 @@ fn planned(
     limit: u32,
 ) -> Result<BranchPlan, PlanError> {
     let mut branches = Vec::new(alloc);
-    let root = branch(rt, alloc, b"root", 0, Stop::At(0));
-    let first = branch(rt, alloc, b"a", 0, Stop::At(6));
-    let second = branch(rt, alloc, name, parent, stop);
-    branches.push(root).expect(rt, "memory");
-    branches.push(first).expect(rt, "memory");
-    branches.push(second).expect(rt, "memory");
+    branches
+        .push(branch(rt, alloc, b"root", 0, Stop::At(0)))
+        .expect(rt, "memory");
+    branches
+        .push(branch(rt, alloc, b"a", 0, Stop::At(6)))
+        .expect(rt, "memory");
+    branches
+        .push(branch(rt, alloc, name, parent, stop))
+        .expect(rt, "memory");
     plan(alloc, branches, limit)
 }
 
@@ -54,11 +57,7 @@ const SEGMENTS: [(u16, Stop, Stop, Option<u32>); 5] = [
 // Whether a plan has these segments.
 fn has_segments(plan: &BranchPlan) -> bool {
     for (g, hoped) in plan.segments().iter().zip(SEGMENTS.iter()) {
-        let is_same = (g.branch == hoped.0)
-            & (g.start == hoped.1)
-            & (g.stop == hoped.2)
-            & (g.parent == hoped.3);
-        if !is_same {
+        if (g.branch, g.start, g.stop, g.parent) != *hoped {
             return false;
         }
     }
@@ -114,39 +113,17 @@ const TREES: [(&[u8], u16, Stop, u32, Option<PlanError>); 10] = [
 
 // Whether a copied branch is like its original.
 fn is_copied(rt: &impl Abort, alloc: Global) -> bool {
-    let whole = branch(rt, alloc, b"tick5", 3, Stop::When(9));
-    let copy = whole.copy(alloc).expect(rt, "memory");
-    drop(whole);
-    let is_like = (copy.name.as_slice() == b"tick5".as_slice())
-        & (copy.parent == 3)
-        & (copy.stop == Stop::When(9));
-    drop(copy);
-    is_like
-}
-
-// Why such a plan is refused.
-fn refusal(
-    rt: &impl Abort,
-    alloc: Global,
-    name: &[u8],
-    parent: u16,
-    stop: Stop,
-    limit: u32,
-) -> Option<PlanError> {
-    match planned(rt, alloc, name, parent, stop, limit) {
-        Ok(plan) => {
-            drop(plan);
-            None
-        }
-        Err(error) => Some(error),
-    }
+    let copy = branch(rt, alloc, b"tick5", 3, Stop::When(9))
+        .copy(alloc)
+        .expect(rt, "memory");
+    (copy.name.as_slice(), copy.parent, copy.stop) == (b"tick5".as_slice(), 3, Stop::When(9))
 }
 
 #[test]
 fn refused_trees_and_names(rt: HostRuntime) {
     let alloc = rt.alloc();
     for (name, parent, stop, limit, wanted) in TREES.iter() {
-        let refusal = refusal(&rt, alloc, name, *parent, *stop, *limit);
+        let refusal = planned(&rt, alloc, name, *parent, *stop, *limit).err();
         holds(&rt, refusal == *wanted);
     }
     holds(

@@ -3,29 +3,23 @@ use command_words::{Asked, Crossing, Mark, Request, Task, ask};
 use std::alloc::Global;
 use std::process::Abort;
 
-// A mark behind a space.
-fn mark_told(rt: &impl Abort, alloc: Global, mark: &Mark<'_>) -> String {
-    let (word, branch) = (mark.word.as_str(), mark.branch.as_str());
-    format!(in alloc; " {word}={branch}@{}", mark.event).expect(rt, "memory")
-}
-
 // The marks of a rewind, each behind a space.
 fn marks_told(rt: &impl Abort, alloc: Global, marks: &[Mark<'_>]) -> String {
     let mut text = String::new(alloc);
     for mark in marks {
-        let told = mark_told(rt, alloc, mark);
+        let (word, branch) = (mark.word.as_str(), mark.branch.as_str());
+        let told = format!(in alloc; " {word}={branch}@{}", mark.event).expect(rt, "memory");
         text.push_str(told.as_str()).expect(rt, "memory");
-        drop(told);
     }
     text
 }
 
 fn crossing_told(rt: &impl Abort, alloc: Global, crossing: &Crossing<'_>) -> String {
     let (symbol, file) = (crossing.symbol.as_str(), crossing.file.as_str());
-    let mark = mark_told(rt, alloc, &crossing.mark);
-    let told = format!(in alloc; "{symbol} {file}{mark}").expect(rt, "memory");
-    drop(mark);
-    told
+    let (word, branch) = (crossing.mark.word.as_str(), crossing.mark.branch.as_str());
+    format!(in alloc; "{symbol} {file} {word}={branch}@{}", crossing.mark.event).expect(
+        rt, "memory",
+    )
 }
 
 // What is to be done with a study, in one text, with the places that it has.

@@ -49,118 +49,114 @@ fn feed(locate: u16, time: u64, what: What) -> Feed
     }
 }
 
-const SYSTEM: What = What::System { code: b'O' };
-
-const DIRECTORY: What = What::Directory {
-    stock: STOCK,
-    category: b'Q',
-    financial: b'N',
-    lot: 100,
-    lots_only: b'N',
-    class: b'C',
-    sub_type: *b"Z ",
-    authenticity: b'T',
-    short_sale: b'N',
-    ipo: b'N',
-    tier: b' ',
-    etp: b'N',
-    leverage: 0,
-    inverse: b'N',
-};
-
-const TRADING: What = What::Trading {
-    stock: STOCK,
-    state: b'T',
-    reserved: b' ',
-    reason: *b"    ",
-};
-
-// Whether what stands at a time in the messages of a stock goes both ways.
-fn is_both_ways(locate: u16, time: u64, what: What, bytes: &[u8]) -> bool
-    requires { time < 2 ^ 48 }
-{
-    goes_both_ways(&feed(locate, time, what), bytes)
-}
-
 #[test]
 fn states_both_ways(rt: HostRuntime) {
-    holds(&rt, is_both_ways(0, 1000, SYSTEM, &SYSTEM_BYTES));
-    holds(&rt, is_both_ways(1, 1000, DIRECTORY, &DIRECTORY_BYTES));
-    holds(&rt, is_both_ways(1, 1000, TRADING, &TRADING_BYTES));
+    let system = feed(0, 1000, What::System { code: b'O' });
+    holds(&rt, goes_both_ways(&system, &SYSTEM_BYTES));
+    let directory = What::Directory {
+        stock: STOCK,
+        category: b'Q',
+        financial: b'N',
+        lot: 100,
+        lots_only: b'N',
+        class: b'C',
+        sub_type: *b"Z ",
+        authenticity: b'T',
+        short_sale: b'N',
+        ipo: b'N',
+        tier: b' ',
+        etp: b'N',
+        leverage: 0,
+        inverse: b'N',
+    };
+    holds(
+        &rt,
+        goes_both_ways(&feed(1, 1000, directory), &DIRECTORY_BYTES),
+    );
+    let trading = What::Trading {
+        stock: STOCK,
+        state: b'T',
+        reserved: b' ',
+        reason: *b"    ",
+    };
+    holds(&rt, goes_both_ways(&feed(1, 1000, trading), &TRADING_BYTES));
 }
-
-const ADD: What = What::Add {
-    reference: 1,
-    side: Side::Buy,
-    shares: 999_999,
-    stock: STOCK,
-    price: 100_000,
-};
-
-const EXECUTED: What = What::Executed {
-    reference: 2,
-    shares: 200,
-    number: 1,
-};
-
-const CANCEL: What = What::Cancel {
-    reference: 2,
-    shares: 150,
-};
-
-const DELETE: What = What::Delete { reference: 0 };
 
 #[test]
 fn orders_both_ways(rt: HostRuntime) {
-    holds(&rt, is_both_ways(1, 2000, ADD, &ADD_BYTES));
-    holds(&rt, is_both_ways(1, 3000, EXECUTED, &EXECUTED_BYTES));
-    holds(&rt, is_both_ways(1, 3000, CANCEL, &CANCEL_BYTES));
-    holds(&rt, is_both_ways(0, 0, DELETE, &DELETE_BYTES));
-}
-
-const TRADE: Feed = Feed {
-    locate: 2,
-    tracking: 3,
-    time: 0x0102_0304_0506,
-    what: What::Trade {
-        reference: 9,
-        side: Side::Sell,
-        shares: 100,
+    let add = What::Add {
+        reference: 1,
+        side: Side::Buy,
+        shares: 999_999,
         stock: STOCK,
         price: 100_000,
-        number: 7,
-    },
-};
-
-const CROSS: What = What::Cross {
-    shares: 0x0001_0000_01f4,
-    stock: STOCK,
-    price: 100_000,
-    number: 8,
-    kind: b'H',
-};
+    };
+    holds(&rt, goes_both_ways(&feed(1, 2000, add), &ADD_BYTES));
+    let executed = What::Executed {
+        reference: 2,
+        shares: 200,
+        number: 1,
+    };
+    holds(
+        &rt,
+        goes_both_ways(&feed(1, 3000, executed), &EXECUTED_BYTES),
+    );
+    let cancel = What::Cancel {
+        reference: 2,
+        shares: 150,
+    };
+    holds(&rt, goes_both_ways(&feed(1, 3000, cancel), &CANCEL_BYTES));
+    holds(
+        &rt,
+        goes_both_ways(&feed(0, 0, What::Delete { reference: 0 }), &DELETE_BYTES),
+    );
+}
 
 #[test]
 fn trades_both_ways(rt: HostRuntime) {
-    holds(&rt, goes_both_ways(&TRADE, &TRADE_BYTES));
-    holds(&rt, is_both_ways(1, 3000, CROSS, &CROSS_BYTES));
-}
-
-// Whether some bytes are no message, for this reason.
-fn is_refused(bytes: &[u8], error: CodecError) -> bool {
-    decode_feed(bytes) == Err(error)
+    let trade = Feed {
+        locate: 2,
+        tracking: 3,
+        time: 0x0102_0304_0506,
+        what: What::Trade {
+            reference: 9,
+            side: Side::Sell,
+            shares: 100,
+            stock: STOCK,
+            price: 100_000,
+            number: 7,
+        },
+    };
+    holds(&rt, goes_both_ways(&trade, &TRADE_BYTES));
+    let cross = What::Cross {
+        shares: 0x0001_0000_01f4,
+        stock: STOCK,
+        price: 100_000,
+        number: 8,
+        kind: b'H',
+    };
+    holds(&rt, goes_both_ways(&feed(1, 3000, cross), &CROSS_BYTES));
 }
 
 #[test]
 fn refused_codes(rt: HostRuntime) {
-    holds(&rt, is_refused(&[], CodecError::WrongLength(0, 1)));
-    holds(&rt, is_refused(b"Z", CodecError::UnknownType(0x5a)));
-    holds(&rt, is_refused(b"D", CodecError::WrongLength(1, 19)));
+    holds(&rt, decode_feed(&[]) == Err(CodecError::WrongLength(0, 1)));
+    holds(&rt, decode_feed(b"Z") == Err(CodecError::UnknownType(0x5a)));
+    holds(
+        &rt,
+        decode_feed(b"D") == Err(CodecError::WrongLength(1, 19)),
+    );
     let mut other_state = TRADING_BYTES;
     other_state[19] = b'X';
-    holds(&rt, is_refused(&other_state, CodecError::BadField(19)));
+    holds(
+        &rt,
+        decode_feed(&other_state) == Err(CodecError::BadField(19)),
+    );
     other_state[11] = b' ';
-    holds(&rt, is_refused(&other_state, CodecError::BadField(11)));
+    holds(
+        &rt,
+        decode_feed(&other_state) == Err(CodecError::BadField(11)),
+    );
 }
 
 // Whether the first frame of some bytes has this payload, and leaves this rest.
@@ -176,28 +172,17 @@ fn refusal(bytes: &[u8]) -> Option<CodecError> {
     unframe(bytes).err()
 }
 
-// Whether two frames are put behind one another.
-fn are_framed(out: &mut Vec<u8>) -> bool {
-    frame(b"abc", out).is_ok()
-        & frame(&[], out).is_ok()
-        & (out.as_slice() == b"\x00\x03abc\x00\x00".as_slice())
-}
-
-// Whether one frame of two parts is put.
-fn is_framed_of_two(out: &mut Vec<u8>) -> bool {
-    frame_of_two(b"ab", b"c", out).is_ok() & (out.as_slice() == b"\x00\x03abc".as_slice())
-}
-
 #[test]
 fn frames(rt: HostRuntime) {
     let mut out = Vec::new(rt.alloc());
-    holds(&rt, are_framed(&mut out));
+    holds(&rt, frame(b"abc", &mut out).is_ok());
+    holds(&rt, frame(&[], &mut out).is_ok());
+    holds(&rt, out.as_slice() == b"\x00\x03abc\x00\x00".as_slice());
     holds(&rt, unframes(out.as_slice(), b"abc", b"\x00\x00"));
-    drop(out);
     holds(&rt, unframes(&[0, 0], b"", b""));
     holds(&rt, refusal(b"\x00\x03\x57") == Some(CodecError::Cut(3)));
     holds(&rt, refusal(b"\x00") == Some(CodecError::Cut(1)));
     let mut parts = Vec::new(rt.alloc());
-    holds(&rt, is_framed_of_two(&mut parts));
-    drop(parts);
+    holds(&rt, frame_of_two(b"ab", b"c", &mut parts).is_ok());
+    holds(&rt, parts.as_slice() == b"\x00\x03abc".as_slice());
 }

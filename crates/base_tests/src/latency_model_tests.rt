@@ -7,7 +7,6 @@ use draw_streams::worked::ZERO_KEY;
 use latency_model::{Groups, JITTER_STREAM};
 use market_types::{Memory, Time};
 use std::alloc::{AllocError, Global};
-use std::process::Abort;
 
 // A table of one number.
 fn table<T: Copy + Drop>(alloc: Global, number: T) -> Result<Vec<Vec<T>>, AllocError>
@@ -31,19 +30,12 @@ fn one_group(alloc: Global, base: Time, jitter: u32) -> Result<Groups, Memory>
     Groups::new(alloc, base.as_slice(), jitter.as_slice())
 }
 
-// The delay by a word under this jitter.
-fn delay_of(rt: &impl Abort, alloc: Global, jitter: u32, word: u32) -> Time {
-    let groups = one_group(alloc, 0, jitter).expect(rt, "memory");
-    groups.delay(0, 0, word)
-}
-
-const DELAYS: [(u32, Time); 3] = [(0, 0), (9, 5), (u32::MAX, 2_419_978_656)];
-
 #[test]
 fn delays_by_the_draw_of_the_message(rt: HostRuntime) {
     let word = draw(&ZERO_KEY, JITTER_STREAM, 1);
-    for (jitter, want) in DELAYS.iter() {
-        equal(&rt, delay_of(&rt, rt.alloc(), *jitter, word), *want);
+    for (jitter, want) in [(0, 0), (9, 5), (u32::MAX, 2_419_978_656)] {
+        let groups = one_group(rt.alloc(), 0, jitter).expect(&rt, "memory");
+        equal(&rt, groups.delay(0, 0, word), want);
     }
 }
 

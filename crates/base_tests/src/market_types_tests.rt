@@ -78,34 +78,23 @@ fn one_event(rt: &impl Abort, alloc: Global) -> Trace {
     trace
 }
 
-// A trace grows by a copy of another, twice.
-fn grows_twice(longer: &mut Trace, trace: &Trace) -> bool {
-    longer.append_copy(trace).is_ok() & longer.append_copy(trace).is_ok()
-}
-
 #[test]
 fn traces_grow_and_are_copied(rt: HostRuntime) {
     let trace = one_event(&rt, rt.alloc());
     let mut longer = Trace::new(rt.alloc());
-    holds(&rt, grows_twice(&mut longer, &trace));
-    holds(&rt, (trace.len() == 1) & (longer.len() == 2));
+    holds(&rt, longer.append_copy(&trace).is_ok());
+    holds(&rt, longer.append_copy(&trace).is_ok());
+    equal(&rt, (trace.len(), longer.len()), (1, 2));
     holds(&rt, has_event_next(&longer));
-}
-
-// Three numbers and then those of a list join.
-fn join_four(numbers: &mut Roomy<u32>, last: Vec<u32>) -> bool {
-    numbers.reserve(1).is_ok()
-        & numbers.push(5).is_ok()
-        & numbers.append_slice(&[6, 7]).is_ok()
-        & numbers.append(last).is_ok()
 }
 
 #[test]
 fn numbers_grow(rt: HostRuntime) {
-    let alloc = rt.alloc();
-    let mut numbers: Roomy<u32> = Roomy::new(alloc);
-    let last = [8].to_vec(alloc).expect(&rt, "memory");
-    holds(&rt, join_four(&mut numbers, last));
+    let last = [8].to_vec(rt.alloc()).expect(&rt, "memory");
+    let mut numbers: Roomy<u32> = Roomy::new(rt.alloc());
+    holds(&rt, numbers.reserve(1).is_ok());
+    holds(&rt, numbers.push(5).is_ok());
+    holds(&rt, numbers.append_slice(&[6, 7]).is_ok());
+    holds(&rt, numbers.append(last).is_ok());
     holds(&rt, numbers.as_slice() == [5, 6, 7, 8].as_slice());
-    drop(numbers);
 }

@@ -32,25 +32,8 @@ type Fetch = (&'static str, u64, &'static str);
 
 // Whether a library answers a fetch so.
 fn is_shown(alloc: Global, library: &mut impl Library, fetch: &Fetch) -> bool {
-    shown(&library.fetch(alloc, fetch.0, fetch.1)) == fetch.2
-}
-
-// A library answers fetches so.
-fn assert_shown(rt: &impl Abort, alloc: Global, library: &mut impl Library, fetches: &[Fetch]) {
-    for fetch in fetches {
-        holds(rt, is_shown(alloc, library, fetch));
-    }
-}
-
-// Whether a library answers a fetch by these bytes.
-fn is_fetched(
-    alloc: Global,
-    library: &mut impl Library,
-    name: &str,
-    most: u64,
-    bytes: &[u8],
-) -> bool {
-    is_whole(&library.fetch(alloc, name, most), bytes)
+    let (name, most, want) = *fetch;
+    shown(&library.fetch(alloc, name, most)) == want
 }
 
 const OF_THE_SYSTEM: [Fetch; 6] = [
@@ -67,13 +50,12 @@ const SEVENS: [u8; 5000] = [7; 5000];
 #[test]
 fn files_of_the_system(rt: HostRuntime) {
     holds(&rt, fs::write(&rt, "fetched.txt", &SEVENS).is_ok());
-    let alloc = rt.alloc();
     let mut library = FileLibrary::new(&rt);
-    holds(
-        &rt,
-        is_fetched(alloc, &mut library, "fetched.txt", 5000, &SEVENS),
-    );
-    assert_shown(&rt, alloc, &mut library, &OF_THE_SYSTEM);
+    let whole = library.fetch(rt.alloc(), "fetched.txt", 5000);
+    holds(&rt, is_whole(&whole, &SEVENS));
+    for fetch in OF_THE_SYSTEM.iter() {
+        holds(&rt, is_shown(rt.alloc(), &mut library, fetch));
+    }
     holds(&rt, fs::remove_file(&rt, "fetched.txt").is_ok());
 }
 
@@ -152,10 +134,12 @@ const IN_MEMORY: [Fetch; 4] = [
 
 #[test]
 fn files_in_memory(rt: HostRuntime) {
-    let alloc = rt.alloc();
-    let mut library = one_file(&rt, alloc);
-    assert_shown(&rt, alloc, &mut library, &IN_MEMORY);
-    holds(&rt, is_fetched(alloc, &mut library, "study", 9, b"four"));
+    let mut library = one_file(&rt, rt.alloc());
+    for fetch in IN_MEMORY.iter() {
+        holds(&rt, is_shown(rt.alloc(), &mut library, fetch));
+    }
+    let whole = library.fetch(rt.alloc(), "study", 9);
+    holds(&rt, is_whole(&whole, b"four"));
 }
 
 // Room, the most bytes a call, the failing call (0: none), and what is taken of ten bytes.
@@ -169,18 +153,14 @@ const TAKEN: [(usize, usize, u32, &str); 7] = [
     (10, 0, 0, ""),
 ];
 
-// Whether so much is taken of ten bytes.
-fn is_taken(rt: &impl Abort, alloc: Global, row: &(usize, usize, u32, &str)) -> bool {
-    let failing = vec![in alloc; row.2].expect(rt, "memory");
-    let mut sink = MemorySink::new(alloc, row.0, row.1, failing).expect(rt, "memory");
-    let is_ok = write_all(&mut sink, b"0123456789").is_ok();
-    (sink.taken() == row.3.as_bytes()) & (is_ok == (row.3.len() == 10))
-}
-
 #[test]
 fn bytes_in_memory(rt: HostRuntime) {
-    for row in TAKEN.iter() {
-        holds(&rt, is_taken(&rt, rt.alloc(), row));
+    for (room, most, failing, want) in TAKEN.iter() {
+        let failing = vec![in rt.alloc(); *failing].expect(&rt, "memory");
+        let mut sink = MemorySink::new(rt.alloc(), *room, *most, failing).expect(&rt, "memory");
+        let answer = write_all(&mut sink, b"0123456789");
+        equal(&rt, answer.is_ok(), want.len() == 10);
+        holds(&rt, sink.taken() == want.as_bytes());
     }
 }
 

@@ -85,33 +85,26 @@ fn small_trace(rt: &impl Abort, alloc: Global) -> Trace {
     trace
 }
 
-// A probe more.
-fn join_probe(rt: &impl Abort, probes: &mut Vec<Box<dyn Probe>>, probe: Box<dyn Probe>) {
-    probes.push(probe).expect(rt, "memory");
-}
-
 // A probe of each kind.
 fn four_probes(rt: &impl Abort, alloc: Global) -> Vec<Box<dyn Probe>> {
     let mut probes: Vec<Box<dyn Probe>> = Vec::new(alloc);
     let volume = Box::new(alloc, Volume::new()).expect(rt, "memory");
-    join_probe(rt, &mut probes, volume);
+    probes.push(volume).expect(rt, "memory");
     let spreads = Box::new(alloc, SpreadSum::new()).expect(rt, "memory");
-    join_probe(rt, &mut probes, spreads);
+    probes.push(spreads).expect(rt, "memory");
     let range = Box::new(alloc, Range::new()).expect(rt, "memory");
-    join_probe(rt, &mut probes, range);
+    probes.push(range).expect(rt, "memory");
     let fees = Box::new(alloc, Fees::new()).expect(rt, "memory");
-    join_probe(rt, &mut probes, fees);
+    probes.push(fees).expect(rt, "memory");
     probes
 }
 
 // Whether the probes have these values.
 fn have(alloc: Global, probes: &[Box<dyn Probe>], hoped: &[i128]) -> bool {
-    let Ok(told) = values(alloc, probes) else {
-        return false;
-    };
-    let is_so = told.as_slice() == hoped;
-    drop(told);
-    is_so
+    match values(alloc, probes) {
+        Ok(told) => told.as_slice() == hoped,
+        Err(_) => false,
+    }
 }
 
 #[test]
