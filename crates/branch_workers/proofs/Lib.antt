@@ -14,3 +14,4 @@ pub mod Closing
 pub mod Timing
 pub mod Gathering
 pub mod Turns
+pub mod OneTurn
