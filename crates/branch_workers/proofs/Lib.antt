@@ -15,3 +15,4 @@ pub mod Timing
 pub mod Gathering
 pub mod Turns
 pub mod OneTurn
+pub mod Remaining

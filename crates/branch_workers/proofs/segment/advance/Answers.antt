@@ -8,6 +8,7 @@ use Rattle.kernel_copy.specs.Ran.{RanTold, ran_told, ran_as}
 use Rattle.kernel_copy.specs.UntilStop.{until_part}
 use Rattle.kernel_copy.proofs.Trees.{course-tree}
 use Rattle.kernel_copy.proofs.Walks.{own-is}
+use Rattle.shelf_core.proofs.Staying.{stays_then}
 use Rattle.branch_workers.specs.Runs.{IsUnderway, run_at_end, run_at_start}
 use Rattle.branch_workers.proofs.Underway.{begins, first_events, runs_whole}
 use Rattle.branch_workers.proofs.segment.advance.Goals as goal
@@ -85,3 +86,23 @@ returns-clause-most g c =
     let course : IsCourse k = subst IsCourse c.deref.ensures c.is_course.ensures in
     let own = own-is k.opening k.plan c.args.segment (course-tree k course) course.limit c.requires.segment in
     omega (arith, c.continue_to.ensures.few, c.pass_grid.ensures.ticks, c.continue_to.ensures.ticks)
+
+pub returns-in_default-clause-stays : goal.returns-in_default-clause-stays
+returns-in_default-clause-stays g c =
+    c.kernel_at_start.ensures.stays
+
+pub returns-in_default-of-clause-stays : goal.returns-in_default-of-clause-stays
+returns-in_default-of-clause-stays g c =
+    c.kernel_at_start.ensures.stays
+
+pub returns-in_default-pass_grid-clause-stays : goal.returns-in_default-pass_grid-clause-stays
+returns-in_default-pass_grid-clause-stays g c =
+    stays_then c.args.seat.now.view c.kernel_at_start.new.seat.view c.pass_grid.new.seat.view c.kernel_at_start.ensures.stays c.pass_grid.ensures.stays
+
+pub returns-in_default-continue_to-clause-stays : goal.returns-in_default-continue_to-clause-stays
+returns-in_default-continue_to-clause-stays g c =
+    stays_then c.args.seat.now.view c.kernel_at_start.new.seat.view c.pass_grid.new.seat.view c.kernel_at_start.ensures.stays c.pass_grid.ensures.stays
+
+pub returns-clause-stays : goal.returns-clause-stays
+returns-clause-stays g c =
+    stays_then c.args.seat.now.view c.kernel_at_start.new.seat.view c.pass_grid.new.seat.view c.kernel_at_start.ensures.stays c.pass_grid.ensures.stays
