@@ -1,5 +1,5 @@
 -- What words and files come to, by what the library answered.
-use Rattle.std.proofs.Common.{◌≡◌, ◌⊎◌, ℕ, List, [], ◌∷◌, ◌++◌, unwrap_or, Option, Some, None, IfSome, Result, Ok, Err, IfOk, IfErr, OnOk, IsErr, IsErrAnd, string_bytes, length, refl, sym, ap, ◌∙◌, subst, inl, inr}
+use Rattle.std.proofs.Common.{◌≡◌, ◌⊎◌, ℕ, List, [], ◌∷◌, ◌++◌, unwrap_or, Option, Some, None, IfSome, Result, Ok, Err, IfOk, IfErr, OnOk, string_bytes, length, refl, sym, ap, ◌∙◌, subst, inl, inr}
 use Rattle.toml.specs.Data.{Members}
 use Rattle.outside.specs.Files.{Content, absent, too_long, whole, held, content}
 use Rattle.study_file.specs.Tables.{table_of}
@@ -328,11 +328,6 @@ rules_refused (Ok s) files bytes table series shown has with_series same ends = 
 rules_refused (Err e) files bytes table series shown has with_series same ends =
     study_refused files bytes table series e.status (string_bytes e.name) has with_series
     (subst (λ (o : Option (List ℕ)). (library : Files) (task : Task) (names : List (List ℕ)) (name : List ℕ) → Ends (judged library task (study_of table o)) names e.status name) same ends)
-
--- an end that is handed on
-pub handed_on : {X : Type 0} (r : Result X Ending) (e : Ending) (P : Ending → Type 0) → IsErr r × IsErrAnd r (λ f. f ≡ e) → P e → IfErr r P
-handed_on (Ok x) e P is p = tt
-handed_on (Err f) e P is p = subst P (sym is.1) p
 
 -- the series file gave no bytes
 pub series_missed : (files : Option Files) (bytes : List ℕ) (table : Members) (st : Status) (name : List ℕ) → table_of bytes ≡ Some table

@@ -1,5 +1,5 @@
 -- How a cross ends.
-use Rattle.std.proofs.Common.{◌≡◌, ◌⊎◌, ◌≤◌, ◌+◌, ℕ, List, [], ◌∷◌, Option, None, Some, Result, length, sym, ap, ◌∙◌, subst, arith}
+use Rattle.std.proofs.Common.{◌≡◌, ◌⊎◌, ◌≤◌, ◌+◌, ℕ, List, [], ◌∷◌, Option, None, Some, Result, length, refl, sym, ap, ◌∙◌, subst, arith}
 use Rattle.command_words.specs.declared.asked.Crossing.{Crossing}
 use Rattle.reopen_cross.specs.declared.cross.Interest.{Interest}
 use Rattle.order_file.specs.Orders.{orders_of}
@@ -14,12 +14,12 @@ use Rattle.abides_run.specs.Fetched.{IsAmong}
 use Rattle.abides_run.specs.Notes.{past_event}
 use Rattle.abides_run.specs.Output.{Probes, crossed, study_events}
 use Rattle.abides_run.specs.Rewinds.{lasts_of, steps_to, target_state}
-use Rattle.abides_run.specs.Verdict.{Verdict, accepted, verdict_on_crossing, verdict_on_branch, verdict_on_late, verdict_on_orders, verdict_on_stock, ceiling}
+use Rattle.abides_run.specs.Verdict.{Verdict, accepted, bad_orders, no_stock, verdict_on_crossing, verdict_on_branch, verdict_on_late, verdict_on_orders, verdict_on_stock, ceiling}
 use Rattle.abides_run.specs.Headline.{Seen}
 use Rattle.abides_run.specs.Performed.{Finished, Performed}
 use Rattle.abides_run.specs.declared.status.Status.{Status}
 use Rattle.abides_run.specs.declared.status.Status.TheVariants as status
-use Rattle.abides_run.proofs.Finishing.{eventless-finishes, wanting-finishes}
+use Rattle.abides_run.proofs.Finishing.{eventless-finishes, refused-finishes, refused-still, wanting-finishes}
 use Rattle.abides_run.proofs.Performing.{performed_finishes}
 
 -- the branch, the stock and the orders of the file are there
@@ -39,6 +39,25 @@ pub crossing-orders : (crossing : Crossing) (places : ℕ) (text : List ℕ) (s 
     → verdict_on_crossing crossing places text s ≡ verdict_on_orders crossing.mark.word target stock places s orders
 crossing-orders crossing places text s target stock orders aims named read =
     crossing-stock crossing places text s target (Some stock) aims named ∙ ap (λ (r : Result (List Interest) ℕ). verdict_on_orders crossing.mark.word target stock places s r) read
+
+-- the stock isn't there, and nothing was done
+pub stockless-finishes : (come : Verdict) (word : List ℕ) (probes : Probes) (arguments : List (List ℕ)) (reads writes steps : ℕ) (taken : Option (List ℕ)) (st : Status) (name : List ℕ)
+    → come ≡ no_stock word → (st ≡ status.Memory) ⊎ ((st ≡ status.NoStock) × (name ≡ word)) → IsAmong word arguments
+    → Finished come probes arguments (record { reads = reads; writes = writes; taken = taken; steps = steps }) (record { reads = reads; writes = writes; taken = taken; steps = steps }) st name
+stockless-finishes come word probes arguments reads writes steps taken st name is told among =
+    let seen : Seen = record { reads = reads; writes = writes; taken = taken; steps = steps } in
+    subst (λ (v : Verdict). Finished v probes arguments seen seen st name) (sym is)
+    (refused-finishes (no_stock word) probes arguments reads writes steps taken status.NoStock st word name told refl tt tt (λ fetched. refl) among)
+
+-- a record of the file breaks a rule, and nothing was done
+pub orderless-finishes : (come : Verdict) (number : ℕ) (probes : Probes) (arguments : List (List ℕ)) (reads writes steps : ℕ) (taken : Option (List ℕ)) (st : Status) (name : List ℕ)
+    → come ≡ bad_orders number → st ≡ status.BadOrders number
+    → Finished come probes arguments (record { reads = reads; writes = writes; taken = taken; steps = steps }) (record { reads = reads; writes = writes; taken = taken; steps = steps }) st name
+orderless-finishes come number probes arguments reads writes steps taken st name is told =
+    let seen : Seen = record { reads = reads; writes = writes; taken = taken; steps = steps } in
+    subst (λ (v : Verdict). Finished v probes arguments seen seen st name) (sym is)
+    (subst (λ (x : Status). Finished (bad_orders number) probes arguments seen seen x name) (sym told)
+    (refused-still (bad_orders number) probes arguments seen (status.BadOrders number) name refl tt tt (λ fetched. tt) tt))
 
 -- the study may be simulated
 simulated-late : (word : List ℕ) (target : Target) (stock : StockNamed) (orders : List Interest) (places : ℕ) (s : StudyTold) (past : Option Past)

@@ -73,15 +73,22 @@ sent_some bytes events more most reads writes now old new before after st least 
 }
 
 -- they were or they were not, as the status says
+pub sent_done : (bytes : List ℕ) (events more most reads writes now old new : ℕ) (before after : Option (List ℕ)) (r : Result (Unit {0}) Status) (st : Status) → OnOk r (st ≡ status.Ok) → IfErr r (λ x. st ≡ x)
+    → old + events ≤ new → new ≤ old + events + more → new ≤ old + most → Sent bytes writes now before after r
+    → Performed bytes events more most (record { reads = reads; writes = writes; taken = before; steps = old }) (record { reads = reads; writes = now; taken = after; steps = new }) st
+sent_done bytes events more most reads writes now old new before after (Ok u) st is told least within few s =
+    subst (λ (x : Status). Performed bytes events more most (record { reads = reads; writes = writes; taken = before; steps = old }) (record { reads = reads; writes = now; taken = after; steps = new }) x) (sym is)
+    (sent_all bytes events more most reads writes now old new before after least within s)
+sent_done bytes events more most reads writes now old new before after (Err x) st is told least within few s =
+    subst (λ (y : Status). Performed bytes events more most (record { reads = reads; writes = writes; taken = before; steps = old }) (record { reads = reads; writes = now; taken = after; steps = new }) y) (sym told)
+    (sent_some bytes events more most reads writes now old new before after x least few s)
+
+-- the same where all steps were counted before
 pub sent_ends : (bytes : List ℕ) (events reads writes now old new : ℕ) (before after : Option (List ℕ)) (r : Result (Unit {0}) Status) (st : Status) → OnOk r (st ≡ status.Ok) → IfErr r (λ x. st ≡ x)
     → new ≡ old + events → Sent bytes writes now before after r
     → Performed bytes events 0 events (record { reads = reads; writes = writes; taken = before; steps = old }) (record { reads = reads; writes = now; taken = after; steps = new }) st
-sent_ends bytes events reads writes now old new before after (Ok u) st is told rose s =
-    subst (λ (x : Status). Performed bytes events 0 events (record { reads = reads; writes = writes; taken = before; steps = old }) (record { reads = reads; writes = now; taken = after; steps = new }) x) (sym is)
-    (sent_all bytes events 0 events reads writes now old new before after (omega arith) (omega arith) s)
-sent_ends bytes events reads writes now old new before after (Err x) st is told rose s =
-    subst (λ (y : Status). Performed bytes events 0 events (record { reads = reads; writes = writes; taken = before; steps = old }) (record { reads = reads; writes = now; taken = after; steps = new }) y) (sym told)
-    (sent_some bytes events 0 events reads writes now old new before after x (omega arith) (omega arith) s)
+sent_ends bytes events reads writes now old new before after r st is told rose s =
+    sent_done bytes events 0 events reads writes now old new before after r st is told (omega (arith, rose)) (omega (arith, rose)) (omega (arith, rose)) s
 
 -- memory was wanting before anything was sent
 pub wanting : (bytes : List ℕ) (events more most reads writes old new : ℕ) (taken : Option (List ℕ)) → old ≤ new → new ≤ old + most

@@ -84,11 +84,19 @@ pub fn audit_bundle<O: Sink>(alloc: Global, bytes: Vec<u8>, out: &mut O) -> Endi
         Err(error) => return nameless(alloc, status_for(error)),
     };
     match audit(alloc, &bundle) {
-        Ok(None) => nameless(alloc, send_passed(alloc, &bundle, out)),
+        Ok(None) => {
+            let status = send_passed(alloc, &bundle, out);
+            drop(bundle);
+            nameless(alloc, status)
+        }
         Ok(Some(failing)) => {
             let (branch, reference) = (failing.branch, failing.reference);
+            drop(bundle);
             nameless(alloc, Status::AuditFailed { branch, reference })
         }
-        Err(Memory) => nameless(alloc, Status::Memory),
+        Err(Memory) => {
+            drop(bundle);
+            nameless(alloc, Status::Memory)
+        }
     }
 }

@@ -16,7 +16,7 @@ ghost use Rattle.command_words.specs.declared.asked.Task.TheVariants as task;
 
 use crate::ending::{Ending, named, nameless};
 use crate::rewinds::{no_event, simulate_kept};
-use crate::send::send;
+use crate::send::{send, sent_status};
 use crate::status::Status;
 use branch_tree::BranchPlan;
 use checkpoint_shelf::ClosedShelf;
@@ -94,7 +94,9 @@ fn crossed_bytes<L: Ledger>(
         Err(_) => unreachable!(),
     };
     let _ = rewound.kernel.exchange();
-    reopening(alloc, &rewound.kernel, stock, orders)
+    let bytes = reopening(alloc, &rewound.kernel, stock, orders);
+    drop(rewound);
+    bytes
 }
 
 // Sends all that is told of a stock's reopening in a target's state.
@@ -159,10 +161,11 @@ fn reach_and_cross<R: Threads + Wait + Sync, O: Sink, G: Gate + Sync, D: Ledger 
         Err(Memory) => return nameless(alloc, Status::Memory),
     };
     if let Some(past) = first_past(&simulated.lasts, &[target]) {
+        drop(simulated);
         return no_event(alloc, word, past.last);
     }
     let shelf = &simulated.shelf;
-    match send_cross(
+    let sent = send_cross(
         alloc,
         &study.course,
         shelf,
@@ -171,10 +174,9 @@ fn reach_and_cross<R: Threads + Wait + Sync, O: Sink, G: Gate + Sync, D: Ledger 
         orders,
         out,
         steps,
-    ) {
-        Ok(()) => nameless(alloc, Status::Ok),
-        Err(status) => nameless(alloc, status),
-    }
+    );
+    drop(simulated);
+    nameless(alloc, sent_status(sent))
 }
 
 /// Has workers simulate each segment of a study once, while so many grid places keep states, and then writes what a stock's
@@ -219,7 +221,9 @@ pub fn cross_study<R: Threads + Wait + Sync, O: Sink, G: Gate + Sync, D: Ledger 
         }
         Err(OrdersError::Memory) => return nameless(alloc, Status::Memory),
     };
-    reach_and_cross(
+    let ending = reach_and_cross(
         rt, alloc, study, word, target, stock, &orders, places, workers, out, gate, steps,
-    )
+    );
+    drop(orders);
+    ending
 }

@@ -140,9 +140,21 @@ fn read_study<L: Library>(alloc: Global, bytes: &[u8], library: &mut L) -> Resul
     ensures rises { L.faults library.old ≤ L.faults library.new }
     ensures files { L.files library.new ≡ L.files library.old }
 {
-    let raw = tables(alloc, bytes)?;
-    let series = fetch_series(alloc, &raw, library)?;
-    accept_study(alloc, &raw, series.as_deref())
+    let raw = match tables(alloc, bytes) {
+        Ok(raw) => raw,
+        Err(ending) => return Err(ending),
+    };
+    let series = match fetch_series(alloc, &raw, library) {
+        Ok(series) => series,
+        Err(ending) => {
+            drop(raw);
+            return Err(ending);
+        }
+    };
+    let study = accept_study(alloc, &raw, series.as_deref());
+    drop(series);
+    drop(raw);
+    study
 }
 
 // The name of the file that a task names besides the study's.
@@ -208,9 +220,30 @@ fn find_file<'a, L: Library>(
     ensures rises { L.faults library.old ≤ L.faults library.new }
     ensures files { L.files library.new ≡ L.files library.old }
 {
-    let bytes = fetch_file(alloc, name, MOST_BYTES, library)?;
-    let study = read_study(alloc, &bytes, library)?;
-    let further = fetch_further(alloc, &task, library)?;
+    let bytes = match fetch_file(alloc, name, MOST_BYTES, library) {
+        Ok(bytes) => bytes,
+        Err(ending) => {
+            drop(task);
+            return Err(ending);
+        }
+    };
+    let study = match read_study(alloc, &bytes, library) {
+        Ok(study) => study,
+        Err(ending) => {
+            drop(bytes);
+            drop(task);
+            return Err(ending);
+        }
+    };
+    drop(bytes);
+    let further = match fetch_further(alloc, &task, library) {
+        Ok(further) => further,
+        Err(ending) => {
+            drop(study);
+            drop(task);
+            return Err(ending);
+        }
+    };
     Ok(Found::Study(FoundStudy {
         task,
         study,
@@ -237,11 +270,27 @@ fn find_large<'a>(alloc: Global, number: u32, workers: u32) -> Result<Found<'a>,
         Err(Memory) => return Err(nameless(alloc, Status::Memory)),
     };
     let bytes = text.as_bytes();
-    let raw = tables(alloc, bytes)?;
-    let study = accept_study(alloc, &raw, None)?;
+    let count = bytes.len();
+    let raw = match tables(alloc, bytes) {
+        Ok(raw) => raw,
+        Err(ending) => {
+            drop(text);
+            return Err(ending);
+        }
+    };
+    let study = match accept_study(alloc, &raw, None) {
+        Ok(study) => study,
+        Err(ending) => {
+            drop(raw);
+            drop(text);
+            return Err(ending);
+        }
+    };
+    drop(raw);
+    drop(text);
     Ok(Found::Large {
         study,
-        bytes: bytes.len(),
+        bytes: count,
         workers,
     })
 }

@@ -1,6 +1,6 @@
 //! What is done with a study or a bundle.
 
-ghost use Rattle.std.specs.Prelude.{◌≡◌, ◌+◌, ◌++◌, ◌∷◌, ◌<◌, ◌≤◌, ◌^◌, [], ℕ, IfErr, IfOk, OnOk, codes, map, option_map, string_bytes};
+ghost use Rattle.std.specs.Prelude.{◌≡◌, ◌+◌, ◌++◌, ◌∷◌, ◌<◌, ◌≤◌, ◌^◌, [], ℕ, IfOk, codes, map, option_map, string_bytes};
 ghost use Rattle.std.specs.Fmt.{decimal};
 ghost use Rattle.abides_run.specs.Fetched.{arguments_of};
 ghost use Rattle.abides_run.specs.Output.{counts_line, study_bundle, study_events, study_lines, study_table};
@@ -15,7 +15,7 @@ use crate::crosses::{cross_study, further_text};
 use crate::ending::{Ending, nameless};
 use crate::found::{Found, FoundStudy};
 use crate::rewinds::rewind_study;
-use crate::send::{send, send_bundle};
+use crate::send::{send, send_bundle, sent_status};
 use crate::sessions::session_study;
 use crate::simulate::simulate;
 use crate::status::Status;
@@ -34,17 +34,6 @@ use trace_bundle::big_lines;
 
 // Nothing that is asked for here but a rewind, a cross and a session goes on from a state on the way.
 const NO_PLACES: u32 = 0;
-
-// The status with which bytes were sent.
-fn sent_status(sent: Result<(), Status>) -> Status
-    ensures ok { OnOk sent (result ≡ Status.Ok) }
-    ensures refused { IfErr sent (λ status. result ≡ status) }
-{
-    match sent {
-        Ok(()) => Status::Ok,
-        Err(status) => status,
-    }
-}
 
 // Has workers simulate each segment of a study once, and then writes the bundle.
 fn run_study<R: Threads + Wait + Sync, O: Sink, G: Gate + Sync, D: Ledger + Send>(
@@ -72,7 +61,11 @@ fn run_study<R: Threads + Wait + Sync, O: Sink, G: Gate + Sync, D: Ledger + Send
         workers,
     };
     match simulate(rt, alloc, course, setup, gate, steps) {
-        Ok(worked) => sent_status(send_bundle(alloc, course, &worked.outcomes, out)),
+        Ok(worked) => {
+            let sent = send_bundle(alloc, course, &worked.outcomes, out);
+            drop(worked);
+            sent_status(sent)
+        }
         Err(Memory) => Status::Memory,
     }
 }
@@ -110,8 +103,12 @@ fn table_study<R: Threads + Wait + Sync, O: Sink, G: Gate + Sync, D: Ledger + Se
     };
     let text = match study_table(alloc, course, &worked.outcomes, probes) {
         Ok(text) => text,
-        Err(_) => return Status::Memory,
+        Err(_) => {
+            drop(worked);
+            return Status::Memory;
+        }
     };
+    drop(worked);
     sent_status(send(out, &text))
 }
 
@@ -150,8 +147,12 @@ fn tell_study<R: Threads + Wait + Sync, O: Sink, G: Gate + Sync, D: Ledger + Sen
     let distinct = steps.count() - before;
     let text = match big_lines(alloc, bytes, course, &worked.outcomes, distinct) {
         Ok(text) => text,
-        Err(Memory) => return Status::Memory,
+        Err(Memory) => {
+            drop(worked);
+            return Status::Memory;
+        }
     };
+    drop(worked);
     sent_status(send(out, text.as_bytes()))
 }
 
@@ -278,13 +279,18 @@ pub fn perform<R: Threads + Wait + Sync, O: Sink, G: Gate + Sync, D: Ledger + Se
         result.status (string_bytes result.name) }
 {
     match found {
-        Found::Study(study) => perform_task(rt, alloc, &study, probes, out, gate, steps),
+        Found::Study(study) => {
+            let ending = perform_task(rt, alloc, &study, probes, out, gate, steps);
+            drop(study);
+            ending
+        }
         Found::Large {
             study,
             bytes,
             workers,
         } => {
             let status = tell_study(rt, alloc, bytes, &study, workers, out, gate, steps);
+            drop(study);
             nameless(alloc, status)
         }
         Found::Bundle(bytes) => audit_bundle(alloc, bytes, out),

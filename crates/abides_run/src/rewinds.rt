@@ -20,7 +20,7 @@ ghost use Rattle.abides_run.specs.Verdict.{verdict_on_found};
 ghost use Rattle.command_words.specs.declared.asked.Task.TheVariants as task;
 
 use crate::ending::{Ending, named, nameless};
-use crate::send::{ToSink, send};
+use crate::send::{ToSink, send, sent_status};
 use crate::simulate::simulate;
 use crate::status::Status;
 use branch_workers::{Keep, Setup};
@@ -92,7 +92,9 @@ fn rewound_bytes<L: Ledger>(
         Err(RewindError::Memory) => return Err(Memory),
         Err(_) => unreachable!(),
     };
-    target_bytes(alloc, course, target, &rewound.kernel)
+    let bytes = target_bytes(alloc, course, target, &rewound.kernel);
+    drop(rewound);
+    bytes
 }
 
 // Sends the frames of a target.
@@ -230,8 +232,14 @@ pub fn simulate_kept<R: Threads + Wait + Sync, G: Gate + Sync, D: Ledger + Send>
         keep: Keep::Frames,
         workers,
     };
-    let worked = simulate(rt, alloc, course, setup, gate, steps)?;
-    let lasts = last_events(alloc, course, &worked.outcomes)?;
+    let Ok(worked) = simulate(rt, alloc, course, setup, gate, steps) else {
+        return Err(Memory);
+    };
+    let Ok(lasts) = last_events(alloc, course, &worked.outcomes) else {
+        drop(worked);
+        return Err(Memory);
+    };
+    drop(worked.outcomes);
     Ok(Simulated {
         shelf: worked.shelf,
         lasts,
@@ -269,13 +277,13 @@ fn reach_and_write<R: Threads + Wait + Sync, O: Sink, G: Gate + Sync, D: Ledger 
         Err(Memory) => return nameless(alloc, Status::Memory),
     };
     if let Some(past) = first_past(&simulated.lasts, targets) {
+        drop(simulated);
         return no_event(alloc, word_of(marks, past.index), past.last);
     }
     let shelf = &simulated.shelf;
-    match send_rewinds(alloc, &study.course, shelf, targets, out, steps) {
-        Ok(()) => nameless(alloc, Status::Ok),
-        Err(status) => nameless(alloc, status),
-    }
+    let sent = send_rewinds(alloc, &study.course, shelf, targets, out, steps);
+    drop(simulated);
+    nameless(alloc, sent_status(sent))
 }
 
 /// Has workers simulate each segment of a study once, while so many grid places keep states, and then writes the state of each

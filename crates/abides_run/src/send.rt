@@ -1,5 +1,6 @@
 //! Bytes, and the parts of a study's bundle, to a sink.
 
+ghost use Rattle.std.specs.Prelude.{◌≡◌, IfErr, OnOk};
 ghost use Rattle.trace_bundle.specs.Ran.{IsRunOf};
 ghost use Rattle.abides_run.specs.Output.{study_bundle};
 ghost use Rattle.abides_run.specs.Performed.{Sent};
@@ -17,6 +18,17 @@ pub fn send<O: Sink>(out: &mut O, bytes: &[u8]) -> Result<(), Status>
     match write_all(out, bytes) {
         Ok(()) => Ok(()),
         Err(_) => Err(Status::WriteFault),
+    }
+}
+
+/// The status with which bytes were sent.
+pub fn sent_status(sent: Result<(), Status>) -> Status
+    ensures ok { OnOk sent (result ≡ Status.Ok) }
+    ensures refused { IfErr sent (λ status. result ≡ status) }
+{
+    match sent {
+        Ok(()) => Status::Ok,
+        Err(status) => status,
     }
 }
 

@@ -14,7 +14,7 @@ ghost use Rattle.abides_run.specs.Verdict.{verdict_on_past_act, verdict_on_sessi
 
 use crate::ending::{Ending, nameless};
 use crate::rewinds::{no_event, simulate_kept};
-use crate::send::send;
+use crate::send::{send, sent_status};
 use crate::status::Status;
 use outside::{Gate, Ledger, Sink, Steps};
 use plain_lists::Memory;
@@ -94,13 +94,17 @@ fn reach_and_answer<R: Threads + Wait + Sync, O: Sink, G: Gate + Sync, D: Ledger
     let shelf = &simulated.shelf;
     let answers = match carry_out(alloc, &study.course, shelf, acts, probes, steps) {
         Ok(answers) => answers,
-        Err(SessionEnd::NoEvent(past)) => return past_end(alloc, past),
-        Err(SessionEnd::Memory) => return nameless(alloc, Status::Memory),
+        Err(SessionEnd::NoEvent(past)) => {
+            drop(simulated);
+            return past_end(alloc, past);
+        }
+        Err(SessionEnd::Memory) => {
+            drop(simulated);
+            return nameless(alloc, Status::Memory);
+        }
     };
-    match send(out, &answers) {
-        Ok(()) => nameless(alloc, Status::Ok),
-        Err(status) => nameless(alloc, status),
-    }
+    drop(simulated);
+    nameless(alloc, sent_status(send(out, &answers)))
 }
 
 /// Has workers simulate each segment of a study once, while so many grid places keep states, and then writes the answers to the acts
@@ -135,10 +139,20 @@ pub fn session_study<R: Threads + Wait + Sync, O: Sink, G: Gate + Sync, D: Ledge
         Err(error) => return nameless(alloc, status_for(error)),
     };
     match first_refused(alloc, &study.course, &acts) {
-        Ok(None) => reach_and_answer(
-            rt, alloc, study, &acts, places, workers, probes, out, gate, steps,
-        ),
-        Ok(Some(act)) => nameless(alloc, Status::ActRefused { act }),
-        Err(Memory) => nameless(alloc, Status::Memory),
+        Ok(None) => {
+            let ending = reach_and_answer(
+                rt, alloc, study, &acts, places, workers, probes, out, gate, steps,
+            );
+            drop(acts);
+            ending
+        }
+        Ok(Some(act)) => {
+            drop(acts);
+            nameless(alloc, Status::ActRefused { act })
+        }
+        Err(Memory) => {
+            drop(acts);
+            nameless(alloc, Status::Memory)
+        }
     }
 }

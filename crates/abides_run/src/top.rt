@@ -85,5 +85,8 @@ pub fn run<
     honest_bundles_pass();
     let mut probes = probes;
     let ending = answer(rt, alloc, words, library, out, &mut probes, gate, steps);
-    write_note(alloc, ending.name.as_str(), ending.status, notes)
+    let status = write_note(alloc, ending.name.as_str(), ending.status, notes);
+    drop(ending);
+    drop(probes);
+    status
 }

@@ -6,7 +6,7 @@ ghost use Rattle.std.specs.Prelude.{◌≡◌, [], All};
 ghost use Rattle.branch_deques.specs.Lanes.{fresh};
 
 use crate::facts::holds;
-use branch_deques::{Lane, Memory, Room, open_lanes};
+use branch_deques::{Lane, Room, open_lanes};
 use std::alloc::Global;
 use std::marker::Brand;
 use std::process::Abort;
@@ -30,11 +30,14 @@ fn share_three<B: Room, R: Wait + Abort>(rt: &R, alloc: Global, room: u32) -> (V
     let mut lanes = open_lanes::<B>(alloc, 2, room).expect(rt, "memory");
     let mut second = last_lane(rt, &mut lanes);
     let mut first = last_lane(rt, &mut lanes);
+    drop(lanes);
     let mut got = Vec::new(alloc);
     push_three(&mut first);
-    holds(rt, take_some(rt, &mut second, &mut got).is_ok());
+    take_some(rt, &mut second, &mut got);
+    drop(second);
     let stolen = got.len();
-    holds(rt, pop_some(&mut first, 4, &mut got).is_ok());
+    pop_some(rt, &mut first, 4, &mut got);
+    drop(first);
     let all_stolen = got.len() == stolen;
     (got, all_stolen)
 }
@@ -48,27 +51,37 @@ fn push_three<B: Room>(lane: &mut Lane<B>)
     lane.push(2);
 }
 
-fn take_some<B: Room, R: Wait>(
-    rt: &R,
-    lane: &mut Lane<B>,
-    got: &mut Vec<u32>,
-) -> Result<(), Memory> {
-    for _ in 0..4 {
-        if let Some(segment) = lane.steal_round(rt) {
-            got.push(segment)?;
+// Takes one segment, if it finds one: whether it did.
+fn take_one<B: Room, R: Wait + Abort>(rt: &R, lane: &mut Lane<B>, got: &mut Vec<u32>) -> bool {
+    match lane.steal_round(rt) {
+        Some(segment) => {
+            got.push(segment).expect(rt, "memory");
+            true
         }
+        None => false,
     }
-    Ok(())
+}
+
+fn take_some<B: Room, R: Wait + Abort>(rt: &R, lane: &mut Lane<B>, got: &mut Vec<u32>) {
+    for _ in 0..4 {
+        take_one(rt, lane, got);
+    }
+}
+
+// Pops one segment, if there is one.
+fn pop_one<B: Room>(rt: &impl Abort, lane: &mut Lane<B>, got: &mut Vec<u32>)
+    ensures { lane.new.own.view.pushed ≡ lane.old.own.view.pushed }
+{
+    if let Some(segment) = lane.pop() {
+        got.push(segment).expect(rt, "memory");
+    }
 }
 
 // Pops so many times.
-fn pop_some<B: Room>(lane: &mut Lane<B>, tries: u32, got: &mut Vec<u32>) -> Result<(), Memory> {
+fn pop_some<B: Room>(rt: &impl Abort, lane: &mut Lane<B>, tries: u32, got: &mut Vec<u32>) {
     for _ in 0..tries {
-        if let Some(segment) = lane.pop() {
-            got.push(segment)?;
-        }
+        pop_one(rt, lane, got);
     }
-    Ok(())
 }
 
 fn share_picked<R: Wait + Abort>(rt: &R, alloc: Global) -> (Vec<u32>, bool) {
@@ -82,9 +95,11 @@ fn pop_three<B: Room, R: Abort>(rt: &R, alloc: Global, room: u32) -> Vec<u32>
 {
     let mut lanes = open_lanes::<B>(alloc, 1, room).expect(rt, "memory");
     let mut only = last_lane(rt, &mut lanes);
+    drop(lanes);
     let mut got = Vec::new(alloc);
     push_three(&mut only);
-    holds(rt, pop_some(&mut only, 4, &mut got).is_ok());
+    pop_some(rt, &mut only, 4, &mut got);
+    drop(only);
     got
 }
 
@@ -101,10 +116,14 @@ fn take_from_two<B: Room, R: Wait + Abort>(rt: &R, alloc: Global, room: u32) -> 
     let mut third = last_lane(rt, &mut lanes);
     let mut second = last_lane(rt, &mut lanes);
     let mut first = last_lane(rt, &mut lanes);
-    let mut got = Vec::new(alloc);
+    drop(lanes);
     first.push(0);
     third.push(2);
-    holds(rt, take_some(rt, &mut second, &mut got).is_ok());
+    let mut got = Vec::new(alloc);
+    take_some(rt, &mut second, &mut got);
+    drop(first);
+    drop(second);
+    drop(third);
     got
 }
 

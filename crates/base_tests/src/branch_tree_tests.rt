@@ -70,6 +70,7 @@ fn a_nested_tree_has_five_segments(rt: HostRuntime) {
         panic!(rt; "refused");
     };
     holds(&rt, has_segments(&plan));
+    drop(plan);
 }
 
 // A name, a parent, a stop and a limit, each with the refusal of the tree.

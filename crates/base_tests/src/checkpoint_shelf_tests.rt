@@ -100,4 +100,7 @@ fn two_seats_at_one_fork(rt: HostRuntime) {
     let value = Arc::new(rt.alloc(), item).expect(&rt, "memory");
     assert!(rt; shelf.place_of(FORK).is_some());
     meet_at_a_fork(&rt, &shelf, &mut zero, &mut one, FORK, value);
+    drop(one);
+    drop(zero);
+    drop(shelf);
 }

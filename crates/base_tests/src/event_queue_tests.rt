@@ -109,9 +109,22 @@ impl PlainQueue {
         least
     }
 
+    // The place of the message of a number.
+    fn place_of(&self, seq: u64) -> Option<usize> {
+        for (i, m) in self.messages.iter().enumerate() {
+            if m.seq == seq {
+                return Some(i);
+            }
+        }
+        None
+    }
+
     fn pop_least(&mut self) -> Option<Message> {
         let least = self.least()?;
-        let at = self.messages.iter().position(|m| m.seq == least.seq)?;
+        let at = self.place_of(least.seq)?;
+        if at >= self.messages.len() {
+            return None;
+        }
         Some(self.messages.remove(at))
     }
 }
@@ -149,6 +162,7 @@ fn assert_copied(rt: &impl Abort, alloc: Global, queue: &Queue, plain: &mut Plai
     let mut copy = queue.copy(alloc).expect(rt, "memory");
     assert_same(rt, listed.as_slice(), &mut copy, plain);
     equal(rt, queue.len(), listed.len());
+    drop(copy);
 }
 
 #[test]
@@ -170,6 +184,7 @@ fn agrees_with_a_plain_list(rt: HostRuntime) {
         equal(&rt, queue.len(), plain.messages.len());
     }
     assert_copied(&rt, rt.alloc(), &queue, &mut plain);
+    drop(queue);
 }
 
 #[test]
@@ -188,6 +203,7 @@ fn replaces_the_least_among_several(rt: HostRuntime) {
     equal(&rt, leave(&mut queue, 6), Some(wakeup(1006, 5)));
     equal(&rt, leave(&mut queue, 6), Some(wakeup(1009, 3)));
     equal(&rt, replace(&mut queue, 1010, 6), None);
+    drop(queue);
 }
 
 #[test]
@@ -209,4 +225,5 @@ fn delivers_wakeups_and_questions_in_one_order(rt: HostRuntime) {
     equal(&rt, leave(&mut queue, 6), Some(wakeup(1004, 5)));
     equal(&rt, leave(&mut queue, 6), Some(question(1006, 2)));
     equal(&rt, leave(&mut queue, 6), None);
+    drop(queue);
 }

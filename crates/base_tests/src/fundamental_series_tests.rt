@@ -9,6 +9,7 @@ use fundamental_series::{
 };
 use market_types::{Memory, Time};
 use std::alloc::Global;
+use std::process::Abort;
 
 const OPEN: Time = 1000;
 
@@ -44,16 +45,25 @@ const WILD: SeriesRule = SeriesRule {
     ..CALM
 };
 
+// Whether a series goes as the calm rule says.
+fn is_calm(series: &Series) -> bool
+    requires { first_time_of series.now ≤ OPEN }
+{
+    (later(series, 0) == 100_000)
+        & (later(series, 99) == 100_000)
+        & (later(series, 100) == 101_000)
+        & (later(series, 200) == 101_900)
+        & (later(series, 4000) == 101_900)
+}
+
 #[test]
 fn goes_by_its_rule(rt: HostRuntime) {
-    let calm = series_by_rule(rt.alloc(), &ZERO_KEY, 0, &CALM, OPEN, 1250).expect(&rt, "memory");
-    equal(&rt, calm.value_at(1000), 100_000);
-    equal(&rt, calm.value_at(1099), 100_000);
-    equal(&rt, calm.value_at(1100), 101_000);
-    equal(&rt, calm.value_at(1200), 101_900);
-    equal(&rt, calm.value_at(5000), 101_900);
-    let half = series_by_rule(rt.alloc(), &COUNTING_KEY, 3, &HALF_WAY, OPEN, 1250);
-    equal(&rt, half.expect(&rt, "memory").value_at(1100), 100_000);
+    let alloc = rt.alloc();
+    let calm = series_by_rule(alloc, &ZERO_KEY, 0, &CALM, OPEN, 1250).expect(&rt, "memory");
+    holds(&rt, is_calm(&calm));
+    let half = series_by_rule(alloc, &COUNTING_KEY, 3, &HALF_WAY, OPEN, 1250);
+    let half = half.expect(&rt, "memory");
+    equal(&rt, later(&half, 100), 100_000);
 }
 
 // The value so many nanoseconds after the opening.
@@ -93,14 +103,24 @@ const WILD_SHOCKS: [u32; 7] = [
     594_216_091,
 ];
 
+// Whether a series has these values.
+fn is_shown(rt: &impl Abort, series: Result<Series, Memory>, hoped: &[u32; 7]) -> bool
+    requires { IfOk series (λ s. first_time_of s ≤ OPEN) }
+{
+    let series = series.expect(rt, "memory");
+    let shown = shown(&series);
+    shown == *hoped
+}
+
 #[test]
 fn takes_its_shocks_from_its_own_stream(rt: HostRuntime) {
-    let first = series_by_rule(rt.alloc(), &ZERO_KEY, 0, &SHOCKED, OPEN, 1500);
-    holds(&rt, shown(&first.expect(&rt, "memory")) == FIRST_SHOCKS);
-    let second = series_by_rule(rt.alloc(), &COUNTING_KEY, 1, &SHOCKED, OPEN, 1500);
-    holds(&rt, shown(&second.expect(&rt, "memory")) == SECOND_SHOCKS);
-    let wild = series_by_rule(rt.alloc(), &ZERO_KEY, 0, &WILD, OPEN, 1500);
-    holds(&rt, shown(&wild.expect(&rt, "memory")) == WILD_SHOCKS);
+    let alloc = rt.alloc();
+    let first = series_by_rule(alloc, &ZERO_KEY, 0, &SHOCKED, OPEN, 1500);
+    holds(&rt, is_shown(&rt, first, &FIRST_SHOCKS));
+    let second = series_by_rule(alloc, &COUNTING_KEY, 1, &SHOCKED, OPEN, 1500);
+    holds(&rt, is_shown(&rt, second, &SECOND_SHOCKS));
+    let wild = series_by_rule(alloc, &ZERO_KEY, 0, &WILD, OPEN, 1500);
+    holds(&rt, is_shown(&rt, wild, &WILD_SHOCKS));
 }
 
 // 9.90 dollars from 900 nanoseconds past midnight on, 9.80 from 1500 on.
@@ -118,13 +138,20 @@ fn file_series(alloc: Global) -> Result<Series, Memory>
     series_from_rows(alloc, &[first, second])
 }
 
+// Whether a series goes by those rows.
+fn has_rows(series: &Series) -> bool
+    requires { series.now ≡ by_rows two_rows }
+{
+    (series.value_at(900) == 99_000)
+        & (series.value_at(1499) == 99_000)
+        & (series.value_at(1500) == 98_000)
+        & (series.value_at(9999) == 98_000)
+}
+
 #[test]
 fn goes_by_its_rows(rt: HostRuntime) {
     let series = file_series(rt.alloc()).expect(&rt, "memory");
-    equal(&rt, series.value_at(900), 99_000);
-    equal(&rt, series.value_at(1499), 99_000);
-    equal(&rt, series.value_at(1500), 98_000);
-    equal(&rt, series.value_at(9999), 98_000);
+    holds(&rt, has_rows(&series));
 }
 
 #[test]

@@ -6,13 +6,7 @@ use market_types::Symbol;
 use std::alloc::Global;
 use std::process::Abort;
 
-const TWO_BANDS: [Band; 2] = [
-    Band { from: 0, tick: 100 },
-    Band {
-        from: 1_000_000,
-        tick: 500,
-    },
-];
+const TWO_BANDS: [Band; 2] = [CENT, NICKEL];
 
 fn two_bands(rt: &impl Abort, alloc: Global) -> TickTable {
     TickTable::new(alloc, &TWO_BANDS).expect(rt, "a table")
@@ -23,81 +17,85 @@ fn nearest(table: &TickTable, price: i32) -> (i64, i64) {
     (table.down(i64::from(price)), table.up(i64::from(price)))
 }
 
+// Prices, each with the allowed prices next to it.
+const NEAREST: [(i32, i64, i64); 7] = [
+    (-1, 0, 0),
+    (0, 0, 0),
+    (99, 0, 100),
+    (999_950, 999_900, 1_000_000),
+    (1_000_000, 1_000_000, 1_000_000),
+    (1_000_001, 1_000_000, 1_000_500),
+    (1_000_499, 1_000_000, 1_000_500),
+];
+
+// Prices, each with the tick there, and whether it is allowed.
+const ALLOWED: [(u32, u32, bool); 6] = [
+    (0, 100, true),
+    (50, 100, false),
+    (999_999, 100, false),
+    (1_000_000, 500, true),
+    (1_000_100, 500, false),
+    (4_294_967_000, 500, true),
+];
+
+fn assert_allowed(rt: &impl Abort, table: &TickTable) {
+    for (price, tick, allowed) in ALLOWED.iter() {
+        equal(rt, table.tick_at(*price), *tick);
+        holds(rt, table.allowed(*price) == *allowed);
+    }
+}
+
 #[test]
 fn prices_move_to_their_ticks(rt: HostRuntime) {
     let table = two_bands(&rt, rt.alloc());
-    let key = [0; 32];
     let view = View {
         time: 5,
-        key: &key,
+        key: &[0; 32],
         symbol: Symbol(*b"ABM     "),
         value: 100_000,
         ticks: &table,
     };
-    for (price, down, up) in [
-        (-1, 0, 0),
-        (0, 0, 0),
-        (99, 0, 100),
-        (999_950, 999_900, 1_000_000),
-        (1_000_000, 1_000_000, 1_000_000),
-        (1_000_001, 1_000_000, 1_000_500),
-        (1_000_499, 1_000_000, 1_000_500),
-    ] {
-        equal(&rt, nearest(view.ticks, price), (down, up));
+    for (price, down, up) in NEAREST.iter() {
+        holds(&rt, nearest(view.ticks, *price) == (*down, *up));
     }
-    for (price, tick, allowed) in [
-        (0, 100, true),
-        (50, 100, false),
-        (999_999, 100, false),
-        (1_000_000, 500, true),
-        (1_000_100, 500, false),
-        (4_294_967_000, 500, true),
-    ] {
-        equal(&rt, table.tick_at(price), tick);
-        equal(&rt, table.allowed(price), allowed);
-    }
+    assert_allowed(&rt, &table);
 }
 
 fn refusal(alloc: Global, bands: &[Band]) -> Option<RuleError> {
     TickTable::new(alloc, bands).err()
 }
 
+const CENT: Band = Band { from: 0, tick: 100 };
+
+const NICKEL: Band = Band {
+    from: 1_000_000,
+    tick: 500,
+};
+
+const NONE: Band = Band { from: 7, tick: 0 };
+
+const OFF: Band = Band {
+    from: 150,
+    tick: 100,
+};
+
+// Bands, each with their refusal.
+const BANDS: [(&[Band], Option<RuleError>); 7] = [
+    (&[], Some(RuleError::BandsNotRising(0))),
+    (&[CENT, CENT], Some(RuleError::BandsNotRising(1))),
+    (&[OFF, NONE, CENT], Some(RuleError::BandsNotRising(1))),
+    (&[NONE, OFF], Some(RuleError::ZeroTick(0))),
+    (&[CENT, OFF], Some(RuleError::BandOffTick(1))),
+    (&[NICKEL], Some(RuleError::BandOffTick(0))),
+    (&[CENT, NICKEL], None),
+];
+
 #[test]
 fn bad_bands_are_refused(rt: HostRuntime) {
     let alloc = rt.alloc();
-    let [cent, nickel] = TWO_BANDS;
-    let none = Band { from: 7, tick: 0 };
-    let off = Band {
-        from: 150,
-        tick: 100,
-    };
-    equal(&rt, refusal(alloc, &[]), Some(RuleError::BandsNotRising(0)));
-    equal(
-        &rt,
-        refusal(alloc, &[cent, cent]),
-        Some(RuleError::BandsNotRising(1)),
-    );
-    equal(
-        &rt,
-        refusal(alloc, &[off, none, cent]),
-        Some(RuleError::BandsNotRising(1)),
-    );
-    equal(
-        &rt,
-        refusal(alloc, &[none, off]),
-        Some(RuleError::ZeroTick(0)),
-    );
-    equal(
-        &rt,
-        refusal(alloc, &[cent, off]),
-        Some(RuleError::BandOffTick(1)),
-    );
-    equal(
-        &rt,
-        refusal(alloc, &[nickel]),
-        Some(RuleError::BandOffTick(0)),
-    );
-    equal(&rt, refusal(alloc, &[cent, nickel]), None);
+    for (bands, hoped) in BANDS.iter() {
+        holds(&rt, refusal(alloc, bands) == *hoped);
+    }
 }
 
 fn halt(time: u64) -> Dated {

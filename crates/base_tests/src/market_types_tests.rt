@@ -30,7 +30,7 @@ fn event(alloc: Global, number: u32, feed: FeedList) -> Record {
 
 // Two closings in a list, and whether each call went well.
 fn joins_two(feed: &mut FeedList) -> bool {
-    feed.reserve(2).is_ok() && feed.push(closing(1)).is_ok() && feed.push(closing(2)).is_ok()
+    feed.reserve(2).is_ok() & feed.push(closing(1)).is_ok() & feed.push(closing(2)).is_ok()
 }
 
 // Whether the messages of a list have these times.
@@ -45,19 +45,25 @@ fn have_times(feed: &FeedList, times: &[u64]) -> bool {
 
 #[test]
 fn feeds_grow_and_are_copied(rt: HostRuntime) {
-    let mut feed = FeedList::new(rt.alloc());
-    holds(&rt, feed.is_empty() && feed.get(0).is_none());
+    let alloc = rt.alloc();
+    let mut feed = FeedList::new(alloc);
+    holds(&rt, feed.is_empty() & feed.get(0).is_none());
     holds(&rt, joins_two(&mut feed));
-    let copy = feed.copy(rt.alloc()).expect(&rt, "memory");
+    let copy = feed.copy(alloc).expect(&rt, "memory");
     holds(&rt, feed.append_copy(&copy).is_ok());
-    equal(&rt, (feed.len(), copy.len()), (4, 2));
+    holds(&rt, copy.len() == 2);
+    drop(copy);
+    holds(&rt, feed.len() == 4);
     holds(&rt, have_times(&feed, &[1, 2, 1, 2]));
+    drop(feed);
 }
 
 // Whether the second entry of a trace is event 7 with a fee of -3 and two feed messages.
 fn has_event_next(trace: &Trace) -> bool {
     match trace.get(1) {
-        Some(Entry::Event(last)) => { (last.number, last.fee, last.after.len()) == (7, -3, 2) }
+        Some(Entry::Event(last)) => {
+            (last.number == 7) & (last.fee == -3) & (last.after.len() == 2)
+        }
         _ => false,
     }
 }

@@ -97,18 +97,21 @@ impl Write for Narrow {
     }
 }
 
+// Pieces, each with what a stream takes of it.
+const PIECES: [(&str, Result<usize, Failed>); 6] = [
+    ("abc", Ok(2)),
+    ("", Ok(0)),
+    ("0", Err(Failed)),
+    ("flush", Err(Failed)),
+    ("write", Err(Failed)),
+    ("d", Ok(1)),
+];
+
 #[test]
 fn faults_of_a_stream(rt: HostRuntime) {
     let mut sink = StreamSink::new(Narrow { flushes: true });
-    for (piece, want) in [
-        ("abc", Ok(2)),
-        ("", Ok(0)),
-        ("0", Err(Failed)),
-        ("flush", Err(Failed)),
-        ("write", Err(Failed)),
-        ("d", Ok(1)),
-    ] {
-        holds(&rt, sink.write(piece.as_bytes()) == want);
+    for (piece, want) in PIECES.iter() {
+        holds(&rt, sink.write(piece.as_bytes()) == *want);
     }
 }
 

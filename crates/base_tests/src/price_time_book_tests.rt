@@ -83,74 +83,85 @@ fn said(fill: Option<Fill>) -> Option<(u64, u32, u32)> {
     Some((f.resting.reference, f.resting.price, f.shares))
 }
 
+// What the next order says that gives to a buy of so many shares.
+fn bought(book: &mut Book, limit: u32, wanted: u32) -> Option<(u64, u32, u32)> {
+    if wanted == 0 {
+        return None;
+    }
+    said(book.match_next(Side::Buy, limit, wanted))
+}
+
+// Buys of these limits and shares get this, one after the other.
+fn buys_get(rt: &impl Abort, book: &mut Book, buys: &[(u32, u32, Option<(u64, u32, u32)>)]) {
+    for (limit, wanted, hoped) in buys {
+        equal(rt, bought(book, *limit, *wanted), *hoped);
+    }
+}
+
+// Three sells come to rest.
+fn rest_three(rt: &impl Abort, book: &mut Book)
+    requires room { 3 ≤ book.old.spare }
+    requires before { All (λ o. o.reference < 1) book.old.list }
+    requires few { length book.old.list ≤ 1 }
+{
+    holds(rt, add(book, sell(1, 2, FIRST, 100_100, 100), 1));
+    holds(rt, add(book, sell(2, 2, SECOND, 100_000, 200), 2));
+    holds(rt, add(book, sell(3, 3, FIRST, 100_000, 300), 3));
+}
+
+// The best price and its shares.
+fn best_of(book: &Book, side: Side) -> Option<(u32, u64)> {
+    let best = book.best(side)?;
+    Some((best.price, best.shares))
+}
+
+const SWEPT: [(u32, u32, Option<(u64, u32, u32)>); 5] = [
+    (99_999, 700, None),
+    (100_100, 700, Some((2, 100_000, 200))),
+    (100_100, 500, Some((3, 100_000, 300))),
+    (100_100, 200, Some((1, 100_100, 100))),
+    (100_100, 100, None),
+];
+
 #[test]
 fn sweeps_three_sells(rt: HostRuntime) {
     let mut book = Book::new(rt.alloc());
     assert!(rt; book.reserve(3).is_ok());
-    holds(&rt, add(&mut book, sell(1, 2, FIRST, 100_100, 100), 1));
-    holds(&rt, add(&mut book, sell(2, 2, SECOND, 100_000, 200), 2));
-    holds(&rt, add(&mut book, sell(3, 3, FIRST, 100_000, 300), 3));
-    equal(
-        &rt,
-        book.best(Side::Sell),
-        Some(Best {
-            price: 100_000,
-            shares: 500,
-        }),
-    );
-    equal(&rt, book.best(Side::Buy), None);
-    equal(&rt, said(take(&mut book, Side::Buy, 99_999, 700, 4)), None);
-    equal(
-        &rt,
-        said(take(&mut book, Side::Buy, 100_100, 700, 4)),
-        Some((2, 100_000, 200)),
-    );
-    equal(
-        &rt,
-        said(take(&mut book, Side::Buy, 100_100, 500, 4)),
-        Some((3, 100_000, 300)),
-    );
-    equal(
-        &rt,
-        said(take(&mut book, Side::Buy, 100_100, 200, 4)),
-        Some((1, 100_100, 100)),
-    );
-    equal(&rt, said(take(&mut book, Side::Buy, 100_100, 100, 4)), None);
+    rest_three(&rt, &mut book);
+    equal(&rt, best_of(&book, Side::Sell), Some((100_000, 500)));
+    equal(&rt, best_of(&book, Side::Buy), None);
+    buys_get(&rt, &mut book, &SWEPT);
     equal(&rt, book.depth(Side::Sell), 0);
+    drop(book);
+}
+
+// A hidden sell and then a shown one of the same price come to rest.
+fn rest_both(rt: &impl Abort, book: &mut Book)
+    requires room { 2 ≤ book.old.spare }
+    requires before { All (λ o. o.reference < 1) book.old.list }
+    requires few { length book.old.list ≤ 1 }
+{
+    let veiled = Resting {
+        shown: false,
+        ..sell(1, 2, FIRST, 100_000, 100)
+    };
+    holds(rt, add(book, veiled, 1));
+    holds(rt, book.best(Side::Sell).is_none());
+    holds(rt, add(book, sell(2, 3, FIRST, 100_000, 100), 2));
 }
 
 #[test]
 fn meets_shown_orders_first(rt: HostRuntime) {
     let mut book = Book::new(rt.alloc());
     assert!(rt; book.reserve(2).is_ok());
-    let veiled = Resting {
-        shown: false,
-        ..sell(1, 2, FIRST, 100_000, 100)
-    };
-    holds(&rt, add(&mut book, veiled, 1));
-    holds(&rt, book.best(Side::Sell).is_none());
-    holds(&rt, add(&mut book, sell(2, 3, FIRST, 100_000, 100), 2));
-    equal(
-        &rt,
-        book.best(Side::Sell),
-        Some(Best {
-            price: 100_000,
-            shares: 100,
-        }),
-    );
-    equal(
-        &rt,
-        said(take(&mut book, Side::Buy, 100_000, 150, 3)),
-        Some((2, 100_000, 100)),
-    );
+    rest_both(&rt, &mut book);
+    equal(&rt, best_of(&book, Side::Sell), Some((100_000, 100)));
+    buys_get(&rt, &mut book, &[(100_000, 150, Some((2, 100_000, 100)))]);
     equal(&rt, book.crossing(Side::Buy, 100_000), 1);
-    equal(
-        &rt,
-        said(take(&mut book, Side::Buy, 100_000, 50, 3)),
-        Some((1, 100_000, 50)),
-    );
-    equal(&rt, book.best(Side::Sell), None);
+    buys_get(&rt, &mut book, &[(100_000, 50, Some((1, 100_000, 50)))]);
+    equal(&rt, best_of(&book, Side::Sell), None);
     equal(&rt, book.depth(Side::Sell), 1);
+    drop(book);
 }
 
 // The next state of a small generator (a linear congruence over 64 bits).
@@ -269,18 +280,30 @@ fn crosses(order: &Resting, side: Side, limit: u32) -> bool {
     }
 }
 
-// So many shares of the order with this reference leave.
-fn lower(plain: &mut Vec<Resting>, reference: u64, shares: u32, intended: u32) -> Option<Resting> {
-    let mut was = None;
-    for order in plain.iter_mut() {
+// The place of the order with a reference.
+fn place_of(plain: &[Resting], reference: u64) -> Option<usize> {
+    for (i, order) in plain.iter().enumerate() {
         if order.reference == reference {
-            was = Some(*order);
-            order.left = order.left.saturating_sub(shares);
-            order.intended = order.intended.saturating_sub(intended);
+            return Some(i);
         }
     }
-    plain.retain(|o| o.left > 0);
-    was
+    None
+}
+
+// So many shares of the order with this reference leave.
+fn lower(plain: &mut Vec<Resting>, reference: u64, shares: u32, intended: u32) -> Option<Resting> {
+    let at = place_of(plain.as_slice(), reference)?;
+    if at >= plain.len() {
+        return None;
+    }
+    let was = plain[at];
+    if was.left <= shares {
+        plain.remove(at);
+        return Some(was);
+    }
+    plain[at].left = was.left - shares;
+    plain[at].intended = was.intended.saturating_sub(intended);
+    Some(was)
 }
 
 // The order that an agent sent under a token.
@@ -393,7 +416,26 @@ fn rest_some(rt: &impl Abort, book: &mut Book, plain: &mut Vec<Resting>, roll: u
 fn copied(rt: &impl Abort, alloc: Global, book: &Book, plain: &[Resting]) -> Book {
     let listed = book.orders(alloc).expect(rt, "memory");
     holds(rt, listed.as_slice() == plain);
+    drop(listed);
     book.copy(alloc).expect(rt, "memory")
+}
+
+// An order comes to rest, if it can, and then one trades or is lowered.
+fn one_round(rt: &impl Abort, book: &mut Book, plain: &mut Vec<Resting>, seed: u64, next: u64)
+    requires before { All (λ o. o.reference < next) book.old.list }
+    requires few { length book.old.list ≤ next }
+    requires small { next < 10000 }
+    ensures before { All (λ o. o.reference < next + 1) book.new.list }
+    ensures few { length book.new.list ≤ next + 1 }
+{
+    rest_some(rt, book, plain, seed >> 33, next);
+    let roll = stirred(seed);
+    if roll >> 63 == 0 {
+        match_some(rt, book, plain, roll >> 33, next + 1);
+    } else {
+        lower_some(rt, book, plain, roll >> 33, next + 1);
+    }
+    assert_same(rt, book, plain.as_slice());
 }
 
 #[test]
@@ -403,15 +445,12 @@ fn agrees_with_a_plain_list(rt: HostRuntime) {
     let mut seed = 7;
     for next in 0..ROUNDS {
         seed = stirred(seed);
-        rest_some(&rt, &mut book, &mut plain, seed >> 33, next);
+        one_round(&rt, &mut book, &mut plain, seed, next);
         seed = stirred(seed);
-        if seed >> 63 == 0 {
-            match_some(&rt, &mut book, &mut plain, seed >> 33, next + 1);
-        } else {
-            lower_some(&rt, &mut book, &mut plain, seed >> 33, next + 1);
-        }
-        assert_same(&rt, &book, plain.as_slice());
     }
     let copy = copied(&rt, rt.alloc(), &book, plain.as_slice());
     assert_same(&rt, &copy, plain.as_slice());
+    drop(copy);
+    drop(plain);
+    drop(book);
 }

@@ -134,7 +134,9 @@ fn two_seats_at_one_fork(rt: HostRuntime) {
     let mut s = System::opening(rt.alloc()).expect(&rt, "memory");
     let events = two_seats(&rt, rt.alloc());
     make_all(&rt, rt.alloc(), &mut s, events.as_slice());
+    drop(events);
     holds(&rt, has_joined(&s));
+    drop(s);
 }
 
 #[test]
@@ -142,6 +144,7 @@ fn law_of_no_events(rt: HostRuntime) {
     let s = law(rt.alloc(), &[]).expect(&rt, "memory");
     holds(&rt, s.plan.is_none());
     equal(&rt, s.views.len(), 1);
+    drop(s);
 }
 
 // The event that a number stands for: its kind, a seat, and a segment, key, word or other seat.
@@ -196,6 +199,7 @@ fn made_alike(
     let event = event_of(number);
     let made = make(rt, alloc, s, &event);
     equal(rt, plain.make(&event).expect(rt, "memory"), made);
+    drop(event);
     holds(rt, plain.is_like(s));
     made
 }
@@ -214,4 +218,5 @@ fn many_events_as_the_table_says(rt: HostRuntime) {
         possible = u32::saturating_add(possible, u32::from(made));
     }
     holds(&rt, possible > 100);
+    drop(s);
 }

@@ -1,5 +1,5 @@
 -- The lanes that are opened.
-use Rattle.std.proofs.Common.{◌≡◌, ◌≢◌, ℕ, zero, suc, ◌+◌, ◌<◌, ◌≤◌, ◌⊎◌, inl, inr, ⊎_elim, All, List, [], ◌∷◌, ◌++◌, length, take, drop, set, Option, Some, None, unwrap_or, slice_get, slice_index_or, map, sym, refl, ap, ◌∙◌, subst, arith}
+use Rattle.std.proofs.Common.{◌≡◌, ◌≢◌, ℕ, zero, suc, ◌+◌, ◌-◌, ◌<◌, ◌≤◌, ◌⊎◌, inl, inr, ⊎_elim, All, List, [], ◌∷◌, ◌++◌, length, length-drop, take, drop, set, Option, Some, None, unwrap_or, slice_get, slice_index_or, map, sym, refl, ap, ◌∙◌, subst, arith}
 use Rattle.std.proofs.lemmas.List.Elements.{All-set}
 use Rattle.branch_deques.specs.Lanes.{fresh}
 use Rattle.branch_deques.specs.Told.{EndTold, LaneTold, fresh_end, round, own_lanes}
@@ -40,6 +40,10 @@ take_long zero [] le = refl
 take_long zero (x ∷ xs) le = absurd (omega arith)
 take_long (suc n) [] le = refl
 take_long (suc n) (x ∷ xs) le = ap (λ l. x ∷ l) (take_long n xs (omega arith))
+
+-- all that stands from a place on
+pub take_rest : {A : Type 0} (n : ℕ) (xs : List A) → take (length xs - n) (drop n xs) ≡ drop n xs
+take_rest n xs = take_long (length xs - n) (drop n xs) (omega (arith, length-drop n xs))
 
 IsNone : {A : Type 0} → Option A → Type 0
 IsNone None = Unit {0}

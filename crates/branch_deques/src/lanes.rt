@@ -22,7 +22,10 @@ pub fn open_lanes<B: Room>(alloc: Global, workers: u32, room: u32) -> Result<Vec
 {
     let mut lanes = own_lanes::<B>(alloc, workers, room)?;
     for number in 0..lanes.len() {
-        let others = ends_for(alloc, lanes.as_slice(), number)?;
+        let Ok(others) = ends_for(alloc, lanes.as_slice(), number) else {
+            drop(lanes);
+            return Err(Memory);
+        };
         lanes[number].others = others;
     }
     Ok(lanes)
@@ -36,11 +39,27 @@ fn own_lanes<B: Room>(alloc: Global, workers: u32, room: u32) -> Result<Vec<Lane
 {
     let mut lanes = Vec::new(alloc);
     for _ in 0..workers {
-        let own = OwnLane::open(alloc, room)?;
-        let others = Vec::new(alloc);
-        lanes.push(Lane { own, others })?;
+        let Ok(own) = OwnLane::open(alloc, room) else {
+            drop(lanes);
+            return Err(Memory);
+        };
+        let Ok(()) = keep(alloc, &mut lanes, own) else {
+            drop(lanes);
+            return Err(Memory);
+        };
     }
     Ok(lanes)
+}
+
+// Puts a lane with no ends of others behind other lanes.
+fn keep<B: Room>(alloc: Global, lanes: &mut Vec<Lane<B>>, own: OwnLane<B>) -> Result<(), Memory>
+    ensures { OnOk result (lanes.new.items ≡ lanes.old.items ++ record { own = own; others = [] } ∷ []) }
+{
+    let others = Vec::new(alloc);
+    match lanes.push(Lane { own, others }) {
+        Ok(()) => Ok(()),
+        Err(_) => Err(Memory),
+    }
 }
 
 // An end of each of the lanes but the one at `number`, from the next higher on.
@@ -53,11 +72,23 @@ fn ends_for<B: Room>(
     ensures { IfOk result (λ ends. ends.items ≡ map fresh_end (round number (own_lanes lanes.now))) }
 {
     let mut ends = Vec::new(alloc);
-    for lane in lanes[number + 1..].iter() {
-        ends.push(lane.own.other()?)?;
-    }
-    for lane in lanes[..number].iter() {
-        ends.push(lane.own.other()?)?;
-    }
+    let Ok(()) = add_ends(&mut ends, &lanes[number + 1..]) else {
+        drop(ends);
+        return Err(Memory);
+    };
+    let Ok(()) = add_ends(&mut ends, &lanes[..number]) else {
+        drop(ends);
+        return Err(Memory);
+    };
     Ok(ends)
+}
+
+// Adds an end of each of these lanes.
+fn add_ends<B: Room>(ends: &mut Vec<OtherLane<B>>, lanes: &[Lane<B>]) -> Result<(), Memory>
+    ensures { OnOk result (ends.new.items ≡ ends.old.items ++ map fresh_end (own_lanes lanes.now)) }
+{
+    for lane in lanes {
+        ends.push(lane.own.other()?)?;
+    }
+    Ok(())
 }

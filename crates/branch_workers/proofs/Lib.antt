@@ -14,3 +14,5 @@ pub mod Closing
 pub mod Timing
 pub mod Gathering
 pub mod Turns
+pub mod OneTurn
+pub mod Remaining

@@ -91,9 +91,19 @@ fn run_seated<R: Threads + Wait + Sync, G: Gate + Sync, L: Ledger + Send, B: Roo
 {
     shift.course.is_course();
     let workers = seats.len() as u32;
-    let lanes = first_lanes::<B>(shift.alloc, shift.course, workers, count)?;
-    let mut back = Back::new(shift.alloc, workers)?;
-    let mut workers = staff::<L, B>(shift.alloc, seats, lanes)?;
+    let Ok(lanes) = first_lanes::<B>(shift.alloc, shift.course, workers, count) else {
+        drop(seats);
+        return Err(Memory);
+    };
+    let Ok(mut back) = Back::new(shift.alloc, workers) else {
+        drop(lanes);
+        drop(seats);
+        return Err(Memory);
+    };
+    let Ok(mut workers) = staff::<L, B>(shift.alloc, seats, lanes) else {
+        drop(back);
+        return Err(Memory);
+    };
     run_all(rt, shift, workers.as_mut_slice());
     let steps = gather(&mut back, workers);
     Ok((back, steps))
@@ -140,8 +150,15 @@ pub fn work<R: Threads + Wait + Sync, G: Gate + Sync, L: Ledger + Send>(
     ensures once { IfOk result (λ w. RanOnce course.now.value (layout course.now.value.plan setup.stride setup.places) setup.workers w.shelf.system) }
 {
     let count = course.plan().segments().len() as u32;
-    let (shelf, seats) = open_shelf(alloc, course, setup.stride, setup.places, setup.workers)?;
-    let mut slots = empty_slots(alloc, count)?;
+    let Ok((shelf, seats)) = open_shelf(alloc, course, setup.stride, setup.places, setup.workers)
+    else {
+        return Err(Memory);
+    };
+    let Ok(mut slots) = empty_slots(alloc, count) else {
+        drop(seats);
+        drop(shelf);
+        return Err(Memory);
+    };
     let shift = Shift {
         alloc,
         course,
@@ -150,7 +167,11 @@ pub fn work<R: Threads + Wait + Sync, G: Gate + Sync, L: Ledger + Send>(
         keep: setup.keep,
         gate,
     };
-    let (back, counted) = run_seated::<R, G, L, Brand>(rt, &shift, seats, count)?;
+    let Ok((back, counted)) = run_seated::<R, G, L, Brand>(rt, &shift, seats, count) else {
+        drop(slots);
+        drop(shelf);
+        return Err(Memory);
+    };
     let Back {
         seats,
         outcomes,
@@ -159,9 +180,15 @@ pub fn work<R: Threads + Wait + Sync, G: Gate + Sync, L: Ledger + Send>(
     let shelf = shelf.close(seats);
     steps.join(counted);
     if !finished {
+        drop(shelf);
+        drop(outcomes);
+        drop(slots);
         return Err(Memory);
     }
     place_all(&mut slots, outcomes);
-    let outcomes = in_order(alloc, slots)?;
+    let Ok(outcomes) = in_order(alloc, slots) else {
+        drop(shelf);
+        return Err(Memory);
+    };
     Ok(Worked { outcomes, shelf })
 }

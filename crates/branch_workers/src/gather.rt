@@ -60,11 +60,12 @@ pub(crate) fn gather<L: Ledger, B: Room>(
         let Worker {
             number: _,
             seat,
-            lane: _,
+            lane,
             steps: part,
             outcomes,
             finished,
         } = worker;
+        drop(lane);
         steps.join(part);
         back.seats.push_reserved(seat);
         back.outcomes.push_reserved(outcomes);

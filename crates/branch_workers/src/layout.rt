@@ -102,10 +102,17 @@ fn shelf_plan(alloc: Global, course: &Course, stride: u32, places: u32) -> Resul
     ensures fits { IfOk result PlanFits }
 {
     let plan = course.plan();
+    let Ok(forks) = forks(alloc, plan) else {
+        return Err(Memory);
+    };
+    let Ok(grid) = grid(alloc, plan, stride) else {
+        drop(forks);
+        return Err(Memory);
+    };
     Ok(ShelfPlan {
         segments: plan.segments().len() as u32,
-        forks: forks(alloc, plan)?,
-        grid: grid(alloc, plan, stride)?,
+        forks,
+        grid,
         places,
     })
 }
@@ -127,6 +134,8 @@ pub fn open_shelf(
     ensures count { IfOk result (λ r. length r.1.items ≡ workers) }
     ensures seats { IfOk result (λ r. NewFrom r.0 0 r.1.items) }
 {
-    let plan = shelf_plan(alloc, course, stride, places)?;
+    let Ok(plan) = shelf_plan(alloc, course, stride, places) else {
+        return Err(Memory);
+    };
     Shelf::open(alloc, course, plan, workers)
 }

@@ -45,7 +45,9 @@ fn end_of<R: Wait, G>(
 {
     let stop = shift.course.segment(segment).stop;
     let event = number_of_end(stop);
-    let end = wait_for(rt, shift.shelf, seat, Key { segment, event })?;
+    let Ok(end) = wait_for(rt, shift.shelf, seat, Key { segment, event }) else {
+        return Err(Memory);
+    };
     let kernel = end.resume(shift.alloc);
     drop(end);
     kernel
@@ -119,7 +121,10 @@ fn advance<R: Wait, G, L: Ledger>(
     shift.course.is_course();
     let most = shift.course.opening().limit;
     let mut entries = Trace::new(shift.alloc);
-    let kernel = kernel_at_start(rt, shift, seat, segment, &mut entries)?;
+    let Ok(kernel) = kernel_at_start(rt, shift, seat, segment, &mut entries) else {
+        drop(entries);
+        return Err(Memory);
+    };
     let Ok(kept) = Kept::of(shift.alloc, shift.keep, entries) else {
         drop(kernel);
         return Err(Memory);
@@ -227,12 +232,16 @@ pub fn run_segment<R: Wait, G: Gate, L: Ledger>(
     let mut own = steps.split();
     let made = advance(rt, shift, seat, segment, &mut own);
     steps.join(own);
-    let ran = made?;
+    let Ok(ran) = made else {
+        return Err(Memory);
+    };
     let Ok(()) = shelve_end(shift, seat, segment, &ran.kernel) else {
         drop(ran);
         return Err(Memory);
     };
-    let outcome = outcome_at(shift.alloc, shift.course.opening(), segment, ran)?;
+    let Ok(outcome) = outcome_at(shift.alloc, shift.course.opening(), segment, ran) else {
+        return Err(Memory);
+    };
     shift.shelf.count(seat);
     Ok(outcome)
 }

@@ -27,7 +27,9 @@ pub(crate) fn first_lanes<B: Room>(
     ensures pushed { IfOk result (λ lanes. All (λ lane. HasPushed course.now.plan [] lane.own.view.pushed) lanes.items) }
 {
     course.is_course();
-    let mut lanes = open_lanes::<B>(alloc, workers, count)?;
+    let Ok(mut lanes) = open_lanes::<B>(alloc, workers, count) else {
+        return Err(Memory);
+    };
     lanes[0].push(0);
     Ok(lanes)
 }
@@ -46,6 +48,8 @@ pub(crate) fn staff<L: Ledger, B: Room>(
     ensures idle { IfOk result (λ workers. All (λ w. (w.steps ≡ 0) × (w.outcomes.items ≡ []) × (w.finished ≡ false)) workers.items) }
 {
     let Ok(mut workers) = Vec::with_capacity(alloc, seats.len()) else {
+        drop(lanes);
+        drop(seats);
         return Err(Memory);
     };
     for number in 0..seats.len() {
@@ -60,5 +64,7 @@ pub(crate) fn staff<L: Ledger, B: Room>(
             finished: false,
         });
     }
+    drop(lanes);
+    drop(seats);
     Ok(workers)
 }

@@ -75,6 +75,7 @@ pub fn read_bundle(alloc: Global, bytes: &[u8]) -> Result<Bundle, BundleError>
         rest = after;
     }
     if !rest.is_empty() {
+        drop(reading);
         return Err(BundleError::BadOrder(bytes.len() - rest.len()));
     }
     match reading.bundle() {
@@ -96,9 +97,18 @@ fn read_more(
 {
     let (frame, after) = match next_frame(alloc, reading.stocks(), rest) {
         Ok(read) => read,
-        Err(FrameError::Cut) => return Err(BundleError::Cut(rest.len())),
-        Err(FrameError::Bad) => return Err(BundleError::BadFrame(offset)),
-        Err(FrameError::Memory) => return Err(BundleError::Memory),
+        Err(FrameError::Cut) => {
+            drop(reading);
+            return Err(BundleError::Cut(rest.len()));
+        }
+        Err(FrameError::Bad) => {
+            drop(reading);
+            return Err(BundleError::BadFrame(offset));
+        }
+        Err(FrameError::Memory) => {
+            drop(reading);
+            return Err(BundleError::Memory);
+        }
     };
     match reading.take(alloc, frame) {
         Ok(next) => Ok((next, after)),

@@ -52,6 +52,7 @@ pub(crate) fn put_agent(
         || count >= usize::from(agents)
         || usize::from(agent.agent) != count
     {
+        drop(agent);
         return Err(Misplaced::Order);
     }
     closing.agents.push(agent)?;

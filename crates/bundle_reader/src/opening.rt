@@ -7,7 +7,7 @@ ghost use Rattle.bundle_reader.specs.Reads.{Takes};
 
 use crate::entries::Last;
 use crate::reading::{Begun, Misplaced, Reading, Whole};
-use market_types::{Feed, FeedList, Trace, What};
+use market_types::{Feed, FeedList, Memory, Trace, What};
 use std::alloc::Global;
 
 // Whether a message may stand at a place of the opening of so many stocks: a system event, a directory for each stock, a
@@ -35,9 +35,11 @@ pub(crate) fn take_opening(
 {
     let stocks = whole.header.stocks;
     if !opens(stocks, begun.opening.len(), &message.what) {
-        return Err(Misplaced::Order);
+        return Reading::Opening(whole, begun).refused(Misplaced::Order);
     }
-    begun.opening.push(message)?;
+    if let Err(Memory) = begun.opening.push(message) {
+        return Reading::Opening(whole, begun).refused(Misplaced::Memory);
+    }
     if begun.opening.len() == 1 + 2 * usize::from(stocks) {
         let last = Last::Apart(FeedList::new(alloc));
         Ok(Reading::Entries(whole, begun, Trace::new(alloc), last))

@@ -1,6 +1,6 @@
 //! What was read of a bundle so far.
 
-ghost use Rattle.std.specs.Prelude.{◌≡◌, option_map};
+ghost use Rattle.std.specs.Prelude.{◌≡◌, Err, option_map};
 ghost use Rattle.bundle_reader.specs.Told.{bundle_told, reading_told};
 ghost use Rattle.bundle_reader.specs.Order.{stocks_known, is_whole, whole_bundle};
 
@@ -71,8 +71,19 @@ impl Reading {
     {
         match self {
             Reading::End(bundle) => Some(bundle),
-            _other => None,
+            other => {
+                drop(other);
+                None
+            }
         }
+    }
+
+    // Lets go of what was read, where a frame was not taken.
+    pub(crate) fn refused(self, why: Misplaced) -> Result<Reading, Misplaced>
+        ensures { result ≡ Err why }
+    {
+        drop(self);
+        Err(why)
     }
 
     // How many stocks there are, where the header was read.

@@ -1,17 +1,19 @@
 //! One frame more.
 
-ghost use Rattle.std.specs.Prelude.{None, if◌then◌else◌};
-ghost use Rattle.bundle_reader.specs.Told.{begun_told, reading_told, whole_told};
-ghost use Rattle.bundle_reader.specs.Order.{branch_of, is_closed, take_closing, take_counts, take_first, take_header, take_next, taken, with_branch};
-ghost use Rattle.bundle_reader.specs.Reads.{Takes};
+ghost use Rattle.std.specs.Prelude.{◌≡◌, None, Option, if◌then◌else◌};
+ghost use Rattle.bundle_frames.specs.declared.closing.Closing.{Closing as ClosingOf};
+ghost use Rattle.bundle_reader.specs.declared.frame.Frame.TheVariants as kind;
+ghost use Rattle.bundle_reader.specs.Told.{begun_told, branch_told, reading_told, whole_told};
+ghost use Rattle.bundle_reader.specs.Order.{branch_of, is_closed, more_closing, take_closing, take_counts, take_first, take_header, take_next, taken, with_branch};
+ghost use Rattle.bundle_reader.specs.Reads.{Puts, Takes};
 
 use crate::bundle::{Bundle, Told};
 use crate::entries::{Last, take_entry};
 use crate::opening::take_opening;
 use crate::reading::{Begun, Misplaced, Reading, Whole};
-use crate::{Frame, closing};
+use crate::{BranchFrame, Frame, closing};
 use bundle_frames::Closing;
-use market_types::{Feed, FeedList, Sequence, Trace};
+use market_types::{Feed, FeedList, Memory, Sequence, Trace};
 use std::alloc::Global;
 
 impl Reading {
@@ -33,7 +35,10 @@ impl Reading {
             Reading::Closing(whole, begun, entries, ended, closing) => {
                 part(alloc, whole, begun, entries, ended, closing, frame)
             }
-            Reading::End(_) => Err(Misplaced::Order),
+            Reading::End(bundle) => {
+                drop(frame);
+                Reading::End(bundle).refused(Misplaced::Order)
+            }
         }
     }
 }
@@ -47,7 +52,10 @@ fn header(alloc: Global, frame: Frame) -> Result<Reading, Misplaced>
             header,
             branches: Sequence::empty(alloc),
         })),
-        _ => Err(Misplaced::Order),
+        other => {
+            drop(other);
+            Err(Misplaced::Order)
+        }
     }
 }
 
@@ -55,26 +63,48 @@ fn header(alloc: Global, frame: Frame) -> Result<Reading, Misplaced>
 fn next(alloc: Global, whole: Whole, frame: Frame) -> Result<Reading, Misplaced>
     ensures { Takes (take_next (whole_told whole) frame) result }
 {
-    let count = whole.branches.len();
-    let all = usize::from(whole.header.branches);
     match frame {
-        Frame::Branch(branch) if count < all && usize::from(branch.branch) == count => {
-            let begun = Begun {
-                name: branch.name,
-                parent: branch.parent,
-                stop: branch.stop,
-                opening: FeedList::new(alloc),
-            };
-            Ok(Reading::Opening(whole, begun))
+        Frame::Branch(branch) => next_branch(alloc, whole, branch),
+        Frame::End(branches) => end(whole, branches),
+        other => {
+            drop(other);
+            Reading::Between(whole).refused(Misplaced::Order)
         }
-        Frame::End(branches) if count == all && branches == whole.header.branches => {
-            Ok(Reading::End(Bundle {
-                agents: whole.header.agents,
-                stocks: whole.header.stocks,
-                branches: whole.branches,
-            }))
-        }
-        _ => Err(Misplaced::Order),
+    }
+}
+
+// The branch of the next number, where one is to come.
+fn next_branch(alloc: Global, whole: Whole, branch: BranchFrame) -> Result<Reading, Misplaced>
+    ensures { Takes (take_next (whole_told whole) (kind.Branch branch)) result }
+{
+    let count = whole.branches.len();
+    if count < usize::from(whole.header.branches) && usize::from(branch.branch) == count {
+        let begun = Begun {
+            name: branch.name,
+            parent: branch.parent,
+            stop: branch.stop,
+            opening: FeedList::new(alloc),
+        };
+        Ok(Reading::Opening(whole, begun))
+    } else {
+        drop(branch);
+        Reading::Between(whole).refused(Misplaced::Order)
+    }
+}
+
+// The end, where no branch is to come and its number of branches is the header's.
+fn end(whole: Whole, branches: u16) -> Result<Reading, Misplaced>
+    ensures { Takes (take_next (whole_told whole) (kind.End branches)) result }
+{
+    let all = whole.header.branches;
+    if whole.branches.len() == usize::from(all) && branches == all {
+        Ok(Reading::End(Bundle {
+            agents: whole.header.agents,
+            stocks: whole.header.stocks,
+            branches: whole.branches,
+        }))
+    } else {
+        Reading::Between(whole).refused(Misplaced::Order)
     }
 }
 
@@ -84,7 +114,10 @@ fn first(alloc: Global, whole: Whole, begun: Begun, frame: Frame) -> Result<Read
 {
     match frame {
         Frame::Message(message) => take_opening(alloc, whole, begun, message),
-        _ => Err(Misplaced::Order),
+        other => {
+            drop(other);
+            Reading::Opening(whole, begun).refused(Misplaced::Order)
+        }
     }
 }
 
@@ -109,7 +142,10 @@ fn counts(
             };
             Ok(Reading::Closing(whole, begun, entries, ended, closing))
         }
-        _ => Err(Misplaced::Order),
+        other => {
+            drop(other);
+            Reading::Ended(whole, begun, entries, ended).refused(Misplaced::Order)
+        }
     }
 }
 
@@ -127,14 +163,53 @@ fn part(
 {
     let stocks = whole.header.stocks;
     match frame {
-        Frame::Stock(stock) => closing::put_stock(&mut closing, stocks, stock)?,
-        Frame::Order(order) => closing::put_order(&mut closing, stocks, order)?,
-        Frame::Agent(agent) => {
-            closing::put_agent(&mut closing, stocks, whole.header.agents, agent)?;
+        Frame::Stock(stock) => {
+            let put = closing::put_stock(&mut closing, stocks, stock);
+            with_part(whole, begun, entries, ended, closing, put)
         }
-        _ => return behind(alloc, whole, begun, entries, ended, closing, frame),
+        Frame::Order(order) => {
+            let put = closing::put_order(&mut closing, stocks, order);
+            with_part(whole, begun, entries, ended, closing, put)
+        }
+        Frame::Agent(agent) => {
+            let put = closing::put_agent(&mut closing, stocks, whole.header.agents, agent);
+            with_part(whole, begun, entries, ended, closing, put)
+        }
+        other => behind(alloc, whole, begun, entries, ended, closing, other),
     }
-    Ok(Reading::Closing(whole, begun, entries, ended, closing))
+}
+
+// A closing with one part more, where it was put.
+fn with_part(
+    whole: Whole,
+    begun: Begun,
+    entries: Trace,
+    ended: Feed,
+    closing: Closing,
+    put: Result<(), Misplaced>,
+) -> Result<Reading, Misplaced>
+    ensures { (after : Option ClosingOf) → Puts after closing put → Takes (more_closing (whole_told whole) (begun_told begun) entries.list ended after) result }
+{
+    let next = Reading::Closing(whole, begun, entries, ended, closing);
+    match put {
+        Ok(()) => Ok(next),
+        Err(why) => next.refused(why),
+    }
+}
+
+// A branch that was read whole.
+fn whole_branch(begun: Begun, entries: Trace, ended: Feed, closing: Closing) -> Told
+    ensures { branch_told result ≡ branch_of (begun_told begun) entries.list ended closing }
+{
+    Told {
+        name: begun.name,
+        parent: begun.parent,
+        stop: begun.stop,
+        opening: begun.opening,
+        entries,
+        ended,
+        closing,
+    }
 }
 
 // What follows a closing that is whole.
@@ -152,16 +227,13 @@ fn behind(
     if closing.stocks.len() != usize::from(whole.header.stocks)
         || closing.agents.len() != usize::from(whole.header.agents)
     {
-        return Err(Misplaced::Order);
+        drop(frame);
+        return Reading::Closing(whole, begun, entries, ended, closing).refused(Misplaced::Order);
     }
-    whole.branches.push(Told {
-        name: begun.name,
-        parent: begun.parent,
-        stop: begun.stop,
-        opening: begun.opening,
-        entries,
-        ended,
-        closing,
-    })?;
+    let told = whole_branch(begun, entries, ended, closing);
+    if let Err(Memory) = whole.branches.push(told) {
+        drop(frame);
+        return Reading::Between(whole).refused(Misplaced::Memory);
+    }
     next(alloc, whole, frame)
 }

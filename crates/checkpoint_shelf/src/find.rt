@@ -40,18 +40,15 @@ fn borrow<C: Shelved, B: Aim>(
         (λ word. Missed table.now.key.plan key word seat.old.me.0.seen seat.new.me.0.seen)) }
     ensures refused { OnErr result (Borrowed table.now.key.plan key seat.old.me.0.seen seat.new.me.0.seen) }
 {
-    match lend::<C, B>(table, seat, number, place, key) {
-        Err(word) => Ok(Found::NotYet(word)),
-        Ok(value) => match Arc::try_clone(&value) {
-            Ok(copy) => {
-                give_back::<C, B>(table, seat, number, place, key, value);
-                Ok(Found::Here(copy))
-            }
-            Err(_) => {
-                give_back::<C, B>(table, seat, number, place, key, value);
-                Err(Memory)
-            }
-        },
+    let value = match lend::<C, B>(table, seat, number, place, key) {
+        Err(word) => return Ok(Found::NotYet(word)),
+        Ok(value) => value,
+    };
+    let copy = Arc::try_clone(&value);
+    give_back::<C, B>(table, seat, number, place, key, value);
+    match copy {
+        Ok(copy) => Ok(Found::Here(copy)),
+        Err(_) => Err(Memory),
     }
 }
 

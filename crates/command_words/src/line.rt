@@ -23,20 +23,14 @@ pub struct Line<'a> {
 fn command<'a>(alloc: Global) -> Result<Command<'a>, AllocError>
     ensures { IfOk result (λ r. app_of r ≡ abides) }
 {
-    let command = Arg::new(alloc, "command").required(true);
-    let study = Arg::new(alloc, "study").required(true);
-    let more = Arg::new(alloc, "more").action(ArgAction::Append);
-    let workers = Arg::new(alloc, "workers")
-        .long("workers")
-        .default_value("1");
-    let places = Arg::new(alloc, "places").long("places").default_value("16");
-    Command::new(alloc, "abides")
-        .no_binary_name(true)
-        .arg(command)?
-        .arg(study)?
-        .arg(more)?
-        .arg(workers)?
-        .arg(places)
+    let app = Command::new(alloc, "abides").no_binary_name(true);
+    let app = app.arg(Arg::new(alloc, "command").required(true))?;
+    let app = app.arg(Arg::new(alloc, "study").required(true))?;
+    let app = app.arg(Arg::new(alloc, "more").action(ArgAction::Append))?;
+    let workers = Arg::new(alloc, "workers").long("workers");
+    let app = app.arg(workers.default_value("1"))?;
+    let places = Arg::new(alloc, "places").long("places");
+    app.arg(places.default_value("16"))
 }
 
 // The matches of the words. `None` exactly where the command does not take them.

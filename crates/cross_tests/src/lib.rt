@@ -2,6 +2,8 @@
 #![tactic(auto)]
 
 #[cfg(test)]
+mod facts;
+#[cfg(test)]
 mod feed_rebuild_tests;
 #[cfg(test)]
 mod order_file_tests;

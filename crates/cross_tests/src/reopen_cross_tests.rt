@@ -2,12 +2,12 @@ ghost use Rattle.std.specs.Prelude.{◌≤◌, All, IfOk, OnOk, length};
 ghost use Rattle.reopen_cross.specs.declared.cross.Interest.{Interest};
 ghost use Rattle.reopen_cross.specs.Orderly.{AreInterests};
 
+use crate::facts::{equal, holds};
 use market_types::{HIGHEST_PRICE, Memory, Side};
 use reopen_cross::laws::an_order_joins;
 use reopen_cross::{Cross, Interest, Part, choose, parts};
 use std::alloc::Global;
 use std::process::Abort;
-use std::test::Fail;
 
 const ROUNDS: u64 = 64;
 
@@ -88,53 +88,62 @@ fn part(side: Side, reference: u64, shares: u32) -> Part {
     }
 }
 
+// Orders cross so, and trade these parts.
+fn assert_crossed(
+    rt: &impl Abort,
+    alloc: Global,
+    rows: &[Row],
+    cross: Option<Cross>,
+    want: &[Part],
+) {
+    let list = list_of(alloc, rows).expect(rt, "memory");
+    let (told, filled) = crossed(alloc, list.as_slice()).expect(rt, "memory");
+    drop(list);
+    equal(rt, told, cross);
+    holds(rt, filled.as_slice() == want);
+    drop(filled);
+}
+
+const FIVE_CROSS: Cross = Cross {
+    price: 100_100,
+    shares: 250,
+    buys: 300,
+    sells: 250,
+    cut: 100_199,
+    below: 250,
+    above: 100,
+};
+
 #[test]
-fn five_orders_cross(rt: HostRuntime) -> Result<(), Fail> {
-    let (cross, filled) = crossed(rt.alloc(), list_of(rt.alloc(), &FIVE)?.as_slice())?;
-    let want = Cross {
-        price: 100_100,
-        shares: 250,
-        buys: 300,
-        sells: 250,
-        cut: 100_199,
-        below: 250,
-        above: 100,
-    };
-    assert_eq!(rt; cross, Some(want));
+fn five_orders_cross(rt: HostRuntime) {
     let want = [
         part(Side::Buy, 1, 100),
         part(Side::Buy, 2, 150),
         part(Side::Sell, 3, 150),
         part(Side::Sell, 4, 100),
     ];
-    assert_eq!(rt; filled.as_slice(), want.as_slice());
-    Ok(())
+    assert_crossed(&rt, rt.alloc(), &FIVE, Some(FIVE_CROSS), &want);
 }
 
 #[test]
-fn two_orders_to_buy_do_not_cross(rt: HostRuntime) -> Result<(), Fail> {
-    let (cross, filled) = crossed(rt.alloc(), list_of(rt.alloc(), &TWO)?.as_slice())?;
-    assert_eq!(rt; cross, None);
-    assert!(rt; filled.is_empty());
-    Ok(())
+fn two_orders_to_buy_do_not_cross(rt: HostRuntime) {
+    assert_crossed(&rt, rt.alloc(), &TWO, None, &[]);
 }
 
+const ENDS_CROSS: Cross = Cross {
+    price: 1,
+    shares: 999_999,
+    buys: 999_999,
+    sells: 999_999,
+    cut: HIGHEST_PRICE,
+    below: 999_999,
+    above: 0,
+};
+
 #[test]
-fn ends_of_the_ranges_cross(rt: HostRuntime) -> Result<(), Fail> {
-    let (cross, filled) = crossed(rt.alloc(), list_of(rt.alloc(), &ENDS)?.as_slice())?;
-    let want = Cross {
-        price: 1,
-        shares: 999_999,
-        buys: 999_999,
-        sells: 999_999,
-        cut: HIGHEST_PRICE,
-        below: 999_999,
-        above: 0,
-    };
-    assert_eq!(rt; cross, Some(want));
+fn ends_of_the_ranges_cross(rt: HostRuntime) {
     let want = [part(Side::Buy, 2, 999_999), part(Side::Sell, 1, 999_999)];
-    assert_eq!(rt; filled.as_slice(), want.as_slice());
-    Ok(())
+    assert_crossed(&rt, rt.alloc(), &ENDS, Some(ENDS_CROSS), &want);
 }
 
 // Whether an order is of a side and takes part at a price.
@@ -221,12 +230,27 @@ fn place(order: &Interest) -> (u32, bool, u64) {
     }
 }
 
+// Whether an order comes after another, if there is one.
+fn is_after(order: &Interest, other: Option<Interest>) -> bool {
+    match other {
+        Some(o) => place(&o) < place(order),
+        None => true,
+    }
+}
+
+// Whether an order comes before another, if there is one.
+fn is_before(order: &Interest, other: Option<Interest>) -> bool {
+    match other {
+        Some(o) => place(order) < place(&o),
+        None => true,
+    }
+}
+
 // The earliest order of a side, of those that take part at a price and come after another.
 fn next(list: &[Interest], side: Side, price: u32, after: Option<Interest>) -> Option<Interest> {
     let mut next: Option<Interest> = None;
     for order in list {
-        let late = after.is_none_or(|o| place(&o) < place(order));
-        if takes_part(order, side, price) && late && next.is_none_or(|o| place(order) < place(&o)) {
+        if takes_part(order, side, price) & is_after(order, after) & is_before(order, next) {
             next = Some(*order);
         }
     }
@@ -276,31 +300,51 @@ fn drawn(alloc: Global, seed: u64, count: u64) -> Result<Vec<Row>, Memory> {
     Ok(rows)
 }
 
+// What trades at a cross, by trying.
+fn plain_parts(
+    rt: &impl Abort,
+    alloc: Global,
+    list: &[Interest],
+    cross: Option<Cross>,
+) -> Vec<Part> {
+    let mut parts = Vec::new(alloc);
+    if let Some(cross) = cross {
+        fill(&mut parts, list, Side::Buy, &cross).expect(rt, "memory");
+        fill(&mut parts, list, Side::Sell, &cross).expect(rt, "memory");
+    }
+    parts
+}
+
 // Compares cross and parts with those by trying, and tells whether there is a cross.
-fn agrees(rt: &impl Abort, alloc: Global, list: &[Interest]) -> Result<bool, Memory>
+fn agrees(rt: &impl Abort, alloc: Global, list: &[Interest]) -> bool
     requires { AreInterests list.now }
 {
-    let (cross, filled) = crossed(alloc, list)?;
-    assert_eq!(rt; cross, plain_cross(list));
-    let mut want = Vec::new(alloc);
-    if let Some(cross) = cross {
-        fill(&mut want, list, Side::Buy, &cross)?;
-        fill(&mut want, list, Side::Sell, &cross)?;
-    }
-    assert_eq!(rt; filled.as_slice(), want.as_slice());
-    Ok(cross.is_some())
+    let (cross, filled) = crossed(alloc, list).expect(rt, "memory");
+    equal(rt, cross, plain_cross(list));
+    let want = plain_parts(rt, alloc, list, cross);
+    holds(rt, filled.as_slice() == want.as_slice());
+    drop(want);
+    drop(filled);
+    cross.is_some()
+}
+
+// Whether the orders that are drawn in a round cross.
+fn round_crosses(rt: &impl Abort, alloc: Global, round: u64) -> bool {
+    let rows = drawn(alloc, round, 1 + round % 9).expect(rt, "memory");
+    let list = list_of(alloc, rows.as_slice()).expect(rt, "memory");
+    drop(rows);
+    let crosses = agrees(rt, alloc, list.as_slice());
+    drop(list);
+    crosses
 }
 
 #[test]
-fn drawn_lists_agree_with_trying(rt: HostRuntime) -> Result<(), Fail> {
+fn drawn_lists_agree_with_trying(rt: HostRuntime) {
     let mut crossed = 0u64;
     for round in 0..ROUNDS {
-        let rows = drawn(rt.alloc(), round, 1 + round % 9)?;
-        let list = list_of(rt.alloc(), rows.as_slice())?;
-        if agrees(&rt, rt.alloc(), list.as_slice())? {
+        if round_crosses(&rt, rt.alloc(), round) {
             crossed = crossed.saturating_add(1);
         }
     }
-    assert!(rt; 20 < crossed && crossed < ROUNDS);
-    Ok(())
+    holds(&rt, 20 < crossed && crossed < ROUNDS);
 }

@@ -14,7 +14,7 @@ use price_time_book::Resting;
 use price_time_book::keeping::{a_reduce_keeps, changes_keep};
 
 /// An order that rests, and the number of its stock.
-#[derive(Clone, Copy, PartialEq, Eq, Debug)]
+#[derive(Clone, Copy)]
 pub struct Found {
     pub stock: usize,
     pub order: Resting,
@@ -145,7 +145,9 @@ impl Exchange {
         ensures replies_refused { OnErr result (out.new.replies.list ≡ out.old.replies.list) }
         ensures feed_refused { OnErr result (out.new.feed.list ≡ out.old.feed.list) }
     {
-        out.reserve(1, 1)?;
+        let Ok(()) = out.reserve(1, 1) else {
+            return Err(Memory);
+        };
         match find_order(self.stocks.as_slice(), from, &cancel.token) {
             Some(found) => {
                 if cancel.shares < found.order.intended {

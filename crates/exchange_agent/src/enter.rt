@@ -184,7 +184,7 @@ impl Exchange {
             agent,
             token: e.token.0,
         };
-        Ok(self.pairs.insert(pair)?)
+        self.pairs.insert(pair)
     }
 
     // An Enter is rejected and the pair is remembered, unless it was: then the Enter is ignored.
@@ -210,8 +210,13 @@ impl Exchange {
         ensures feed_refused { OnErr result (out.new.feed.list ≡ out.old.feed.list) }
         ensures fee_refused { OnErr result (out.new.fee ≡ out.old.fee) }
     {
-        out.reserve(1, 0)?;
-        if !self.remember(from, e)? {
+        let Ok(()) = out.reserve(1, 0) else {
+            return Err(Memory);
+        };
+        let Ok(new) = self.remember(from, e) else {
+            return Err(Memory);
+        };
+        if !new {
             self.ignore_enter();
             return Ok(());
         }
@@ -233,7 +238,9 @@ fn forget(
     ensures fee { out.new.fee ≡ out.old.fee }
     ensures replies_refused { OnErr result (out.new.replies.list ≡ out.old.replies.list) }
 {
-    out.reserve(1, 0)?;
+    let Ok(()) = out.reserve(1, 0) else {
+        return Err(Memory);
+    };
     out.reply(from, Body::Answer(rejection(time, e, reason)));
     Ok(())
 }
@@ -279,13 +286,20 @@ fn admit(
 {
     changes_keep();
     let most = listing.book.most_fills(taking.side, e.price, e.shares);
-    out.reserve(2 * most + 2, most + 1)?;
-    listing.book.reserve(1)?;
+    let Ok(()) = out.reserve(2 * most + 2, most + 1) else {
+        return Err(Memory);
+    };
+    let Ok(()) = listing.book.reserve(1) else {
+        return Err(Memory);
+    };
     let pair = Pair {
         agent: taking.agent,
         token: e.token.0,
     };
-    if !pairs.insert(pair)? {
+    let Ok(new) = pairs.insert(pair) else {
+        return Err(Memory);
+    };
+    if !new {
         return Ok(false);
     }
     counts.orders += 1;
@@ -333,7 +347,7 @@ impl Exchange {
             side: e.side,
             token: e.token,
         };
-        let admitted = admit(
+        let Ok(admitted) = admit(
             listing,
             &mut self.cash,
             &mut self.pairs,
@@ -341,7 +355,9 @@ impl Exchange {
             &taking,
             e,
             out,
-        )?;
+        ) else {
+            return Err(Memory);
+        };
         if !admitted {
             self.ignore_enter();
         }

@@ -85,7 +85,10 @@ fn accounts(alloc: Global, cash: &[i64]) -> Result<Vec<Money>, Memory>
 {
     let mut accounts = Vec::new(alloc);
     for amount in cash {
-        accounts.push(money_of(*amount))?;
+        let Ok(()) = accounts.push(money_of(*amount)) else {
+            drop(accounts);
+            return Err(Memory);
+        };
     }
     Ok(accounts)
 }

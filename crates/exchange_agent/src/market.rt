@@ -19,7 +19,9 @@ impl Exchange {
         ensures fee { out.new.fee ≡ out.old.fee }
         ensures refused { OnErr result (out.new.replies.list ≡ out.old.replies.list) }
     {
-        out.reserve(1, 0)?;
+        let Ok(()) = out.reserve(1, 0) else {
+            return Err(Memory);
+        };
         let quote = self.stocks[usize::from(stock)].quote(stock);
         out.reply(from, Body::Quote(quote));
         Ok(())

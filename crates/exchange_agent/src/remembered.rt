@@ -60,7 +60,9 @@ fn add(agents: &mut Vec<Tokens>, agent: AgentNo, token: &[u8; 14]) -> Result<boo
     ensures refused { OnErr result (pairs_from 0 agents.new.items ≡ pairs_from 0 agents.old.items) }
 {
     let place = usize::from(agent);
-    grow(agents, place)?;
+    let Ok(()) = grow(agents, place) else {
+        return Err(Memory);
+    };
     agents[place].insert(token)
 }
 
@@ -109,7 +111,9 @@ impl Remembered {
         ensures unchanged { IfOk result (λ added. OnFalse added (self.new.keys ≡ self.old.keys)) }
         ensures refused { OnErr result (self.new.keys ≡ self.old.keys) }
     {
-        let added = add(&mut self.agents, pair.agent, &pair.token)?;
+        let Ok(added) = add(&mut self.agents, pair.agent, &pair.token) else {
+            return Err(Memory);
+        };
         if !added {
             return Ok(false);
         }
@@ -121,7 +125,9 @@ impl Remembered {
     pub fn copy(&self, alloc: Global) -> Result<Remembered, Memory>
         ensures { IfOk result (λ r. r ≡ self.now) }
     {
-        let agents = copies(alloc, self.agents.as_slice())?;
+        let Ok(agents) = copies(alloc, self.agents.as_slice()) else {
+            return Err(Memory);
+        };
         Ok(Remembered {
             agents,
             count: self.count,

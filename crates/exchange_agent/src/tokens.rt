@@ -9,7 +9,7 @@ ghost use Rattle.std.specs.BTreeSet.{insert_key};
 ghost use Rattle.std.specs.declared.cmp.Ordering.TheVariants.{Equal};
 ghost use Rattle.exchange_agent.specs.Remembered.{AreRising, by_bytes};
 
-use market_types::Memory;
+use market_types::{Memory, copied};
 use price_time_book::bytes::compared;
 use std::alloc::Global;
 use std::marker::Model;
@@ -111,10 +111,14 @@ fn put_at(tokens: &mut Vec<[u8; 14]>, at: usize, token: &[u8; 14]) -> Result<(),
     ensures refused { OnErr result (tokens.new.items ≡ tokens.old.items) }
 {
     if at == tokens.len() {
-        tokens.push(*token)?;
+        let Ok(()) = tokens.push(*token) else {
+            return Err(Memory);
+        };
         return Ok(());
     }
-    tokens.insert(at, *token)?;
+    let Ok(()) = tokens.insert(at, *token) else {
+        return Err(Memory);
+    };
     Ok(())
 }
 
@@ -129,7 +133,9 @@ fn put(tokens: &mut Vec<[u8; 14]>, token: &[u8; 14]) -> Result<bool, Memory>
 {
     match vacant(tokens.as_slice(), token) {
         Some(at) => {
-            put_at(tokens, at, token)?;
+            let Ok(()) = put_at(tokens, at, token) else {
+                return Err(Memory);
+            };
             Ok(true)
         }
         None => Ok(false),
@@ -167,8 +173,9 @@ impl Tokens {
     pub fn copy(&self, alloc: Global) -> Result<Tokens, Memory>
         ensures { IfOk result (λ t. t ≡ self.now) }
     {
-        let mut tokens = Vec::new(alloc);
-        tokens.extend_from_slice(self.tokens.as_slice())?;
+        let Ok(tokens) = copied(alloc, self.tokens.as_slice()) else {
+            return Err(Memory);
+        };
         Ok(Tokens { tokens })
     }
 }

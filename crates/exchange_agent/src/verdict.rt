@@ -4,7 +4,7 @@ ghost use Rattle.std.specs.Prelude.{◌≡◌};
 ghost use Rattle.exchange_agent.specs.Enter.{reason_letter};
 
 /// Which line of the table answers an Enter.
-#[derive(Clone, Copy, PartialEq, Eq, Debug)]
+#[derive(Clone, Copy)]
 pub enum Verdict {
     /// The pair of agent and token is remembered.
     Ignored,
@@ -17,7 +17,7 @@ pub enum Verdict {
 }
 
 /// Why an Enter is rejected.
-#[derive(Clone, Copy, PartialEq, Eq, Debug)]
+#[derive(Clone, Copy)]
 pub enum Reason {
     /// No stock has the symbol.
     UnknownStock,

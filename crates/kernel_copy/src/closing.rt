@@ -1,6 +1,6 @@
 //! The closing of a kernel's state.
 
-ghost use Rattle.std.specs.Prelude.{◌≡◌, ◌≤◌, ◌<◌, ◌^◌, ◌++◌, All, IfOk, OnOk, length, map};
+ghost use Rattle.std.specs.Prelude.{◌≡◌, ◌≤◌, ◌<◌, ◌^◌, ◌++◌, ◌∷◌, [], All, IfOk, OnOk, length, map};
 ghost use Rattle.bundle_frames.specs.Frames.{HasFewPositions};
 ghost use Rattle.agent_shell.specs.Trader.{told_of};
 ghost use Rattle.exchange_agent.specs.State.{stock_at};
@@ -98,6 +98,24 @@ fn add_orders(k: StockNo, book: &[Resting], orders: &mut Vec<ClosingOrder>) -> R
     Ok(())
 }
 
+// Appends the orders of a stock in order of their arrival.
+fn add_book(
+    alloc: Global,
+    exchange: &Exchange,
+    k: StockNo,
+    orders: &mut Vec<ClosingOrder>,
+) -> Result<(), Memory>
+    requires { k < length exchange.now.stocks }
+    ensures { OnOk result (orders.new.items ≡ orders.old.items ++ map (order_closed k) (stock_at exchange.now k).book) }
+{
+    let Ok(book) = exchange.orders(alloc, k) else {
+        return Err(Memory);
+    };
+    let added = add_orders(k, &book, orders);
+    drop(book);
+    added
+}
+
 // The orders of the first so many stocks, each stock's in order of their arrival.
 fn orders(alloc: Global, exchange: &Exchange, count: StockNo) -> Result<Vec<ClosingOrder>, Memory>
     requires { count ≤ length exchange.now.stocks }
@@ -105,8 +123,10 @@ fn orders(alloc: Global, exchange: &Exchange, count: StockNo) -> Result<Vec<Clos
 {
     let mut orders = Vec::new(alloc);
     for k in 0..count {
-        let book = exchange.orders(alloc, k)?;
-        add_orders(k, &book, &mut orders)?;
+        let Ok(()) = add_book(alloc, exchange, k, &mut orders) else {
+            drop(orders);
+            return Err(Memory);
+        };
     }
     Ok(orders)
 }
@@ -182,16 +202,38 @@ fn trader(
     })
 }
 
+// Appends a trader, where there are so many stocks.
+fn add_trader(
+    alloc: Global,
+    kernel: &Kernel,
+    agent: AgentNo,
+    count: StockNo,
+    agents: &mut Vec<ClosingAgent>,
+) -> Result<(), Memory>
+    requires some { 1 ≤ agent }
+    requires own { agent < length kernel.now.own }
+    requires exists { agent ≤ length kernel.now.floor.parties }
+    requires stocks { count ≡ length kernel.now.floor.exchange.stocks }
+    ensures { OnOk result (agents.new.items ≡ agents.old.items ++ trader_closed kernel.now agent (party_at kernel.now.floor agent) (told_of (party_at kernel.now.floor agent).trader) ∷ []) }
+{
+    agents.push(trader(alloc, kernel, agent, count)?)?;
+    Ok(())
+}
+
 // The exchange and each trader in order.
 fn agents(alloc: Global, kernel: &Kernel, count: StockNo) -> Result<Vec<ClosingAgent>, Memory>
     requires { count ≡ length kernel.now.floor.exchange.stocks }
     ensures { IfOk result (λ v. v.items ≡ agents_closed kernel.now (length kernel.now.floor.parties)) }
 {
     let traders = kernel.agents() - 1;
+    let first = exchange(alloc, kernel, count)?;
     let mut agents = Vec::new(alloc);
-    agents.push(exchange(alloc, kernel, count)?)?;
+    agents.push(first)?;
     for i in 0..traders {
-        agents.push(trader(alloc, kernel, i + 1, count)?)?;
+        let Ok(()) = add_trader(alloc, kernel, i + 1, count, &mut agents) else {
+            drop(agents);
+            return Err(Memory);
+        };
     }
     Ok(agents)
 }
@@ -210,8 +252,15 @@ pub fn closing_of(alloc: Global, o: &Opening, kernel: &Kernel) -> Result<Closing
     agents_have_all_positions();
     let count = o.stocks.as_slice().len() as StockNo;
     let stocks = stocks(alloc, kernel, count)?;
-    let orders = orders(alloc, kernel.exchange(), count)?;
-    let agents = agents(alloc, kernel, count)?;
+    let Ok(orders) = orders(alloc, kernel.exchange(), count) else {
+        drop(stocks);
+        return Err(Memory);
+    };
+    let Ok(agents) = agents(alloc, kernel, count) else {
+        drop(stocks);
+        drop(orders);
+        return Err(Memory);
+    };
     Ok(Closing {
         counts: counts(o, kernel),
         stocks: Sequence::new(stocks),

@@ -34,7 +34,10 @@ fn packed_of(alloc: Global, trace: &Trace) -> Result<Packed, Memory>
     ensures { IfOk result (λ p. p.list ≡ trace.now.list) }
 {
     let mut packed = Packed::new(alloc);
-    packed.push_all(trace.as_slice())?;
+    let Ok(()) = packed.push_all(trace.as_slice()) else {
+        drop(packed);
+        return Err(Memory);
+    };
     Ok(packed)
 }
 
@@ -45,7 +48,9 @@ fn packed_or_framed(alloc: Global, keep: Keep, trace: &Trace) -> Result<Kept, Me
 {
     match keep {
         Keep::Entries => {
-            let packed = packed_of(alloc, trace)?;
+            let Ok(packed) = packed_of(alloc, trace) else {
+                return Err(Memory);
+            };
             Ok(Kept::Entries(packed))
         }
         Keep::Frames => {
@@ -84,7 +89,10 @@ fn put_packed(out: &mut Vec<u8>, entries: &Packed) -> Result<(), Memory>
     let mut event = blank_event(alloc);
     let mut edit = blank_edit(alloc);
     let mut walk = entries.walk();
-    put_rest(out, &mut walk, &mut event, &mut edit)
+    let put = put_rest(out, &mut walk, &mut event, &mut edit);
+    drop(event);
+    drop(edit);
+    put
 }
 
 impl Kept {
@@ -96,7 +104,9 @@ impl Kept {
         requires { All IsTimely trace.list }
         ensures { IfOk result (λ x. kept_told x ≡ kept_as keep trace.list) }
     {
-        packed_or_framed(alloc, keep, &trace)
+        let kept = packed_or_framed(alloc, keep, &trace);
+        drop(trace);
+        kept
     }
 
     /// Appends the bytes of the frames. What stands in `out` after want of memory is left open.

@@ -185,12 +185,10 @@ impl Ran {
     {
         match &mut self.kept {
             Kept::Entries(packed) => {
-                run_packed(alloc, o, stop, most, &mut self.kernel, packed, steps)?;
-                Ok(())
+                run_packed(alloc, o, stop, most, &mut self.kernel, packed, steps)
             }
             Kept::Frames(bytes) => {
-                run_in_frames(alloc, o, stop, most, &mut self.kernel, bytes, steps)?;
-                Ok(())
+                run_in_frames(alloc, o, stop, most, &mut self.kernel, bytes, steps)
             }
         }
     }

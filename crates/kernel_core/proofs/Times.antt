@@ -49,7 +49,7 @@ time-again o w most m r h =
     let p = time-some (most - r.state.events) o w r in
     ap (λ (q : Run). until o m q) p.1 ∙ again o p.0 m r (subst (λ (q : Run). q.state.events ≤ m) p.1 h)
 
-due_first : (n : ℕ) (o : Opening) (w : ℕ) (r : Run) → due_by o w r.state ≡ true → advanced_due (suc n) o w r ≡ advanced_due n o w (advanced o r)
+pub due_first : (n : ℕ) (o : Opening) (w : ℕ) (r : Run) → due_by o w r.state ≡ true → advanced_due (suc n) o w r ≡ advanced_due n o w (advanced o r)
 due_first n o w r due = rw due refl
 
 -- events never fall
@@ -66,7 +66,7 @@ time-step o w most r l due =
     let size : most - r.state.events ≡ suc n = omega arith in
     ap (λ (k : ℕ). advanced_due k o w r) size ∙ rw due refl
 
-over_by : (n : ℕ) (o : Opening) (w : ℕ) (r : Run) → due_by o w r.state ≡ false → advanced_due n o w r ≡ r
+pub over_by : (n : ℕ) (o : Opening) (w : ℕ) (r : Run) → due_by o w r.state ≡ false → advanced_due n o w r ≡ r
 over_by zero o w r h = refl
 over_by (suc n) o w r h = rw h refl
 

@@ -74,8 +74,11 @@ impl Kernel {
         ensures fitting { Fits o.now self.new }
     {
         'events: while self.is_due(o, when, most) {
-            match self.step_into(alloc, o, keeper, steps)? {
-                Stepped::Ended(end) => return Ok(Some(end)),
+            let Ok(stepped) = self.step_into(alloc, o, keeper, steps) else {
+                return Err(Memory);
+            };
+            match stepped {
+                Stepped::Ended(_) => unreachable!(),
                 Stepped::Event(_) => {}
             }
         }

@@ -66,7 +66,9 @@ impl Kernel {
         ensures refused { OnErr result (self.new ≡ self.old) }
     {
         mail_stays_sound();
-        let feed = self.floor.edit(alloc, self.time, edit)?;
+        let Ok(feed) = self.floor.edit(alloc, self.time, edit) else {
+            return Err(Memory);
+        };
         edit_tables(&mut self.groups, edit);
         edit_mail(&mut self.mail, self.time, edit);
         Ok(feed)
@@ -102,8 +104,12 @@ impl Kernel {
     {
         parameters_stay_those_of_the_kind();
         let _o = o;
-        trace.reserve(1)?;
-        let feed = self.change(alloc, edit)?;
+        let Ok(()) = trace.reserve(1) else {
+            return Err(Memory);
+        };
+        let Ok(feed) = self.change(alloc, edit) else {
+            return Err(Memory);
+        };
         trace.put(Entry::Edit(EditMark {
             events: self.events,
             time: self.time,

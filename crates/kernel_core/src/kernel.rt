@@ -89,9 +89,19 @@ impl Kernel {
         ensures { IfOk result (λ k. k ≡ self.now) }
     {
         let mail = self.mail.copy(alloc)?;
-        let own = copied(alloc, self.own.as_slice())?;
-        let floor = self.floor.copy(alloc)?;
-        let groups = self.groups.copy(alloc)?;
+        let Ok(own) = copied(alloc, self.own.as_slice()) else {
+            drop(mail);
+            return Err(Memory);
+        };
+        let Ok(floor) = self.floor.copy(alloc) else {
+            drop(mail);
+            return Err(Memory);
+        };
+        let Ok(groups) = self.groups.copy(alloc) else {
+            drop(mail);
+            drop(floor);
+            return Err(Memory);
+        };
         Ok(Kernel {
             time: self.time,
             events: self.events,

@@ -76,8 +76,11 @@ impl Mail {
     pub fn new(alloc: Global) -> Result<Mail, Memory>
         ensures { IfOk result (λ p. p ≡ nothing_waits) }
     {
+        let Ok(queue) = roomy(Queue::new(alloc)) else {
+            return Err(Memory);
+        };
         Ok(Mail {
-            queue: roomy(Queue::new(alloc))?,
+            queue,
             next_seq: 0,
             dropped: 0,
             jitter: Jitter::new(),
@@ -88,8 +91,14 @@ impl Mail {
     pub fn copy(&self, alloc: Global) -> Result<Mail, Memory>
         ensures { IfOk result (λ p. p ≡ self.now) }
     {
+        let Ok(copy) = self.queue.copy(alloc) else {
+            return Err(Memory);
+        };
+        let Ok(queue) = roomy(copy) else {
+            return Err(Memory);
+        };
         Ok(Mail {
-            queue: roomy(self.queue.copy(alloc)?)?,
+            queue,
             next_seq: self.next_seq,
             dropped: self.dropped,
             jitter: Jitter::new(),
@@ -160,7 +169,10 @@ impl Mail {
         ensures few { length self.new.waiting ≤ most_waiting }
         ensures none { IfNone result (self.new ≡ self.old) }
     {
-        let seq = self.queue.peek_least()?.seq;
+        let Some(m) = self.queue.peek_least() else {
+            return None;
+        };
+        let seq = m.seq;
         self.queue.replace_least(time, seq)
     }
 

@@ -47,9 +47,19 @@ impl Kernel {
         mail_stays_sound();
         let mut mail = Mail::new(alloc)?;
         wake_all(&mut mail, o, o.traders.as_slice());
-        let own = vec![in alloc; o.start; o.traders.as_slice().len() + 1]?;
-        let floor = Floor::open(alloc, o)?;
-        let groups = o.groups.copy(alloc)?;
+        let Ok(own) = vec![in alloc; o.start; o.traders.as_slice().len() + 1] else {
+            drop(mail);
+            return Err(Memory);
+        };
+        let Ok(floor) = Floor::open(alloc, o) else {
+            drop(mail);
+            return Err(Memory);
+        };
+        let Ok(groups) = o.groups.copy(alloc) else {
+            drop(mail);
+            drop(floor);
+            return Err(Memory);
+        };
         Ok(Kernel {
             time: o.start,
             events: 0,

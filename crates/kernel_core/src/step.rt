@@ -53,7 +53,9 @@ impl Kernel {
             Ok(m) => m,
             Err(end) => return Ok(Err(end)),
         };
-        keeper.room()?;
+        let Ok(()) = keeper.room() else {
+            return Err(Memory);
+        };
         let time = m.time;
         let from = m.to;
         let to = usize::from(from);
@@ -63,14 +65,18 @@ impl Kernel {
         let floor = &mut self.floor;
         let out = &mut self.happening;
         if m.time < own {
-            let kept = tell_back(alloc, o, applied, number, own, m, floor, out, keeper)?;
+            let Ok(kept) = tell_back(alloc, o, applied, number, own, m, floor, out, keeper) else {
+                return Err(Memory);
+            };
             self.mail.delay_least(own);
             self.applied = applied_by(o, applied, time);
             self.events = number;
             self.time = time;
             return Ok(Ok(kept));
         }
-        let kept = tell_delivery(alloc, o, applied, number, m, floor, out, keeper)?;
+        let Ok(kept) = tell_delivery(alloc, o, applied, number, m, floor, out, keeper) else {
+            return Err(Memory);
+        };
         let out = &self.happening;
         let until = time + out.delay;
         self.mail.drop_least();
@@ -108,7 +114,10 @@ impl Kernel {
         ensures refused { OnErr result (K.is_sure → self.new ≡ self.old) }
         ensures keeper_refused { OnErr result (K.is_sure → K.told keeper.new ≡ K.told keeper.old) }
     {
-        let kept = match self.happen(alloc, o, keeper)? {
+        let Ok(happened) = self.happen(alloc, o, keeper) else {
+            return Err(Memory);
+        };
+        let kept = match happened {
             Ok(kept) => kept,
             Err(end) => return Ok(Stepped::Ended(end)),
         };
@@ -181,7 +190,10 @@ impl Kernel {
         ensures fitting { Fits o.now self.new }
     {
         'events: while self.events() < stop {
-            match self.step_into(alloc, o, keeper, steps)? {
+            let Ok(stepped) = self.step_into(alloc, o, keeper, steps) else {
+                return Err(Memory);
+            };
+            match stepped {
                 Stepped::Ended(end) => return Ok(Some(end)),
                 Stepped::Event(_) => {}
             }

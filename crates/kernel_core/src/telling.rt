@@ -37,7 +37,10 @@ fn rule_into(
         before.clear();
         return Ok(());
     }
-    *before = floor.rule(alloc, o, applied, time)?;
+    let Ok(feed) = floor.rule(alloc, o, applied, time) else {
+        return Err(Memory);
+    };
+    *before = feed;
     Ok(())
 }
 
@@ -67,7 +70,9 @@ pub(crate) fn tell_back<K: Keeper>(
     ensures refused { OnErr result (floor.new ≡ floor.old) }
     ensures keeper_refused { OnErr result (K.told keeper.new ≡ K.told keeper.old) }
 {
-    rule_into(alloc, o, applied, m.time, floor, &mut out.before)?;
+    let Ok(()) = rule_into(alloc, o, applied, m.time, floor, &mut out.before) else {
+        return Err(Memory);
+    };
     out.after.clear();
     let seen = EventSeen {
         number,
@@ -120,7 +125,9 @@ pub(crate) fn tell_delivery<K: Keeper>(
     ensures refused { OnErr result (floor.new ≡ floor.old) }
     ensures keeper_refused { OnErr result (K.told keeper.new ≡ K.told keeper.old) }
 {
-    floor.deliver(alloc, o, applied, m, out)?;
+    let Ok(()) = floor.deliver(alloc, o, applied, m, out) else {
+        return Err(Memory);
+    };
     let seen = EventSeen {
         number,
         time: m.time,

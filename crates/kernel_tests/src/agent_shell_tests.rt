@@ -19,16 +19,12 @@ fn take(rt: &impl Abort, shell: &mut Shell, reply: &Reply) {
 // The copy still holds the other 90 after the order is gone.
 #[test]
 fn an_order_is_executed_and_removed(rt: HostRuntime) {
-    let Ok(mut shell) = Shell::open(rt.alloc(), 37, 1_000) else {
-        panic!(rt; "out of memory");
-    };
-    let Ok(()) = shell.reserve(1) else {
-        panic!(rt; "out of memory");
-    };
+    let mut shell = Shell::open(rt.alloc(), 37, 1_000).expect(&rt, "out of memory");
+    shell.reserve(1).expect(&rt, "out of memory");
     let token = shell.next_token();
-    let Ok(()) = shell.join(token, Side::Buy, 100) else {
-        panic!(rt; "out of memory");
-    };
+    shell
+        .join(token, Side::Buy, 100)
+        .expect(&rt, "out of memory");
     let executed = Reply::Executed {
         time: 5,
         token,
@@ -40,9 +36,7 @@ fn an_order_is_executed_and_removed(rt: HostRuntime) {
     take(&rt, &mut shell, &executed);
     let account = shell.account();
     holds(&rt, account.position == 10 && account.cash == -9_999_000);
-    let Ok(copy) = shell.copy() else {
-        panic!(rt; "out of memory");
-    };
+    let copy = shell.copy().expect(&rt, "out of memory");
     let rejected = Reply::Rejected {
         time: 5,
         token,
@@ -50,8 +44,10 @@ fn an_order_is_executed_and_removed(rt: HostRuntime) {
     };
     take(&rt, &mut shell, &rejected);
     holds(&rt, shell.open_token(0).is_none());
+    drop(shell);
     holds(
         &rt,
-        copy.open_len() == 1 && copy.tokens() == 1 && copy.agent() == 37,
+        (copy.open_len() == 1) & (copy.tokens() == 1) & (copy.agent() == 37),
     );
+    drop(copy);
 }

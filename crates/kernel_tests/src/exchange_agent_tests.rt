@@ -2,7 +2,7 @@
 
 ghost use Rattle.std.specs.Prelude.{◌≡◌, ◌≤◌, length};
 
-use crate::exchange_examples::{ABM, handled, numbered, opened, sent};
+use crate::exchange_examples::{ABM, counted, handled, numbered, opened, send, sent};
 use crate::facts::{equal, holds};
 use exchange_agent::{Exchange, Handled};
 use market_rules::{Band, Change, FeeTable, TickTable};
@@ -85,9 +85,9 @@ fn swept(rt: &impl Abort, alloc: Global, exchange: &mut Exchange) -> Handled
     let second = Inbound::Enter(order(b'B', Side::Sell, 200, 100_000));
     let third = Inbound::Enter(order(b'C', Side::Sell, 300, 100_000));
     let sweep = Inbound::Enter(order(b'D', Side::Buy, 700, 100_100));
-    sent(rt, alloc, exchange, 3000, 2, first);
-    sent(rt, alloc, exchange, 3000, 2, second);
-    sent(rt, alloc, exchange, 3000, 3, third);
+    send(rt, alloc, exchange, 3000, 2, first);
+    send(rt, alloc, exchange, 3000, 2, second);
+    send(rt, alloc, exchange, 3000, 3, third);
     sent(rt, alloc, exchange, 3000, 1, sweep)
 }
 
@@ -156,8 +156,10 @@ fn three_sells_are_swept(rt: HostRuntime) {
     let mut exchange = opened(&rt, alloc);
     let out = swept(&rt, alloc, &mut exchange);
     sweep_is_told(&rt, &out);
+    drop(out);
     sweep_is_settled(&rt, &exchange);
     sweep_is_counted(&rt, &exchange);
+    drop(exchange);
 }
 
 // An order for the day to sell one share.
@@ -208,19 +210,50 @@ const REFUSED: [(Enter, u8); 9] = [
     (Enter { price: 150, ..ONE }, b'X'),
 ];
 
-// An order is refused for this reason.
-fn is_refused(rt: &impl Abort, alloc: Global, e: Enter, reason: u8) {
-    let mut exchange = opened(rt, alloc);
-    let out = sent(rt, alloc, &mut exchange, 3000, 1, Inbound::Enter(e));
+// The first reply to an order or a cancel in short.
+fn reply(
+    rt: &impl Abort,
+    alloc: Global,
+    exchange: &mut Exchange,
+    time: Time,
+    from: AgentNo,
+    inbound: Inbound,
+) -> Option<Said>
+    requires trader { 1 ≤ from }
+    requires exists { from ≤ length exchange.old.cash }
+    ensures traders { length exchange.new.cash ≡ length exchange.old.cash }
+    ensures stocks { length exchange.new.stocks ≡ length exchange.old.stocks }
+{
+    let out = sent(rt, alloc, exchange, time, from, inbound);
+    let reply = said(&out, 0);
+    drop(out);
+    reply
+}
+
+// An order is refused for this reason, and nothing else is told.
+fn refuses(rt: &impl Abort, alloc: Global, exchange: &mut Exchange, e: Enter, reason: u8)
+    requires { length exchange.old.cash ≡ 3 }
+    ensures { length exchange.new.cash ≡ 3 }
+{
+    let out = sent(rt, alloc, exchange, 3000, 1, Inbound::Enter(e));
     equal(rt, said(&out, 0), Some((1, b'J', 0, 0, reason, 0)));
     equal(rt, (out.len(), out.feed.len(), out.fee), (1, 0, 0));
+    drop(out);
+}
+
+// An order is refused for this reason, and its token is remembered.
+fn is_refused(rt: &impl Abort, alloc: Global, e: Enter, reason: u8) {
+    let mut exchange = opened(rt, alloc);
+    refuses(rt, alloc, &mut exchange, e, reason);
     // the pair is remembered, whatever the other fields
     let like = Inbound::Enter(order(b'A', Side::Buy, 5, 500));
-    let again = sent(rt, alloc, &mut exchange, 3000, 1, like);
-    equal(rt, (again.len(), exchange.counts().enters), (0, 1));
+    let again = counted(rt, alloc, &mut exchange, 3000, 1, like);
+    holds(rt, again.0 == 0);
+    equal(rt, exchange.counts().enters, 1);
     // and another agent's is not
-    let other = sent(rt, alloc, &mut exchange, 3000, 2, like);
-    equal(rt, said(&other, 0), Some((2, b'A', 5, 500, b'L', 1)));
+    let other = reply(rt, alloc, &mut exchange, 3000, 2, like);
+    equal(rt, other, Some((2, b'A', 5, 500, b'L', 1)));
+    drop(exchange);
 }
 
 #[test]
@@ -242,7 +275,9 @@ fn an_immediate_order_does_not_rest(rt: HostRuntime) {
     equal(&rt, said(&out, 0), Some((1, b'A', 100, 100_000, b'L', 1)));
     equal(&rt, said(&out, 1), Some((1, b'C', 100, 0, b'I', 0)));
     equal(&rt, (out.len(), out.feed.len()), (2, 0));
+    drop(out);
     equal(&rt, exchange.stock(0).live, 0);
+    drop(exchange);
 }
 
 // A reply in short.
@@ -272,8 +307,8 @@ fn canceled(rt: &impl Abort, alloc: Global, shares: u32) -> (Exchange, Handled)
     let mut exchange = opened(rt, alloc);
     let resting = order(b'A', Side::Sell, 500, 100_000);
     let buy = Inbound::Enter(order(b'B', Side::Buy, 200, 100_000));
-    sent(rt, alloc, &mut exchange, 3000, 2, Inbound::Enter(resting));
-    sent(rt, alloc, &mut exchange, 3000, 1, buy);
+    send(rt, alloc, &mut exchange, 3000, 2, Inbound::Enter(resting));
+    send(rt, alloc, &mut exchange, 3000, 1, buy);
     let cancel = Cancel {
         token: resting.token,
         shares,
@@ -288,8 +323,10 @@ fn a_cancel_counts_executed_shares(rt: HostRuntime) {
         let (exchange, out) = canceled(&rt, rt.alloc(), *shares);
         equal(&rt, said(&out, 0), *reply);
         equal(&rt, fed(&out, 0), *feed);
+        drop(out);
         equal(&rt, exchange.stock(0).live, *live);
         equal(&rt, exchange.counts().cancels, u64::from(reply.is_none()));
+        drop(exchange);
     }
 }
 
@@ -326,14 +363,14 @@ fn is_halted(
     make_change(rt, exchange, 4500, &Change::Halt, feed);
     equal(rt, feed.len(), 1);
     let sell = Inbound::Enter(order(b'B', Side::Sell, 10, 100_000));
-    let out = sent(rt, alloc, exchange, 4600, 2, sell);
-    equal(rt, said(&out, 0), Some((2, b'J', 0, 0, b'H', 0)));
+    let refused = reply(rt, alloc, exchange, 4600, 2, sell);
+    equal(rt, refused, Some((2, b'J', 0, 0, b'H', 0)));
     let cancel = Inbound::Cancel(Cancel {
         token: resting,
         shares: 0,
     });
-    let out = sent(rt, alloc, exchange, 4700, 1, cancel);
-    equal(rt, said(&out, 0), Some((1, b'C', 10, 0, b'U', 0)));
+    let canceled = reply(rt, alloc, exchange, 4700, 1, cancel);
+    equal(rt, canceled, Some((1, b'C', 10, 0, b'U', 0)));
 }
 
 // It trades again, and an order comes to rest.
@@ -346,30 +383,38 @@ fn is_resumed(rt: &impl Abort, alloc: Global, exchange: &mut Exchange, feed: &mu
     make_change(rt, exchange, 4800, &Change::Resume, feed);
     equal(rt, (feed.len(), exchange.stock(0).state), (2, b'T'));
     let sell = Inbound::Enter(order(b'C', Side::Sell, 10, 100_100));
-    let out = sent(rt, alloc, exchange, 4999, 2, sell);
-    equal(rt, said(&out, 0), Some((2, b'A', 10, 100_100, b'L', 2)));
+    let accepted = reply(rt, alloc, exchange, 4999, 2, sell);
+    equal(rt, accepted, Some((2, b'A', 10, 100_100, b'L', 2)));
 }
 
-// Its ticks are five cents, and an order between two of them is refused; then it has no fees, and one trades free.
-fn has_new_rules(rt: &impl Abort, alloc: Global, exchange: &mut Exchange, feed: &mut FeedList)
+// Its ticks are five cents, and an order between two of them is refused.
+fn has_new_ticks(rt: &impl Abort, alloc: Global, exchange: &mut Exchange, feed: &mut FeedList)
     requires traders { length exchange.old.cash ≡ 3 }
     requires stocks { length exchange.old.stocks ≡ 1 }
     ensures traders { length exchange.new.cash ≡ length exchange.old.cash }
     ensures stocks { length exchange.new.stocks ≡ length exchange.old.stocks }
 {
-    let Ok(table) = TickTable::new(alloc, &[Band { from: 0, tick: 500 }]) else {
-        panic!(rt; "no table");
-    };
-    make_change(rt, exchange, 5000, &Change::Tick(table), feed);
+    let table = TickTable::new(alloc, &[Band { from: 0, tick: 500 }]).expect(rt, "no table");
+    let ticks = Change::Tick(table);
+    make_change(rt, exchange, 5000, &ticks, feed);
+    drop(ticks);
     equal(rt, exchange.ticks(0).tick_at(100_100), 500);
     let sell = Inbound::Enter(order(b'D', Side::Sell, 10, 100_100));
-    let out = sent(rt, alloc, exchange, 5000, 2, sell);
-    equal(rt, said(&out, 0), Some((2, b'J', 0, 0, b'X', 0)));
+    let refused = reply(rt, alloc, exchange, 5000, 2, sell);
+    equal(rt, refused, Some((2, b'J', 0, 0, b'X', 0)));
+}
+
+// It has no fees, and an order trades free.
+fn has_no_fees(rt: &impl Abort, alloc: Global, exchange: &mut Exchange, feed: &mut FeedList)
+    requires traders { length exchange.old.cash ≡ 3 }
+    requires stocks { length exchange.old.stocks ≡ 1 }
+{
     let fees = Change::Fee(FeeTable { add: 0, take: 0 });
     make_change(rt, exchange, 5100, &fees, feed);
+    drop(fees);
     let buy = Inbound::Enter(order(b'E', Side::Buy, 10, 100_500));
-    let out = sent(rt, alloc, exchange, 5200, 3, buy);
-    equal(rt, (out.fee, feed.len()), (0, 2));
+    let told = counted(rt, alloc, exchange, 5200, 3, buy);
+    equal(rt, (told.2, feed.len()), (0, 2));
 }
 
 #[test]
@@ -377,11 +422,14 @@ fn rules_change_between_messages(rt: HostRuntime) {
     let alloc = rt.alloc();
     let mut exchange = opened(&rt, alloc);
     let resting = order(b'A', Side::Buy, 10, 100_000);
-    sent(&rt, alloc, &mut exchange, 4000, 1, Inbound::Enter(resting));
+    send(&rt, alloc, &mut exchange, 4000, 1, Inbound::Enter(resting));
     let mut feed = FeedList::new(alloc);
     is_halted(&rt, alloc, &mut exchange, &mut feed, resting.token);
     is_resumed(&rt, alloc, &mut exchange, &mut feed);
-    has_new_rules(&rt, alloc, &mut exchange, &mut feed);
+    has_new_ticks(&rt, alloc, &mut exchange, &mut feed);
+    has_no_fees(&rt, alloc, &mut exchange, &mut feed);
+    drop(feed);
+    drop(exchange);
 }
 
 // An order of 10 shares at 10 dollars comes from an agent.
@@ -393,7 +441,7 @@ fn enter_ten(rt: &impl Abort, alloc: Global, exchange: &mut Exchange, from: Agen
     ensures stocks { length exchange.new.stocks ≡ length exchange.old.stocks }
 {
     let order = Inbound::Enter(order(b'A', side, 10, 100_000));
-    sent(rt, alloc, exchange, 3000, from, order);
+    send(rt, alloc, exchange, 3000, from, order);
 }
 
 // A quote in short: its receiver, the stock's state, the best bid and its shares, and the best ask.
@@ -408,10 +456,10 @@ fn quoted(out: &Handled) -> Option<(AgentNo, u8, u32, u64, u32)> {
 fn standing(rt: &impl Abort, alloc: Global, exchange: &Exchange) -> usize
     requires { length exchange.now.stocks ≡ 1 }
 {
-    let Ok(orders) = exchange.orders(alloc, 0) else {
-        panic!(rt; "no orders");
-    };
-    orders.len()
+    let orders = exchange.orders(alloc, 0).expect(rt, "no orders");
+    let count = orders.len();
+    drop(orders);
+    count
 }
 
 #[test]
@@ -419,12 +467,13 @@ fn a_copy_goes_its_own_way(rt: HostRuntime) {
     let alloc = rt.alloc();
     let mut exchange = opened(&rt, alloc);
     enter_ten(&rt, alloc, &mut exchange, 1, Side::Buy);
-    let Ok(mut copy) = exchange.copy(alloc) else {
-        panic!(rt; "no copy");
-    };
+    let mut copy = exchange.copy(alloc).expect(&rt, "no copy");
     enter_ten(&rt, alloc, &mut exchange, 2, Side::Sell);
-    let stand = standing(&rt, alloc, &copy);
-    equal(&rt, (stand, exchange.stock(0).live), (1, 0));
+    equal(&rt, exchange.stock(0).live, 0);
+    drop(exchange);
+    equal(&rt, standing(&rt, alloc, &copy), 1);
     let out = handled(&rt, alloc, &mut copy, 3001, 3, &Body::Ask(0));
     equal(&rt, quoted(&out), Some((3, b'T', 100_000, 10, 0)));
+    drop(out);
+    drop(copy);
 }

@@ -28,18 +28,13 @@ pub(crate) fn opened_for(rt: &impl Abort, alloc: Global, hidden: bool) -> Exchan
     ensures traders { length result.cash ≡ 3 }
     ensures stocks { length result.stocks ≡ 1 }
 {
-    let Ok(ticks) = TickTable::new(alloc, &[Band { from: 0, tick: 100 }]) else {
-        panic!(rt; "no table");
-    };
+    let ticks = TickTable::new(alloc, &[Band { from: 0, tick: 100 }]).expect(rt, "no table");
     let rules = [StockRules {
         symbol: ABM,
         ticks,
         fees: FeeTable { add: -20, take: 30 },
     }];
-    let Ok(exchange) = Exchange::open(alloc, &rules, &[0, 0, 0], hidden) else {
-        panic!(rt; "no exchange");
-    };
-    exchange
+    Exchange::open(alloc, &rules, &[0, 0, 0], hidden).expect(rt, "no exchange")
 }
 
 // A digit of a number: that of a power of ten.
@@ -127,4 +122,41 @@ pub(crate) fn sent(
     ensures stocks { length exchange.new.stocks ≡ length exchange.old.stocks }
 {
     handled(rt, alloc, exchange, time, from, &Body::Order(inbound))
+}
+
+// The same, where nothing is asked of what comes of it.
+pub(crate) fn send(
+    rt: &impl Abort,
+    alloc: Global,
+    exchange: &mut Exchange,
+    time: Time,
+    from: AgentNo,
+    inbound: Inbound,
+)
+    requires trader { 1 ≤ from }
+    requires exists { from ≤ length exchange.old.cash }
+    ensures traders { length exchange.new.cash ≡ length exchange.old.cash }
+    ensures stocks { length exchange.new.stocks ≡ length exchange.old.stocks }
+{
+    drop(sent(rt, alloc, exchange, time, from, inbound));
+}
+
+// The same: how many replies and feed messages come of it, and the fee.
+pub(crate) fn counted(
+    rt: &impl Abort,
+    alloc: Global,
+    exchange: &mut Exchange,
+    time: Time,
+    from: AgentNo,
+    inbound: Inbound,
+) -> (usize, usize, i64)
+    requires trader { 1 ≤ from }
+    requires exists { from ≤ length exchange.old.cash }
+    ensures traders { length exchange.new.cash ≡ length exchange.old.cash }
+    ensures stocks { length exchange.new.stocks ≡ length exchange.old.stocks }
+{
+    let out = sent(rt, alloc, exchange, time, from, inbound);
+    let counts = (out.len(), out.feed.len(), out.fee);
+    drop(out);
+    counts
 }

@@ -112,10 +112,7 @@ pub(crate) fn run(
     let mut steps: Steps<Counted> = Steps::new();
     let answer = kernel.run_until(alloc, o, stop, trace, &mut steps);
     steps.close();
-    let Ok(end) = answer else {
-        panic!(rt; "out of memory");
-    };
-    end
+    answer.expect(rt, "out of memory")
 }
 
 // The state before the first event.
@@ -124,10 +121,7 @@ pub(crate) fn opened(rt: &impl Abort, alloc: Global, o: &Opening) -> Kernel
     ensures opened { result ≡ opened o.now }
     ensures fits { Fits o.now result }
 {
-    let Ok(kernel) = Kernel::open(alloc, o) else {
-        panic!(rt; "out of memory");
-    };
-    kernel
+    Kernel::open(alloc, o).expect(rt, "out of memory")
 }
 
 // A run from the opening on: before each edit events until so many of them stand, and so many at last.
@@ -220,10 +214,7 @@ fn shifted(offset: i64) -> Edit
 fn five_cents(rt: &impl Abort, alloc: Global) -> TickTable
     ensures { result ≡ record { from = 0; tick = 500 } ∷ [] }
 {
-    let Ok(table) = TickTable::new(alloc, &[Band { from: 0, tick: 500 }]) else {
-        panic!(rt; "out of memory");
-    };
-    table
+    TickTable::new(alloc, &[Band { from: 0, tick: 500 }]).expect(rt, "out of memory")
 }
 
 // Ticks of five cents for the first stock.
@@ -289,14 +280,23 @@ const MARKS: [(u8, u16); 9] = [
     (b'v', 8),
 ];
 
+// Whether entries have these marks.
+fn have_marks(entries: &[Entry]) -> bool {
+    for (entry, hoped) in entries.iter().zip(MARKS.iter()) {
+        if mark_of(entry) != *hoped {
+            return false;
+        }
+    }
+    entries.len() == MARKS.len()
+}
+
 #[test]
 fn each_kind_of_edit_is_made(rt: HostRuntime) {
     let alloc = rt.alloc();
     let o = one_watcher(&rt, alloc, 2000);
     let mut trace = Trace::new(alloc);
     let kernel = each_kind(&rt, alloc, &o, &mut trace);
-    let marks = trace.as_slice().iter().map(mark_of);
-    holds(&rt, marks.eq(MARKS.iter().copied()));
+    holds(&rt, have_marks(trace.as_slice()));
     holds(
         &rt,
         first_of_all(&kernel, &o) == (true, -5, 500) && kernel.counts().waiting == 2,
@@ -328,6 +328,16 @@ const BUSY: [(Time, u64, bool, Time); 11] = [
     (1019, 11, false, 1019),
 ];
 
+// Whether entries are these events.
+fn are_busy(entries: &[Entry]) -> bool {
+    for (entry, hoped) in entries.iter().zip(BUSY.iter()) {
+        if row(entry) != Some(*hoped) {
+            return false;
+        }
+    }
+    entries.len() == BUSY.len()
+}
+
 // A market of three watchers, of which the third wakes later, and of an exchange that computes.
 fn busy_market(rt: &impl Abort, alloc: Global) -> Opening
     ensures { IsOpening result }
@@ -343,14 +353,7 @@ fn a_busy_exchange_puts_back(rt: HostRuntime) {
     let o = busy_market(&rt, alloc);
     let mut trace = Trace::new(alloc);
     let kernel = branch(&rt, alloc, &o, &[], 100, &mut trace);
-    holds(
-        &rt,
-        trace
-            .as_slice()
-            .iter()
-            .map(row)
-            .eq(BUSY.iter().map(|r| Some(*r))),
-    );
+    holds(&rt, are_busy(trace.as_slice()));
     let counts = kernel.counts();
     holds(
         &rt,
@@ -363,10 +366,17 @@ fn a_busy_exchange_puts_back(rt: HostRuntime) {
 
 // The messages that wait, in their order.
 pub(crate) fn waiting(rt: &impl Abort, alloc: Global, kernel: &Kernel) -> Vec<Message> {
-    let Ok(messages) = kernel.messages(alloc) else {
-        panic!(rt; "out of memory");
-    };
-    messages
+    kernel.messages(alloc).expect(rt, "out of memory")
+}
+
+// When the message of a number is due.
+fn time_of(messages: &[Message], seq: u64) -> Option<Time> {
+    for m in messages {
+        if m.seq == seq {
+            return Some(m.time);
+        }
+    }
+    None
 }
 
 // When the message of number 1 is due after the first event under this jitter, without another latency.
@@ -377,7 +387,7 @@ fn due(rt: &impl Abort, alloc: Global, o: &Opening, jitter: u32) -> Option<Time>
     let edits = [(0, latency(0, jitter))];
     let kernel = branch(rt, alloc, o, &edits, 1, &mut trace);
     let messages = waiting(rt, alloc, &kernel);
-    let time = messages.iter().find(|m| m.seq == 1).map(|m| m.time);
+    let time = time_of(messages.as_slice(), 1);
     drop(messages);
     drop(kernel);
     drop(edits);

@@ -28,13 +28,8 @@ fn one_watcher(rt: &impl Abort, alloc: Global) -> Opening
         delay: 0,
         cash: 0,
     };
-    let Ok(traders) = vec![in alloc; watcher] else {
-        panic!(rt; "out of memory");
-    };
-    let Ok(o) = opening(alloc, 2000, 100, 0, traders) else {
-        panic!(rt; "out of memory");
-    };
-    o
+    let traders = vec![in alloc; watcher].expect(rt, "out of memory");
+    opening(alloc, 2000, 100, 0, traders).expect(rt, "out of memory")
 }
 
 // Its latencies, with a jitter of 9 on the base of 5.
@@ -42,9 +37,7 @@ fn with_jitter(rt: &impl Abort, alloc: Global, o: &Opening) -> Groups
     requires { group_count o.now.groups ≡ 1 }
     ensures { group_count result ≡ 1 }
 {
-    let Ok(mut groups) = o.groups.copy(alloc) else {
-        panic!(rt; "out of memory");
-    };
+    let mut groups = o.groups.copy(alloc).expect(rt, "out of memory");
     groups.set(0, 0, 5, 9);
     groups
 }
@@ -54,20 +47,14 @@ fn opened(rt: &impl Abort, alloc: Global) -> Mail
     ensures numbers { result.next_seq ≡ 0 }
     ensures drops { result.dropped ≡ 0 }
 {
-    let Ok(mail) = Mail::new(alloc) else {
-        panic!(rt; "out of memory");
-    };
-    mail
+    Mail::new(alloc).expect(rt, "out of memory")
 }
 
 // Equal mail.
 fn copied(rt: &impl Abort, alloc: Global, mail: &Mail) -> Mail
     ensures { result ≡ mail.now }
 {
-    let Ok(copy) = mail.copy(alloc) else {
-        panic!(rt; "out of memory");
-    };
-    copy
+    mail.copy(alloc).expect(rt, "out of memory")
 }
 
 // The watcher asks 7 nanoseconds after 1000.
@@ -148,9 +135,7 @@ const UNMOVED: [(u64, u64, u16, u16); 3] = [(1017, 1, 1, 0), (1200, 2, 1, 1), (1
 
 // Whether these messages wait.
 fn waits(rt: &impl Abort, alloc: Global, mail: &Mail, hoped: &[(u64, u64, u16, u16)]) -> bool {
-    let Ok(messages) = mail.messages(alloc) else {
-        panic!(rt; "out of memory");
-    };
+    let messages = mail.messages(alloc).expect(rt, "out of memory");
     let are_these = messages.iter().map(row).eq(hoped.iter().copied());
     drop(messages);
     are_these

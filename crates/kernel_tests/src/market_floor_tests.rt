@@ -34,13 +34,8 @@ fn halt_at(time: Time) -> Dated
 fn halts(rt: &impl Abort, alloc: Global) -> DatedList
     ensures { result ≡ halting.dated }
 {
-    let Ok(dates) = vec![in alloc; halt_at(1400), halt_at(1600)] else {
-        panic!(rt; "out of memory");
-    };
-    let Ok(dated) = DatedList::new(dates) else {
-        panic!(rt; "no dates");
-    };
-    dated
+    let dates = vec![in alloc; halt_at(1400), halt_at(1600)].expect(rt, "out of memory");
+    DatedList::new(dates).expect(rt, "no dates")
 }
 
 // The market of the worked examples: one watcher, an exchange that computes for 7 nanoseconds, halts at 1400 and 1600.
@@ -76,10 +71,7 @@ fn opened(rt: &impl Abort, alloc: Global, o: &Opening) -> Floor
     ensures fits { FitsFloor o.now result }
     ensures sound { IsSoundFloor 0 result }
 {
-    let Ok(floor) = Floor::open(alloc, o) else {
-        panic!(rt; "out of memory");
-    };
-    floor
+    Floor::open(alloc, o).expect(rt, "out of memory")
 }
 
 // Whether a body that asks does so of one of the market's stocks.
@@ -226,12 +218,8 @@ fn a_halt_comes_at_its_time(rt: HostRuntime) {
 fn ruled_on_a_copy(rt: &impl Abort, alloc: Global, o: &Opening, floor: &Floor, time: Time) -> usize
     requires { FitsFloor o.now floor.now }
 {
-    let Ok(mut copy) = floor.copy(alloc) else {
-        panic!(rt; "out of memory");
-    };
-    let Ok(feed) = copy.rule(alloc, o, 0, time) else {
-        panic!(rt; "out of memory");
-    };
+    let mut copy = floor.copy(alloc).expect(rt, "out of memory");
+    let feed = copy.rule(alloc, o, 0, time).expect(rt, "out of memory");
     let told = feed.len();
     drop(feed);
     drop(copy);
@@ -254,10 +242,10 @@ fn a_copy_halts(rt: HostRuntime) {
 fn edited(rt: &impl Abort, alloc: Global, floor: &mut Floor, edit: &Edit) -> usize
     requires { IsEdit floor.old edit.now }
 {
-    let Ok(feed) = floor.edit(alloc, 1500, edit) else {
-        panic!(rt; "out of memory");
-    };
-    feed.len()
+    let feed = floor.edit(alloc, 1500, edit).expect(rt, "out of memory");
+    let told = feed.len();
+    drop(feed);
+    told
 }
 
 #[test]

@@ -22,14 +22,11 @@ fn watcher(group: u8) -> TraderSetting {
 #[test]
 fn agents_are_in_their_groups(rt: HostRuntime) {
     let alloc = rt.alloc();
-    let Ok(traders) = vec![in alloc; watcher(3), watcher(4)] else {
-        panic!(rt; "out of memory");
-    };
-    let Ok(o) = opening(alloc, 2000, 100, 3, traders) else {
-        panic!(rt; "out of memory");
-    };
+    let traders = vec![in alloc; watcher(3), watcher(4)].expect(&rt, "out of memory");
+    let o = opening(alloc, 2000, 100, 3, traders).expect(&rt, "out of memory");
     assert!(rt; o.traders.len() == 2);
     equal(&rt, group_number(&o, 0), 0);
     equal(&rt, group_number(&o, 1), 3);
     equal(&rt, group_number(&o, 2), 4);
+    drop(o);
 }

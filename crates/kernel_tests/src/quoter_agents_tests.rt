@@ -2,7 +2,7 @@ ghost use Rattle.agent_shell.specs.Parameters.{IsKind};
 
 use crate::facts::{equal, holds};
 use crate::tick_tables::cents;
-use crate::trader_party_tests::{copied, react};
+use crate::trader_party_tests::react_and_copy;
 use agent_shell::{Kind, Sending, Sends, TraderSetting};
 use market_floor::Party;
 use market_types::{Body, Inbound, Quote, Side};
@@ -29,13 +29,12 @@ fn sends_of(rt: &impl Abort, alloc: Global, kind: Kind, bodies: &[Body]) -> Send
         cash: 0,
     };
     let mut out = Sends::new(alloc);
-    let Ok(mut trader) = Party::open(alloc, 1, &setting) else {
-        panic!(rt; "out of memory");
-    };
+    let mut trader = Party::open(alloc, 1, &setting).expect(rt, "out of memory");
     for body in bodies {
-        react(rt, &mut trader, VALUE, &ticks, body, &mut out);
-        trader = copied(rt, &trader);
+        trader = react_and_copy(rt, trader, VALUE, &ticks, body, &mut out);
     }
+    drop(trader);
+    drop(ticks);
     out
 }
 
@@ -84,6 +83,7 @@ fn a_maker_quotes_until_its_list_is_full(rt: HostRuntime) {
     holds(&rt, is_at(&out, 2, Side::Buy, 99_700, 99_999));
     holds(&rt, is_at(&out, 3, Side::Sell, 100_300, 99_999));
     equal(&rt, out.as_slice().len(), 64 + 64 + 2);
+    drop(out);
 }
 
 // One middle against two: after 100,000 and 100,200 it buys at the ask, at once or not at all; after 99,800 it sells at
@@ -103,4 +103,5 @@ fn momentum_follows_its_middles(rt: HostRuntime) {
     let out = sends_of(&rt, rt.alloc(), kind, &bodies);
     holds(&rt, is_at(&out, 0, Side::Buy, 100_300, 0));
     holds(&rt, is_at(&out, 1, Side::Sell, 99_700, 0));
+    drop(out);
 }

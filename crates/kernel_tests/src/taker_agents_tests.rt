@@ -2,7 +2,7 @@ ghost use Rattle.agent_shell.specs.Parameters.{IsKind};
 
 use crate::facts::holds;
 use crate::tick_tables::cents;
-use crate::trader_party_tests::{copied, react};
+use crate::trader_party_tests::react_and_copy;
 use agent_shell::{Kind, Sending, Sends, TraderSetting};
 use market_floor::Party;
 use market_types::{Body, Inbound, Quote, Side};
@@ -31,13 +31,12 @@ fn sends_of(rt: &impl Abort, alloc: Global, kind: Kind, bodies: &[Body]) -> Send
         cash: 1000,
     };
     let mut out = Sends::new(alloc);
-    let Ok(mut trader) = Party::open(alloc, 0, &setting) else {
-        panic!(rt; "out of memory");
-    };
+    let mut trader = Party::open(alloc, 0, &setting).expect(rt, "out of memory");
     for body in bodies {
-        react(rt, &mut trader, VALUE, &ticks, body, &mut out);
-        trader = copied(rt, &trader);
+        trader = react_and_copy(rt, trader, VALUE, &ticks, body, &mut out);
     }
+    drop(trader);
+    drop(ticks);
     out
 }
 
@@ -90,4 +89,5 @@ fn noise_trades_by_the_toss_of_a_coin(rt: HostRuntime) {
     holds(&rt, is_wakeup(&out, 2, 1508));
     holds(&rt, is_at(&out, 3, Side::Buy, 72, 100_300));
     holds(&rt, is_at(&out, 4, Side::Buy, 81, 100_000));
+    drop(out);
 }

@@ -6,8 +6,5 @@ use std::process::Abort;
 
 /// A tick of one cent at each price.
 pub(crate) fn cents(rt: &impl Abort, alloc: Global) -> TickTable {
-    let Ok(ticks) = TickTable::new(alloc, &[Band { from: 0, tick: 100 }]) else {
-        panic!(rt; "no ticks");
-    };
-    ticks
+    TickTable::new(alloc, &[Band { from: 0, tick: 100 }]).expect(rt, "no ticks")
 }

@@ -31,9 +31,7 @@ fn timed(
     let mut steps: Steps<Counted> = Steps::new();
     let answer = kernel.run_until_time(alloc, o, when, most, trace, &mut steps);
     let ticks = steps.close();
-    let Ok(end) = answer else {
-        panic!(rt; "out of memory");
-    };
+    let end = answer.expect(rt, "out of memory");
     (end, ticks)
 }
 

@@ -35,18 +35,12 @@ fn opened(rt: &impl Abort, alloc: Global, kind: Kind) -> Party
         delay: 12,
         cash: 1000,
     };
-    let Ok(party) = Party::open(alloc, 1, &setting) else {
-        panic!(rt; "out of memory");
-    };
-    party
+    Party::open(alloc, 1, &setting).expect(rt, "out of memory")
 }
 
 /// An equal party.
 pub fn copied(rt: &impl Abort, party: &Party) -> Party {
-    let Ok(copy) = party.copy() else {
-        panic!(rt; "out of memory");
-    };
-    copy
+    party.copy().expect(rt, "out of memory")
 }
 
 /// Takes a message at 1000 where the stock has this value and the counts and the account are small.
@@ -77,6 +71,21 @@ pub fn react(
     holds(rt, answer.is_ok());
 }
 
+/// Takes a message so, and is then a copy of itself.
+pub fn react_and_copy(
+    rt: &impl Abort,
+    mut party: Party,
+    value: u32,
+    ticks: &TickTable,
+    body: &Body,
+    out: &mut Sends,
+) -> Party {
+    react(rt, &mut party, value, ticks, body, out);
+    let copy = copied(rt, &party);
+    drop(party);
+    copy
+}
+
 // What a party that takes these messages sends.
 fn sends_of(rt: &impl Abort, alloc: Global, party: &mut Party, bodies: &[Body]) -> Sends {
     let ticks = cents(rt, alloc);
@@ -84,6 +93,7 @@ fn sends_of(rt: &impl Abort, alloc: Global, party: &mut Party, bodies: &[Body]) 
     for body in bodies {
         react(rt, party, 100_050, &ticks, body, &mut out);
     }
+    drop(ticks);
     out
 }
 
@@ -93,9 +103,11 @@ fn a_watcher_wakes_and_hears(rt: HostRuntime) {
     let mut party = opened(&rt, alloc, Kind::Watcher);
     let out = sends_of(&rt, alloc, &mut party, &[Body::Wake, QUOTE]);
     let told = party.told();
-    equal(&rt, (told.draws, told.quotes), (1, 1));
+    holds(&rt, (told.draws == 1) & (told.quotes == 1));
     holds(&rt, !party.is_silent());
+    drop(party);
     equal(&rt, out.as_slice().len(), 2);
+    drop(out);
 }
 
 // The copy of one that is silenced is silenced too.
@@ -105,11 +117,14 @@ fn a_silenced_watcher_is_still(rt: HostRuntime) {
     let mut party = opened(&rt, alloc, Kind::Watcher);
     party.silence();
     let mut copy = copied(&rt, &party);
+    drop(party);
     let out = sends_of(&rt, alloc, &mut copy, &[Body::Wake, QUOTE]);
     let told = copy.told();
-    equal(&rt, (told.draws, told.quotes), (0, 0));
+    holds(&rt, (told.draws == 0) & (told.quotes == 0));
     holds(&rt, copy.is_silent());
+    drop(copy);
     holds(&rt, out.as_slice().is_empty());
+    drop(out);
 }
 
 // A maker quotes two orders.
@@ -125,10 +140,11 @@ fn a_maker_quotes(rt: HostRuntime) {
     };
     let mut party = opened(&rt, alloc, kind);
     let out = sends_of(&rt, alloc, &mut party, &[QUOTE]);
-    let told = copied(&rt, &party).told();
-    equal(
-        &rt,
-        (out.as_slice().len(), told.live, told.tokens),
-        (2, 2, 2),
-    );
+    let copy = copied(&rt, &party);
+    drop(party);
+    let told = copy.told();
+    drop(copy);
+    holds(&rt, (told.live == 2) & (told.tokens == 2));
+    equal(&rt, out.as_slice().len(), 2);
+    drop(out);
 }

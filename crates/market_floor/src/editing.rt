@@ -36,8 +36,33 @@ impl Floor {
     {
         books_stay_short();
         let mut feed = FeedList::new(alloc);
-        self.exchange.apply_change(time, stock, change, &mut feed)?;
+        if let Err(refused) = self.exchange.apply_change(time, stock, change, &mut feed) {
+            drop(feed);
+            return Err(refused);
+        }
         Ok(feed)
+    }
+
+    // A change of a stock's rules, which is let go of once it is made.
+    fn change_once(
+        &mut self,
+        alloc: Global,
+        time: Time,
+        stock: StockNo,
+        change: Change,
+    ) -> Result<FeedList, Memory>
+        requires { stock < length self.old.exchange.stocks }
+        ensures floor { OnOk result (self.new ≡ with_exchange (changed_by self.old.exchange time stock change).state self.old) }
+        ensures feed { IfOk result (λ l. l.list ≡ (changed_by self.old.exchange time stock change).feed) }
+        ensures times { IfOk result (λ l. All (λ f. f.time ≡ time) l.list) }
+        ensures sound { (n : ℕ) → IsSoundFloor n self.old → IsSoundFloor n self.new }
+        ensures stocks { length self.new.exchange.stocks ≡ length self.old.exchange.stocks }
+        ensures traders { length self.new.parties ≡ length self.old.parties }
+        ensures refused { OnErr result (self.new ≡ self.old) }
+    {
+        let feed = self.change(alloc, time, stock, &change);
+        drop(change);
+        feed
     }
 
     // A parameter of a trader becomes this one.
@@ -87,12 +112,14 @@ impl Floor {
     {
         match edit {
             Edit::Tick { stock, table } => {
-                let change = Change::Tick(table.copy(alloc)?);
-                self.change(alloc, time, *stock, &change)
+                let Ok(table) = table.copy(alloc) else {
+                    return Err(Memory);
+                };
+                self.change_once(alloc, time, *stock, Change::Tick(table))
             }
-            Edit::Fee { stock, fees } => self.change(alloc, time, *stock, &Change::Fee(*fees)),
-            Edit::Halt { stock } => self.change(alloc, time, *stock, &Change::Halt),
-            Edit::Resume { stock } => self.change(alloc, time, *stock, &Change::Resume),
+            Edit::Fee { stock, fees } => self.change_once(alloc, time, *stock, Change::Fee(*fees)),
+            Edit::Halt { stock } => self.change_once(alloc, time, *stock, Change::Halt),
+            Edit::Resume { stock } => self.change_once(alloc, time, *stock, Change::Resume),
             Edit::Agent { agent, name, value } => {
                 self.set(*agent, *name, *value);
                 Ok(FeedList::new(alloc))

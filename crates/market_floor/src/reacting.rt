@@ -243,8 +243,14 @@ impl Floor {
         books_stay_short();
         first_changes_are_due();
         let offsets = self.offsets.as_slice();
-        let mut exchange = changed(alloc, o, &self.exchange, applied, m.time, &mut out.before)?;
-        react(o, &mut exchange, &mut self.parties, offsets, m, out)?;
+        let Ok(mut exchange) = changed(alloc, o, &self.exchange, applied, m.time, &mut out.before)
+        else {
+            return Err(Memory);
+        };
+        let Ok(()) = react(o, &mut exchange, &mut self.parties, offsets, m, out) else {
+            drop(exchange);
+            return Err(Memory);
+        };
         self.exchange = exchange;
         Ok(())
     }

@@ -52,12 +52,17 @@ pub(crate) fn changed(
     ensures state { IfOk result (λ x. x ≡ (all_changed (due o.now applied time) exchange.now).state) }
     ensures feed { OnOk result (feed.new.list ≡ feed.old.list ++ (all_changed (due o.now applied time) exchange.now).feed) }
 {
-    let mut copy = exchange.copy(alloc)?;
+    let Ok(mut copy) = exchange.copy(alloc) else {
+        return Err(Memory);
+    };
     let due = o.dated.rules_at(time);
     if due <= applied {
         return Ok(copy);
     }
-    change_all(&mut copy, &o.dated.as_slice()[applied..due], feed)?;
+    let Ok(()) = change_all(&mut copy, &o.dated.as_slice()[applied..due], feed) else {
+        drop(copy);
+        return Err(Memory);
+    };
     Ok(copy)
 }
 
@@ -89,7 +94,11 @@ impl Floor {
         if !o.dated.is_due(applied, time) {
             return Ok(feed);
         }
-        self.exchange = changed(alloc, o, &self.exchange, applied, time, &mut feed)?;
+        let Ok(exchange) = changed(alloc, o, &self.exchange, applied, time, &mut feed) else {
+            drop(feed);
+            return Err(Memory);
+        };
+        self.exchange = exchange;
         Ok(feed)
     }
 }

@@ -74,15 +74,26 @@ pub fn read_orders(alloc: Global, traders: usize, text: &[u8]) -> Result<Vec<Int
     let mut number = 0;
     'records: loop {
         let Ok(found) = next_record(&mut reader, &mut line) else {
+            drop(orders);
+            drop(line);
+            drop(reader);
             return Err(OrdersError::Memory);
         };
         if !found {
+            drop(line);
+            drop(reader);
             return finished(number, orders);
         }
         let Ok(taken) = take_record(traders, number, &mut orders, &line) else {
+            drop(orders);
+            drop(line);
+            drop(reader);
             return Err(OrdersError::Memory);
         };
         if !taken {
+            drop(orders);
+            drop(line);
+            drop(reader);
             return Err(OrdersError::Refused(number));
         }
         number += 1;

@@ -125,27 +125,32 @@ impl Book {
     pub fn copy(&self, alloc: Global) -> Result<Book, Memory>
         ensures { IfOk result (λ b. b.list ≡ self.now.list) }
     {
-        let orders = copied(alloc, self.orders.as_slice())?;
-        let nexts = copied(alloc, self.nexts.as_slice())?;
-        let buys = copied(alloc, self.buys.shown.as_slice())?;
-        let sells = copied(alloc, self.sells.shown.as_slice())?;
-        let hidden_buys = copied(alloc, self.buys.hidden.as_slice())?;
-        let hidden_sells = copied(alloc, self.sells.hidden.as_slice())?;
-        let references = copied(alloc, self.references.as_slice())?;
-        let tokens = copied(alloc, self.tokens.as_slice())?;
+        let Ok((orders, nexts)) = copied_two(alloc, &self.orders, &self.nexts) else {
+            return Err(Memory);
+        };
+        let Ok(buys) = copied_half(alloc, &self.buys) else {
+            drop(orders);
+            drop(nexts);
+            return Err(Memory);
+        };
+        let Ok(sells) = copied_half(alloc, &self.sells) else {
+            drop(orders);
+            drop(nexts);
+            drop(buys);
+            return Err(Memory);
+        };
+        let Ok((references, tokens)) = copied_two(alloc, &self.references, &self.tokens) else {
+            drop(orders);
+            drop(nexts);
+            drop(buys);
+            drop(sells);
+            return Err(Memory);
+        };
         Ok(Book {
             orders,
             nexts,
-            buys: Half {
-                shown: buys,
-                hidden: hidden_buys,
-                count: self.buys.count,
-            },
-            sells: Half {
-                shown: sells,
-                hidden: hidden_sells,
-                count: self.sells.count,
-            },
+            buys,
+            sells,
             references,
             tokens,
             spare: 0,
@@ -385,9 +390,15 @@ impl Book {
         ensures room { IfOk result (λ b. n ≤ b.spare) }
     {
         let mut packed = Book::new(*self.orders.allocator());
-        packed.widen(self.len())?;
+        let Ok(()) = packed.widen(self.len()) else {
+            drop(packed);
+            return Err(Memory);
+        };
         packed.rest_all(self.orders.as_slice());
-        packed.widen(n)?;
+        let Ok(()) = packed.widen(n) else {
+            drop(packed);
+            return Err(Memory);
+        };
         Ok(packed)
     }
 
@@ -405,4 +416,39 @@ impl Book {
             }
         }
     }
+}
+
+// Copies of two vectors.
+fn copied_two<A: Copy + Drop, B: Copy + Drop>(
+    alloc: Global,
+    first: &Vec<A>,
+    second: &Vec<B>,
+) -> Result<(Vec<A>, Vec<B>), Memory>
+    ensures first { IfOk result (λ v. v.0.items ≡ first.now.items) }
+    ensures second { IfOk result (λ v. v.1.items ≡ second.now.items) }
+{
+    let Ok(one) = copied(alloc, first.as_slice()) else {
+        return Err(Memory);
+    };
+    let Ok(two) = copied(alloc, second.as_slice()) else {
+        drop(one);
+        return Err(Memory);
+    };
+    Ok((one, two))
+}
+
+// A copy of a side.
+fn copied_half(alloc: Global, half: &Half) -> Result<Half, Memory>
+    ensures shown { IfOk result (λ h. h.shown.items ≡ half.now.shown.items) }
+    ensures hidden { IfOk result (λ h. h.hidden.items ≡ half.now.hidden.items) }
+    ensures count { IfOk result (λ h. h.count ≡ half.now.count) }
+{
+    let Ok((shown, hidden)) = copied_two(alloc, &half.shown, &half.hidden) else {
+        return Err(Memory);
+    };
+    Ok(Half {
+        shown,
+        hidden,
+        count: half.count,
+    })
 }

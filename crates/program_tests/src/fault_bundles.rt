@@ -1,7 +1,7 @@
 //! The bundle of three branches, cut or changed, as it is read.
 
 use crate::facts::{equal, holds};
-use crate::fault_runs::{Ended, QUIET, branched_study, ran};
+use crate::fault_runs::{QUIET, branched_study, ran};
 use bundle_reader::{BundleError, read_bundle};
 use std::alloc::Global;
 use std::process::Abort;
@@ -81,11 +81,13 @@ const CHANGED: [(usize, Option<BundleError>); 65] = [
 ];
 
 // What a run of three branches writes.
-fn three_branches<R: Abort + Threads + Wait + Sync>(rt: &R, alloc: Global) -> Ended {
-    let Ok(study) = branched_study(alloc) else {
-        panic!(rt; "out of memory");
-    };
-    ran(rt, alloc, "run s", study.as_bytes(), QUIET)
+fn three_branches<R: Abort + Threads + Wait + Sync>(rt: &R, alloc: Global) -> Vec<u8> {
+    let study = branched_study(rt, alloc);
+    let ran = ran(rt, alloc, "run s", study.as_str(), QUIET);
+    drop(study);
+    let bytes = ran.out.taken().to_vec(alloc).expect(rt, "memory");
+    drop(ran);
+    bytes
 }
 
 // Whether so many first bytes are answered by a cut with so many bytes left.
@@ -99,15 +101,16 @@ fn is_cut(alloc: Global, bytes: &[u8], size: usize, left: usize) -> bool {
 #[test]
 fn each_cut_is_told(rt: HostRuntime) {
     let alloc = rt.alloc();
-    let ran = three_branches(&rt, alloc);
+    let bytes = three_branches(&rt, alloc);
     let mut start = 0;
     for size in 0..201 {
         if STARTS.contains(&size) {
             start = size;
         }
         let left = size.wrapping_sub(start);
-        holds(&rt, is_cut(alloc, ran.out.taken(), size, left));
+        holds(&rt, is_cut(alloc, bytes.as_slice(), size, left));
     }
+    drop(bytes);
 }
 
 // Changes all bits of a byte.
@@ -128,10 +131,7 @@ fn is_told(alloc: Global, bytes: &mut [u8], at: usize, answer: Option<BundleErro
 #[test]
 fn each_changed_byte_is_told(rt: HostRuntime) {
     let alloc = rt.alloc();
-    let ran = three_branches(&rt, alloc);
-    let Ok(mut bytes) = ran.out.taken().to_vec(alloc) else {
-        panic!(rt; "out of memory");
-    };
+    let mut bytes = three_branches(&rt, alloc);
     let mut start = 0;
     for (end, answer) in CHANGED.iter() {
         for at in start..*end {
@@ -140,4 +140,5 @@ fn each_changed_byte_is_told(rt: HostRuntime) {
         start = *end;
     }
     equal(&rt, start, 400);
+    drop(bytes);
 }

@@ -2,27 +2,25 @@
 
 use crate::facts::{equal, holds};
 use crate::fault_runs::{Around, QUIET, WATCHERS, branched_study, empty_study, ran};
+use crate::runs::{is_whole, is_write_fault};
 use abides_run::Status;
-use market_types::Memory;
 use std::alloc::Global;
 use std::process::Abort;
 use std::sync::Wait;
 use std::thread::Threads;
 
 // How many bytes a sink has taken before each of its calls, where pieces of these sizes are written to it.
-fn taken_before_calls(alloc: Global, pieces: &[usize]) -> Result<Vec<usize>, Memory> {
+fn taken_before_calls(rt: &impl Abort, alloc: Global, pieces: &[usize]) -> Vec<usize> {
     let mut taken = Vec::new(alloc);
     let mut before: usize = 0;
     for piece in pieces {
         for part in (0..*piece).step_by(64) {
-            taken.push(before.saturating_add(part))?;
+            holds(rt, taken.push(before.saturating_add(part)).is_ok());
         }
         before = before.saturating_add(*piece);
     }
-    Ok(taken)
+    taken
 }
-
-const WRITE_FAILED: &[u8] = b"write failed\n";
 
 // A run of a study of so many steps, whose write of this number fails, has written these bytes.
 fn fail_a_write<R: Abort + Threads + Wait + Sync>(
@@ -37,10 +35,10 @@ fn fail_a_write<R: Abort + Threads + Wait + Sync>(
         failing_write: call,
         ..QUIET
     };
-    let ran = ran(rt, alloc, "run s", study.as_bytes(), around);
-    holds(rt, ran.status == Status::WriteFault && ran.steps == steps);
+    let ran = ran(rt, alloc, "run s", study, around);
+    holds(rt, is_write_fault(&ran, steps));
     holds(rt, written == Some(ran.out.taken()));
-    holds(rt, ran.notes.taken() == WRITE_FAILED);
+    drop(ran);
 }
 
 // A run of a study of so many steps that has no write of this number writes the whole.
@@ -56,13 +54,31 @@ fn fail_no_write<R: Abort + Threads + Wait + Sync>(
         failing_write: call,
         ..QUIET
     };
-    let ran = ran(rt, alloc, "run s", study.as_bytes(), around);
-    holds(rt, ran.status == Status::Ok && ran.steps == steps);
-    holds(rt, ran.out.taken() == whole && ran.notes.taken().is_empty());
+    let ran = ran(rt, alloc, "run s", study, around);
+    holds(rt, is_whole(&ran, steps, whole));
+    drop(ran);
 }
 
-// Runs a study of so many steps once for each write, which fails, and once more; the pieces are the sizes of its header, then
-// for each branch of what stands before the entries, of the entries of each segment and of what stands behind, and of its end.
+// Runs a study of so many steps once for each write, which fails, and once more; the writes are given by how many bytes were
+// taken before each.
+fn fail_in_turn<R: Abort + Threads + Wait + Sync>(
+    rt: &R,
+    alloc: Global,
+    study: &str,
+    steps: u64,
+    calls: &[usize],
+    whole: &[u8],
+) {
+    let mut call = 1;
+    for taken in calls {
+        fail_a_write(rt, alloc, study, steps, call, whole.get(..*taken));
+        call = call.saturating_add(1);
+    }
+    fail_no_write(rt, alloc, study, steps, call, whole);
+}
+
+// The same; the pieces are the sizes of its header, then for each branch of what stands before the entries, of the entries of
+// each segment and of what stands behind, and of its end.
 fn fail_each_write<R: Abort + Threads + Wait + Sync>(
     rt: &R,
     alloc: Global,
@@ -70,18 +86,13 @@ fn fail_each_write<R: Abort + Threads + Wait + Sync>(
     steps: u64,
     pieces: &[usize],
 ) -> usize {
-    let Ok(calls) = taken_before_calls(alloc, pieces) else {
-        panic!(rt; "out of memory");
-    };
-    let ran = ran(rt, alloc, "run s", study.as_bytes(), QUIET);
-    let whole = ran.out.taken();
-    let mut call = 1;
-    for taken in calls.iter() {
-        fail_a_write(rt, alloc, study, steps, call, whole.get(..*taken));
-        call = call.saturating_add(1);
-    }
-    fail_no_write(rt, alloc, study, steps, call, whole);
-    whole.len()
+    let calls = taken_before_calls(rt, alloc, pieces);
+    let ran = ran(rt, alloc, "run s", study, QUIET);
+    fail_in_turn(rt, alloc, study, steps, calls.as_slice(), ran.out.taken());
+    let size = ran.out.taken().len();
+    drop(ran);
+    drop(calls);
+    size
 }
 
 const EMPTY_PIECES: [usize; 5] = [11, 98, 0, 288, 5];
@@ -93,34 +104,38 @@ const BRANCHED_PIECES: [usize; 18] = [
 #[test]
 fn each_write_fails_in_turn(rt: HostRuntime) {
     let alloc = rt.alloc();
-    let (Ok(empty), Ok(branched)) = (empty_study(alloc), branched_study(alloc)) else {
-        panic!(rt; "out of memory");
-    };
-    equal(
-        &rt,
-        fail_each_write(&rt, alloc, empty.as_str(), 0, &EMPTY_PIECES),
-        402,
-    );
-    equal(
-        &rt,
-        fail_each_write(&rt, alloc, branched.as_str(), 18, &BRANCHED_PIECES),
-        3255,
-    );
+    let empty = empty_study(&rt, alloc);
+    let size = fail_each_write(&rt, alloc, empty.as_str(), 0, &EMPTY_PIECES);
+    drop(empty);
+    equal(&rt, size, 402);
+    let branched = branched_study(&rt, alloc);
+    let size = fail_each_write(&rt, alloc, branched.as_str(), 18, &BRANCHED_PIECES);
+    drop(branched);
+    equal(&rt, size, 3255);
+}
+
+// A run without room fails in its first write.
+fn has_no_room<R: Abort + Threads + Wait + Sync>(
+    rt: &R,
+    alloc: Global,
+    line: &str,
+    study: &str,
+    steps: u64,
+) -> bool {
+    let around = Around { room: 0, ..QUIET };
+    let ran = ran(rt, alloc, line, study, around);
+    let has_none = is_write_fault(&ran, steps) & ran.out.taken().is_empty();
+    drop(ran);
+    has_none
 }
 
 #[test]
 fn a_sink_without_room_is_a_fault(rt: HostRuntime) {
     let alloc = rt.alloc();
-    let Ok(study) = branched_study(alloc) else {
-        panic!(rt; "out of memory");
-    };
-    for (line, steps) in [("run s", 18), ("check s", 0)] {
-        let around = Around { room: 0, ..QUIET };
-        let ran = ran(&rt, alloc, line, study.as_bytes(), around);
-        holds(&rt, ran.status == Status::WriteFault && ran.steps == steps);
-        holds(&rt, ran.out.taken().is_empty());
-        holds(&rt, ran.notes.taken() == WRITE_FAILED);
-    }
+    let study = branched_study(&rt, alloc);
+    holds(&rt, has_no_room(&rt, alloc, "run s", study.as_str(), 18));
+    holds(&rt, has_no_room(&rt, alloc, "check s", study.as_str(), 0));
+    drop(study);
 }
 
 // The words, the study, the read that fails, the room of the output, and how the run ends.
@@ -142,21 +157,32 @@ const ROWS: [(&str, &str, u32, usize, Status); 9] = [
     ("rewind s root:7", WATCHERS, 0, 1000, Status::NoEvent),
 ];
 
+// A run ends so with this room for notes, and notes nothing where it ended well or has no room.
+fn ends_so<R: Abort + Threads + Wait + Sync>(
+    rt: &R,
+    alloc: Global,
+    row: &(&str, &str, u32, usize, Status),
+    notes_room: usize,
+) {
+    let around = Around {
+        failing_read: row.2,
+        failing_write: 0,
+        room: row.3,
+        notes_room,
+    };
+    let ran = ran(rt, alloc, row.0, row.1, around);
+    let (status, is_silent) = (ran.status, ran.notes.taken().is_empty());
+    drop(ran);
+    equal(rt, status, row.4);
+    equal(rt, is_silent, notes_room == 0 || row.4 == Status::Ok);
+}
+
 #[test]
 fn notes_that_fail_change_no_status(rt: HostRuntime) {
-    for (line, study, failing_read, room, status) in ROWS.iter() {
+    let alloc = rt.alloc();
+    for row in ROWS.iter() {
         // notes with room, and without: there each write fails
-        for notes_room in [100, 0] {
-            let around = Around {
-                failing_read: *failing_read,
-                failing_write: 0,
-                room: *room,
-                notes_room,
-            };
-            let ran = ran(&rt, rt.alloc(), line, study.as_bytes(), around);
-            equal(&rt, ran.status, *status);
-            let silent = notes_room == 0 || *status == Status::Ok;
-            equal(&rt, ran.notes.taken().is_empty(), silent);
-        }
+        ends_so(&rt, alloc, row, 100);
+        ends_so(&rt, alloc, row, 0);
     }
 }

@@ -1,8 +1,8 @@
 //! Studies, and one run of the call over a library and sinks in memory.
 
-use abides_run::{Status, run};
-use market_types::Memory;
-use outside::{Counted, MemoryLibrary, MemorySink, OpenGate, Steps};
+use crate::runs;
+use crate::runs::{Ended, Room, ran_words, sized};
+use outside::OpenGate;
 use probe_desk::Probe;
 use std::alloc::Global;
 use std::process::Abort;
@@ -66,27 +66,24 @@ at = 2
 ";
 
 /// One watcher that would first wake after the close.
-pub fn empty_study(alloc: Global) -> Result<String, Memory> {
-    let text = WATCHERS.replacen(alloc, "close = 2000", "close = 1000", 1)?;
-    let text = text.replacen(alloc, "first = 1000", "first = 2000", 1)?;
-    Ok(text.replacen(alloc, "count = 2\n", "", 1)?)
+pub fn empty_study(rt: &impl Abort, alloc: Global) -> String {
+    let closed = WATCHERS
+        .replacen(alloc, "close = 2000", "close = 1000", 1)
+        .expect(rt, "memory");
+    let late = closed
+        .replacen(alloc, "first = 1000", "first = 2000", 1)
+        .expect(rt, "memory");
+    drop(closed);
+    let alone = late
+        .replacen(alloc, "count = 2\n", "", 1)
+        .expect(rt, "memory");
+    drop(late);
+    alone
 }
 
 /// The two watchers with three branches that leave the root after two events.
-pub fn branched_study(alloc: Global) -> Result<String, Memory> {
-    Ok(format!(in alloc; "{WATCHERS}{BRANCHES}")?)
-}
-
-// A library with the file `s`, one call of which fails; none at 0.
-fn library(alloc: Global, study: &[u8], failing: u32) -> Result<MemoryLibrary, Memory> {
-    let mut files = Vec::with_capacity(alloc, 1)?;
-    files.push((String::from_str(alloc, "s")?, study.to_vec(alloc)?))?;
-    MemoryLibrary::new(files, vec![in alloc; failing]?)
-}
-
-// A sink that takes at most 64 bytes a call, one call of which fails; none at 0.
-fn sink(alloc: Global, room: usize, failing: u32) -> Result<MemorySink, Memory> {
-    MemorySink::new(alloc, room, 64, vec![in alloc; failing]?)
+pub fn branched_study(rt: &impl Abort, alloc: Global) -> String {
+    format!(in alloc; "{WATCHERS}{BRANCHES}").expect(rt, "memory")
 }
 
 /// What surrounds a run: the read and the write that fail (none at 0), and how many bytes the output and the notes take.
@@ -106,22 +103,14 @@ pub const QUIET: Around = Around {
     notes_room: 100,
 };
 
-/// How a run ended, its counted steps, and what was written.
-#[derive(Drop)]
-pub struct Ended {
-    pub status: Status,
-    pub steps: u64,
-    pub out: MemorySink,
-    pub notes: MemorySink,
-}
-
 // What stands between a line's spaces.
-fn words_of(alloc: Global, line: &str) -> Result<Vec<String>, Memory> {
+fn words_of(rt: &impl Abort, alloc: Global, line: &str) -> Vec<String> {
     let mut words = Vec::new(alloc);
     for word in line.split(' ') {
-        words.push(String::from_str(alloc, word)?)?;
+        let word = String::from_str(alloc, word).expect(rt, "memory");
+        words.push(word).expect(rt, "memory");
     }
-    Ok(words)
+    words
 }
 
 /// Runs the words between a line's spaces on the study `s`, without probes. A sink takes at most 64 bytes a call.
@@ -129,7 +118,7 @@ pub fn ran<R: Abort + Threads + Wait + Sync>(
     rt: &R,
     alloc: Global,
     line: &str,
-    study: &[u8],
+    study: &str,
     around: Around,
 ) -> Ended {
     ran_with(rt, alloc, line, study, around, Vec::new(alloc))
@@ -140,38 +129,23 @@ pub fn ran_with<R: Abort + Threads + Wait + Sync>(
     rt: &R,
     alloc: Global,
     line: &str,
-    study: &[u8],
+    study: &str,
     around: Around,
     probes: Vec<Box<dyn Probe>>,
 ) -> Ended {
-    let (Ok(words), Ok(mut library)) = (
-        words_of(alloc, line),
-        library(alloc, study, around.failing_read),
-    ) else {
-        panic!(rt; "out of memory");
+    let all_around = runs::Around {
+        study,
+        series: "",
+        failing_read: around.failing_read,
+        out: Room {
+            room: around.room,
+            most: 64,
+            failing: around.failing_write,
+        },
+        notes: sized(around.notes_room, 64),
     };
-    let (Ok(mut out), Ok(mut notes)) = (
-        sink(alloc, around.room, around.failing_write),
-        sink(alloc, around.notes_room, 0),
-    ) else {
-        panic!(rt; "out of memory");
-    };
-    let mut steps: Steps<Counted> = Steps::new();
-    let status = run(
-        rt,
-        alloc,
-        &words,
-        &mut library,
-        &mut out,
-        &mut notes,
-        probes,
-        &OpenGate,
-        &mut steps,
-    );
-    Ended {
-        status,
-        steps: steps.close(),
-        out,
-        notes,
-    }
+    let words = words_of(rt, alloc, line);
+    let ended = ran_words(rt, alloc, words.as_slice(), &all_around, probes, &OpenGate);
+    drop(words);
+    ended
 }

@@ -1,8 +1,11 @@
 //! The large study: the lines that tell of its run, and that it is accepted.
 
-use crate::facts::{equal, holds};
-use crate::runs::{Around, alone, ran, sized};
-use abides_run::Status;
+use crate::facts::holds;
+use crate::runs::{Around, alone, is_whole, ran, sized};
+use std::alloc::Global;
+use std::process::Abort;
+use std::sync::Wait;
+use std::thread::Threads;
 use study_file::study_text;
 
 // As another program writes them.
@@ -18,23 +21,30 @@ const ROWS: [([&str; 3], u32, u64, &str); 3] = [
     (["check", "s", "--workers=4"], 2, 0, ACCEPTED),
 ];
 
+// Words run so on a study.
+fn runs_so<R: Abort + Threads + Wait + Sync>(
+    rt: &R,
+    alloc: Global,
+    text: &str,
+    row: &([&str; 3], u32, u64, &str),
+) -> bool {
+    let around = Around {
+        failing_read: row.1,
+        ..alone(text, sized(200, 64))
+    };
+    let ended = ran(rt, alloc, &row.0, &around);
+    let is_so = is_whole(&ended, row.2, row.3.as_bytes());
+    drop(ended);
+    is_so
+}
+
 // The call of the library that would fail is the first, or the one behind the study's: no file is fetched for the lines.
 #[test]
 fn lines_of_the_large_study(rt: HostRuntime) {
     let alloc = rt.alloc();
-    let Ok(text) = study_text(alloc, 7, 500_000) else {
-        panic!(rt; "out of memory");
-    };
-    for (words, failing_read, counted, line) in ROWS.iter() {
-        let around = Around {
-            failing_read: *failing_read,
-            ..alone(text.as_str(), sized(200, 64))
-        };
-        let ended = ran(&rt, alloc, words, &around);
-        equal(&rt, (ended.status, ended.steps), (Status::Ok, *counted));
-        holds(
-            &rt,
-            ended.out.taken() == line.as_bytes() && ended.notes.taken().is_empty(),
-        );
+    let text = study_text(alloc, 7, 500_000).expect(&rt, "memory");
+    for row in ROWS.iter() {
+        holds(&rt, runs_so(&rt, alloc, text.as_str(), row));
     }
+    drop(text);
 }

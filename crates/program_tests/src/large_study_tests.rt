@@ -1,6 +1,6 @@
 use crate::facts::holds;
-use market_types::Memory;
 use std::alloc::Global;
+use std::process::Abort;
 use study_file::study_text;
 
 // The study of the number 7 with 20,000 events, as another program makes it.
@@ -185,10 +185,9 @@ edit = [{ kind = "silence", agent = 3 }]
 
 #[test]
 fn study_of_seven(rt: HostRuntime) {
-    let Ok(text) = study_text(rt.alloc(), 7, 20_000) else {
-        panic!(rt; "out of memory");
-    };
+    let text = study_text(rt.alloc(), 7, 20_000).expect(&rt, "memory");
     holds(&rt, text.as_str() == SEVEN);
+    drop(text);
 }
 
 const HEAD: &str = r#"version = 1
@@ -198,26 +197,27 @@ close = 36000000000000
 events = 1000000
 "#;
 
-// A text from its limit of 20,000 events on behind another head, if it has that limit.
-fn behind_head(alloc: Global, text: &str) -> Result<Option<String>, Memory> {
-    match text.split_once("events = 20000\n") {
-        Some((_, rest)) => Ok(Some(format!(in alloc; "{HEAD}{rest}")?)),
-        None => Ok(None),
-    }
+// A text from its limit of 20,000 events on behind another head; it has that limit.
+fn behind_head(rt: &impl Abort, alloc: Global, text: &str) -> String {
+    let (_, rest) = text.split_once("events = 20000\n").expect(rt, "a limit");
+    format!(in alloc; "{HEAD}{rest}").expect(rt, "memory")
+}
+
+// The study of seven behind that head.
+fn seven_behind_head(rt: &impl Abort, alloc: Global) -> String {
+    let seven = study_text(alloc, 7, 20_000).expect(rt, "memory");
+    let hoped = behind_head(rt, alloc, seven.as_str());
+    drop(seven);
+    hoped
 }
 
 // Another number and another limit change the key and the limit alone.
 #[test]
 fn study_of_9999(rt: HostRuntime) {
     let alloc = rt.alloc();
-    let (Ok(text), Ok(seven)) = (
-        study_text(alloc, 9_999, 1_000_000),
-        study_text(alloc, 7, 20_000),
-    ) else {
-        panic!(rt; "out of memory");
-    };
-    let Ok(Some(hoped)) = behind_head(alloc, seven.as_str()) else {
-        panic!(rt; "no limit");
-    };
+    let text = study_text(alloc, 9_999, 1_000_000).expect(&rt, "memory");
+    let hoped = seven_behind_head(&rt, alloc);
     holds(&rt, text.as_str() == hoped.as_str());
+    drop(hoped);
+    drop(text);
 }

@@ -3,9 +3,12 @@
 use crate::facts::{equal, holds};
 use crate::fault_runs::{QUIET, branched_study, ran_with};
 use abides_run::Status;
-use market_types::{Memory, Record};
+use market_types::Record;
 use probe_desk::Probe;
 use std::alloc::Global;
+use std::process::Abort;
+use std::sync::Wait;
+use std::thread::Threads;
 
 // It adds one number at each record.
 #[derive(Drop)]
@@ -48,36 +51,49 @@ const ENDS: [(i128, &str); 2] = [
 ];
 
 // A probe that adds this.
-fn adding_probe(alloc: Global, term: i128) -> Result<Vec<Box<dyn Probe>>, Memory> {
+fn adding_probe(rt: &impl Abort, alloc: Global, term: i128) -> Vec<Box<dyn Probe>> {
     let mut probes: Vec<Box<dyn Probe>> = Vec::new(alloc);
-    probes.push(Box::new(alloc, Adding { term, total: 0 })?)?;
-    Ok(probes)
+    let probe = Box::new(alloc, Adding { term, total: 0 }).expect(rt, "memory");
+    probes.push(probe).expect(rt, "memory");
+    probes
 }
 
 // The table of three branches where each sum is this.
-fn table_of(alloc: Global, sum: &str) -> Result<String, Memory> {
-    Ok(format!(in alloc;
+fn table_of(rt: &impl Abort, alloc: Global, sum: &str) -> String {
+    format!(in alloc;
         "branch,parent,stop,events,end,first_difference,adding
 root,,0,6,Closed,0,{sum}
 x,root,2,6,Closed,5,{sum}
 y,root,2,6,Closed,5,{sum}
 z,root,2,6,Closed,0,{sum}
 "
-    )?)
+    )
+    .expect(rt, "memory")
+}
+
+// The table of a study with a probe that adds this has this sum in each row.
+fn stays<R: Abort + Threads + Wait + Sync>(
+    rt: &R,
+    alloc: Global,
+    study: &str,
+    term: i128,
+    sum: &str,
+) {
+    let probes = adding_probe(rt, alloc, term);
+    let ran = ran_with(rt, alloc, "table s", study, QUIET, probes);
+    equal(rt, ran.status, Status::Ok);
+    let table = table_of(rt, alloc, sum);
+    holds(rt, ran.out.taken() == table.as_bytes());
+    drop(table);
+    drop(ran);
 }
 
 #[test]
 fn a_sum_stays_at_the_ends_of_its_type(rt: HostRuntime) {
     let alloc = rt.alloc();
-    let Ok(study) = branched_study(alloc) else {
-        panic!(rt; "out of memory");
-    };
+    let study = branched_study(&rt, alloc);
     for (term, sum) in ENDS.iter() {
-        let (Ok(probes), Ok(table)) = (adding_probe(alloc, *term), table_of(alloc, sum)) else {
-            panic!(rt; "out of memory");
-        };
-        let ran = ran_with(&rt, alloc, "table s", study.as_bytes(), QUIET, probes);
-        equal(&rt, ran.status, Status::Ok);
-        holds(&rt, ran.out.taken() == table.as_bytes());
+        stays(&rt, alloc, study.as_str(), *term, sum);
     }
+    drop(study);
 }

@@ -1,7 +1,6 @@
 //! One run over a library and sinks in memory.
 
 use abides_run::{Status, run};
-use market_types::Memory;
 use outside::{Counted, Gate, MemoryLibrary, MemorySink, OpenGate, Steps};
 use probe_desk::{Fees, Probe, Range, SpreadSum, Volume};
 use std::alloc::Global;
@@ -9,12 +8,13 @@ use std::process::Abort;
 use std::sync::Wait;
 use std::thread::Threads;
 
-fn words_of(alloc: Global, words: &[&str]) -> Result<Vec<String>, Memory> {
+fn words_of(rt: &impl Abort, alloc: Global, words: &[&str]) -> Vec<String> {
     let mut all = Vec::new(alloc);
     for word in words {
-        all.push(String::from_str(alloc, word)?)?;
+        let word = String::from_str(alloc, word).expect(rt, "memory");
+        all.push(word).expect(rt, "memory");
     }
-    Ok(all)
+    all
 }
 
 /// How many bytes a sink takes, at most how many a call, and the call that fails; none at 0.
@@ -40,6 +40,8 @@ pub const NOTES: Room = Room {
     most: 64,
     failing: 0,
 };
+
+const WRITE_FAILED: &[u8] = b"write failed\n";
 
 /// What surrounds a run: the files `s` and `t`, the call of the library that fails (none at 0), and the sinks.
 #[derive(Clone, Copy)]
@@ -72,31 +74,40 @@ pub struct Ended {
 }
 
 // A library with the files `s` and `t`.
-fn library(alloc: Global, around: &Around<'_>) -> Result<MemoryLibrary, Memory> {
-    let mut files = Vec::with_capacity(alloc, 2)?;
-    files.push((
-        String::from_str(alloc, "s")?,
-        around.study.as_bytes().to_vec(alloc)?,
-    ))?;
-    files.push((
-        String::from_str(alloc, "t")?,
-        around.series.as_bytes().to_vec(alloc)?,
-    ))?;
-    MemoryLibrary::new(files, vec![in alloc; around.failing_read]?)
+fn library(rt: &impl Abort, alloc: Global, around: &Around<'_>) -> MemoryLibrary {
+    let study = around.study.as_bytes().to_vec(alloc).expect(rt, "memory");
+    let series = around.series.as_bytes().to_vec(alloc).expect(rt, "memory");
+    let s = String::from_str(alloc, "s").expect(rt, "memory");
+    let t = String::from_str(alloc, "t").expect(rt, "memory");
+    let mut files = Vec::new(alloc);
+    files.push((s, study)).expect(rt, "memory");
+    files.push((t, series)).expect(rt, "memory");
+    let failing = vec![in alloc; around.failing_read].expect(rt, "memory");
+    MemoryLibrary::new(files, failing).expect(rt, "a library takes no memory")
 }
 
-fn sink(alloc: Global, room: Room) -> Result<MemorySink, Memory> {
-    MemorySink::new(alloc, room.room, room.most, vec![in alloc; room.failing]?)
+fn sink(rt: &impl Abort, alloc: Global, room: Room) -> MemorySink {
+    let failing = vec![in alloc; room.failing].expect(rt, "memory");
+    MemorySink::new(alloc, room.room, room.most, failing).expect(rt, "memory")
+}
+
+// A probe more.
+fn join_probe(rt: &impl Abort, probes: &mut Vec<Box<dyn Probe>>, probe: Box<dyn Probe>) {
+    probes.push(probe).expect(rt, "memory");
 }
 
 /// The probes of the program, in the order of their columns.
-pub fn four_probes(alloc: Global) -> Result<Vec<Box<dyn Probe>>, Memory> {
+pub fn four_probes(rt: &impl Abort, alloc: Global) -> Vec<Box<dyn Probe>> {
     let mut probes: Vec<Box<dyn Probe>> = Vec::new(alloc);
-    probes.push(Box::new(alloc, Volume::new())?)?;
-    probes.push(Box::new(alloc, SpreadSum::new())?)?;
-    probes.push(Box::new(alloc, Range::new())?)?;
-    probes.push(Box::new(alloc, Fees::new())?)?;
-    Ok(probes)
+    let volume = Box::new(alloc, Volume::new()).expect(rt, "memory");
+    join_probe(rt, &mut probes, volume);
+    let spreads = Box::new(alloc, SpreadSum::new()).expect(rt, "memory");
+    join_probe(rt, &mut probes, spreads);
+    let range = Box::new(alloc, Range::new()).expect(rt, "memory");
+    join_probe(rt, &mut probes, range);
+    let fees = Box::new(alloc, Fees::new()).expect(rt, "memory");
+    join_probe(rt, &mut probes, fees);
+    probes
 }
 
 /// Runs words with the program's probes.
@@ -106,10 +117,7 @@ pub fn ran<R: Abort + Threads + Wait + Sync>(
     words: &[&str],
     around: &Around<'_>,
 ) -> Ended {
-    let Ok(probes) = four_probes(alloc) else {
-        panic!(rt; "out of memory");
-    };
-    ran_past(rt, alloc, words, around, probes, &OpenGate)
+    ran_past(rt, alloc, words, around, four_probes(rt, alloc), &OpenGate)
 }
 
 /// The same with these probes and this gate.
@@ -121,17 +129,29 @@ pub fn ran_past<R: Abort + Threads + Wait + Sync, G: Gate + Sync>(
     probes: Vec<Box<dyn Probe>>,
     gate: &G,
 ) -> Ended {
-    let (Ok(words), Ok(mut library)) = (words_of(alloc, words), library(alloc, around)) else {
-        panic!(rt; "out of memory");
-    };
-    let (Ok(mut out), Ok(mut notes)) = (sink(alloc, around.out), sink(alloc, around.notes)) else {
-        panic!(rt; "out of memory");
-    };
+    let words = words_of(rt, alloc, words);
+    let ended = ran_words(rt, alloc, words.as_slice(), around, probes, gate);
+    drop(words);
+    ended
+}
+
+/// The same of words in a list.
+pub fn ran_words<R: Abort + Threads + Wait + Sync, G: Gate + Sync>(
+    rt: &R,
+    alloc: Global,
+    words: &[String],
+    around: &Around<'_>,
+    probes: Vec<Box<dyn Probe>>,
+    gate: &G,
+) -> Ended {
+    let mut library = library(rt, alloc, around);
+    let mut out = sink(rt, alloc, around.out);
+    let mut notes = sink(rt, alloc, around.notes);
     let mut steps: Steps<Counted> = Steps::new();
     let status = run(
         rt,
         alloc,
-        &words,
+        words,
         &mut library,
         &mut out,
         &mut notes,
@@ -145,4 +165,21 @@ pub fn ran_past<R: Abort + Threads + Wait + Sync, G: Gate + Sync>(
         out,
         notes,
     }
+}
+
+/// Whether a run ended so after so many steps.
+pub fn is_ended(ended: &Ended, status: Status, steps: u64) -> bool {
+    (ended.status == status) & (ended.steps == steps)
+}
+
+/// Whether a run failed in a write after so many steps, and says so.
+pub fn is_write_fault(ended: &Ended, steps: u64) -> bool {
+    is_ended(ended, Status::WriteFault, steps) & (ended.notes.taken() == WRITE_FAILED)
+}
+
+/// Whether a run ended well, wrote these bytes and noted nothing.
+pub fn is_whole(ended: &Ended, steps: u64, bytes: &[u8]) -> bool {
+    is_ended(ended, Status::Ok, steps)
+        & (ended.out.taken() == bytes)
+        & ended.notes.taken().is_empty()
 }

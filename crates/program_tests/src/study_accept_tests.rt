@@ -2,8 +2,9 @@
 
 use crate::facts::holds;
 use std::alloc::Global;
+use std::process::Abort;
 use study_file::read_tables;
-use study_rules::accept;
+use study_rules::{Study, accept};
 
 const STUDY: &str = "version = 1
 key = \"00112233445566778899aabbccddeeff0123456789abcdef0123456789abcdef\"
@@ -39,27 +40,39 @@ W,1000,5
 XYZ,1500,98000
 ";
 
-// How many stocks, changes, traders, branches and segments the study has with one text in place of another, and its stride.
-fn counts(alloc: Global, old: &str, new: &str) -> Option<[usize; 6]> {
-    let Ok(text) = STUDY.replacen(alloc, old, new, 1) else {
-        return None;
-    };
-    let Ok(raw) = read_tables(alloc, text.as_bytes()) else {
-        return None;
-    };
-    let Ok(study) = accept(alloc, &raw, Some(ROWS.as_bytes())) else {
-        return None;
-    };
+// How many stocks, changes, traders, branches and segments a study has, and its stride.
+fn counted(study: &Study) -> [usize; 6] {
     let opening = study.course.opening();
     let plan = study.course.plan();
-    Some([
+    [
         opening.stocks.len(),
         opening.dated.as_slice().len(),
         opening.traders.len(),
         plan.branches().len(),
         plan.segments().len(),
         study.stride as usize,
-    ])
+    ]
+}
+
+// The same of this text, if it is accepted.
+fn counts_of(alloc: Global, text: &str) -> Option<[usize; 6]> {
+    let Ok(raw) = read_tables(alloc, text.as_bytes()) else {
+        return None;
+    };
+    let accepted = accept(alloc, &raw, Some(ROWS.as_bytes()));
+    drop(raw);
+    match accepted {
+        Ok(study) => Some(counted(&study)),
+        Err(_) => None,
+    }
+}
+
+// The same of the study with one text in place of another.
+fn counts(rt: &impl Abort, alloc: Global, old: &str, new: &str) -> Option<[usize; 6]> {
+    let text = STUDY.replacen(alloc, old, new, 1).expect(rt, "memory");
+    let counts = counts_of(alloc, text.as_str());
+    drop(text);
+    counts
 }
 
 // A text, what stands in its place, and the counts of the study.
@@ -85,6 +98,6 @@ const CHANGES: [(&str, &str, [usize; 6]); 4] = [
 #[test]
 fn studies_are_accepted(rt: HostRuntime) {
     for (old, new, hoped) in CHANGES.iter() {
-        holds(&rt, counts(rt.alloc(), old, new) == Some(*hoped));
+        holds(&rt, counts(&rt, rt.alloc(), old, new) == Some(*hoped));
     }
 }

@@ -1,21 +1,30 @@
 use crate::facts::holds;
 use std::alloc::Global;
+use std::process::Abort;
 use study_file::{
     Kind, broken_key, has_form, integer_at, needed, own, read_tables, series_name, spare,
 };
 
+// Whether a table's bytes say this version and this series.
+fn says(
+    rt: &impl Abort,
+    alloc: Global,
+    bytes: &[u8],
+    version: Option<i64>,
+    series: Option<&str>,
+) -> bool {
+    let raw = read_tables(alloc, bytes).expect(rt, "tables");
+    let is_so = (integer_at(&raw.table, "version") == version) & (series_name(&raw) == series);
+    drop(raw);
+    is_so
+}
+
 #[test]
 fn bytes_say_a_table(rt: HostRuntime) {
     let alloc = rt.alloc();
-    let (Ok(raw), Ok(bare)) = (
-        read_tables(alloc, b"version = 1\nseries = \"s.csv\"\n"),
-        read_tables(alloc, b"series = 1\n"),
-    ) else {
-        panic!(rt; "no tables");
-    };
-    holds(&rt, integer_at(&raw.table, "version") == Some(1));
-    holds(&rt, series_name(&raw) == Some("s.csv"));
-    holds(&rt, series_name(&bare).is_none());
+    let bytes = b"version = 1\nseries = \"s.csv\"\n";
+    holds(&rt, says(&rt, alloc, bytes, Some(1), Some("s.csv")));
+    holds(&rt, says(&rt, alloc, b"series = 1\n", None, None));
 }
 
 // A table, the word of its kind, and the first place at which its keys aren't those of the kind.
@@ -45,8 +54,10 @@ fn is_so(alloc: Global, bytes: &[u8], word: &str, place: Option<u32>) -> bool {
         spare("weight", Kind::Number),
         own("corners", Kind::Pairs, &["polygon"]),
     ];
-    broken_key(&raw.table, word, &keys) == place
-        && has_form(&raw.table, "kind", &["circle", "polygon"], &keys) == place.is_none()
+    let has_form = has_form(&raw.table, "kind", &["circle", "polygon"], &keys);
+    let is_so = (broken_key(&raw.table, word, &keys) == place) & (has_form == place.is_none());
+    drop(raw);
+    is_so
 }
 
 #[test]

@@ -1,8 +1,9 @@
 use crate::facts::{equal, holds};
-use crate::runs::{Around, Ended, NOTES, Room, alone, four_probes, ran, ran_past, sized};
+use crate::runs::{
+    Around, Ended, NOTES, Room, alone, four_probes, is_ended, is_write_fault, ran, ran_past, sized,
+};
 use crate::{EMPTY_RUN, TWO_WATCHERS};
 use abides_run::Status;
-use market_types::Memory;
 use outside::{Gate, HoldGate, OpenGate};
 use std::alloc::Global;
 use std::process::Abort;
@@ -29,20 +30,25 @@ const INJECTED: &str =
     "\n[[branch]]\nname = \"i\"\nparent = \"root\"\nat = 50\nedit = [{ kind = \"inject\", agent = 1, after = 100, message = \"4f5430303031303030303030303031530000006441424d2020202020000186a00001869f4142494459504e000000004e4e\" }]\n";
 
 /// The three branches, with this in place of each event number; of a study of version 2.
-pub fn timed(alloc: Global, stop: &str) -> Result<String, Memory> {
-    let branches = BRANCHES.replace(alloc, "at = 2", stop)?;
-    let text = study(alloc, 2000, WATCHERS, branches.as_str())?;
-    Ok(text.replacen(alloc, "version = 1", "version = 2", 1)?)
+pub fn timed(rt: &impl Abort, alloc: Global, stop: &str) -> String {
+    let branches = BRANCHES.replace(alloc, "at = 2", stop).expect(rt, "memory");
+    let first = study(rt, alloc, 2000, WATCHERS, branches.as_str());
+    drop(branches);
+    let second = first
+        .replacen(alloc, "version = 1", "version = 2", 1)
+        .expect(rt, "memory");
+    drop(first);
+    second
 }
 
 /// The study of the three branches.
-pub fn branched(alloc: Global) -> Result<String, Memory> {
-    study(alloc, 2000, WATCHERS, BRANCHES)
+pub fn branched(rt: &impl Abort, alloc: Global) -> String {
+    study(rt, alloc, 2000, WATCHERS, BRANCHES)
 }
 
 // The text of a study that closes then, with these agents and branches.
-fn study(alloc: Global, close: u32, agent: &str, branches: &str) -> Result<String, Memory> {
-    Ok(format!(in alloc; "{BEFORE_CLOSE}{close}{BEFORE_AGENT}{agent}{branches}")?)
+fn study(rt: &impl Abort, alloc: Global, close: u32, agent: &str, branches: &str) -> String {
+    format!(in alloc; "{BEFORE_CLOSE}{close}{BEFORE_AGENT}{agent}{branches}").expect(rt, "memory")
 }
 
 // Whether the bytes are these frames one after another.
@@ -75,25 +81,45 @@ const BUNDLES: [(u32, &str, &[&[u8]], usize, u64); 2] = [
     (1005, WATCHERS, &TWO_WATCHERS, 666, 4),
 ];
 
+// A run of a study, whose sinks take at most so many bytes a call, writes these frames.
+fn writes_frames<R: Abort + Threads + Wait + Sync>(
+    rt: &R,
+    alloc: Global,
+    text: &str,
+    row: &(u32, &str, &[&[u8]], usize, u64),
+    most: usize,
+) -> bool {
+    let around = Around {
+        notes: sized(100, most),
+        ..alone(text, sized(row.3, most))
+    };
+    let ended = ran(rt, alloc, &["run", "s"], &around);
+    let writes = is_ended(&ended, Status::Ok, row.4)
+        & are_frames(ended.out.taken(), row.2)
+        & ended.notes.taken().is_empty();
+    drop(ended);
+    writes
+}
+
+const MOST: [usize; 4] = [1, 7, 64, 1000];
+
+// The same for each number of bytes.
+fn assert_frames<R: Abort + Threads + Wait + Sync>(
+    rt: &R,
+    alloc: Global,
+    row: &(u32, &str, &[&[u8]], usize, u64),
+) {
+    let text = study(rt, alloc, row.0, row.1, "");
+    for most in MOST.iter() {
+        holds(rt, writes_frames(rt, alloc, text.as_str(), row, *most));
+    }
+    drop(text);
+}
+
 #[test]
 fn bundles_byte_for_byte(rt: HostRuntime) {
-    let alloc = rt.alloc();
-    for (close, agent, frames, size, counted) in BUNDLES.iter() {
-        let Ok(text) = study(alloc, *close, agent, "") else {
-            panic!(rt; "out of memory");
-        };
-        for most in [1, 7, 64, 1000] {
-            let around = Around {
-                notes: sized(100, most),
-                ..alone(text.as_str(), sized(*size, most))
-            };
-            let ended = ran(&rt, alloc, &["run", "s"], &around);
-            equal(&rt, (ended.status, ended.steps), (Status::Ok, *counted));
-            holds(
-                &rt,
-                are_frames(ended.out.taken(), frames) && ended.notes.taken().is_empty(),
-            );
-        }
+    for row in BUNDLES.iter() {
+        assert_frames(&rt, rt.alloc(), row);
     }
 }
 
@@ -110,9 +136,25 @@ fn written<R: Abort + Threads + Wait + Sync, G: Gate + Sync>(
     let around = alone(text, sized(size, 4096));
     let words = ["run", "s", "--workers", workers];
     let ended = ran_past(rt, alloc, &words, &around, Vec::new(alloc), gate);
-    equal(rt, (ended.status, ended.steps), (Status::Ok, counted));
+    holds(rt, is_ended(&ended, Status::Ok, counted));
     equal(rt, ended.out.taken().len(), size);
     ended
+}
+
+// Whether a run of a study past a gate writes these bytes, and counts so many events.
+fn writes<R: Abort + Threads + Wait + Sync, G: Gate + Sync>(
+    rt: &R,
+    alloc: Global,
+    text: &str,
+    workers: &str,
+    gate: &G,
+    bytes: &[u8],
+    counted: u64,
+) -> bool {
+    let ended = written(rt, alloc, text, workers, gate, bytes.len(), counted);
+    let writes = ended.out.taken() == bytes;
+    drop(ended);
+    writes
 }
 
 // The bytes of three branches.
@@ -128,36 +170,53 @@ fn are_three(rt: &impl Abort, bytes: &[u8]) {
     holds(rt, bytes.get(1933..1946) == Some(y.as_slice()));
 }
 
-// The same where they leave at a time, by any workers.
+// The same bytes where they leave at a time, by any workers.
 fn are_three_at<R: Abort + Threads + Wait + Sync>(rt: &R, alloc: Global, stop: &str, bytes: &[u8]) {
-    let Ok(text) = timed(alloc, stop) else {
-        panic!(rt; "out of memory");
-    };
-    for workers in ["1", "3", "64"] {
-        let again = written(rt, alloc, text.as_str(), workers, &OpenGate, 3255, 18);
-        holds(rt, again.out.taken() == bytes);
-    }
+    let text = timed(rt, alloc, stop);
+    holds(
+        rt,
+        writes(rt, alloc, text.as_str(), "1", &OpenGate, bytes, 18),
+    );
+    holds(
+        rt,
+        writes(rt, alloc, text.as_str(), "3", &OpenGate, bytes, 18),
+    );
+    holds(
+        rt,
+        writes(rt, alloc, text.as_str(), "64", &OpenGate, bytes, 18),
+    );
+    drop(text);
+}
+
+// The same bytes where one segment is held until another is passed.
+fn are_three_past<R: Abort + Threads + Wait + Sync>(
+    rt: &R,
+    alloc: Global,
+    held: u32,
+    until: u32,
+    bytes: &[u8],
+) {
+    let text = branched(rt, alloc);
+    let gate = HoldGate::new(held, until, 100_000_000);
+    holds(rt, writes(rt, alloc, text.as_str(), "2", &gate, bytes, 18));
+    drop(text);
+    holds(rt, !gate.exceeded() & (gate.passes() == 5));
 }
 
 #[test]
 fn three_branches_share_two_events_among_any_workers(rt: HostRuntime) {
     let alloc = rt.alloc();
-    let Ok(text) = branched(alloc) else {
-        panic!(rt; "out of memory");
-    };
+    let text = branched(&rt, alloc);
     let ended = written(&rt, alloc, text.as_str(), "1", &OpenGate, 3255, 18);
+    drop(text);
     are_three(&rt, ended.out.taken());
     // at the time of the second event, or right before that of the third
-    for stop in ["when = 1000", "when = 1004"] {
-        are_three_at(&rt, alloc, stop, ended.out.taken());
-    }
+    are_three_at(&rt, alloc, "when = 1000", ended.out.taken());
+    are_three_at(&rt, alloc, "when = 1004", ended.out.taken());
     // the segments of x and y are under way at once, each held until the other is passed
-    for (held, until) in [(2, 3), (3, 2)] {
-        let gate = HoldGate::new(held, until, 100_000_000);
-        let again = written(&rt, alloc, text.as_str(), "2", &gate, 3255, 18);
-        holds(&rt, again.out.taken() == ended.out.taken());
-        equal(&rt, (gate.exceeded(), gate.passes()), (false, 5));
-    }
+    are_three_past(&rt, alloc, 2, 3, ended.out.taken());
+    are_three_past(&rt, alloc, 3, 2, ended.out.taken());
+    drop(ended);
 }
 
 const BY_TWO: [&[&str]; 2] = [
@@ -165,39 +224,61 @@ const BY_TWO: [&[&str]; 2] = [
     &["rewind", "s", "root:0", "--workers", "2"],
 ];
 
+// Words run three branches past a gate that holds one segment, by two workers.
+fn runs_by_two<R: Abort + Threads + Wait + Sync>(
+    rt: &R,
+    alloc: Global,
+    text: &str,
+    words: &[&str],
+) {
+    let gate = HoldGate::new(2, 3, 100_000_000);
+    let around = alone(text, sized(4096, 4096));
+    let probes = four_probes(rt, alloc);
+    let ended = ran_past(rt, alloc, words, &around, probes, &gate);
+    holds(rt, is_ended(&ended, Status::Ok, 18));
+    drop(ended);
+    holds(rt, !gate.exceeded() & (gate.passes() == 5));
+}
+
 // A table and a rewind have as many workers as their words say too.
 #[test]
 fn tables_and_rewinds_have_their_workers(rt: HostRuntime) {
     let alloc = rt.alloc();
-    let Ok(text) = branched(alloc) else {
-        panic!(rt; "out of memory");
-    };
+    let text = branched(&rt, alloc);
     for words in BY_TWO.iter() {
-        let Ok(probes) = four_probes(alloc) else {
-            panic!(rt; "out of memory");
-        };
-        let gate = HoldGate::new(2, 3, 100_000_000);
-        let around = alone(text.as_str(), sized(4096, 4096));
-        let ended = ran_past(&rt, alloc, words, &around, probes, &gate);
-        equal(&rt, (ended.status, ended.steps), (Status::Ok, 18));
-        equal(&rt, (gate.exceeded(), gate.passes()), (false, 5));
+        runs_by_two(&rt, alloc, text.as_str(), words);
     }
+    drop(text);
+}
+
+// One worker and more write the same about three branches or another.
+fn are_same<R: Abort + Threads + Wait + Sync>(
+    rt: &R,
+    alloc: Global,
+    branches: &str,
+    size: usize,
+    counted: u64,
+) {
+    let text = study(rt, alloc, 2000, WATCHERS, branches);
+    let alone = written(rt, alloc, text.as_str(), "1", &OpenGate, size, counted);
+    let bytes = alone.out.taken();
+    holds(
+        rt,
+        writes(rt, alloc, text.as_str(), "3", &OpenGate, bytes, counted),
+    );
+    holds(
+        rt,
+        writes(rt, alloc, text.as_str(), "64", &OpenGate, bytes, counted),
+    );
+    drop(alone);
+    drop(text);
 }
 
 // Three branches, and an order that a branch injects once the root has closed.
 #[test]
 fn any_workers_write_the_same(rt: HostRuntime) {
-    let alloc = rt.alloc();
-    for (branches, size, counted) in [(BRANCHES, 3255, 18), (INJECTED, 1926, 8)] {
-        let Ok(text) = study(alloc, 2000, WATCHERS, branches) else {
-            panic!(rt; "out of memory");
-        };
-        let alone = written(&rt, alloc, text.as_str(), "1", &OpenGate, size, counted);
-        for workers in ["3", "64"] {
-            let again = written(&rt, alloc, text.as_str(), workers, &OpenGate, size, counted);
-            holds(&rt, again.out.taken() == alone.out.taken());
-        }
-    }
+    are_same(&rt, rt.alloc(), BRANCHES, 3255, 18);
+    are_same(&rt, rt.alloc(), INJECTED, 1926, 8);
 }
 
 // The command, room, the most bytes a call, the failing call (0: none), and how many steps are counted and bytes taken.
@@ -211,37 +292,49 @@ const FAILING: [(&str, usize, usize, u32, u64, usize); 7] = [
     ("check", 4000, 64, 1, 0, 0),
 ];
 
+// A command whose write fails leaves a first part of the whole.
+fn leaves_a_part<R: Abort + Threads + Wait + Sync>(
+    rt: &R,
+    alloc: Global,
+    text: &str,
+    row: &(&str, usize, usize, u32, u64, usize),
+    whole: &[u8],
+) {
+    let out = Room {
+        failing: row.3,
+        ..sized(row.1, row.2)
+    };
+    let ended = ran(rt, alloc, &[row.0, "s"], &alone(text, out));
+    holds(rt, is_write_fault(&ended, row.4));
+    let bytes = ended.out.taken();
+    holds(rt, whole.starts_with(bytes) & (bytes.len() == row.5));
+    drop(ended);
+}
+
 #[test]
 fn failing_writes_leave_a_first_part(rt: HostRuntime) {
     let alloc = rt.alloc();
-    let Ok(text) = branched(alloc) else {
-        panic!(rt; "out of memory");
-    };
-    let whole = ran(
-        &rt,
-        alloc,
-        &["run", "s"],
-        &alone(text.as_str(), sized(3255, 3255)),
-    );
-    equal(&rt, (whole.status, whole.steps), (Status::Ok, 18));
-    for (command, size, most, failing, counted, taken) in FAILING.iter() {
-        let out = Room {
-            failing: *failing,
-            ..sized(*size, *most)
-        };
-        let ended = ran(&rt, alloc, &[*command, "s"], &alone(text.as_str(), out));
-        equal(
-            &rt,
-            (ended.status, ended.steps),
-            (Status::WriteFault, *counted),
-        );
-        let bytes = ended.out.taken();
-        holds(
-            &rt,
-            whole.out.taken().starts_with(bytes) && bytes.len() == *taken,
-        );
-        holds(&rt, ended.notes.taken() == b"write failed\n".as_slice());
+    let text = branched(&rt, alloc);
+    let around = alone(text.as_str(), sized(3255, 3255));
+    let whole = ran(&rt, alloc, &["run", "s"], &around);
+    holds(&rt, is_ended(&whole, Status::Ok, 18));
+    for row in FAILING.iter() {
+        leaves_a_part(&rt, alloc, text.as_str(), row, whole.out.taken());
     }
+    drop(whole);
+    drop(text);
+}
+
+// Whether a run of the empty study whose write of this number failed wrote the whole, since there is no such write.
+fn is_past_the_last(rt: &impl Abort, ended: &Ended, failing: u32) -> bool {
+    let bytes = ended.out.taken();
+    if is_ended(ended, Status::Ok, 0) {
+        holds(rt, (failing > 7) & are_frames(bytes, &EMPTY_RUN));
+        return true;
+    }
+    holds(rt, is_write_fault(ended, 0));
+    holds(rt, is_first_part(bytes, &EMPTY_RUN));
+    false
 }
 
 // A run of the empty study whose write of this number fails; whether there is no such write.
@@ -256,28 +349,27 @@ fn fail_a_write<R: Abort + Threads + Wait + Sync>(
         ..sized(402, 64)
     };
     let ended = ran(rt, alloc, &["run", "s"], &alone(text, out));
-    if (ended.status, ended.steps) == (Status::Ok, 0) {
-        holds(rt, failing > 7 && are_frames(ended.out.taken(), &EMPTY_RUN));
-        return true;
+    let is_past = is_past_the_last(rt, &ended, failing);
+    drop(ended);
+    is_past
+}
+
+// Whether there is a number below 403 of no write.
+fn have_an_end<R: Abort + Threads + Wait + Sync>(rt: &R, alloc: Global, text: &str) -> bool {
+    for failing in 1..403 {
+        if fail_a_write(rt, alloc, text, failing) {
+            return true;
+        }
     }
-    equal(rt, (ended.status, ended.steps), (Status::WriteFault, 0));
-    holds(rt, is_first_part(ended.out.taken(), &EMPTY_RUN));
-    holds(rt, ended.notes.taken() == b"write failed\n".as_slice());
     false
 }
 
 #[test]
 fn each_write_fails_in_turn(rt: HostRuntime) {
     let alloc = rt.alloc();
-    let Ok(text) = study(alloc, 1000, LATE_WATCHER, "") else {
-        panic!(rt; "out of memory");
-    };
-    for failing in 1..403 {
-        if fail_a_write(&rt, alloc, text.as_str(), failing) {
-            return;
-        }
-    }
-    panic!(rt; "each write failed");
+    let text = study(&rt, alloc, 1000, LATE_WATCHER, "");
+    holds(&rt, have_an_end(&rt, alloc, text.as_str()));
+    drop(text);
 }
 
 #[test]
@@ -291,6 +383,7 @@ fn a_failed_note_changes_nothing(rt: HostRuntime) {
         ..alone("", NOTES)
     };
     let ended = ran(&rt, rt.alloc(), &["run", "u"], &around);
-    equal(&rt, (ended.status, ended.steps), (Status::NoStudy, 0));
+    holds(&rt, is_ended(&ended, Status::NoStudy, 0));
     holds(&rt, ended.notes.taken() == b"no s".as_slice());
+    drop(ended);
 }

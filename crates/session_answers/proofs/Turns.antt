@@ -1,5 +1,5 @@
 -- Acts one after another: what was done, and what is still to come.
-use Rattle.std.proofs.Common.{◌≡◌, ◌<◌, ◌≤◌, ℕ, ◌+◌, ◌*◌, false, List, ◌∷◌, ◌++◌, Option, Some, None, length, get_or, drop, refl, sym, ap, ◌∙◌, subst, arith, ◌⊎◌, inl, inr, append_assoc, append-nil, Result, Ok, Err, IfErr, IsErr, IsErrAnd}
+use Rattle.std.proofs.Common.{◌≡◌, ◌<◌, ◌≤◌, ℕ, ◌+◌, ◌*◌, false, List, [], ◌∷◌, ◌++◌, Option, Some, None, length, get_or, drop, refl, sym, ap, ◌∙◌, subst, arith, ◌⊎◌, inl, inr, append_assoc, append-nil}
 use Rattle.std.proofs.lemmas.Bool.{cases_Bool}
 use Rattle.std.proofs.lemmas.List.{drop_all, drop_more}
 use Rattle.probe_desk.specs.Probe.{Meaning}
@@ -111,6 +111,20 @@ pub all-answered : (limit : ℕ) (kept : Kept) (ms : List Meaning) (first : Sess
 all-answered limit kept ms first acts before i s out steps way done =
     sym (append-nil out) ∙ ap (λ (xs : List Act). out ++ answers_of ms s xs) (sym (drop_all i acts done)) ∙ way.bytes
 
+-- nor did one go past its branch's last event
+pub all-there : (limit : ℕ) (kept : Kept) (ms : List Meaning) (first : SessionTold) (acts : List Act) (before i : ℕ) (s : SessionTold) (out : List ℕ) (steps : ℕ)
+    → IsUnderWay limit kept ms first acts before i s out steps → length acts ≤ i → past_act first acts ≡ None
+all-there limit kept ms first acts before i s out steps way done =
+    sym way.past ∙ ap (λ (xs : List Act). past_from i s xs) (drop_all i acts done)
+
+-- and the steps are those of all
+pub all-counted : (limit : ℕ) (kept : Kept) (ms : List Meaning) (first : SessionTold) (acts : List Act) (before i : ℕ) (s : SessionTold) (out : List ℕ) (steps : ℕ)
+    → IsUnderWay limit kept ms first acts before i s out steps → length acts ≤ i → steps ≡ before + all_run first acts + all_reached kept first acts
+all-counted limit kept ms first acts before i s out steps way done =
+    let count : steps + (all_run s [] + all_reached kept s []) ≡ before + (all_run first acts + all_reached kept first acts) =
+    subst (λ (xs : List Act). steps + (all_run s xs + all_reached kept s xs) ≡ before + (all_run first acts + all_reached kept first acts)) (drop_all i acts done) way.rose in
+    omega (arith, count)
+
 -- why the next act has no answer is why all have none
 pub next-ends : (acts : List Act) (i : ℕ) (s first : SessionTold) (a : Act) (e : SessionEnd) → i < length acts → a ≡ get_or acts i a
     → past_from i s (drop i acts) ≡ past_act first acts
@@ -118,8 +132,3 @@ pub next-ends : (acts : List Act) (i : ℕ) (s first : SessionTold) (a : Act) (e
     → (e ≡ Memory) ⊎ ((p : PastAct) × (e ≡ NoEvent p) × (past_act first acts ≡ Some p))
 next-ends acts i s first a e within is past (inl memory) = inl memory
 next-ends acts i s first a e within is past (inr (p, same, act, last)) = inr (p, same, next-past acts i s first a p within is past act last)
-
--- an end that is handed on
-pub handed-on : {A : Type 0} (Q : SessionEnd → Type 0) (r : Result A SessionEnd) (e : SessionEnd) → IsErr r × IsErrAnd r (λ x. x ≡ e) → Q e → IfErr r Q
-handed-on Q (Ok done) e is why = absurd is.1
-handed-on Q (Err other) e is why = subst Q (sym is.1) why

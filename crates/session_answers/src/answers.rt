@@ -40,9 +40,20 @@ fn state_bytes(
 {
     courses_stay_in_range();
     let mut out = Vec::new(alloc);
-    put_head(&mut out, session, branch, event)?;
-    let state = state_frames(alloc, session.course().opening(), kernel)?;
-    out.extend_from_slice(&state)?;
+    let Ok(()) = put_head(&mut out, session, branch, event) else {
+        drop(out);
+        return Err(Memory);
+    };
+    let Ok(state) = state_frames(alloc, session.course().opening(), kernel) else {
+        drop(out);
+        return Err(Memory);
+    };
+    let Ok(()) = out.extend_from_slice(&state) else {
+        drop(state);
+        drop(out);
+        return Err(Memory);
+    };
+    drop(state);
     Ok(out)
 }
 
@@ -59,9 +70,20 @@ fn closing_bytes(
 {
     courses_stay_in_range();
     let mut out = Vec::new(alloc);
-    put_own_head(&mut out, session, branch)?;
-    let closing = closing_of(alloc, session.course().opening(), kernel)?;
-    closing.put(&mut out)?;
+    let Ok(()) = put_own_head(&mut out, session, branch) else {
+        drop(out);
+        return Err(Memory);
+    };
+    let Ok(closing) = closing_of(alloc, session.course().opening(), kernel) else {
+        drop(out);
+        return Err(Memory);
+    };
+    let put = closing.put(&mut out);
+    drop(closing);
+    let Ok(()) = put else {
+        drop(out);
+        return Err(Memory);
+    };
     Ok(out)
 }
 
@@ -93,7 +115,10 @@ fn rewound<L: Ledger>(
     ensures least { steps.old ≤ steps.new }
     ensures most { steps.new ≤ steps.old + session.now.course.opening.limit }
 {
-    let kernel = session.state(shelf, branch, event, steps)?;
+    let kernel = match session.state(shelf, branch, event, steps) {
+        Ok(kernel) => kernel,
+        Err(error) => return Err(error),
+    };
     let bytes = state_bytes(alloc, session, branch, event, &kernel);
     drop(kernel);
     match bytes {
@@ -169,10 +194,15 @@ fn valued<L: Ledger>(
     ensures meanings { map (λ p. meaning p) probes.new ≡ map (λ p. meaning p) probes.old }
     ensures titles { map (λ p. title p) probes.new ≡ map (λ p. title p) probes.old }
 {
-    let trace = entries(alloc, session, branch, steps)?;
+    let Ok(trace) = entries(alloc, session, branch, steps) else {
+        return Err(Memory);
+    };
     restart_all(probes);
     watch(probes, &trace);
-    let told = values(alloc, probes)?;
+    drop(trace);
+    let Ok(told) = values(alloc, probes) else {
+        return Err(Memory);
+    };
     told_bytes(alloc, &told)
 }
 

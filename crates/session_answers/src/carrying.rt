@@ -114,11 +114,26 @@ pub fn carry_out<L: Ledger>(
     };
     let mut out = Vec::new(alloc);
     for (i, act) in acts.iter().enumerate() {
-        put_answer(
+        match put_answer(
             alloc, &session, shelf, act, i as u32, probes, &mut out, steps,
-        )?;
-        make(alloc, &mut session, act)?;
+        ) {
+            Ok(()) => {}
+            Err(end) => {
+                drop(out);
+                drop(session);
+                return Err(end);
+            }
+        }
+        match make(alloc, &mut session, act) {
+            Ok(()) => {}
+            Err(end) => {
+                drop(out);
+                drop(session);
+                return Err(end);
+            }
+        }
     }
+    drop(session);
     match put_end(&mut out, acts.len() as u16) {
         Ok(()) => Ok(out),
         Err(Memory) => Err(SessionEnd::Memory),

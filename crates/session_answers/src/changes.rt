@@ -25,8 +25,14 @@ fn copied(alloc: Global, edits: &[Edit]) -> Result<Vec<Edit>, Memory>
 {
     let mut copies = Vec::new(alloc);
     for edit in edits {
-        let copy = edit.copy(alloc)?;
-        copies.push(copy)?;
+        let Ok(copy) = edit.copy(alloc) else {
+            drop(copies);
+            return Err(Memory);
+        };
+        let Ok(()) = copies.push(copy) else {
+            drop(copies);
+            return Err(Memory);
+        };
     }
     Ok(copies)
 }
@@ -48,11 +54,14 @@ fn fork(
     let Some(number) = branch_named(session, parent) else {
         return Ok(false);
     };
+    let Ok(edits) = copied(alloc, edits) else {
+        return Err(Memory);
+    };
     let branch = Branch {
         name: name.copy(),
         parent: number,
         stop: Stop::At(at),
-        edits: Sequence::new(copied(alloc, edits)?),
+        edits: Sequence::new(edits),
     };
     match session.fork(branch) {
         Ok(()) => Ok(true),
@@ -78,7 +87,9 @@ fn edit(alloc: Global, session: &mut Session, name: &Name, edits: &[Edit]) -> Re
     let Some(number) = branch_named(session, name) else {
         return Ok(false);
     };
-    let edits = copied(alloc, edits)?;
+    let Ok(edits) = copied(alloc, edits) else {
+        return Err(Memory);
+    };
     Ok(session.edit(number, edits).is_ok())
 }
 
@@ -119,11 +130,19 @@ pub fn first_refused(
     ensures first { IfOk result (λ found. found ≡ act_refused (first_session course.now.value) acts.now) }
     ensures low { IfOk result (λ found. IfSome found (λ i. i < length acts.now)) }
 {
-    let mut session = Session::open(alloc, course)?;
+    let Ok(mut session) = Session::open(alloc, course) else {
+        return Err(Memory);
+    };
     for (i, act) in acts.iter().enumerate() {
-        if !change(alloc, &mut session, act)? {
+        let Ok(made) = change(alloc, &mut session, act) else {
+            drop(session);
+            return Err(Memory);
+        };
+        if !made {
+            drop(session);
             return Ok(Some(i as u32));
         }
     }
+    drop(session);
     Ok(None)
 }

@@ -60,7 +60,11 @@ pub fn read_script(alloc: Global, bytes: &[u8], study: &Study) -> Result<Vec<Act
     ensures few { IfOk result (λ acts. length acts.items ≤ 64) }
 {
     match table(alloc, bytes) {
-        Ok(raw) => acts_in(alloc, study, &raw.table),
+        Ok(raw) => {
+            let acts = acts_in(alloc, study, &raw.table);
+            drop(raw);
+            acts
+        }
         Err(error) => Err(error),
     }
 }

@@ -3,23 +3,24 @@ use Rattle.std.proofs.Common.{◌≡◌, ◌≢◌, ℕ, zero, suc, ◌+◌, ◌
 use Rattle.std.specs.List.{list_any}
 use lib.ListN.{length-map}
 use Rattle.shelf_core.specs.Plan.{same_key, place_in, segments_in}
-use Rattle.shelf_core.specs.Words.{is_ready, value_under}
+use Rattle.shelf_core.specs.Words.{is_open, is_ready, value_under}
 use Rattle.shelf_core.specs.Views.{total, changed_at, has_turn, live_view}
 use Rattle.shelf_core.specs.Possible.{possible, through, word_at, allows_writing}
 use Rattle.shelf_core.specs.After.{seat, put, key_place, loan_of}
 use Rattle.shelf_core.specs.Orderly.{Orderly, HasShape}
 use Rattle.shelf_core.specs.declared.plan.Key.{Key}
 use Rattle.shelf_core.specs.declared.plan.ShelfPlan.{ShelfPlan}
+use Rattle.shelf_core.specs.declared.words.ClaimWord.TheVariants.{Open}
 use Rattle.shelf_core.specs.declared.words.PlaceWord.{PlaceWord}
 use Rattle.shelf_core.specs.declared.words.PlaceWord.TheVariants.{Free, Ready}
 use Rattle.shelf_core.specs.declared.seat.SeatView.{SeatView}
 use Rattle.shelf_core.specs.declared.system.System.{System}
-use Rattle.shelf_core.specs.declared.event.Event.TheVariants.{Begin, Publish, Lend, Return, Count, Join}
+use Rattle.shelf_core.specs.declared.event.Event.TheVariants.{Claim, Begin, Publish, Lend, Return, Count, Join}
 use Rattle.shelf_core.proofs.Lists.{some_same, not_some, within, changed_is_set, total_one, total_two, total_le}
 use Rattle.shelf_core.proofs.Plans.{and_left, and_right, not_true}
 use Rattle.shelf_core.proofs.Parts.{word_cases}
 use Rattle.shelf_core.proofs.Quiet.{taken_le}
-use Rattle.shelf_core.proofs.Steps.{live_seat, live_is, allowed, ready_is, word_there, place_is, turn_place, less_of}
+use Rattle.shelf_core.proofs.Steps.{live_seat, live_is, open_is, allowed, ready_is, word_there, place_is, turn_place, less_of}
 
 -- the views once the view of a seat is replaced
 pub replaced : (change : SeatView → SeatView) (views new : List SeatView) (n : ℕ) (v w : SeatView) → slice_get views n ≡ Some v → w ≡ change v → new ≡ set views n w → new ≡ changed_at change views n
@@ -101,6 +102,23 @@ loan_there s n v loan e can is =
 
 pub seat_low : (s : System) (n : ℕ) (v : SeatView) → slice_get s.views n ≡ Some v → n < length s.views
 seat_low s n v e = within s.views n v e
+
+-- a seat for which a test holds is one of the views
+pub seat_there : (s : System) (n : ℕ) (test : SeatView → Bool) → through s n test ≡ true → n < length s.views
+seat_there s n test can = let r = live_seat s n test can in seat_low s n r.0 r.1
+
+-- and so is a seat that another may take in
+pub other_there : (s : System) (n m : ℕ) → possible s (Join n m) ≡ true → m < length s.views
+other_there s n m can =
+    let others : Bool = through s m (λ other. (length other.turns == 0) && is_none other.loan) in
+    let r = live_seat s n (λ view. not (m == n) && others) can in
+    seat_there s m (λ other. (length other.turns == 0) && is_none other.loan) (and_right (not (m == n)) others r.3)
+
+-- a segment that a seat may claim has a word
+pub claim_there : (s : System) (n segment : ℕ) → possible s (Claim n segment) ≡ true → segment < length s.claims
+claim_there s n segment can =
+    let r = live_seat s n (λ view. is_open (slice_get s.claims segment)) can in
+    within s.claims segment Open (open_is (slice_get s.claims segment) r.3)
 
 -- What the test of Join says of the two seats.
 pub join_seats : (s : System) (n m : ℕ) (v w : SeatView) → slice_get s.views n ≡ Some v → slice_get s.views m ≡ Some w → possible s (Join n m) ≡ true → (m ≢ n) × (live_view s.views m ≡ Some w)

@@ -74,7 +74,10 @@ pub fn law(alloc: Global, events: &[Event]) -> Result<System, Memory>
 {
     let mut s = System::opening(alloc)?;
     for event in events {
-        step(alloc, &mut s, event)?;
+        let Ok(_made) = step(alloc, &mut s, event) else {
+            drop(s);
+            return Err(Memory);
+        };
     }
     Ok(s)
 }

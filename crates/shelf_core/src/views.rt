@@ -1,6 +1,6 @@
 //! How the view of a seat changes. Each call makes a new view, so that want of memory changes nothing.
 
-ghost use Rattle.std.specs.Prelude.{◌≡◌, ◌+◌, ◌<◌, ◌≤◌, ◌^◌, ◌++◌, ◌∷◌, [], IfOk, Some, take};
+ghost use Rattle.std.specs.Prelude.{◌≡◌, ◌+◌, ◌<◌, ◌≤◌, ◌^◌, ◌++◌, ◌∷◌, [], IfOk, IsOk, Some, take};
 ghost use Rattle.shelf_core.specs.Orderly.{IsSmall};
 ghost use Rattle.shelf_core.specs.Views.{new_view, spent_view, other_turns};
 ghost use Rattle.shelf_core.specs.After.{knowing, with_claim, with_turn, without_turn, having_published, with_loan, having_returned, with_count, having_stopped, known_from, done_from, stopped_from, having_loaded, joined_with};
@@ -16,9 +16,9 @@ impl SeatView {
         ensures { IfOk result (λ view. view ≡ new_view number) }
     {
         let mut view = SeatView::spent(alloc);
-        view.numbers.push(number)?;
         view.spent = false;
-        Ok(view)
+        let done = view.numbers.push(number);
+        given(view, done)
     }
 
     // What is left of the view of a seat that joined another.
@@ -45,9 +45,15 @@ impl SeatView {
     fn copy(&self, alloc: Global) -> Result<SeatView, Memory>
         ensures { IfOk result (λ view. view ≡ self.now) }
     {
-        let (numbers, claims) = copied_two(alloc, &self.numbers, &self.claims)?;
-        let (known, found) = copied_two(alloc, &self.known, &self.found)?;
-        let (turns, saw) = copied_two(alloc, &self.turns, &self.saw)?;
+        let Ok((numbers, claims)) = copied_two(alloc, &self.numbers, &self.claims) else {
+            return Err(Memory);
+        };
+        let Ok((known, found)) = copied_two(alloc, &self.known, &self.found) else {
+            return Err(Memory);
+        };
+        let Ok((turns, saw)) = copied_two(alloc, &self.turns, &self.saw) else {
+            return Err(Memory);
+        };
         Ok(SeatView {
             numbers,
             spent: self.spent,
@@ -68,26 +74,33 @@ impl SeatView {
     pub(crate) fn with_claim(&self, alloc: Global, segment: u32) -> Result<SeatView, Memory>
         ensures { IfOk result (λ view. view ≡ with_claim segment self.now) }
     {
-        let mut view = self.copy(alloc)?;
-        view.claims.push(segment)?;
-        Ok(view)
+        let Ok(mut view) = self.copy(alloc) else {
+            return Err(Memory);
+        };
+        let done = view.claims.push(segment);
+        given(view, done)
     }
 
     // The view with a turn.
     pub(crate) fn with_turn(&self, alloc: Global, place: u32, key: Key) -> Result<SeatView, Memory>
         ensures { IfOk result (λ view. view ≡ with_turn place key self.now) }
     {
-        let mut view = self.copy(alloc)?;
-        view.turns.push((place, key))?;
-        Ok(view)
+        let Ok(mut view) = self.copy(alloc) else {
+            return Err(Memory);
+        };
+        let done = view.turns.push((place, key));
+        given(view, done)
     }
 
     // The view without the turn of a key.
     pub(crate) fn without_turn(&self, alloc: Global, key: Key) -> Result<SeatView, Memory>
         ensures { IfOk result (λ view. view ≡ without_turn key self.now) }
     {
-        let mut view = self.copy(alloc)?;
-        view.turns = other_turns(alloc, self.turns.as_slice(), key)?;
+        let turns = other_turns(alloc, self.turns.as_slice(), key)?;
+        let Ok(mut view) = self.copy(alloc) else {
+            return Err(Memory);
+        };
+        view.turns = turns;
         Ok(view)
     }
 
@@ -102,8 +115,8 @@ impl SeatView {
         ensures { IfOk result (λ view. view ≡ having_published plan.now key self.now) }
     {
         let mut view = self.without_turn(alloc, key)?;
-        learn(plan, key, &mut view.known)?;
-        Ok(view)
+        let done = learn(plan, key, &mut view.known);
+        given(view, done)
     }
 
     // The view with a loan.
@@ -117,20 +130,24 @@ impl SeatView {
         requires small { IsSmall plan.now }
         ensures { IfOk result (λ view. view ≡ with_loan plan.now place key self.now) }
     {
-        let mut view = self.copy(alloc)?;
+        let Ok(mut view) = self.copy(alloc) else {
+            return Err(Memory);
+        };
         view.loan = Some((place, key));
-        learn(plan, key, &mut view.known)?;
-        Ok(view)
+        let done = learn(plan, key, &mut view.known);
+        given(view, done)
     }
 
     // The view once the value of its loan was returned.
     pub(crate) fn having_returned(&self, alloc: Global, key: Key) -> Result<SeatView, Memory>
         ensures { IfOk result (λ view. view ≡ having_returned key self.now) }
     {
-        let mut view = self.copy(alloc)?;
+        let Ok(mut view) = self.copy(alloc) else {
+            return Err(Memory);
+        };
         view.loan = None;
-        view.found.push(key)?;
-        Ok(view)
+        let done = view.found.push(key);
+        given(view, done)
     }
 
     // The view with one count more.
@@ -138,7 +155,9 @@ impl SeatView {
         requires { self.now.counts + 1 < 2 ^ 32 }
         ensures { IfOk result (λ view. view ≡ with_count self.now) }
     {
-        let mut view = self.copy(alloc)?;
+        let Ok(mut view) = self.copy(alloc) else {
+            return Err(Memory);
+        };
         view.counts += 1;
         Ok(view)
     }
@@ -147,7 +166,9 @@ impl SeatView {
     pub(crate) fn having_stopped(&self, alloc: Global) -> Result<SeatView, Memory>
         ensures { IfOk result (λ view. view ≡ having_stopped self.now) }
     {
-        let mut view = self.copy(alloc)?;
+        let Ok(mut view) = self.copy(alloc) else {
+            return Err(Memory);
+        };
         view.stopped = true;
         Ok(view)
     }
@@ -162,13 +183,16 @@ impl SeatView {
         requires small { IsSmall plan.now }
         ensures { IfOk result (λ view. view ≡ having_loaded plan.now (Some seen) self.now) }
     {
-        let mut view = self.copy(alloc)?;
-        learn_from(plan, seen, &mut view.known)?;
+        let saw = last_two(alloc, seen, self.saw.as_slice())?;
+        let Ok(mut view) = self.copy(alloc) else {
+            return Err(Memory);
+        };
+        view.saw = saw;
         view.done_seen = done_from(seen, self.done_seen);
         view.stopped = stopped_from(seen, self.stopped);
         view.loads = self.loads.wrapping_add(1);
-        view.saw = last_two(alloc, seen, self.saw.as_slice())?;
-        Ok(view)
+        let done = learn_from(plan, seen, &mut view.known);
+        given(view, done)
     }
 
     // The view with all that another has.
@@ -176,19 +200,45 @@ impl SeatView {
         requires { self.now.counts + other.now.counts < 2 ^ 32 }
         ensures { IfOk result (λ view. view ≡ joined_with other.now self.now) }
     {
-        let mut view = self.copy(alloc)?;
-        append_two(
-            &mut view.numbers,
-            &other.numbers,
-            &mut view.claims,
-            &other.claims,
-        )?;
-        append_two(&mut view.known, &other.known, &mut view.found, &other.found)?;
+        let Ok(mut view) = self.copy(alloc) else {
+            return Err(Memory);
+        };
         view.counts += other.counts;
         view.done_seen = view.done_seen.max(other.done_seen);
         view.stopped |= other.stopped;
-        Ok(view)
+        let done = append_lists(&mut view, other);
+        given(view, done)
     }
+}
+
+// The view, where memory was not wanting.
+fn given(view: SeatView, done: Result<(), Memory>) -> Result<SeatView, Memory>
+    ensures view { IfOk result (λ it. it ≡ view) }
+    ensures done { IfOk result (λ _. IsOk done) }
+{
+    let Err(memory) = done else {
+        return Ok(view);
+    };
+    drop(view);
+    Err(memory)
+}
+
+// Appends to the lists of a view those of another that it takes in.
+fn append_lists(view: &mut SeatView, other: &SeatView) -> Result<(), Memory>
+    ensures { IfOk result (λ _. view.new ≡ record view.old {
+      numbers = view.old.numbers ++ other.now.numbers;
+      claims = view.old.claims ++ other.now.claims;
+      known = view.old.known ++ other.now.known;
+      found = view.old.found ++ other.now.found;
+    }) }
+{
+    append_two(
+        &mut view.numbers,
+        &other.numbers,
+        &mut view.claims,
+        &other.claims,
+    )?;
+    append_two(&mut view.known, &other.known, &mut view.found, &other.found)
 }
 
 // Copies of two lists.
@@ -200,8 +250,13 @@ fn copied_two<A: Copy + Drop, B: Copy + Drop>(
     ensures first { IfOk result (λ v. v.0 ≡ first.now) }
     ensures second { IfOk result (λ v. v.1 ≡ second.now) }
 {
-    let one = first.copy(alloc)?;
-    let two = second.copy(alloc)?;
+    let Ok(one) = first.copy(alloc) else {
+        return Err(Memory);
+    };
+    let Ok(two) = second.copy(alloc) else {
+        drop(one);
+        return Err(Memory);
+    };
     Ok((one, two))
 }
 
@@ -216,8 +271,7 @@ fn append_two<A: Copy + Drop, B: Copy + Drop>(
     ensures second { IfOk result (λ _. second.new ≡ second.old ++ others.now) }
 {
     first.append(more)?;
-    second.append(others)?;
-    Ok(())
+    second.append(others)
 }
 
 // Adds a key to those that are known, where it is sole.

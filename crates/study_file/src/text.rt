@@ -1,6 +1,6 @@
 //! The text of the large study.
 
-ghost use Rattle.std.specs.Prelude.{◌≡◌, IfOk, string_bytes};
+ghost use Rattle.std.specs.Prelude.{◌≡◌, ◌++◌, IfOk, IsOk, string_bytes};
 ghost use Rattle.study_file.specs.LargeStudy.{branches, head, key_of, large_study, makers, market, momentum_traders, noise_traders, traders, value_traders};
 
 use plain_lists::Memory;
@@ -161,11 +161,40 @@ spread = 300000000
 fn traders(alloc: Global, symbol: &str) -> Result<String, AllocError>
     ensures { IfOk result (λ text. string_bytes text ≡ traders symbol.now) }
 {
-    let mut text = makers(alloc, symbol)?;
-    text.push_str(noise_traders(alloc, symbol)?.as_str())?;
-    text.push_str(value_traders(alloc, symbol)?.as_str())?;
-    text.push_str(momentum_traders(alloc, symbol)?.as_str())?;
-    Ok(text)
+    let text = makers(alloc, symbol)?;
+    let text = with(text, noise_traders(alloc, symbol))?;
+    let text = with(text, value_traders(alloc, symbol))?;
+    with(text, momentum_traders(alloc, symbol))
+}
+
+// A text and another behind it, where there was memory for that.
+fn with(text: String, more: Result<String, AllocError>) -> Result<String, AllocError>
+    ensures more { IfOk result (λ _. IsOk more) }
+    ensures text { IfOk result (λ both. IfOk more (λ more. string_bytes both ≡ string_bytes text ++ string_bytes more)) }
+{
+    match more {
+        Ok(more) => joined(text, more),
+        Err(error) => {
+            drop(text);
+            Err(error)
+        }
+    }
+}
+
+// Two texts in one.
+fn joined(text: String, more: String) -> Result<String, AllocError>
+    ensures { IfOk result (λ both. string_bytes both ≡ string_bytes text ++ string_bytes more) }
+{
+    let mut text = text;
+    let done = text.push_str(more.as_str());
+    drop(more);
+    match done {
+        Ok(()) => Ok(text),
+        Err(error) => {
+            drop(text);
+            Err(error)
+        }
+    }
 }
 
 // The branches.
@@ -219,10 +248,9 @@ edit = [{ kind = "silence", agent = 3 }]
 pub fn study_text(alloc: Global, number: u32, events: u32) -> Result<String, Memory>
     ensures { IfOk result (λ text. string_bytes text ≡ large_study number events) }
 {
-    let mut text = head(alloc, number, events)?;
-    text.push_str(market(alloc)?.as_str())?;
-    text.push_str(traders(alloc, "ABM")?.as_str())?;
-    text.push_str(traders(alloc, "XYZ")?.as_str())?;
-    text.push_str(branches(alloc)?.as_str())?;
-    Ok(text)
+    let text = head(alloc, number, events)?;
+    let text = with(text, market(alloc))?;
+    let text = with(text, traders(alloc, "ABM"))?;
+    let text = with(text, traders(alloc, "XYZ"))?;
+    Ok(with(text, branches(alloc))?)
 }

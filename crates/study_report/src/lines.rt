@@ -40,19 +40,34 @@ fn add_value(line: &mut ByteRecord, alloc: Global, value: i128) -> Result<(), Me
     add(line, text.as_bytes())
 }
 
+// Appends to an empty line the heads of the columns that each table has.
+fn add_heads(line: &mut ByteRecord) -> Result<(), Memory>
+    requires partial { partial_of line.old ≡ [] }
+    requires empty { fields_of line.old ≡ [] }
+    ensures fields { OnOk result (fields_of line.new ≡ columns) }
+    ensures partial { OnOk result (partial_of line.new ≡ []) }
+{
+    add(line, b"branch")?;
+    add(line, b"parent")?;
+    add(line, b"stop")?;
+    add(line, b"events")?;
+    add(line, b"end")?;
+    add(line, b"first_difference")
+}
+
 // The heads of the columns that each table has.
 fn column_heads(alloc: Global) -> Result<ByteRecord, Memory>
     ensures fields { IfOk result (λ line. fields_of line ≡ columns) }
     ensures partial { IfOk result (λ line. partial_of line ≡ []) }
 {
     let mut line = ByteRecord::new(alloc);
-    add(&mut line, b"branch")?;
-    add(&mut line, b"parent")?;
-    add(&mut line, b"stop")?;
-    add(&mut line, b"events")?;
-    add(&mut line, b"end")?;
-    add(&mut line, b"first_difference")?;
-    Ok(line)
+    match add_heads(&mut line) {
+        Ok(()) => Ok(line),
+        Err(memory) => {
+            drop(line);
+            Err(memory)
+        }
+    }
 }
 
 fn add_names(line: &mut ByteRecord, probes: &[Box<dyn Probe>]) -> Result<(), Memory>
@@ -71,8 +86,13 @@ pub fn header(alloc: Global, probes: &[Box<dyn Probe>]) -> Result<ByteRecord, Me
     ensures { IfOk result (λ line. fields_of line ≡ header_of (map (λ p. title p) probes.now)) }
 {
     let mut line = column_heads(alloc)?;
-    add_names(&mut line, probes)?;
-    Ok(line)
+    match add_names(&mut line, probes) {
+        Ok(()) => Ok(line),
+        Err(memory) => {
+            drop(line);
+            Err(memory)
+        }
+    }
 }
 
 // The name of a branch's parent; nothing for the root.
@@ -97,19 +117,34 @@ fn end_name(end: End) -> &'static [u8]
     }
 }
 
+// Appends to an empty line what a row says of its branch before the numbers of the probes.
+fn add_branch(line: &mut ByteRecord, alloc: Global, row: &TableRow) -> Result<(), Memory>
+    requires partial { partial_of line.old ≡ [] }
+    requires empty { fields_of line.old ≡ [] }
+    ensures fields { OnOk result (fields_of line.new ≡ branch_fields row.now) }
+    ensures partial { OnOk result (partial_of line.new ≡ []) }
+{
+    add(line, row.name.as_slice())?;
+    add(line, parent_name(&row.parent))?;
+    add_number(line, alloc, row.stop)?;
+    add_number(line, alloc, row.events)?;
+    add(line, end_name(row.end))?;
+    add_number(line, alloc, row.difference)
+}
+
 // What a row says of its branch before the numbers of the probes.
 fn branch_line(alloc: Global, row: &TableRow) -> Result<ByteRecord, Memory>
     ensures fields { IfOk result (λ line. fields_of line ≡ branch_fields row.now) }
     ensures partial { IfOk result (λ line. partial_of line ≡ []) }
 {
     let mut line = ByteRecord::new(alloc);
-    add(&mut line, row.name.as_slice())?;
-    add(&mut line, parent_name(&row.parent))?;
-    add_number(&mut line, alloc, row.stop)?;
-    add_number(&mut line, alloc, row.events)?;
-    add(&mut line, end_name(row.end))?;
-    add_number(&mut line, alloc, row.difference)?;
-    Ok(line)
+    match add_branch(&mut line, alloc, row) {
+        Ok(()) => Ok(line),
+        Err(memory) => {
+            drop(line);
+            Err(memory)
+        }
+    }
 }
 
 // Appends the numbers of probes.

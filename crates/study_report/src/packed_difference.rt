@@ -2,7 +2,8 @@
 
 ghost use Rattle.std.specs.Prelude.{◌≡◌, IfOk};
 ghost use Rattle.std.specs.List.{flat_map};
-ghost use Rattle.study_report.specs.Difference.{IsNumbered, first_difference_of};
+ghost use Rattle.study_report.specs.Difference.{AreNumbered, IsNumbered, difference_from, first_difference_of};
+ghost use Rattle.study_report.specs.PackedRuns.{left_in};
 
 use crate::packed_run::PackedRun;
 use crate::same::same_event;
@@ -10,19 +11,12 @@ use market_types::Memory;
 use packed_entries::Packed;
 use std::alloc::Global;
 
-// The least event number whose records differ or stand in one run alone; 0 where there is none. Edits aren't compared. One
-// record of each run at a time is read.
-pub(crate) fn difference_of_packed(
-    alloc: Global,
-    a: &[&Packed],
-    b: &[&Packed],
-) -> Result<u32, Memory>
-    requires numbered { IsNumbered (flat_map (λ t. t.now.list) a.now) }
-    requires others { IsNumbered (flat_map (λ t. t.now.list) b.now) }
-    ensures { IfOk result (λ d. d ≡ first_difference_of (flat_map (λ t. t.now.list) a.now) (flat_map (λ t. t.now.list) b.now)) }
+// The least event number whose records differ or stand in one of two runs alone, of which nothing was read.
+fn first_apart(own: &mut PackedRun<'_>, other: &mut PackedRun<'_>) -> Result<u32, Memory>
+    requires numbered { AreNumbered 1 (left_in own.old) }
+    requires others { AreNumbered 1 (left_in other.old) }
+    ensures { IfOk result (λ d. d ≡ difference_from 1 (left_in own.old) (left_in other.old)) }
 {
-    let mut own = PackedRun::new(alloc, a);
-    let mut other = PackedRun::new(alloc, b);
     'records: loop {
         let more = own.next()?;
         let others = other.next()?;
@@ -39,4 +33,23 @@ pub(crate) fn difference_of_packed(
             return Ok(own.event.number);
         }
     }
+}
+
+// The least event number whose records differ or stand in one run alone; 0 where there is none. Edits aren't compared. One
+// record of each run at a time is read.
+pub(crate) fn difference_of_packed(
+    alloc: Global,
+    a: &[&Packed],
+    b: &[&Packed],
+) -> Result<u32, Memory>
+    requires numbered { IsNumbered (flat_map (λ t. t.now.list) a.now) }
+    requires others { IsNumbered (flat_map (λ t. t.now.list) b.now) }
+    ensures { IfOk result (λ d. d ≡ first_difference_of (flat_map (λ t. t.now.list) a.now) (flat_map (λ t. t.now.list) b.now)) }
+{
+    let mut own = PackedRun::new(alloc, a);
+    let mut other = PackedRun::new(alloc, b);
+    let apart = first_apart(&mut own, &mut other);
+    drop(other);
+    drop(own);
+    apart
 }

@@ -1,6 +1,6 @@
 //! The table of a study.
 
-ghost use Rattle.std.specs.Prelude.{◌≡◌, IfOk, length, map};
+ghost use Rattle.std.specs.Prelude.{◌≡◌, [], IfOk, OnOk, length, map};
 ghost use Rattle.trace_bundle.specs.Ran.{IsListedRunOf};
 ghost use Rattle.study_report.specs.Tables.{rows_of, study_table};
 
@@ -11,6 +11,27 @@ use market_types::Memory;
 use probe_desk::Probe;
 use std::alloc::Global;
 use trace_bundle::RunOutcomes;
+
+// Appends the rows of all branches, in order, to a list without rows.
+fn add_rows<W: RunOutcomes>(
+    rows: &mut Vec<TableRow>,
+    alloc: Global,
+    course: &Course,
+    ran: &W,
+    probes: &mut [Box<dyn Probe>],
+) -> Result<(), Memory>
+    requires ran { IsListedRunOf course.now (W.count ran.now) (W.kept_of ran.now) (W.closing_of ran.now) }
+    requires empty { rows.old.items ≡ [] }
+    ensures rows { OnOk result (rows.new.items ≡ rows_of course.now (map (λ p. meaning p) probes.old) (length course.now.plan.branches)) }
+    ensures meanings { map (λ p. meaning p) probes.new ≡ map (λ p. meaning p) probes.old }
+    ensures titles { map (λ p. title p) probes.new ≡ map (λ p. title p) probes.old }
+{
+    for b in 0..course.plan().branches().len() {
+        let next = row(alloc, course, ran, b as u16, probes)?;
+        rows.push(next)?;
+    }
+    Ok(())
+}
 
 // The rows of all branches in order.
 fn rows<W: RunOutcomes>(
@@ -25,11 +46,13 @@ fn rows<W: RunOutcomes>(
     ensures titles { map (λ p. title p) probes.new ≡ map (λ p. title p) probes.old }
 {
     let mut rows = Vec::new(alloc);
-    for b in 0..course.plan().branches().len() {
-        let next = row(alloc, course, ran, b as u16, probes)?;
-        rows.push(next)?;
+    match add_rows(&mut rows, alloc, course, ran, probes) {
+        Ok(()) => Ok(rows),
+        Err(memory) => {
+            drop(rows);
+            Err(memory)
+        }
     }
-    Ok(rows)
 }
 
 /// The table of a study in comma-separated values, from a run of its segments that holds their entries themselves: a line of

@@ -52,10 +52,21 @@ pub fn table(alloc: Global, rows: &[TableRow], probes: &[Box<dyn Probe>]) -> Res
 {
     let head = header(alloc, probes)?;
     let mut writer = WriterBuilder::new().from_writer(Vec::new(alloc));
-    put_line(&mut writer, &head)?;
-    put_rows(&mut writer, alloc, rows)?;
+    let put = put_line(&mut writer, &head);
+    drop(head);
+    if let Err(memory) = put {
+        drop(writer);
+        return Err(memory);
+    }
+    if let Err(memory) = put_rows(&mut writer, alloc, rows) {
+        drop(writer);
+        return Err(memory);
+    }
     match writer.into_inner() {
         Ok(text) => Ok(text),
-        Err(_) => Err(Memory),
+        Err(error) => {
+            drop(error);
+            Err(Memory)
+        }
     }
 }

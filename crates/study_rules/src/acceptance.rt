@@ -46,8 +46,13 @@ fn accepted_course(
     requires said { branches.items ≡ branches_of (table_view table.now) }
     ensures { IfOk result (λ c. c ≡ record { opening = opening; plan = plan_of (table_view table.now) }) }
 {
-    let plan = branch_plan(alloc, branches, opening.limit)?;
-    Ok(Course::new(opening, plan))
+    match branch_plan(alloc, branches, opening.limit) {
+        Ok(plan) => Ok(Course::new(opening, plan)),
+        Err(memory) => {
+            drop(opening);
+            Err(memory)
+        }
+    }
 }
 
 // What an accepted study says.
@@ -79,10 +84,15 @@ fn accept_branches(alloc: Global, table: &Table, opening: Opening) -> Result<Stu
     ensures accepted { IfOk result (λ s. (first_of_rules branch_rules (table_view table.now) ≡ None) × (study_told s ≡ told_with (table_view table.now) opening)) }
     ensures refused { IfErr result (λ e. (r : Refusal) → e ≡ AcceptError.Refused r → first_of_rules branch_rules (table_view table.now) ≡ Some r) }
 {
-    let branches = branches(alloc, table)?;
-    match accepted_study(alloc, table, opening, branches) {
-        Ok(study) => Ok(study),
-        Err(Memory) => Err(AcceptError::Memory),
+    match branches(alloc, table) {
+        Ok(branches) => match accepted_study(alloc, table, opening, branches) {
+            Ok(study) => Ok(study),
+            Err(Memory) => Err(AcceptError::Memory),
+        },
+        Err(error) => {
+            drop(opening);
+            Err(error)
+        }
     }
 }
 

@@ -136,9 +136,16 @@ pub fn read_edits(
     ensures low { IfOk result (λ read. IfErr read (λ at. at < 16)) }
 {
     let mut edits = Vec::new(alloc);
-    match push_edits(alloc, scope, 0, entries, &mut edits)? {
-        Some(at) => Ok(Err(at)),
-        None => Ok(Ok(edits)),
+    match push_edits(alloc, scope, 0, entries, &mut edits) {
+        Ok(None) => Ok(Ok(edits)),
+        Ok(Some(at)) => {
+            drop(edits);
+            Ok(Err(at))
+        }
+        Err(memory) => {
+            drop(edits);
+            Err(memory)
+        }
     }
 }
 
@@ -213,9 +220,16 @@ fn read_branches(alloc: Global, table: &Table) -> Result<Result<Vec<Branch>, u32
     let scope = study_scope(table);
     let mut list = Vec::new(alloc);
     list.push(root(alloc))?;
-    match push_branches(alloc, &scope, entries, 0, entries, &mut list)? {
-        Some(place) => Ok(Err(place)),
-        None => Ok(Ok(list)),
+    match push_branches(alloc, &scope, entries, 0, entries, &mut list) {
+        Ok(None) => Ok(Ok(list)),
+        Ok(Some(place)) => {
+            drop(list);
+            Ok(Err(place))
+        }
+        Err(memory) => {
+            drop(list);
+            Err(memory)
+        }
     }
 }
 
@@ -234,7 +248,10 @@ fn judged_branches(alloc: Global, table: &Table) -> Result<Vec<Branch>, AcceptEr
     }
     match read_branches(alloc, table) {
         Ok(Ok(branches)) => match work_broken(table) {
-            Some(place) => Err(AcceptError::Refused(Refusal { rule: 36, place })),
+            Some(place) => {
+                drop(branches);
+                Err(AcceptError::Refused(Refusal { rule: 36, place }))
+            }
             None => Ok(branches),
         },
         Ok(Err(place)) => Err(AcceptError::Refused(Refusal { rule: 35, place })),

@@ -18,7 +18,7 @@ use market_rules::View;
 use market_types::{HIGHEST_PRICE, Quote, Side};
 
 /// How many draws a quote takes, and the order that it calls for.
-#[derive(Clone, Copy, PartialEq, Eq, Debug)]
+#[derive(Clone, Copy)]
 pub struct Choice {
     pub draws: u64,
     pub wish: Option<Wish>,

@@ -38,7 +38,9 @@ pub fn take(parts: &mut Parts, view: &View, quote: &Quote, out: &mut Sends) -> R
 {
     let choice = choice_of(parts, view, quote);
     if let Some(wish) = choice.wish {
-        make_room(&mut parts.shell, 1, out)?;
+        let Ok(()) = make_room(&mut parts.shell, 1, out) else {
+            return Err(Memory);
+        };
         send(&mut parts.shell, view.symbol, wish, out);
     }
     parts.draws += choice.draws;

@@ -2,7 +2,7 @@
 
 ghost use Rattle.std.specs.Prelude.{◌≡◌, []};
 
-use super::{last_lane, pop_some};
+use super::{last_lane, pop_one, pop_some, take_one};
 use crate::facts::{equal, holds};
 use branch_deques::{Lane, Memory, Room, open_lanes};
 use std::alloc::Global;
@@ -12,15 +12,6 @@ use std::sync::Wait;
 use std::sync::atomic::{AtomicBool, Ordering};
 use std::thread;
 use std::thread::Threads;
-
-// Pops the first segment, if there is one.
-fn pop_one<B: Room>(rt: &impl Abort, lane: &mut Lane<B>, got: &mut Vec<u32>)
-    ensures { lane.new.own.view.pushed ≡ lane.old.own.view.pushed }
-{
-    if let Some(segment) = lane.pop() {
-        got.push(segment).expect(rt, "memory");
-    }
-}
 
 // Pushes all segments in order, and after each second one pops one, if it is to pop: what it popped. Then others are told
 // that no more is pushed.
@@ -47,22 +38,21 @@ fn push_and_tell<B: Room, R: Abort>(
 }
 
 // Takes from the other lane until nothing more is pushed and it finds none, or it tried too often.
-fn take_all<B: Room, R: Wait>(
+fn take_all<B: Room, R: Wait + Abort>(
     rt: &R,
     alloc: Global,
     mut lane: Lane<B>,
     is_over: &AtomicBool,
-) -> Result<Vec<u32>, Memory> {
+) -> Vec<u32> {
     let mut got = Vec::new(alloc);
     for _ in 0..1_000_000_000 {
         let was_over = is_over.load(Ordering::SeqCst);
-        match lane.steal_round(rt) {
-            Some(segment) => got.push(segment)?,
-            None if was_over => return Ok(got),
-            None => {}
+        if !take_one(rt, &mut lane, &mut got) && was_over {
+            break;
         }
     }
-    Ok(got)
+    drop(lane);
+    got
 }
 
 // The segments up to a room are pushed on the first lane by one thread, while another takes from it: what the owner
@@ -78,6 +68,7 @@ fn share_all<B: Room + Send, R: Threads + Wait + Abort + Sync>(
     let mut lanes = open_lanes::<B>(alloc, 2, room).expect(rt, "memory");
     let second = last_lane(rt, &mut lanes);
     let first = last_lane(rt, &mut lanes);
+    drop(lanes);
     let is_over = AtomicBool::new(false);
     let shared = &is_over;
     let (owner, taken) = thread::join(
@@ -86,8 +77,9 @@ fn share_all<B: Room + Send, R: Threads + Wait + Abort + Sync>(
         move || take_all(rt, alloc, second, shared),
     );
     let (mut first, mut popped) = owner;
-    pop_some(&mut first, room, &mut popped).expect(rt, "memory");
-    (popped, taken.expect(rt, "memory"))
+    pop_some(rt, &mut first, room, &mut popped);
+    drop(first);
+    (popped, taken)
 }
 
 fn share_thousand<R: Threads + Wait + Abort + Sync>(
@@ -113,6 +105,7 @@ fn assert_each_once(rt: &impl Abort, alloc: Global, popped: &[u32], taken: &[u32
     let both = together(popped, taken, alloc).expect(rt, "memory");
     equal(rt, both.len(), 1000);
     holds(rt, both.iter().copied().eq(0..1000));
+    drop(both);
 }
 
 #[test]
@@ -122,5 +115,7 @@ fn two_threads_take_each_once(rt: HostRuntime) {
         let (popped, taken) = share_thousand(&rt, rt.alloc(), pops);
         holds(&rt, pops || popped.is_empty());
         assert_each_once(&rt, rt.alloc(), popped.as_slice(), taken.as_slice());
+        drop(taken);
+        drop(popped);
     }
 }

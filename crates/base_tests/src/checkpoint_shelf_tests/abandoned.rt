@@ -37,6 +37,9 @@ fn an_abandoned_turn_leaves_the_place_free(rt: HostRuntime) {
     assert!(rt; shelf.place_of(FORK).is_some());
     assert!(rt; claimed(&shelf, &mut zero, FORK.segment));
     let (first, free, again, progress) = abandoned(&shelf, &mut zero, &mut one, FORK);
+    drop(one);
+    drop(zero);
+    drop(shelf);
     let expected = Progress {
         done: 1,
         stopped: true,

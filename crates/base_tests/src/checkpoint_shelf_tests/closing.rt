@@ -7,7 +7,7 @@ ghost use Rattle.shelf_core.specs.Views.{new_view};
 use super::Item;
 use super::seats::{FORK, claimed, fill, fork_shelf, value_of};
 use crate::facts::equal;
-use checkpoint_shelf::{Key, Shelf, ShelfSeat};
+use checkpoint_shelf::{ClosedShelf, Key, Shelf, ShelfSeat};
 use std::alloc::Global;
 use std::process::Abort;
 use std::sync::Arc;
@@ -27,15 +27,14 @@ fn spend(shelf: &Shelf<Item>, seat: &mut ShelfSeat<Item>, k: Key, value: Option<
     fill(shelf, seat, k, value)
 }
 
-// Whether the value of a key is there, once two seats handed a shelf back.
-fn is_there(
+// A shelf is closed, once two seats handed it back.
+pub(super) fn closed(
     rt: &impl Abort,
     alloc: Global,
     shelf: Shelf<Item>,
     zero: ShelfSeat<Item>,
     one: ShelfSeat<Item>,
-    k: Key,
-) -> bool
+) -> ClosedShelf<Item>
     requires two { shelf.seats ≡ 2 }
     requires zero { (zero.shelf ≡ Some shelf) × (zero.view.numbers ≡ (new_view 0).numbers) × (zero.view.turns ≡ []) }
     requires one { (one.shelf ≡ Some shelf) × (one.view.numbers ≡ (new_view 1).numbers) × (one.view.turns ≡ []) }
@@ -43,8 +42,7 @@ fn is_there(
     let mut seats = Vec::new(alloc);
     seats.push(zero).expect(rt, "memory");
     seats.push(one).expect(rt, "memory");
-    let closed = shelf.close(seats);
-    closed.get(k).is_some()
+    shelf.close(seats)
 }
 
 // Whether the turn of a fork was got and spent, with a value or with none, and the value is there at the end.
@@ -52,7 +50,10 @@ fn closed_fork(rt: &impl Abort, alloc: Global, with_value: bool) -> (bool, bool)
     let value = value_of(alloc, FORK, with_value).expect(rt, "memory");
     let (shelf, mut zero, one) = fork_shelf(rt, alloc);
     let spent = spend(&shelf, &mut zero, FORK, value);
-    (spent, is_there(rt, alloc, shelf, zero, one, FORK))
+    let closed = closed(rt, alloc, shelf, zero, one);
+    let is_there = closed.get(FORK).is_some();
+    drop(closed);
+    (spent, is_there)
 }
 
 #[test]

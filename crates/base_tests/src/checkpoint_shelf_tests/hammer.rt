@@ -1,10 +1,11 @@
 //! Two threads at one shelf.
 
 ghost use Rattle.std.specs.Prelude.{◌≡◌, ◌<◌, IfOk, IfSome, Some, length, []};
-ghost use Rattle.shelf_core.specs.Views.{new_view, times};
+ghost use Rattle.shelf_core.specs.Views.{times};
 ghost use Rattle.checkpoint_shelf.specs.Plans.{PlanFits};
 
 use super::Item;
+use super::closing::closed;
 use super::seats::{claimed, fill, opened, value_of};
 use crate::facts::{equal, holds};
 use checkpoint_shelf::{ClosedShelf, Found, Key, Progress, Shelf, ShelfPlan, ShelfSeat, Shelved};
@@ -247,22 +248,12 @@ struct Told {
     there: u64,
 }
 
-// The segments whose key's value is there, as bits, once two seats handed a shelf back.
-fn there(
-    rt: &impl Abort,
-    alloc: Global,
-    shelf: Shelf<Item>,
-    zero: ShelfSeat<Item>,
-    one: ShelfSeat<Item>,
-) -> u64
-    requires two { shelf.seats ≡ 2 }
-    requires zero { (zero.shelf ≡ Some shelf) × (zero.view.numbers ≡ (new_view 0).numbers) × (zero.view.turns ≡ []) }
-    requires one { (one.shelf ≡ Some shelf) × (one.view.numbers ≡ (new_view 1).numbers) × (one.view.turns ≡ []) }
-{
-    let mut seats = Vec::new(alloc);
-    seats.push(zero).expect(rt, "memory");
-    seats.push(one).expect(rt, "memory");
-    values_of(&shelf.close(seats))
+// Whether the value of a key is there.
+fn has_value(closed: &ClosedShelf<Item>, k: Key) -> bool {
+    match closed.get(k) {
+        Some(value) => value.key() == k,
+        None => false,
+    }
 }
 
 // The segments whose key's value is there, as bits.
@@ -270,11 +261,7 @@ fn values_of(closed: &ClosedShelf<Item>) -> u64 {
     let mut there = 0;
     for segment in 0..64u32 {
         if let Some(k) = key_in(segment) {
-            let is_there = match closed.get(k) {
-                Some(value) => value.key() == k,
-                None => false,
-            };
-            there |= u64::from(is_there) << segment;
+            there |= u64::from(has_value(closed, k)) << segment;
         }
     }
     there
@@ -294,11 +281,14 @@ fn run_all<R: Threads + Wait + Abort + Sync>(rt: &R, alloc: Global) -> Told {
     let (mut zero, first) = first;
     let (one, second) = second;
     let progress = shelf.progress(&mut zero);
+    let closed = closed(rt, alloc, shelf, zero, one);
+    let there = values_of(&closed);
+    drop(closed);
     Told {
         first,
         second,
         progress,
-        there: there(rt, alloc, shelf, zero, one),
+        there,
     }
 }
 

@@ -61,6 +61,12 @@ fn claim_word(owner: Option<u32>) -> ClaimWord {
     }
 }
 
+// The key that is lent, without its place.
+fn lent(loan: Option<(u32, Key)>) -> Option<Key> {
+    let (_, key) = loan?;
+    Some(key)
+}
+
 impl Seat {
     // Learns of the value of a key at a place: of the fork keys, and of the one grid key that shares no place.
     fn learn(&mut self, place: Option<usize>) {
@@ -86,17 +92,22 @@ impl Seat {
     }
 
     fn is_like(&self, view: &SeatView) -> bool {
-        self.spent == view.spent
-            && self.segment_count() == view.claims.len()
-            && self.counts == view.counts
-            && self.turn_count() == view.turns.len()
-            && self.loan == view.loan.map(|loan| loan.1)
-            && self.stopped == view.stopped
-            && self.done_seen == view.done_seen
-            && self.loads == view.loads
-            && self.last == view.saw.get(0).copied()
-            && self.known == view.known.len()
-            && self.returned == view.found.len()
+        (self.spent == view.spent)
+            & (self.counts == view.counts)
+            & (self.stopped == view.stopped)
+            & (self.done_seen == view.done_seen)
+            & (self.loads == view.loads)
+            & self.has_like(view)
+    }
+
+    // The same of what the seat has and saw.
+    fn has_like(&self, view: &SeatView) -> bool {
+        (self.segment_count() == view.claims.len())
+            & (self.turn_count() == view.turns.len())
+            & (self.loan == lent(view.loan))
+            & (self.last == view.saw.get(0).copied())
+            & (self.known == view.known.len())
+            & (self.returned == view.found.len())
     }
 }
 

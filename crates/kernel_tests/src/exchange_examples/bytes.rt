@@ -1,11 +1,15 @@
 //! Orders, replies and feed byte by byte.
 
-use super::{numbered, opened, opened_for, sent};
+ghost use Rattle.std.specs.Prelude.{◌≡◌, length};
+
+use super::{counted, numbered, opened, opened_for, send, sent};
 use crate::facts::{equal, holds};
-use exchange_agent::Handled;
+use exchange_agent::{Exchange, Handled};
 use itch_codec::encode_feed;
 use market_types::{AgentNo, Body, Enter, Inbound, Side};
 use ouch_codec::{decode_in, encode_enter, encode_reply};
+use std::alloc::Global;
+use std::process::Abort;
 
 // An Enter of trader 1: to buy 999,999 shares at 10 dollars.
 const ENTER: [u8; 49] =
@@ -42,27 +46,43 @@ fn is_fed(out: &Handled, i: usize, bytes: &[u8]) -> bool {
     encode_feed(feed).as_slice() == bytes
 }
 
+// The first order is answered and fed by these bytes.
+fn is_accepted(rt: &impl Abort, alloc: Global, exchange: &mut Exchange)
+    requires { length exchange.old.cash ≡ 3 }
+    ensures { length exchange.new.cash ≡ 3 }
+{
+    let inbound = decode_in(&ENTER).expect(rt, "not an order");
+    let out = sent(rt, alloc, exchange, 2000, 1, inbound);
+    holds(rt, is_answered(&out, 1, &ACCEPTED));
+    holds(rt, is_fed(&out, 0, &ADDED));
+    equal(rt, (out.len(), out.feed.len(), out.fee), (1, 1, 0));
+    drop(out);
+}
+
 #[test]
 fn an_order_is_answered_byte_by_byte(rt: HostRuntime) {
     let alloc = rt.alloc();
     let mut exchange = opened(&rt, alloc);
-    let Ok(inbound) = decode_in(&ENTER) else {
-        panic!(rt; "not an order");
-    };
-    let out = sent(&rt, alloc, &mut exchange, 2000, 1, inbound);
-    holds(&rt, is_answered(&out, 1, &ACCEPTED));
-    holds(&rt, is_fed(&out, 0, &ADDED));
-    equal(&rt, (out.len(), out.feed.len(), out.fee), (1, 1, 0));
+    is_accepted(&rt, alloc, &mut exchange);
     let more = numbered(2, Side::Buy, 1_000_000, 100_000);
     let out = sent(&rt, alloc, &mut exchange, 2000, 1, Inbound::Enter(more));
+    drop(exchange);
     holds(&rt, is_answered(&out, 1, &REJECTED));
     equal(&rt, (out.len(), out.feed.len(), out.fee), (1, 0, 0));
+    drop(out);
 }
 
 #[test]
 fn an_order_is_spelled_byte_by_byte(rt: HostRuntime) {
     let first: Enter = numbered(1, Side::Buy, 999_999, 100_000);
-    holds(&rt, encode_enter(&first).as_slice() == ENTER.as_slice());
+    holds(&rt, encode_enter(&first) == ENTER);
+}
+
+// The feed messages have these bytes, one after the other.
+fn are_fed(rt: &impl Abort, out: &Handled, feed: &[&[u8]]) {
+    for (i, bytes) in feed.iter().enumerate() {
+        holds(rt, is_fed(out, i, *bytes));
+    }
 }
 
 // What a sweep of three resting orders feeds at 3000 nanoseconds: three executions, and the rest of the sweep.
@@ -81,14 +101,14 @@ fn a_sweep_is_fed_byte_by_byte(rt: HostRuntime) {
     let second = Inbound::Enter(numbered(2, Side::Sell, 200, 100_000));
     let third = Inbound::Enter(numbered(1, Side::Sell, 300, 100_000));
     let sweep = Inbound::Enter(numbered(1, Side::Buy, 700, 100_100));
-    sent(&rt, alloc, &mut exchange, 3000, 2, first);
-    sent(&rt, alloc, &mut exchange, 3000, 2, second);
-    sent(&rt, alloc, &mut exchange, 3000, 3, third);
+    send(&rt, alloc, &mut exchange, 3000, 2, first);
+    send(&rt, alloc, &mut exchange, 3000, 2, second);
+    send(&rt, alloc, &mut exchange, 3000, 3, third);
     let out = sent(&rt, alloc, &mut exchange, 3000, 1, sweep);
-    for (i, bytes) in SWEPT.iter().enumerate() {
-        holds(&rt, is_fed(&out, i, *bytes));
-    }
+    drop(exchange);
+    are_fed(&rt, &out, &SWEPT);
     equal(&rt, (out.len(), out.feed.len(), out.fee), (7, 4, 6000));
+    drop(out);
 }
 
 // What is fed at 3000 nanoseconds where an order meets a shown order, and then a hidden one of the same price.
@@ -107,13 +127,13 @@ fn a_hidden_order_is_fed_without_its_name(rt: HostRuntime) {
     };
     let shown = Inbound::Enter(numbered(1, Side::Sell, 100, 100_000));
     let buy = Inbound::Enter(numbered(1, Side::Buy, 150, 100_000));
-    let out = sent(&rt, alloc, &mut exchange, 3000, 2, Inbound::Enter(hidden));
-    equal(&rt, (out.len(), out.feed.len()), (1, 0));
-    let out = sent(&rt, alloc, &mut exchange, 3000, 3, shown);
-    equal(&rt, (out.len(), out.feed.len()), (1, 1));
+    let told = counted(&rt, alloc, &mut exchange, 3000, 2, Inbound::Enter(hidden));
+    holds(&rt, (told.0 == 1) & (told.1 == 0));
+    let told = counted(&rt, alloc, &mut exchange, 3000, 3, shown);
+    holds(&rt, (told.0 == 1) & (told.1 == 1));
     let out = sent(&rt, alloc, &mut exchange, 3000, 1, buy);
-    for (i, bytes) in OF_BOTH.iter().enumerate() {
-        holds(&rt, is_fed(&out, i, *bytes));
-    }
-    equal(&rt, (out.len(), out.feed.len()), (5, 2));
+    drop(exchange);
+    are_fed(&rt, &out, &OF_BOTH);
+    holds(&rt, (out.len() == 5) & (out.feed.len() == 2));
+    drop(out);
 }

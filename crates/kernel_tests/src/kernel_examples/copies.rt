@@ -25,15 +25,15 @@ fn told(e: &Record) -> EventTold {
 
 // Whether two events have the same feeds.
 fn feed_alike(a: &Record, b: &Record) -> bool {
-    a.before.as_slice() == b.before.as_slice() && a.after.as_slice() == b.after.as_slice()
+    (a.before.as_slice() == b.before.as_slice()) & (a.after.as_slice() == b.after.as_slice())
 }
 
 // Whether two entries are the same event.
 fn is_same(pair: (&Entry, &Entry)) -> bool {
     match pair {
-        (Entry::Event(a), Entry::Event(b)) => told(a) == told(b)
-            && a.body == b.body
-            && feed_alike(a, b),
+        (Entry::Event(a), Entry::Event(b)) => {
+            (told(a) == told(b)) & (a.body == b.body) & feed_alike(a, b)
+        }
         _ => false,
     }
 }
@@ -56,7 +56,7 @@ fn tellings(rt: &impl Abort, alloc: Global, kernel: &Kernel) -> Vec<TraderTold> 
 fn wait_alike(rt: &impl Abort, alloc: Global, a: &Kernel, b: &Kernel) -> bool {
     let here = waiting(rt, alloc, a);
     let there = waiting(rt, alloc, b);
-    let is_same = here.iter().copied().eq(there.iter().copied());
+    let is_same = here.as_slice() == there.as_slice();
     drop(there);
     drop(here);
     is_same
@@ -66,7 +66,7 @@ fn wait_alike(rt: &impl Abort, alloc: Global, a: &Kernel, b: &Kernel) -> bool {
 fn tell_alike(rt: &impl Abort, alloc: Global, a: &Kernel, b: &Kernel) -> bool {
     let here = tellings(rt, alloc, a);
     let there = tellings(rt, alloc, b);
-    let is_same = here.iter().copied().eq(there.iter().copied());
+    let is_same = here.as_slice() == there.as_slice();
     drop(there);
     drop(here);
     is_same
@@ -158,10 +158,7 @@ pub(crate) fn gone_on(rt: &impl Abort, alloc: Global, o: &Opening, mut kernel: K
 fn copied(rt: &impl Abort, alloc: Global, kernel: &Kernel) -> Kernel
     ensures { result ≡ kernel.now }
 {
-    let Ok(copy) = kernel.copy(alloc) else {
-        panic!(rt; "out of memory");
-    };
-    copy
+    kernel.copy(alloc).expect(rt, "out of memory")
 }
 
 // Whether two runs ended in one state after the same events.

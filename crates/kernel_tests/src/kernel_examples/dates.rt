@@ -22,13 +22,8 @@ fn later_ticks(rt: &impl Abort, alloc: Global) -> DatedList
         stock: 0,
         change: Change::Tick(five_cents(rt, alloc)),
     };
-    let Ok(dates) = Vec::from_array(alloc, [later]) else {
-        panic!(rt; "out of memory");
-    };
-    let Ok(dated) = DatedList::new(dates) else {
-        panic!(rt; "out of memory");
-    };
-    dated
+    let dates = Vec::from_array(alloc, [later]).expect(rt, "out of memory");
+    DatedList::new(dates).expect(rt, "out of memory")
 }
 
 // The market of one watcher with these dated ticks.

@@ -24,9 +24,7 @@ fn stepped(
     let mut steps: Steps<Counted> = Steps::new();
     let answer = kernel.step(alloc, o, trace, &mut steps);
     let ticks = steps.close();
-    let Ok(told) = answer else {
-        panic!(rt; "out of memory");
-    };
+    let told = answer.expect(rt, "out of memory");
     (told, ticks)
 }
 

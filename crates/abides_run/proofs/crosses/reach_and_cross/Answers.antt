@@ -8,9 +8,16 @@ use Rattle.study_rules.specs.Accepted.{study_told}
 use Rattle.abides_run.specs.Output.{study_events}
 use Rattle.abides_run.specs.Rewinds.{IsThere, lasts_of, steps_to, target_state}
 use Rattle.abides_run.proofs.Aiming.{IsWithin, are-there, lasts-length}
-use Rattle.abides_run.proofs.Crossing.{late-eventless, late-finishes}
-use Rattle.abides_run.proofs.Performing.{sent_all}
+use Rattle.abides_run.proofs.Crossing.{late-eventless, late-finishes, late-wanting}
+use Rattle.abides_run.proofs.Performing.{sent_done}
 use Rattle.abides_run.proofs.crosses.reach_and_cross.Goals as goal
+
+pub returns-in-Err : goal.returns-in-Err
+returns-in-Err g c =
+    let k : CourseTold = c.args.study.now.course.value in
+    let t = c.args.target in
+    λ reads probes arguments among. late-wanting c.args.word.now t c.args.stock c.args.orders.now c.args.places (study_told c.args.study.now) (past_of (lasts_of k) (t ∷ [])) probes arguments reads (g.O.Sink.faults c.args.out.now) c.args.steps.now c.simulate_kept.new.steps (g.O.Sink.taken c.args.out.now) c.nameless.result.status _
+    c.nameless.ensures c.simulate_kept.ensures.least c.simulate_kept.ensures.most
 
 pub first_past-requires : goal.first_past-requires
 first_past-requires g c =
@@ -29,8 +36,8 @@ returns-in-Some g c =
     λ reads probes arguments among. late-eventless c.args.word.now t c.args.stock c.args.orders.now c.args.places (study_told c.args.study.now) c.in-Some.past probes arguments reads (g.O.Sink.faults c.args.out.now) c.args.steps.now c.simulate_kept.new.steps (g.O.Sink.taken c.args.out.now) c.no_event.result.status _
     found c.no_event.ensures c.in-Ok.ensures.rose among
 
-pub send_cross-requires-clause-there : goal.send_cross-requires-clause-there
-send_cross-requires-clause-there g c =
+pub send_cross-sent-requires-clause-there : goal.send_cross-sent-requires-clause-there
+send_cross-sent-requires-clause-there g c =
     let k : CourseTold = c.args.study.now.course.value in
     let t = c.args.target in
     let lasts : c.deref.result.now ≡ lasts_of k = c.deref.ensures.value ∙ c.in-Ok.ensures.lasts in
@@ -38,14 +45,15 @@ send_cross-requires-clause-there g c =
     let within : IsWithin (length k.plan.branches) t = record { branch = c.requires.branch; event = c.requires.event } in
     All-head (IsThere k) t [] (are-there k (t ∷ []) (All-cons (IsWithin (length k.plan.branches)) t [] within (All-nil (IsWithin (length k.plan.branches)))) none)
 
-pub returns-in-Ok-send_cross : goal.returns-in-Ok-send_cross
-returns-in-Ok-send_cross g c =
+pub returns : goal.returns
+returns g c =
     let k : CourseTold = c.args.study.now.course.value in
     let s = study_told c.args.study.now in
     let t = c.args.target in
     let lasts : c.deref.result.now ≡ lasts_of k = c.deref.ensures.value ∙ c.in-Ok.ensures.lasts in
     let none : past_of (lasts_of k) (t ∷ []) ≡ None = ap (λ (l : List ℕ). past_of l (t ∷ [])) (sym lasts) ∙ sym c.in_default.ensures in
-    λ reads probes arguments among. late-finishes c.args.word.now t c.args.stock c.args.orders.now c.args.places s probes arguments _ _ _ c.nameless-in-Ok-send_cross.result.status _
-    none c.nameless-in-Ok-send_cross.ensures
-    (sent_all (reopened (target_state k t) c.args.stock c.args.orders.now) (study_events k) (steps_to s c.args.places t) (study_events k + steps_to s c.args.places t) reads (g.O.Sink.faults c.args.out.now) (g.O.Sink.faults c.send_cross.new.out) c.args.steps.now c.send_cross.new.steps (g.O.Sink.taken c.args.out.now) (g.O.Sink.taken c.send_cross.new.out)
-    (omega (arith, c.in-Ok.ensures.rose, c.send_cross.ensures.least)) (omega (arith, c.in-Ok.ensures.rose, c.send_cross.ensures.most, c.in-Ok.ensures.near t)) c.in-Ok-send_cross.ensures.sent)
+    λ reads probes arguments among. late-finishes c.args.word.now t c.args.stock c.args.orders.now c.args.places s probes arguments _ _ _ c.nameless-2.result.status _
+    none c.nameless-2.ensures
+    (sent_done (reopened (target_state k t) c.args.stock c.args.orders.now) (study_events k) (steps_to s c.args.places t) (study_events k + steps_to s c.args.places t) reads (g.O.Sink.faults c.args.out.now) (g.O.Sink.faults c.send_cross-sent.new.out) c.args.steps.now c.send_cross-sent.new.steps (g.O.Sink.taken c.args.out.now) (g.O.Sink.taken c.send_cross-sent.new.out)
+    c.send_cross-sent.result c.sent_status.result c.sent_status.ensures.ok c.sent_status.ensures.refused
+    (omega (arith, c.in-Ok.ensures.rose, c.send_cross-sent.ensures.least)) (omega (arith, c.in-Ok.ensures.rose, c.send_cross-sent.ensures.most, c.in-Ok.ensures.near t)) (omega (arith, c.in-Ok.ensures.rose, c.send_cross-sent.ensures.most, c.in-Ok.ensures.near t)) c.send_cross-sent.ensures.sent)

@@ -1,42 +1,81 @@
-use Rattle.std.proofs.Common.{◌∷◌, IfSome, string_bytes}
-use Rattle.outside.specs.Files.{held, content}
+use Rattle.std.proofs.Common.{◌≤◌, ◌∙◌, ℕ, string_bytes, subst}
+use Rattle.outside.specs.Rose.{Rose}
 use Rattle.study_rules.specs.Accepted.{study_told}
-use Rattle.abides_run.specs.declared.ending.Ending.{Ending}
-use Rattle.abides_run.specs.Verdict.{most_bytes, verdict_on_study}
-use Rattle.abides_run.specs.Fetched.{behind_study}
-use Rattle.abides_run.specs.Ends.{Ends}
-use Rattle.abides_run.proofs.Come.{further_missed, handed_on, study_unfound}
-use Rattle.abides_run.proofs.Speaking.{SpeaksOf, bytes_speak}
+use Rattle.abides_run.proofs.Come.{further_missed, study_found, study_unfetched, study_unfound}
+use Rattle.abides_run.proofs.Speaking.{bytes_speak, study_speaks, task_speaks}
 use Rattle.abides_run.proofs.find.find_file.Goals as goal
 
-pub returns-in_err-study-clause-ended : goal.returns-in_err-study-clause-ended
-returns-in_err-study-clause-ended g c =
-    let e = c.in_err-study.field-0.0 in
-    let name = c.args.name.now in
-    handed_on c.from_residual-in_err-study.result e
-    (λ (e : Ending). IfSome (g.L.Library.files c.args.library.now) (λ files. Ends (verdict_on_study files c.args.task name (content (held files name) most_bytes)) (name ∷ behind_study files c.args.task (content (held files name) most_bytes)) e.status (string_bytes e.name)))
-    c.from_residual-in_err-study.ensures
-    (study_unfound (g.L.Library.files c.args.library.now) c.args.task name c.in_ok-bytes.bytes.items e.status (string_bytes e.name)
-    c.in_ok-bytes.ensures.bytes
-    (rw c.fetch_file.ensures.files at (rw c.deref.ensures.value at c.in_err-study.ensures.ended)))
+pub returns-in-Err-clause-ended : goal.returns-in-Err-clause-ended
+returns-in-Err-clause-ended g c =
+    let e = c.in-Err.ending in
+    study_unfetched (g.L.Library.files c.args.library.now) c.args.task c.args.name.now e.status (string_bytes e.name) c.in-Err.ensures.ended
 
-pub returns-in_err-study-clause-speaks : goal.returns-in_err-study-clause-speaks
-returns-in_err-study-clause-speaks g c =
-    let e = c.in_err-study.field-0.0 in
-    handed_on c.from_residual-in_err-study.result e
-    (λ (e : Ending). SpeaksOf c.args.name.now c.args.task e.status (string_bytes e.name))
-    c.from_residual-in_err-study.ensures
-    (bytes_speak c.args.name.now c.args.task c.in_ok-bytes.bytes.items e.status (string_bytes e.name) (rw c.deref.ensures.value at c.in_err-study.ensures.speaks))
+pub returns-in-Err-clause-speaks : goal.returns-in-Err-clause-speaks
+returns-in-Err-clause-speaks g c =
+    let e = c.in-Err.ending in
+    study_speaks c.args.name.now c.args.task e.status (string_bytes e.name) c.in-Err.ensures.speaks
 
-pub returns-in_err-further-clause-ended : goal.returns-in_err-further-clause-ended
-returns-in_err-further-clause-ended g c =
-    let e = c.in_err-further.field-0.0 in
-    let name = c.args.name.now in
-    handed_on c.from_residual-in_err-further.result e
-    (λ (e : Ending). IfSome (g.L.Library.files c.args.library.now) (λ files. Ends (verdict_on_study files c.args.task name (content (held files name) most_bytes)) (name ∷ behind_study files c.args.task (content (held files name) most_bytes)) e.status (string_bytes e.name)))
-    c.from_residual-in_err-further.ensures
-    (further_missed (g.L.Library.files c.args.library.now) c.args.task name c.in_ok-bytes.bytes.items (study_told c.in_ok-study.study) e.status (string_bytes e.name)
-    c.in_ok-bytes.ensures.bytes
-    (rw c.fetch_file.ensures.files at (rw c.deref.ensures.value at c.in_ok-study.ensures.study))
-    (rw c.fetch_file.ensures.files at (rw c.deref.ensures.value at c.in_ok-study.ensures.behind))
-    (rw c.fetch_file.ensures.files at (rw c.read_study.ensures.files at c.in_err-further.ensures.ended)))
+pub returns-in-Err-read_study-clause-ended : goal.returns-in-Err-read_study-clause-ended
+returns-in-Err-read_study-clause-ended g c =
+    let e = c.in-Err-read_study.ending in
+    study_unfound (g.L.Library.files c.args.library.now) c.args.task c.args.name.now c.in-Ok.bytes.items e.status (string_bytes e.name)
+    c.in-Ok.ensures.bytes
+    (rw c.fetch_file.ensures.files at (rw c.deref.ensures.value at c.in-Err-read_study.ensures.ended))
+
+pub returns-in-Err-read_study-clause-speaks : goal.returns-in-Err-read_study-clause-speaks
+returns-in-Err-read_study-clause-speaks g c =
+    let e = c.in-Err-read_study.ending in
+    bytes_speak c.args.name.now c.args.task c.in-Ok.bytes.items e.status (string_bytes e.name) (rw c.deref.ensures.value at c.in-Err-read_study.ensures.speaks)
+
+pub returns-in-Err-fetch_further-clause-ended : goal.returns-in-Err-fetch_further-clause-ended
+returns-in-Err-fetch_further-clause-ended g c =
+    let e = c.in-Err-fetch_further.ending in
+    further_missed (g.L.Library.files c.args.library.now) c.args.task c.args.name.now c.in-Ok.bytes.items (study_told c.in-Ok-read_study.study) e.status (string_bytes e.name)
+    c.in-Ok.ensures.bytes
+    (rw c.fetch_file.ensures.files at (rw c.deref.ensures.value at c.in-Ok-read_study.ensures.study))
+    (rw c.fetch_file.ensures.files at (rw c.deref.ensures.value at c.in-Ok-read_study.ensures.behind))
+    (rw c.fetch_file.ensures.files at (rw c.read_study.ensures.files at c.in-Err-fetch_further.ensures.ended))
+
+pub returns-in-Err-read_study-clause-fault : goal.returns-in-Err-read_study-clause-fault
+returns-in-Err-read_study-clause-fault g c =
+    λ failed. subst (λ (n : ℕ). Rose n (g.L.Library.faults c.read_study.new.library)) c.in-Ok.ensures.steady (c.in-Err-read_study.ensures.fault failed)
+
+pub returns-in-Err-read_study-clause-rises : goal.returns-in-Err-read_study-clause-rises
+returns-in-Err-read_study-clause-rises g c =
+    subst (λ (n : ℕ). n ≤ g.L.Library.faults c.read_study.new.library) c.in-Ok.ensures.steady c.read_study.ensures.rises
+
+pub returns-in-Err-read_study-clause-files : goal.returns-in-Err-read_study-clause-files
+returns-in-Err-read_study-clause-files g c = c.read_study.ensures.files ∙ c.fetch_file.ensures.files
+
+pub returns-in-Err-fetch_further-clause-speaks : goal.returns-in-Err-fetch_further-clause-speaks
+returns-in-Err-fetch_further-clause-speaks g c =
+    let e = c.in-Err-fetch_further.ending in
+    task_speaks c.args.name.now c.args.task c.in-Ok.bytes.items e.status (string_bytes e.name) c.in-Err-fetch_further.ensures.speaks
+
+pub returns-in-Err-fetch_further-clause-fault : goal.returns-in-Err-fetch_further-clause-fault
+returns-in-Err-fetch_further-clause-fault g c =
+    λ failed. subst (λ (n : ℕ). Rose n (g.L.Library.faults c.fetch_further.new.library)) (c.in-Ok-read_study.ensures.steady ∙ c.in-Ok.ensures.steady) (c.in-Err-fetch_further.ensures.fault failed)
+
+pub returns-in-Err-fetch_further-clause-rises : goal.returns-in-Err-fetch_further-clause-rises
+returns-in-Err-fetch_further-clause-rises g c =
+    subst (λ (n : ℕ). n ≤ g.L.Library.faults c.fetch_further.new.library) (c.in-Ok-read_study.ensures.steady ∙ c.in-Ok.ensures.steady) c.fetch_further.ensures.rises
+
+pub returns-in-Err-fetch_further-clause-files : goal.returns-in-Err-fetch_further-clause-files
+returns-in-Err-fetch_further-clause-files g c = c.fetch_further.ensures.files ∙ c.read_study.ensures.files ∙ c.fetch_file.ensures.files
+
+pub returns-clause-study : goal.returns-clause-study
+returns-clause-study g c =
+    study_found (g.L.Library.files c.args.library.now) c.args.task c.args.name.now c.in-Ok.bytes.items _ (study_told c.in-Ok-read_study.study)
+    c.in-Ok.ensures.bytes
+    (rw c.fetch_file.ensures.files at (rw c.deref.ensures.value at c.in-Ok-read_study.ensures.study))
+    (rw c.fetch_file.ensures.files at (rw c.read_study.ensures.files at c.in-Ok-fetch_further.ensures.bytes))
+
+pub returns-clause-steady : goal.returns-clause-steady
+returns-clause-steady g c = c.in-Ok-fetch_further.ensures.steady ∙ c.in-Ok-read_study.ensures.steady ∙ c.in-Ok.ensures.steady
+
+pub returns-clause-rises : goal.returns-clause-rises
+returns-clause-rises g c =
+    subst (λ (n : ℕ). n ≤ g.L.Library.faults c.fetch_further.new.library) (c.in-Ok-read_study.ensures.steady ∙ c.in-Ok.ensures.steady) c.fetch_further.ensures.rises
+
+pub returns-clause-files : goal.returns-clause-files
+returns-clause-files g c = c.fetch_further.ensures.files ∙ c.read_study.ensures.files ∙ c.fetch_file.ensures.files

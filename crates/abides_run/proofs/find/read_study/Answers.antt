@@ -1,71 +1,63 @@
-use Rattle.std.proofs.Common.{◌≡◌, List, ℕ, IfSome, string_bytes, option_map, vec_items, Bor}
+use Rattle.std.proofs.Common.{◌≡◌, List, ℕ, string_bytes, option_map, vec_items, Bor}
 use Rattle.std.proofs.lemmas.Result.{IfErr-weaker}
 use Rattle.toml.specs.View.{table_view}
 use Rattle.study_file.specs.Tables.{table_of}
 use Rattle.study_rules.specs.Accepted.{study_of}
-use Rattle.command_words.specs.declared.asked.Task.{Task}
 use Rattle.abides_run.specs.declared.ending.Ending.{Ending}
-use Rattle.abides_run.specs.Verdict.{verdict_on_bytes}
-use Rattle.abides_run.specs.Fetched.{behind_bytes, series_after}
+use Rattle.abides_run.specs.Fetched.{series_after}
 use Rattle.abides_run.specs.Statuses.{Speaks}
-use Rattle.abides_run.specs.Ends.{Ends, IsSought}
+use Rattle.abides_run.specs.Ends.{IsSought}
 use Rattle.abides_run.specs.declared.status.Status.TheVariants as status
-use Rattle.abides_run.proofs.Come.{RulesRefuse, handed_on, refused_ends, refused_silent, refused_sought, rules_refused, series_missed, silent_fault, study_behind, study_reads}
+use Rattle.abides_run.proofs.Come.{RulesRefuse, refused_ends, refused_silent, refused_sought, rules_refused, series_missed, silent_fault, study_behind, study_reads}
 use Rattle.abides_run.proofs.Speaking.{rules_speak, series_of_bytes}
 use Rattle.abides_run.proofs.find.read_study.Goals as goal
 
-pub returns-in_err-series-clause-ended : goal.returns-in_err-series-clause-ended
-returns-in_err-series-clause-ended g c =
-    let e = c.in_err-series.field-0.0 in
-    handed_on c.from_residual-in_err-series.result e
-    (λ (e : Ending). IfSome (g.L.Library.files c.args.library.now) (λ files. (task : Task) → Ends (verdict_on_bytes files task (table_of c.args.bytes.now)) (behind_bytes files task (table_of c.args.bytes.now)) e.status (string_bytes e.name)))
-    c.from_residual-in_err-series.ensures
-    (series_missed (g.L.Library.files c.args.library.now) c.args.bytes.now (table_view c.in_ok-raw.raw.table) e.status (string_bytes e.name) c.in_ok-raw.ensures.table c.in_err-series.ensures.ended)
+pub returns-in-Err-fetch_series-clause-ended : goal.returns-in-Err-fetch_series-clause-ended
+returns-in-Err-fetch_series-clause-ended g c =
+    let e = c.in-Err-fetch_series.ending in
+    series_missed (g.L.Library.files c.args.library.now) c.args.bytes.now (table_view c.in-Ok.raw.table) e.status (string_bytes e.name) c.in-Ok.ensures.table c.in-Err-fetch_series.ensures.ended
 
-pub returns-in_err-series-clause-speaks : goal.returns-in_err-series-clause-speaks
-returns-in_err-series-clause-speaks g c =
-    let e = c.in_err-series.field-0.0 in
-    handed_on c.from_residual-in_err-series.result e
-    (λ (e : Ending). Speaks (series_after (table_of c.args.bytes.now)) e.status (string_bytes e.name))
-    c.from_residual-in_err-series.ensures
-    (series_of_bytes c.args.bytes.now (table_view c.in_ok-raw.raw.table) e.status (string_bytes e.name) c.in_ok-raw.ensures.table c.in_err-series.ensures.speaks)
+pub returns-in-Err-fetch_series-clause-speaks : goal.returns-in-Err-fetch_series-clause-speaks
+returns-in-Err-fetch_series-clause-speaks g c =
+    let e = c.in-Err-fetch_series.ending in
+    series_of_bytes c.args.bytes.now (table_view c.in-Ok.raw.table) e.status (string_bytes e.name) c.in-Ok.ensures.table c.in-Err-fetch_series.ensures.speaks
 
 pub returns-clause-study : goal.returns-clause-study
 returns-clause-study g c =
-    study_reads c.accept_study.result (g.L.Library.files c.args.library.now) c.args.bytes.now (table_view c.in_ok-raw.raw.table)
-    (option_map vec_items c.in_ok-series.series) (option_map (λ (text : Bor (List ℕ)). text.now) c.as_deref.result)
-    c.in_ok-raw.ensures.table c.in_ok-series.ensures.bytes c.as_deref.ensures.value c.accept_study.ensures.study
+    study_reads c.accept_study-study.result (g.L.Library.files c.args.library.now) c.args.bytes.now (table_view c.in-Ok.raw.table)
+    (option_map vec_items c.in-Ok-fetch_series.series) (option_map (λ (text : Bor (List ℕ)). text.now) c.as_deref.result)
+    c.in-Ok.ensures.table c.in-Ok-fetch_series.ensures.bytes c.as_deref.ensures.value c.accept_study-study.ensures.study
 
 pub returns-clause-behind : goal.returns-clause-behind
 returns-clause-behind g c =
-    study_behind c.accept_study.result (g.L.Library.files c.args.library.now) c.args.bytes.now (table_view c.in_ok-raw.raw.table)
-    (option_map vec_items c.in_ok-series.series) (option_map (λ (text : Bor (List ℕ)). text.now) c.as_deref.result)
-    c.in_ok-raw.ensures.table c.in_ok-series.ensures.behind c.as_deref.ensures.value c.accept_study.ensures.study
+    study_behind c.accept_study-study.result (g.L.Library.files c.args.library.now) c.args.bytes.now (table_view c.in-Ok.raw.table)
+    (option_map vec_items c.in-Ok-fetch_series.series) (option_map (λ (text : Bor (List ℕ)). text.now) c.as_deref.result)
+    c.in-Ok.ensures.table c.in-Ok-fetch_series.ensures.behind c.as_deref.ensures.value c.accept_study-study.ensures.study
 
 pub returns-clause-ended : goal.returns-clause-ended
 returns-clause-ended g c =
     let shown = option_map (λ (text : Bor (List ℕ)). text.now) c.as_deref.result in
-    rules_refused c.accept_study.result (g.L.Library.files c.args.library.now) c.args.bytes.now (table_view c.in_ok-raw.raw.table)
-    (option_map vec_items c.in_ok-series.series) shown
-    c.in_ok-raw.ensures.table c.in_ok-series.ensures.bytes c.as_deref.ensures.value
-    (refused_ends c.accept_study.result (study_of (table_view c.in_ok-raw.raw.table) shown) c.accept_study.ensures.refused)
+    rules_refused c.accept_study-study.result (g.L.Library.files c.args.library.now) c.args.bytes.now (table_view c.in-Ok.raw.table)
+    (option_map vec_items c.in-Ok-fetch_series.series) shown
+    c.in-Ok.ensures.table c.in-Ok-fetch_series.ensures.bytes c.as_deref.ensures.value
+    (refused_ends c.accept_study-study.result (study_of (table_view c.in-Ok.raw.table) shown) c.accept_study-study.ensures.refused)
 
 pub returns-clause-speaks : goal.returns-clause-speaks
 returns-clause-speaks g c =
-    let x = study_of (table_view c.in_ok-raw.raw.table) (option_map (λ (text : Bor (List ℕ)). text.now) c.as_deref.result) in
+    let x = study_of (table_view c.in-Ok.raw.table) (option_map (λ (text : Bor (List ℕ)). text.now) c.as_deref.result) in
     let files = series_after (table_of c.args.bytes.now) in
-    IfErr-weaker c.accept_study.result (λ (e : Ending). RulesRefuse x e.status) (λ (e : Ending). Speaks files e.status (string_bytes e.name))
-    (λ e why. rules_speak x e.status why files (string_bytes e.name)) c.accept_study.ensures.refused
+    IfErr-weaker c.accept_study-study.result (λ (e : Ending). RulesRefuse x e.status) (λ (e : Ending). Speaks files e.status (string_bytes e.name))
+    (λ e why. rules_speak x e.status why files (string_bytes e.name)) c.accept_study-study.ensures.refused
 
 pub returns-clause-sought : goal.returns-clause-sought
 returns-clause-sought g c =
-    let x = study_of (table_view c.in_ok-raw.raw.table) (option_map (λ (text : Bor (List ℕ)). text.now) c.as_deref.result) in
-    IfErr-weaker c.accept_study.result (λ (e : Ending). RulesRefuse x e.status) (λ (e : Ending). IsSought e.status)
-    (λ e why. refused_sought x e.status why) c.accept_study.ensures.refused
+    let x = study_of (table_view c.in-Ok.raw.table) (option_map (λ (text : Bor (List ℕ)). text.now) c.as_deref.result) in
+    IfErr-weaker c.accept_study-study.result (λ (e : Ending). RulesRefuse x e.status) (λ (e : Ending). IsSought e.status)
+    (λ e why. refused_sought x e.status why) c.accept_study-study.ensures.refused
 
 pub returns-clause-fault : goal.returns-clause-fault
 returns-clause-fault g c =
-    let x = study_of (table_view c.in_ok-raw.raw.table) (option_map (λ (text : Bor (List ℕ)). text.now) c.as_deref.result) in
-    silent_fault c.accept_study.result _
-    (IfErr-weaker c.accept_study.result (λ (e : Ending). RulesRefuse x e.status) (λ (e : Ending). ¬ (e.status ≡ status.ReadFault))
-    (λ e why. refused_silent x e.status why) c.accept_study.ensures.refused)
+    let x = study_of (table_view c.in-Ok.raw.table) (option_map (λ (text : Bor (List ℕ)). text.now) c.as_deref.result) in
+    silent_fault c.accept_study-study.result _
+    (IfErr-weaker c.accept_study-study.result (λ (e : Ending). RulesRefuse x e.status) (λ (e : Ending). ¬ (e.status ≡ status.ReadFault))
+    (λ e why. refused_silent x e.status why) c.accept_study-study.ensures.refused)

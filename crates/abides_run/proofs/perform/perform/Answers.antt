@@ -5,7 +5,7 @@ use Rattle.abides_run.proofs.Performing.{due_finishes}
 use Rattle.abides_run.proofs.perform.perform.Goals as goal
 
 pub returns-in-Study : goal.returns-in-Study
-returns-in-Study g c = λ reads. rw c.in-Study.is (c.perform_task.ensures reads)
+returns-in-Study g c = λ reads. rw c.in-Study.is (c.perform_task-ending.ensures reads)
 
 pub returns-in-Large : goal.returns-in-Large
 returns-in-Large g c =

@@ -6,7 +6,7 @@ use Rattle.abides_run.specs.Output.{study_events}
 use Rattle.abides_run.specs.Rewinds.{lasts_of, rewinds_of, steps_from, steps_to}
 use Rattle.abides_run.proofs.Aiming.{are-there, below-lasts, few-steps, past-below, sum-fewer, targets-within, word-among}
 use Rattle.abides_run.proofs.Finishing.{aimed-eventless, aimed-finishes, aimed-wanting}
-use Rattle.abides_run.proofs.Performing.{sent_all, sent_some}
+use Rattle.abides_run.proofs.Performing.{sent_done}
 use Rattle.abides_run.proofs.rewinds.reach_and_write.Goals as goal
 
 pub returns-in-Err : goal.returns-in-Err
@@ -40,39 +40,25 @@ returns-in-Some g c =
     λ reads probes. aimed-eventless marks c.args.places (study_told c.args.study.now) ts past probes _ reads (g.O.Sink.faults c.args.out.now) c.args.steps.now c.simulate_kept.new.steps (g.O.Sink.taken c.args.out.now) c.no_event.result.status _
     c.requires.targets found (rw c.word_of.ensures at c.no_event.ensures) c.in-Ok.ensures.rose (word-among marks past.index within)
 
-pub send_rewinds-requires-clause-few : goal.send_rewinds-requires-clause-few
-send_rewinds-requires-clause-few g c =
+pub send_rewinds-sent-requires-clause-few : goal.send_rewinds-sent-requires-clause-few
+send_rewinds-sent-requires-clause-few g c =
     let k : CourseTold = c.args.study.now.course.value in
     omega (arith, (targets-within k.plan.branches c.args.marks.now c.args.targets.now c.requires.marks.each c.requires.targets).0, c.requires.marks.few)
 
-pub send_rewinds-requires-clause-there : goal.send_rewinds-requires-clause-there
-send_rewinds-requires-clause-there g c =
+pub send_rewinds-sent-requires-clause-there : goal.send_rewinds-sent-requires-clause-there
+send_rewinds-sent-requires-clause-there g c =
     let k : CourseTold = c.args.study.now.course.value in
     let ts = c.args.targets.now in
     let lasts : c.deref.result.now ≡ lasts_of k = c.deref.ensures.value ∙ c.in-Ok.ensures.lasts in
     let none : past_of (lasts_of k) ts ≡ None = ap (λ (l : List ℕ). past_of l ts) (sym lasts) ∙ sym c.in_default.ensures in
     are-there k ts (targets-within k.plan.branches c.args.marks.now ts c.requires.marks.each c.requires.targets).1 none
 
-pub send_rewinds-requires-clause-count : goal.send_rewinds-requires-clause-count
-send_rewinds-requires-clause-count g c =
+pub send_rewinds-sent-requires-clause-count : goal.send_rewinds-sent-requires-clause-count
+send_rewinds-sent-requires-clause-count g c =
     let k : CourseTold = c.args.study.now.course.value in
     let ts = c.args.targets.now in
     let within = targets-within k.plan.branches c.args.marks.now ts c.requires.marks.each c.requires.targets in
     omega (arith, few-steps c.in-Ok.simulated.shelf (length k.plan.branches) ts within.1 (omega (arith, within.0, c.requires.marks.few)), c.simulate_kept.ensures.few, c.in-Ok.ensures.rose, c.requires.steps)
-
-pub returns-in-Ok-send_rewinds : goal.returns-in-Ok-send_rewinds
-returns-in-Ok-send_rewinds g c =
-    let k : CourseTold = c.args.study.now.course.value in
-    let s = study_told c.args.study.now in
-    let ts = c.args.targets.now in
-    let shelf = c.in-Ok.simulated.shelf in
-    let lasts : c.deref.result.now ≡ lasts_of k = c.deref.ensures.value ∙ c.in-Ok.ensures.lasts in
-    let none : past_of (lasts_of k) ts ≡ None = ap (λ (l : List ℕ). past_of l ts) (sym lasts) ∙ sym c.in_default.ensures in
-    let saved : sum_by (steps_from shelf) ts ≤ sum_by (steps_to s c.args.places) ts = sum-fewer (steps_from shelf) (steps_to s c.args.places) ts c.in-Ok.ensures.near in
-    λ reads probes. aimed-finishes c.args.marks.now c.args.places s ts probes _ _ _ _ c.nameless-in-Ok-send_rewinds.result.status _
-    c.requires.targets none c.nameless-in-Ok-send_rewinds.ensures
-    (sent_all (rewinds_of k ts) (study_events k) (sum_by (steps_to s c.args.places) ts) (study_events k + sum_by (steps_to s c.args.places) ts) reads (g.O.Sink.faults c.args.out.now) (g.O.Sink.faults c.send_rewinds.new.out) c.args.steps.now c.send_rewinds.new.steps (g.O.Sink.taken c.args.out.now) (g.O.Sink.taken c.send_rewinds.new.out)
-    (omega (arith, c.in-Ok.ensures.rose, c.send_rewinds.ensures.least)) (omega (arith, c.in-Ok.ensures.rose, c.send_rewinds.ensures.most, saved)) c.in-Ok-send_rewinds.ensures.sent)
 
 pub returns : goal.returns
 returns g c =
@@ -83,7 +69,8 @@ returns g c =
     let lasts : c.deref.result.now ≡ lasts_of k = c.deref.ensures.value ∙ c.in-Ok.ensures.lasts in
     let none : past_of (lasts_of k) ts ≡ None = ap (λ (l : List ℕ). past_of l ts) (sym lasts) ∙ sym c.in_default.ensures in
     let saved : sum_by (steps_from shelf) ts ≤ sum_by (steps_to s c.args.places) ts = sum-fewer (steps_from shelf) (steps_to s c.args.places) ts c.in-Ok.ensures.near in
-    λ reads probes. aimed-finishes c.args.marks.now c.args.places s ts probes _ _ _ _ c.nameless-in-Err-send_rewinds.result.status _
-    c.requires.targets none c.nameless-in-Err-send_rewinds.ensures
-    (sent_some (rewinds_of k ts) (study_events k) (sum_by (steps_to s c.args.places) ts) (study_events k + sum_by (steps_to s c.args.places) ts) reads (g.O.Sink.faults c.args.out.now) (g.O.Sink.faults c.send_rewinds.new.out) c.args.steps.now c.send_rewinds.new.steps (g.O.Sink.taken c.args.out.now) (g.O.Sink.taken c.send_rewinds.new.out) c.in-Err-send_rewinds.status
-    (omega (arith, c.in-Ok.ensures.rose, c.send_rewinds.ensures.least)) (omega (arith, c.in-Ok.ensures.rose, c.send_rewinds.ensures.most, saved)) c.in-Err-send_rewinds.ensures.sent)
+    λ reads probes. aimed-finishes c.args.marks.now c.args.places s ts probes _ _ _ _ c.nameless-2.result.status _
+    c.requires.targets none c.nameless-2.ensures
+    (sent_done (rewinds_of k ts) (study_events k) (sum_by (steps_to s c.args.places) ts) (study_events k + sum_by (steps_to s c.args.places) ts) reads (g.O.Sink.faults c.args.out.now) (g.O.Sink.faults c.send_rewinds-sent.new.out) c.args.steps.now c.send_rewinds-sent.new.steps (g.O.Sink.taken c.args.out.now) (g.O.Sink.taken c.send_rewinds-sent.new.out)
+    c.send_rewinds-sent.result c.sent_status.result c.sent_status.ensures.ok c.sent_status.ensures.refused
+    (omega (arith, c.in-Ok.ensures.rose, c.send_rewinds-sent.ensures.least)) (omega (arith, c.in-Ok.ensures.rose, c.send_rewinds-sent.ensures.most, saved)) (omega (arith, c.in-Ok.ensures.rose, c.send_rewinds-sent.ensures.most, saved)) c.send_rewinds-sent.ensures.sent)

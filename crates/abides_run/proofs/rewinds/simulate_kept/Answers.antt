@@ -4,10 +4,10 @@ use Rattle.abides_run.specs.Simulated.{AreRunOf}
 use Rattle.abides_run.proofs.rewinds.simulate_kept.Goals as goal
 
 pub last_events-requires : goal.last_events-requires
-last_events-requires g c = subst (λ (x : CourseTold). AreRunOf x c.in_ok-worked.worked.outcomes.items) (sym c.deref.ensures) c.in_ok-worked.ensures.ran
+last_events-requires g c = subst (λ (x : CourseTold). AreRunOf x c.in-Ok.worked.outcomes.items) (sym c.deref.ensures) c.in-Ok.ensures.ran
 
-pub returns-in_err-lasts-clause-most : goal.returns-in_err-lasts-clause-most
-returns-in_err-lasts-clause-most g c = omega (arith, c.in_ok-worked.ensures.rose)
+pub returns-in_default-last_events-clause-most : goal.returns-in_default-last_events-clause-most
+returns-in_default-last_events-clause-most g c = omega (arith, c.in-Ok.ensures.rose)
 
 pub returns-clause-most : goal.returns-clause-most
-returns-clause-most g c = omega (arith, c.in_ok-worked.ensures.rose)
+returns-clause-most g c = omega (arith, c.in-Ok.ensures.rose)

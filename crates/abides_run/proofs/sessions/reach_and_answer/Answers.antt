@@ -1,4 +1,4 @@
-use Rattle.std.proofs.Common.{◌≡◌, ◌≤◌, ◌∙◌, ℕ, List, Some, Ok, subst, arith}
+use Rattle.std.proofs.Common.{◌≡◌, ◌≤◌, ◌∙◌, ℕ, List, Some, subst, arith}
 use Rattle.kernel_copy.specs.Courses.{CourseTold}
 use Rattle.rewind_desk.specs.Best.{best}
 use Rattle.session_desk.specs.Session.{first_session}
@@ -7,7 +7,7 @@ use Rattle.session_answers.specs.Past.{past_act}
 use Rattle.study_rules.specs.Accepted.{study_told}
 use Rattle.abides_run.specs.Performed.{Sent}
 use Rattle.abides_run.proofs.Carrying.{acts-answered, acts-eventless, acts-wanting, told-past}
-use Rattle.abides_run.proofs.Performing.{sent_all}
+use Rattle.abides_run.proofs.Performing.{sent_done}
 use Rattle.abides_run.proofs.sessions.reach_and_answer.Goals as goal
 
 pub returns-in-Err-NoEvent : goal.returns-in-Err-NoEvent
@@ -26,17 +26,18 @@ returns-in-Err-Memory g c =
     λ reads. acts-wanting acts c.args.places (study_told c.args.study.now) (past_act (first_session k) acts) _ _ reads (g.O.Sink.faults c.args.out.now) c.args.steps.now c.carry_out.new.steps (g.O.Sink.taken c.args.out.now) c.nameless-in-Err-Memory.result.status _
     c.nameless-in-Err-Memory.ensures (omega (arith, c.in-Ok.ensures.rose, c.carry_out.ensures.least)) (omega (arith, c.in-Ok.ensures.rose, c.carry_out.ensures.most))
 
-pub returns-in-Ok-send : goal.returns-in-Ok-send
-returns-in-Ok-send g c =
+pub returns : goal.returns
+returns g c =
     let k : CourseTold = c.args.study.now.course.value in
     let s = study_told c.args.study.now in
     let acts = c.args.acts.now in
     let shelf = c.in-Ok.simulated.shelf in
     let saved : all_reached (best shelf) (first_session k) acts ≤ all_reached (surely_kept k s.stride c.args.places) (first_session k) acts =
     c.nearer_states_leave_less.ensures (surely_kept k s.stride c.args.places) (best shelf) (first_session k) acts c.in-Ok.ensures.kept in
-    λ reads. acts-answered acts c.args.places s _ _ _ _ _ c.nameless-in-Ok-send.result.status _
-    c.in-Ok-carry_out.ensures.within c.nameless-in-Ok-send.ensures
-    (sent_all _ _ _ _ reads (g.O.Sink.faults c.args.out.now) (g.O.Sink.faults c.send.new.out) c.args.steps.now c.carry_out.new.steps (g.O.Sink.taken c.args.out.now) (g.O.Sink.taken c.send.new.out)
-    (omega (arith, c.in-Ok.ensures.rose, c.in-Ok-carry_out.ensures.rose)) (omega (arith, c.in-Ok.ensures.rose, c.in-Ok-carry_out.ensures.rose, saved))
-    (subst (λ (bytes : List ℕ). Sent bytes (g.O.Sink.faults c.args.out.now) (g.O.Sink.faults c.send.new.out) (g.O.Sink.taken c.args.out.now) (g.O.Sink.taken c.send.new.out) (Ok tt))
-    (c.deref-2.ensures.value ∙ c.in-Ok-carry_out.ensures.bytes) c.in-Ok-send.ensures))
+    λ reads. acts-answered acts c.args.places s _ _ _ _ _ c.nameless-2.result.status _
+    c.in-Ok-carry_out.ensures.within c.nameless-2.ensures
+    (sent_done _ _ _ _ reads (g.O.Sink.faults c.args.out.now) (g.O.Sink.faults c.send.new.out) c.args.steps.now c.carry_out.new.steps (g.O.Sink.taken c.args.out.now) (g.O.Sink.taken c.send.new.out)
+    c.send.result c.sent_status.result c.sent_status.ensures.ok c.sent_status.ensures.refused
+    (omega (arith, c.in-Ok.ensures.rose, c.in-Ok-carry_out.ensures.rose)) (omega (arith, c.in-Ok.ensures.rose, c.in-Ok-carry_out.ensures.rose, saved)) (omega (arith, c.in-Ok.ensures.rose, c.carry_out.ensures.most))
+    (subst (λ (bytes : List ℕ). Sent bytes (g.O.Sink.faults c.args.out.now) (g.O.Sink.faults c.send.new.out) (g.O.Sink.taken c.args.out.now) (g.O.Sink.taken c.send.new.out) c.send.result)
+    (c.deref-2.ensures.value ∙ c.in-Ok-carry_out.ensures.bytes) c.send.ensures))

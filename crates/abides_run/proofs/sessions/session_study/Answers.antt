@@ -14,8 +14,8 @@ first_refused-requires-clause-numbers g c =
     let k : CourseTold = c.args.study.now.course.value in
     c.branches_fork_by_number.ensures k.plan.branches (numbers-alone k c.args.text.now c.in-Ok.acts.items c.in-Ok.ensures.acts)
 
-pub reach_and_answer-requires-clause-numbers : goal.reach_and_answer-requires-clause-numbers
-reach_and_answer-requires-clause-numbers g c κs within =
+pub reach_and_answer-ending-requires-clause-numbers : goal.reach_and_answer-ending-requires-clause-numbers
+reach_and_answer-ending-requires-clause-numbers g c κs within =
     let k : CourseTold = c.args.study.now.course.value in
     c.branches_fork_by_number.ensures k.plan.branches (numbers-alone k c.args.text.now c.in-Ok.acts.items c.in-Ok.ensures.acts)
 
@@ -26,4 +26,4 @@ returns-in-Ok-None g c =
     let said : ◌≡◌ {A = Result (List Act) ScriptError} (script_of k c.args.text.now) (Ok acts) = c.in-Ok.ensures.acts ∙ ap (λ (xs : List Act). Ok xs) (sym c.deref-in-Ok-None.ensures.value) in
     let none : act_refused (first_session k) acts ≡ None =
     ap (λ (xs : List Act). act_refused (first_session k) xs) (c.deref-in-Ok-None.ensures.value ∙ sym c.deref.ensures.value) ∙ sym c.in-Ok-None.ensures.first ∙ c.in-Ok-None.field-0-is in
-    λ reads. acts-finish c.args.places c.args.text.now (study_told c.args.study.now) acts _ _ _ c.reach_and_answer.result.status _ said none (c.reach_and_answer.ensures reads)
+    λ reads. acts-finish c.args.places c.args.text.now (study_told c.args.study.now) acts _ _ _ c.reach_and_answer-ending.result.status _ said none (c.reach_and_answer-ending.ensures reads)

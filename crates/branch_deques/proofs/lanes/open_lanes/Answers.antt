@@ -7,12 +7,12 @@ use Rattle.branch_deques.proofs.lanes.open_lanes.Goals as goal
 
 pub loop-number-preserved : goal.loop-number-preserved
 loop-number-preserved g c = let inv = c.loop-number.invariant in let lanes = c.loop-number.lanes.items in let n = c.loop-number.number in
-    let b : LaneTold = record { own = c.behind-lanes.inside.own; others = c.in_ok-others.others.items } in
+    let b : LaneTold = record { own = c.behind-lanes.inside.own; others = c.in-Ok.others.items } in
     let low = c.loop-number-test.true in let all = c.len-number-end.ensures in let many = c.in_ok-lanes.ensures.count in let here = inv.count in
     let same = ap (λ (l : LaneTold). l.own) (c.behind-lanes.view_is ∙ c.index_mut.ensures.value) in record {
       count = length-set lanes n b ∙ inv.count;
       fresh = still_fresh lanes n b _ (omega arith) same inv.fresh;
-      each = one_filled lanes n b _ (omega arith) same (c.in_ok-others.ensures ∙ ap (λ l. map fresh_end (round n (own_lanes l))) c.as_slice.ensures.value) inv.each;
+      each = one_filled lanes n b _ (omega arith) same (c.in-Ok.ensures ∙ ap (λ l. map fresh_end (round n (own_lanes l))) c.as_slice.ensures.value) inv.each;
     }
 
 pub returns-clause-opened : goal.returns-clause-opened

@@ -10,33 +10,33 @@ use Rattle.branch_workers.proofs.all.run_seated.Goals as goal
 
 pub run_all-requires-clause-some : goal.run_all-requires-clause-some
 run_all-requires-clause-some g c =
-    let a = ap (λ (ss : List (SeatTold CourseTold)). length ss) c.in_ok-workers.ensures.seats in
-    let b = length-map c.in_ok-workers.workers.items (λ w. w.seat) in
+    let a = ap (λ (ss : List (SeatTold CourseTold)). length ss) c.in-Ok-staff.ensures.seats in
+    let b = length-map c.in-Ok-staff.workers.items (λ w. w.seat) in
     omega (arith, c.requires.some.0, c.as_mut_slice.ensures.len)
 
 pub run_all-requires-clause-work : goal.run_all-requires-clause-work
 run_all-requires-clause-work g c = λ κs lives.
     let k : CourseTold = c.args.shift.now.course.now.value in
     let sh = c.args.shift.now.shelf.now in
-    let ws = c.in_ok-workers.workers.items in
-    let made = c.in_ok-workers.ensures in
+    let ws = c.in-Ok-staff.workers.items in
+    let made = c.in-Ok-staff.ensures in
     moved c.as_mut_slice.result.now ws c.as_mut_slice.ensures.value (λ w. IsAtWork k c.args.shift.now.keep sh w.number w.seat w.steps w.outcomes.items w.lane.own.view.pushed)
     (ready ws k c.args.shift.now.keep sh (λ w. w.seat) (λ w. w.steps) (λ w. w.number) (λ w. w.outcomes) (λ w. w.lane) (λ w. w.finished) (subst IsCourse c.deref.ensures c.is_course.ensures) ws
-    c.args.seats.items made.seats c.requires.new made.numbers c.in_ok-lanes.lanes.items made.lanes
-    (subst (λ (x : CourseTold). All (λ (l : LaneTold). HasPushed x.plan [] l.own.view.pushed) c.in_ok-lanes.lanes.items) c.deref-2.ensures c.in_ok-lanes.ensures.pushed) made.idle)
+    c.args.seats.items made.seats c.requires.new made.numbers c.in-Ok.lanes.items made.lanes
+    (subst (λ (x : CourseTold). All (λ (l : LaneTold). HasPushed x.plan [] l.own.view.pushed) c.in-Ok.lanes.items) c.deref-2.ensures c.in-Ok.ensures.pushed) made.idle)
 
 pub run_all-requires-clause-finished : goal.run_all-requires-clause-finished
 run_all-requires-clause-finished g c = λ κs lives.
-    let ws = c.in_ok-workers.workers.items in
+    let ws = c.in-Ok-staff.workers.items in
     moved c.as_mut_slice.result.now ws c.as_mut_slice.ensures.value (λ w. w.finished ≡ false)
-    (unfinished ws c.args.shift.now.course.now.value c.args.shift.now.keep c.args.shift.now.shelf.now (λ w. w.seat) (λ w. w.steps) (λ w. w.number) (λ w. w.outcomes) (λ w. w.lane) (λ w. w.finished) ws c.in_ok-workers.ensures.idle)
+    (unfinished ws c.args.shift.now.course.now.value c.args.shift.now.keep c.args.shift.now.shelf.now (λ w. w.seat) (λ w. w.steps) (λ w. w.number) (λ w. w.outcomes) (λ w. w.lane) (λ w. w.finished) ws c.in-Ok-staff.ensures.idle)
 
 -- The workers' list has what all left there.
 pub gather-steps-requires-clause-each : goal.gather-steps-requires-clause-each
 gather-steps-requires-clause-each g c =
     let ws = c.run_all.new.workers in
-    let long : length ws ≡ c.in_ok-workers.workers.len = omega (arith, c.run_all.auto.workers, c.as_mut_slice.ensures.len) in
-    moved _ ws (written_over ws _ c.in_ok-workers.workers.len long) (λ w. w.steps < 2 ^ 52)
+    let long : length ws ≡ c.in-Ok-staff.workers.len = omega (arith, c.run_all.auto.workers, c.as_mut_slice.ensures.len) in
+    moved _ ws (written_over ws _ c.in-Ok-staff.workers.len long) (λ w. w.steps < 2 ^ 52)
     (steps_few ws c.args.shift.now.course.now.value c.args.shift.now.keep c.args.shift.now.shelf.now (λ w. w.seat) (λ w. w.steps) (λ w. w.number) (λ w. w.outcomes) (λ w. w.lane) (λ w. w.finished) ws c.run_all.ensures.ended)
 
 pub returns : goal.returns
@@ -44,11 +44,11 @@ returns g c =
     let k : CourseTold = c.args.shift.now.course.now.value in
     let sh = c.args.shift.now.shelf.now in
     let ws = c.run_all.new.workers in
-    let vs = c.in_ok-workers.workers.items in
+    let vs = c.in-Ok-staff.workers.items in
     let us = c.as_mut_slice.result.now in
-    let made = c.in_ok-workers.ensures in
-    let long : length ws ≡ c.in_ok-workers.workers.len = omega (arith, c.run_all.auto.workers, c.as_mut_slice.ensures.len) in
-    let over = written_over ws _ c.in_ok-workers.workers.len long in
+    let made = c.in-Ok-staff.ensures in
+    let long : length ws ≡ c.in-Ok-staff.workers.len = omega (arith, c.run_all.auto.workers, c.as_mut_slice.ensures.len) in
+    let over = written_over ws _ c.in-Ok-staff.workers.len long in
     let kept : length ws ≡ length us = omega (arith, c.as_mut_slice.ensures.len) in
     let same : length us ≡ length vs = ap (λ ys. length ys) c.as_mut_slice.ensures.value in
     let a = ap (λ (ss : List (SeatTold CourseTold)). length ss) made.seats in

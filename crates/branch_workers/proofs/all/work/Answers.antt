@@ -19,89 +19,89 @@ use Rattle.branch_workers.proofs.all.work.Goals as goal
 pub join-requires : goal.join-requires
 join-requires g c =
     let k : CourseTold = c.args.course.now.value in
-    let sh : ShelfTold CourseTold = c.in_ok-shelf.shelf in
+    let sh : ShelfTold CourseTold = c.in-Ok.shelf in
     let s : System = c.close-shelf.result.system in
-    let seats = c.in_ok-back.back.seats.items in
-    let back = c.in_ok-back.ensures in
-    let is = subst (λ (x : CourseTold). IsShelfOf x c.args.setup.stride sh) c.deref-2.ensures c.in_ok-shelf.ensures.shelf in
-    let some : 0 < length seats = omega (arith, back.back.all, c.in_ok-shelf.ensures.plan.1, c.requires.workers.0) in
-    let j = are_joined k c.args.setup.stride sh s seats _ is c.in_ok-shelf.ensures.fits some c.close-shelf.ensures.plan c.close-shelf.ensures.orderly c.close-shelf.ensures.settled c.close-shelf.ensures.views in
+    let seats = c.in-Ok-run_seated.back.seats.items in
+    let back = c.in-Ok-run_seated.ensures in
+    let is = subst (λ (x : CourseTold). IsShelfOf x c.args.setup.stride sh) c.deref-2.ensures c.in-Ok.ensures.shelf in
+    let some : 0 < length seats = omega (arith, back.back.all, c.in-Ok.ensures.plan.1, c.requires.workers.0) in
+    let j = are_joined k c.args.setup.stride sh s seats _ is c.in-Ok.ensures.fits some c.close-shelf.ensures.plan c.close-shelf.ensures.orderly c.close-shelf.ensures.settled c.close-shelf.ensures.views in
     let most = most_of k sh.plan s seats j in
     omega (arith, back.most, c.requires.steps)
 
 pub returns-then-not-finished-clause-most : goal.returns-then-not-finished-clause-most
 returns-then-not-finished-clause-most g c =
     let k : CourseTold = c.args.course.now.value in
-    let sh : ShelfTold CourseTold = c.in_ok-shelf.shelf in
+    let sh : ShelfTold CourseTold = c.in-Ok.shelf in
     let s : System = c.close-shelf.result.system in
-    let seats = c.in_ok-back.back.seats.items in
-    let back = c.in_ok-back.ensures in
-    let is = subst (λ (x : CourseTold). IsShelfOf x c.args.setup.stride sh) c.deref-2.ensures c.in_ok-shelf.ensures.shelf in
-    let some : 0 < length seats = omega (arith, back.back.all, c.in_ok-shelf.ensures.plan.1, c.requires.workers.0) in
-    let j = are_joined k c.args.setup.stride sh s seats _ is c.in_ok-shelf.ensures.fits some c.close-shelf.ensures.plan c.close-shelf.ensures.orderly c.close-shelf.ensures.settled c.close-shelf.ensures.views in
+    let seats = c.in-Ok-run_seated.back.seats.items in
+    let back = c.in-Ok-run_seated.ensures in
+    let is = subst (λ (x : CourseTold). IsShelfOf x c.args.setup.stride sh) c.deref-2.ensures c.in-Ok.ensures.shelf in
+    let some : 0 < length seats = omega (arith, back.back.all, c.in-Ok.ensures.plan.1, c.requires.workers.0) in
+    let j = are_joined k c.args.setup.stride sh s seats _ is c.in-Ok.ensures.fits some c.close-shelf.ensures.plan c.close-shelf.ensures.orderly c.close-shelf.ensures.settled c.close-shelf.ensures.views in
     let most = most_of k sh.plan s seats j in
     omega (arith, back.most, c.join.ensures)
 
 pub place_all-requires : goal.place_all-requires
 place_all-requires g c =
     let k : CourseTold = c.args.course.now.value in
-    let back = c.in_ok-back.ensures in
+    let back = c.in-Ok-run_seated.ensures in
     let count = ap (λ (xs : List Segment). length xs) (c.segments.ensures.value ∙ ap (λ (p : Plan). segments_in p) (c.plan.ensures.value ∙ ap (λ (x : CourseTold). x.plan) c.deref.ensures)) in
-    let empty = c.in_ok-slots.ensures ∙ ap (λ (n : ℕ). let xs : List (Option Outcome) = replicate n None in xs) count in
-    vectors_below k c.args.setup.keep c.in_ok-shelf.shelf.plan (length c.in_ok-slots.slots.items) c.in_ok-back.back.seats.items c.in_ok-back.back.outcomes.items (back.finished c.if-not-finished.false)
+    let empty = c.in-Ok-empty_slots.ensures ∙ ap (λ (n : ℕ). let xs : List (Option Outcome) = replicate n None in xs) count in
+    vectors_below k c.args.setup.keep c.in-Ok.shelf.plan (length c.in-Ok-empty_slots.slots.items) c.in-Ok-run_seated.back.seats.items c.in-Ok-run_seated.back.outcomes.items (back.finished c.if-not-finished.false)
     (ap (λ (xs : List (Option Outcome)). length xs) empty ∙ length-replicate (length (segments_in k.plan)) None)
 
 pub in_order-requires : goal.in_order-requires
 in_order-requires g c =
     let k : CourseTold = c.args.course.now.value in
-    let sh : ShelfTold CourseTold = c.in_ok-shelf.shelf in
+    let sh : ShelfTold CourseTold = c.in-Ok.shelf in
     let s : System = c.close-shelf.result.system in
-    let seats = c.in_ok-back.back.seats.items in
-    let back = c.in_ok-back.ensures in
-    let is = subst (λ (x : CourseTold). IsShelfOf x c.args.setup.stride sh) c.deref-2.ensures c.in_ok-shelf.ensures.shelf in
-    let some : 0 < length seats = omega (arith, back.back.all, c.in_ok-shelf.ensures.plan.1, c.requires.workers.0) in
-    let j = are_joined k c.args.setup.stride sh s seats _ is c.in_ok-shelf.ensures.fits some c.close-shelf.ensures.plan c.close-shelf.ensures.orderly c.close-shelf.ensures.settled c.close-shelf.ensures.views in
-    let lists = map (λ (v : Vec Outcome Global). v.items) c.in_ok-back.back.outcomes.items in
+    let seats = c.in-Ok-run_seated.back.seats.items in
+    let back = c.in-Ok-run_seated.ensures in
+    let is = subst (λ (x : CourseTold). IsShelfOf x c.args.setup.stride sh) c.deref-2.ensures c.in-Ok.ensures.shelf in
+    let some : 0 < length seats = omega (arith, back.back.all, c.in-Ok.ensures.plan.1, c.requires.workers.0) in
+    let j = are_joined k c.args.setup.stride sh s seats _ is c.in-Ok.ensures.fits some c.close-shelf.ensures.plan c.close-shelf.ensures.orderly c.close-shelf.ensures.settled c.close-shelf.ensures.views in
+    let lists = map (λ (v : Vec Outcome Global). v.items) c.in-Ok-run_seated.back.outcomes.items in
     let fin = back.finished c.if-not-finished.false in
     let count = ap (λ (xs : List Segment). length xs) (c.segments.ensures.value ∙ ap (λ (p : Plan). segments_in p) (c.plan.ensures.value ∙ ap (λ (x : CourseTold). x.plan) c.deref.ensures)) in
-    let empty = c.in_ok-slots.ensures ∙ ap (λ (n : ℕ). let xs : List (Option Outcome) = replicate n None in xs) count in
-    subst (λ (xs : List (Option Outcome)). All (λ (x : Option Outcome). IsSome x) xs) (sym c.place_all.ensures) (some_of_all k sh.plan s c.args.setup.keep seats lists j fin c.in_ok-slots.slots.items empty)
+    let empty = c.in-Ok-empty_slots.ensures ∙ ap (λ (n : ℕ). let xs : List (Option Outcome) = replicate n None in xs) count in
+    subst (λ (xs : List (Option Outcome)). All (λ (x : Option Outcome). IsSome x) xs) (sym c.place_all.ensures) (some_of_all k sh.plan s c.args.setup.keep seats lists j fin c.in-Ok-empty_slots.slots.items empty)
 
-pub returns-in_err-outcomes-clause-most : goal.returns-in_err-outcomes-clause-most
-returns-in_err-outcomes-clause-most g c =
+pub returns-in_default-in_order-clause-most : goal.returns-in_default-in_order-clause-most
+returns-in_default-in_order-clause-most g c =
     let k : CourseTold = c.args.course.now.value in
-    let sh : ShelfTold CourseTold = c.in_ok-shelf.shelf in
+    let sh : ShelfTold CourseTold = c.in-Ok.shelf in
     let s : System = c.close-shelf.result.system in
-    let seats = c.in_ok-back.back.seats.items in
-    let back = c.in_ok-back.ensures in
-    let is = subst (λ (x : CourseTold). IsShelfOf x c.args.setup.stride sh) c.deref-2.ensures c.in_ok-shelf.ensures.shelf in
-    let some : 0 < length seats = omega (arith, back.back.all, c.in_ok-shelf.ensures.plan.1, c.requires.workers.0) in
-    let j = are_joined k c.args.setup.stride sh s seats _ is c.in_ok-shelf.ensures.fits some c.close-shelf.ensures.plan c.close-shelf.ensures.orderly c.close-shelf.ensures.settled c.close-shelf.ensures.views in
+    let seats = c.in-Ok-run_seated.back.seats.items in
+    let back = c.in-Ok-run_seated.ensures in
+    let is = subst (λ (x : CourseTold). IsShelfOf x c.args.setup.stride sh) c.deref-2.ensures c.in-Ok.ensures.shelf in
+    let some : 0 < length seats = omega (arith, back.back.all, c.in-Ok.ensures.plan.1, c.requires.workers.0) in
+    let j = are_joined k c.args.setup.stride sh s seats _ is c.in-Ok.ensures.fits some c.close-shelf.ensures.plan c.close-shelf.ensures.orderly c.close-shelf.ensures.settled c.close-shelf.ensures.views in
     let most = most_of k sh.plan s seats j in
     omega (arith, back.most, c.join.ensures)
 
 pub returns : goal.returns
 returns g c =
     let k : CourseTold = c.args.course.now.value in
-    let sh : ShelfTold CourseTold = c.in_ok-shelf.shelf in
+    let sh : ShelfTold CourseTold = c.in-Ok.shelf in
     let s : System = c.close-shelf.result.system in
-    let seats = c.in_ok-back.back.seats.items in
-    let back = c.in_ok-back.ensures in
-    let is = subst (λ (x : CourseTold). IsShelfOf x c.args.setup.stride sh) c.deref-2.ensures c.in_ok-shelf.ensures.shelf in
-    let some : 0 < length seats = omega (arith, back.back.all, c.in_ok-shelf.ensures.plan.1, c.requires.workers.0) in
-    let j = are_joined k c.args.setup.stride sh s seats _ is c.in_ok-shelf.ensures.fits some c.close-shelf.ensures.plan c.close-shelf.ensures.orderly c.close-shelf.ensures.settled c.close-shelf.ensures.views in
-    let lists = map (λ (v : Vec Outcome Global). v.items) c.in_ok-back.back.outcomes.items in
+    let seats = c.in-Ok-run_seated.back.seats.items in
+    let back = c.in-Ok-run_seated.ensures in
+    let is = subst (λ (x : CourseTold). IsShelfOf x c.args.setup.stride sh) c.deref-2.ensures c.in-Ok.ensures.shelf in
+    let some : 0 < length seats = omega (arith, back.back.all, c.in-Ok.ensures.plan.1, c.requires.workers.0) in
+    let j = are_joined k c.args.setup.stride sh s seats _ is c.in-Ok.ensures.fits some c.close-shelf.ensures.plan c.close-shelf.ensures.orderly c.close-shelf.ensures.settled c.close-shelf.ensures.views in
+    let lists = map (λ (v : Vec Outcome Global). v.items) c.in-Ok-run_seated.back.outcomes.items in
     let fin = back.finished c.if-not-finished.false in
     let count = ap (λ (xs : List Segment). length xs) (c.segments.ensures.value ∙ ap (λ (p : Plan). segments_in p) (c.plan.ensures.value ∙ ap (λ (x : CourseTold). x.plan) c.deref.ensures)) in
-    let empty = c.in_ok-slots.ensures ∙ ap (λ (n : ℕ). let xs : List (Option Outcome) = replicate n None in xs) count in
-    let laid : sh.plan ≡ layout k.plan c.args.setup.stride c.args.setup.places = c.in_ok-shelf.ensures.plan.0 ∙ ap (λ (x : CourseTold). layout x.plan c.args.setup.stride c.args.setup.places) c.deref-2.ensures in
+    let empty = c.in-Ok-empty_slots.ensures ∙ ap (λ (n : ℕ). let xs : List (Option Outcome) = replicate n None in xs) count in
+    let laid : sh.plan ≡ layout k.plan c.args.setup.stride c.args.setup.places = c.in-Ok.ensures.plan.0 ∙ ap (λ (x : CourseTold). layout x.plan c.args.setup.stride c.args.setup.places) c.deref-2.ensures in
     let all = events_of_all k sh.plan s c.args.setup.keep seats lists j fin in
     let counted = back.counted c.if-not-finished.false in
     let views = ap (λ (vs : List SeatView). length vs) c.close-shelf.ensures.views in
     let others = length-replicate (sh.seats - 1) spent_view in
-    let workers : length s.views ≡ c.args.setup.workers = omega (arith, c.in_ok-shelf.ensures.plan.1, c.requires.workers.0) in
+    let workers : length s.views ≡ c.args.setup.workers = omega (arith, c.in-Ok.ensures.plan.1, c.requires.workers.0) in
     record {
-      outcomes = told_of_all k sh.plan s c.args.setup.keep seats lists j fin c.in_ok-slots.slots.items empty c.in_ok-outcomes.outcomes.items (c.in_ok-outcomes.ensures ∙ c.place_all.ensures);
+      outcomes = told_of_all k sh.plan s c.args.setup.keep seats lists j fin c.in-Ok-empty_slots.slots.items empty c.in-Ok-in_order.outcomes.items (c.in-Ok-in_order.ensures ∙ c.place_all.ensures);
       rose = omega (arith, c.join.ensures);
       most = omega (arith, c.join.ensures);
       least = omega (arith, c.join.ensures);

@@ -1,6 +1,7 @@
 use Rattle.std.proofs.Common.{◌≡◌, ℕ, Bool, true, true≢false, not, Option, is_some, sym, ap, ◌∙◌, subst, arith}
 use Rattle.kernel_copy.specs.Courses.{CourseTold, IsCourse}
 use Rattle.kernel_copy.specs.Ran.{RanTold, ran_told}
+use Rattle.shelf_core.proofs.Staying.{stays_self}
 use Rattle.branch_workers.proofs.Grids.{sole_place}
 use Rattle.branch_workers.proofs.Underway.{number_is_key, state_there, passed_events}
 use Rattle.branch_workers.proofs.grid.pass.Goals as goal
@@ -56,3 +57,18 @@ shelve_copy-requires-clause-state g c =
     let course : IsCourse k = subst IsCourse c.deref.ensures c.is_course.ensures in
     let events : x.state.events ≡ e = omega (arith, c.events.ensures, c.if-events-key.false) in
     state_there k s course c.requires.segment e c.requires.begins c.requires.within c.args.shift.now.keep x c.in_ok-continue_to.ensures.ran events
+
+pub returns-then-is_none-clause-stays : goal.returns-then-is_none-clause-stays
+returns-then-is_none-clause-stays g c = stays_self c.args.seat.now.view
+
+pub returns-in_err-continue_to-clause-stays : goal.returns-in_err-continue_to-clause-stays
+returns-in_err-continue_to-clause-stays g c = stays_self c.args.seat.now.view
+
+pub returns-then-events-key-clause-stays : goal.returns-then-events-key-clause-stays
+returns-then-events-key-clause-stays g c = stays_self c.args.seat.now.view
+
+pub returns-in_err-shelve_copy-clause-stays : goal.returns-in_err-shelve_copy-clause-stays
+returns-in_err-shelve_copy-clause-stays g c = c.shelve_copy.ensures.stays
+
+pub returns-clause-stays : goal.returns-clause-stays
+returns-clause-stays g c = c.shelve_copy.ensures.stays

@@ -6,6 +6,7 @@ use Rattle.market_floor.specs.declared.opening.Opening.{Opening}
 use Rattle.kernel_copy.specs.Courses.{CourseTold, IsCourse}
 use Rattle.kernel_copy.specs.Ran.{ran_told}
 use Rattle.kernel_copy.specs.Segmentwise.{from_count}
+use Rattle.shelf_core.proofs.Staying.{stays_then}
 use Rattle.branch_workers.specs.Layout.{start_number, stop_number}
 use Rattle.branch_workers.specs.Runs.{IsUnderway}
 use Rattle.branch_workers.proofs.Multiples.{once_more, times_below, times_past, first_above, between}
@@ -188,3 +189,14 @@ returns-clause-known g c =
     let plan = ap (λ (m : ℕ). stop_number m (segment_at k.plan s).stop) course.limit in
     let past = times_past stride c.stop_number-stop.result n c.requires.shelf.some (subst (λ (q : ℕ). q ≤ n) c.div_ceil-past.ensures c.loop-factor-test.false) in
     knows_all k c.args.shift.now.shelf.now.plan stride s (n * stride) c.loop-factor.seat.view c.requires.shelf.grid (omega arith) c.loop-factor.invariant.known
+
+pub returns-in_err-on-clause-stays : goal.returns-in_err-on-clause-stays
+returns-in_err-on-clause-stays g c =
+    stays_then c.args.seat.now.view c.loop-factor.seat.view c.pass.new.seat.view c.loop-factor.invariant.stays c.pass.ensures.stays
+
+pub returns-then-not-on-clause-stays : goal.returns-then-not-on-clause-stays
+returns-then-not-on-clause-stays g c =
+    stays_then c.args.seat.now.view c.loop-factor.seat.view c.pass.new.seat.view c.loop-factor.invariant.stays c.pass.ensures.stays
+
+pub returns-clause-stays : goal.returns-clause-stays
+returns-clause-stays g c = c.loop-factor.invariant.stays

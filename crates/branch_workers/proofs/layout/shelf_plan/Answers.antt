@@ -26,9 +26,9 @@ returns-clause-fits c =
     let stride = c.args.stride in
     let places = c.args.places in
     let segments = ap (λ (xs : List Segment). length xs) (c.segments.ensures.value ∙ ap (λ (p : Plan). segments_in p) c.plan-plan.ensures.value) in
-    let forks = c.in_ok-forks.ensures ∙ ap (λ (p : Plan). fork_keys p) c.plan-plan.ensures.value in
-    let grid = c.in_ok-grid.ensures ∙ ap (λ (p : Plan). grid_keys p stride) c.plan-plan.ensures.value in
-    let one = ap (λ (n : ℕ). let p : ShelfPlan = record { segments = n; forks = c.in_ok-forks.field-0; grid = c.in_ok-grid.field-0; places = places } in p) segments in
-    let two = ap (λ (keys : List Key). let p : ShelfPlan = record { segments = length (segments_in k.plan); forks = keys; grid = c.in_ok-grid.field-0; places = places } in p) forks in
+    let forks = c.in-Ok.ensures ∙ ap (λ (p : Plan). fork_keys p) c.plan-plan.ensures.value in
+    let grid = c.in-Ok-grid.ensures ∙ ap (λ (p : Plan). grid_keys p stride) c.plan-plan.ensures.value in
+    let one = ap (λ (n : ℕ). let p : ShelfPlan = record { segments = n; forks = c.in-Ok.forks; grid = c.in-Ok-grid.grid; places = places } in p) segments in
+    let two = ap (λ (keys : List Key). let p : ShelfPlan = record { segments = length (segments_in k.plan); forks = keys; grid = c.in-Ok-grid.grid; places = places } in p) forks in
     let three = ap (λ (keys : List Key). let p : ShelfPlan = record { segments = length (segments_in k.plan); forks = fork_keys k.plan; grid = keys; places = places } in p) grid in
     subst PlanFits (sym (one ∙ two ∙ three)) (layout_fits k stride places c.plan-plan.ensures.course c.requires.places)

@@ -8,6 +8,7 @@ use Rattle.kernel_copy.specs.Ran.{RanTold, ran_told, ran_as}
 use Rattle.kernel_copy.specs.UntilStop.{until_part}
 use Rattle.kernel_copy.proofs.Trees.{course-tree}
 use Rattle.kernel_copy.proofs.Walks.{own-is}
+use Rattle.shelf_core.proofs.Staying.{stays_then}
 use Rattle.branch_workers.specs.Runs.{IsUnderway, run_at_end, run_at_start}
 use Rattle.branch_workers.proofs.Underway.{begins, first_events, runs_whole}
 use Rattle.branch_workers.proofs.segment.advance.Goals as goal
@@ -16,15 +17,15 @@ pub pass_grid-requires-clause-underway : goal.pass_grid-requires-clause-underway
 pass_grid-requires-clause-underway g c =
     let k : CourseTold = c.args.shift.now.course.now.value in
     let keep = c.args.shift.now.keep in
-    let r : Run = record { state = c.in_ok-kernel.kernel; entries = c.kernel_at_start.new.trace.list } in
-    let first : RanTold = record { state = c.in_ok-kernel.kernel; kept = kept_told c.in-Ok.kept } in
-    let told : first ≡ ran_as keep r = ap (λ (x : KeptTold). let y : RanTold = record { state = c.in_ok-kernel.kernel; kept = x } in y) c.in-Ok.ensures in
-    begins k keep c.args.segment first r told c.in_ok-kernel.ensures.state c.in_ok-kernel.ensures.fits
+    let r : Run = record { state = c.in-Ok.kernel; entries = c.kernel_at_start.new.trace.list } in
+    let first : RanTold = record { state = c.in-Ok.kernel; kept = kept_told c.in-Ok-of.kept } in
+    let told : first ≡ ran_as keep r = ap (λ (x : KeptTold). let y : RanTold = record { state = c.in-Ok.kernel; kept = x } in y) c.in-Ok-of.ensures in
+    begins k keep c.args.segment first r told c.in-Ok.ensures.state c.in-Ok.ensures.fits
 
 pub pass_grid-requires-clause-begins : goal.pass_grid-requires-clause-begins
 pass_grid-requires-clause-begins g c =
     let k : CourseTold = c.args.shift.now.course.now.value in
-    ap (λ (r : Run). r.state.events) c.in_ok-kernel.ensures.state ∙ first_events k c.args.segment (subst IsCourse c.deref.ensures c.is_course.ensures) c.requires.segment
+    ap (λ (r : Run). r.state.events) c.in-Ok.ensures.state ∙ first_events k c.args.segment (subst IsCourse c.deref.ensures c.is_course.ensures) c.requires.segment
 
 pub continue_to-requires-clause-most : goal.continue_to-requires-clause-most
 continue_to-requires-clause-most g c =
@@ -39,7 +40,7 @@ continue_to-requires-clause-underway g c =
 pub returns-in_default-pass_grid-clause-most : goal.returns-in_default-pass_grid-clause-most
 returns-in_default-pass_grid-clause-most g c =
     let k : CourseTold = c.args.shift.now.course.now.value in
-    let first = ap (λ (r : Run). r.state.events) c.in_ok-kernel.ensures.state in
+    let first = ap (λ (r : Run). r.state.events) c.in-Ok.ensures.state in
     let course : IsCourse k = subst IsCourse c.deref.ensures c.is_course.ensures in
     let own = own-is k.opening k.plan c.args.segment (course-tree k course) course.limit c.requires.segment in
     omega (arith, c.pass_grid.ensures.few, c.pass_grid.ensures.ticks)
@@ -47,7 +48,7 @@ returns-in_default-pass_grid-clause-most g c =
 pub returns-in_default-continue_to-clause-most : goal.returns-in_default-continue_to-clause-most
 returns-in_default-continue_to-clause-most g c =
     let k : CourseTold = c.args.shift.now.course.now.value in
-    let first = ap (λ (r : Run). r.state.events) c.in_ok-kernel.ensures.state in
+    let first = ap (λ (r : Run). r.state.events) c.in-Ok.ensures.state in
     let course : IsCourse k = subst IsCourse c.deref.ensures c.is_course.ensures in
     let own = own-is k.opening k.plan c.args.segment (course-tree k course) course.limit c.requires.segment in
     omega (arith, c.continue_to.ensures.few, c.pass_grid.ensures.ticks, c.continue_to.ensures.ticks)
@@ -68,7 +69,7 @@ returns-clause-rose g c =
     let k : CourseTold = c.args.shift.now.course.now.value in
     let keep = c.args.shift.now.keep in
     let s = c.args.segment in
-    let first = ap (λ (r : Run). r.state.events) c.in_ok-kernel.ensures.state in
+    let first = ap (λ (r : Run). r.state.events) c.in-Ok.ensures.state in
     let course : IsCourse k = subst IsCourse c.deref.ensures c.is_course.ensures in
     let most = ap (λ (o : Opening). o.limit) c.opening.ensures.value ∙ ap (λ (x : CourseTold). x.opening.limit) c.deref-2.ensures in
     let last = ap (λ (x : RanTold). x.state.events)
@@ -81,7 +82,27 @@ returns-clause-rose g c =
 pub returns-clause-most : goal.returns-clause-most
 returns-clause-most g c =
     let k : CourseTold = c.args.shift.now.course.now.value in
-    let first = ap (λ (r : Run). r.state.events) c.in_ok-kernel.ensures.state in
+    let first = ap (λ (r : Run). r.state.events) c.in-Ok.ensures.state in
     let course : IsCourse k = subst IsCourse c.deref.ensures c.is_course.ensures in
     let own = own-is k.opening k.plan c.args.segment (course-tree k course) course.limit c.requires.segment in
     omega (arith, c.continue_to.ensures.few, c.pass_grid.ensures.ticks, c.continue_to.ensures.ticks)
+
+pub returns-in_default-clause-stays : goal.returns-in_default-clause-stays
+returns-in_default-clause-stays g c =
+    c.kernel_at_start.ensures.stays
+
+pub returns-in_default-of-clause-stays : goal.returns-in_default-of-clause-stays
+returns-in_default-of-clause-stays g c =
+    c.kernel_at_start.ensures.stays
+
+pub returns-in_default-pass_grid-clause-stays : goal.returns-in_default-pass_grid-clause-stays
+returns-in_default-pass_grid-clause-stays g c =
+    stays_then c.args.seat.now.view c.kernel_at_start.new.seat.view c.pass_grid.new.seat.view c.kernel_at_start.ensures.stays c.pass_grid.ensures.stays
+
+pub returns-in_default-continue_to-clause-stays : goal.returns-in_default-continue_to-clause-stays
+returns-in_default-continue_to-clause-stays g c =
+    stays_then c.args.seat.now.view c.kernel_at_start.new.seat.view c.pass_grid.new.seat.view c.kernel_at_start.ensures.stays c.pass_grid.ensures.stays
+
+pub returns-clause-stays : goal.returns-clause-stays
+returns-clause-stays g c =
+    stays_then c.args.seat.now.view c.kernel_at_start.new.seat.view c.pass_grid.new.seat.view c.kernel_at_start.ensures.stays c.pass_grid.ensures.stays

@@ -17,8 +17,8 @@ pub returns-clause-state : goal.returns-clause-state
 returns-clause-state g c =
     let k : CourseTold = c.args.shift.now.course.now.value in
     let s = c.args.segment in
-    let f = c.in_ok-end.ensures.found in
+    let f = c.in-Ok.ensures.found in
     let is = c.segment-stop.ensures.value ∙ ap (λ (x : CourseTold). segment_at x.plan s) c.deref.ensures in
     let key = key_is k s c.number_of_end-event.result c.segment-stop.result is c.number_of_end-event.ensures in
-    let state = end_state_of k s c.in_ok-end.end.value (f.0 ∙ key) (f.1 ∙ c.requires.shelf.course) in
+    let state = end_state_of k s c.in-Ok.end.value (f.0 ∙ key) (f.1 ∙ c.requires.shelf.course) in
     subst (λ (y : State). IfOk c.resume-kernel.result (λ (z : State). z ≡ y)) (ap (λ (t : CheckpointTold). state_at t.course t.key) c.deref-2.ensures ∙ state) c.resume-kernel.ensures.state

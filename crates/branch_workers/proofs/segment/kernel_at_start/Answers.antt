@@ -8,6 +8,7 @@ use Rattle.kernel_core.specs.Open.{opened}
 use Rattle.kernel_core.specs.Until.{Run}
 use Rattle.kernel_copy.specs.Segmentwise.{started_from}
 use Rattle.kernel_copy.specs.Courses.{CourseTold}
+use Rattle.shelf_core.proofs.Staying.{stays_self}
 use Rattle.branch_workers.specs.Runs.{run_at_start}
 use Rattle.kernel_copy.proofs.Walks.{started-first, started-goes}
 use Rattle.branch_workers.proofs.segment.kernel_at_start.Goals as goal
@@ -41,3 +42,18 @@ returns-in-Ok-clause-state g c =
     ∙ ap (λ (y : Segment). started_from k.opening k.plan y.branch (Some q)) c.segment-g.ensures.value
     ∙ sym (started-goes k.opening k.plan x q some)
     ∙ ap (λ (y : CourseTold). run_at_start y c.args.segment) c.deref-course.ensures
+
+pub returns-in-Ok-clause-stays : goal.returns-in-Ok-clause-stays
+returns-in-Ok-clause-stays g c = c.end_of.ensures.stays
+
+pub returns-in_default-clause-stays : goal.returns-in_default-clause-stays
+returns-in_default-clause-stays g c = c.end_of.ensures.stays
+
+pub returns-in_err-kernel-in-Some-clause-stays : goal.returns-in_err-kernel-in-Some-clause-stays
+returns-in_err-kernel-in-Some-clause-stays g c = c.end_of.ensures.stays
+
+pub returns-in_err-kernel-in-None-clause-stays : goal.returns-in_err-kernel-in-None-clause-stays
+returns-in_err-kernel-in-None-clause-stays g c = stays_self c.args.seat.now.view
+
+pub returns-in_ok-kernel-in-None-clause-stays : goal.returns-in_ok-kernel-in-None-clause-stays
+returns-in_ok-kernel-in-None-clause-stays g c = stays_self c.args.seat.now.view

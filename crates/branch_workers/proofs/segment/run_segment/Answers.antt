@@ -4,18 +4,45 @@ use Rattle.kernel_copy.specs.Closing.{closing_at}
 use Rattle.kernel_copy.specs.Courses.{CourseTold, IsCourse}
 use Rattle.kernel_copy.specs.Ran.{RanTold, ran_told}
 use Rattle.kernel_copy.proofs.Adding.{outcome-is, ran-ends}
+use Rattle.shelf_core.proofs.Staying.{stays_then}
+use Rattle.branch_workers.proofs.Remaining.{remains_of, remains_counted, states_counted}
 use Rattle.branch_workers.proofs.segment.run_segment.Goals as goal
 
 pub shelve_end-requires-clause-state : goal.shelve_end-requires-clause-state
 shelve_end-requires-clause-state g c =
-    let x : RanTold = ran_told c.in_ok-ran.ran in
-    ran-ends c.args.shift.now.course.now.value c.args.shift.now.keep c.args.segment x (subst IsCourse c.deref.ensures c.is_course.ensures) c.requires.segment c.in_ok-ran.ensures.ran
+    let x : RanTold = ran_told c.in-Ok.ran in
+    ran-ends c.args.shift.now.course.now.value c.args.shift.now.keep c.args.segment x (subst IsCourse c.deref.ensures c.is_course.ensures) c.requires.segment c.in-Ok.ensures.ran
 
 pub returns-clause-outcome : goal.returns-clause-outcome
 returns-clause-outcome g c =
     let k : CourseTold = c.args.shift.now.course.now.value in
-    let x : RanTold = ran_told c.in_ok-ran.ran in
+    let x : RanTold = ran_told c.in-Ok.ran in
     let opening = c.opening.ensures.value ∙ ap (λ (x : CourseTold). x.opening) c.deref-2.ensures in
-    let tells = c.in_ok-outcome.ensures in
-    outcome-is k c.args.shift.now.keep c.args.segment x _ _ _ _ (subst IsCourse c.deref.ensures c.is_course.ensures) c.requires.segment c.in_ok-ran.ensures.ran tells.segment tells.kept tells.events
-    (tells.closing ∙ ap (λ (o : Opening). closing_at o c.in_ok-ran.ran.kernel) opening)
+    let tells = c.in-Ok-outcome_at.ensures in
+    outcome-is k c.args.shift.now.keep c.args.segment x _ _ _ _ (subst IsCourse c.deref.ensures c.is_course.ensures) c.requires.segment c.in-Ok.ensures.ran tells.segment tells.kept tells.events
+    (tells.closing ∙ ap (λ (o : Opening). closing_at o c.in-Ok.ran.kernel) opening)
+
+pub returns-in_default-clause-remains : goal.returns-in_default-clause-remains
+returns-in_default-clause-remains g c =
+    remains_of c.args.seat.now.view c.advance-made.new.seat.view c.advance-made.ensures.stays
+
+pub returns-in_default-shelve_end-clause-remains : goal.returns-in_default-shelve_end-clause-remains
+returns-in_default-shelve_end-clause-remains g c =
+    remains_of c.args.seat.now.view c.shelve_end.new.seat.view
+    (stays_then c.args.seat.now.view c.advance-made.new.seat.view c.shelve_end.new.seat.view c.advance-made.ensures.stays c.shelve_end.ensures.stays)
+
+pub returns-in_default-outcome_at-clause-remains : goal.returns-in_default-outcome_at-clause-remains
+returns-in_default-outcome_at-clause-remains g c =
+    remains_of c.args.seat.now.view c.shelve_end.new.seat.view
+    (stays_then c.args.seat.now.view c.advance-made.new.seat.view c.shelve_end.new.seat.view c.advance-made.ensures.stays c.shelve_end.ensures.stays)
+
+pub returns-clause-remains : goal.returns-clause-remains
+returns-clause-remains g c =
+    remains_counted c.args.seat.now.view c.shelve_end.new.seat.view c.count.new.seat.view
+    (stays_then c.args.seat.now.view c.advance-made.new.seat.view c.shelve_end.new.seat.view c.advance-made.ensures.stays c.shelve_end.ensures.stays)
+    c.count.ensures.counted
+
+pub returns-clause-states : goal.returns-clause-states
+returns-clause-states g c =
+    states_counted c.args.shift.now.course.now.value c.args.shift.now.shelf.now.plan c.args.segment c.advance-made.new.seat.view c.shelve_end.new.seat.view c.count.new.seat.view
+    c.shelve_end.ensures.stays c.count.ensures.counted c.in-Ok.ensures.found c.in-Ok-shelve_end.ensures.known c.in-Ok.ensures.grid

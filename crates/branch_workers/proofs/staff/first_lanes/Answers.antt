@@ -11,8 +11,8 @@ use Rattle.branch_workers.proofs.staff.first_lanes.Goals as goal
 pub push-requires-clause-few : goal.push-requires-clause-few
 push-requires-clause-few g c =
     let P : LaneTold → Type 0 = λ lane. lane.own.view ≡ fresh in
-    let count = c.in_ok-lanes.ensures.count in let some = c.requires.some in
-    let new : P c.index_mut.result.now = subst P (sym c.index_mut.ensures.value) (All-get_or P c.in_ok-lanes.lanes.items 0 c.index_mut.result.now (omega arith) c.in_ok-lanes.ensures.fresh) in
+    let count = c.in-Ok.ensures.count in let some = c.requires.some in
+    let new : P c.index_mut.result.now = subst P (sym c.index_mut.ensures.value) (All-get_or P c.in-Ok.lanes.items 0 c.index_mut.result.now (omega arith) c.in-Ok.ensures.fresh) in
     let e = ap (λ (v : LaneView). length v.pushed) new in
     let s = some_segment c.args.course.now c.is_course.ensures in
     omega (arith, c.requires.room, c.requires.count)
@@ -27,9 +27,9 @@ returns-clause-pushed g c =
     let k : CourseTold = c.args.course.now in
     let P : LaneTold → Type 0 = λ lane. lane.own.view ≡ fresh in
     let Q : LaneTold → Type 0 = λ lane. HasPushed k.plan [] lane.own.view.pushed in
-    let count = c.in_ok-lanes.ensures.count in let some = c.requires.some in
-    let new : P c.index_mut.result.now = subst P (sym c.index_mut.ensures.value) (All-get_or P c.in_ok-lanes.lanes.items 0 c.index_mut.result.now (omega arith) c.in_ok-lanes.ensures.fresh) in
+    let count = c.in-Ok.ensures.count in let some = c.requires.some in
+    let new : P c.index_mut.result.now = subst P (sym c.index_mut.ensures.value) (All-get_or P c.in-Ok.lanes.items 0 c.index_mut.result.now (omega arith) c.in-Ok.ensures.fresh) in
     let pushed : c.push.new.self.own.view.pushed ≡ 0 ∷ [] = ap (λ (v : LaneView). v.pushed) c.push.ensures.pushed.is ∙ ap (λ (v : LaneView). v.pushed ++ 0 ∷ []) new in
-    All-set Q c.in_ok-lanes.lanes.items 0 c.push.new.self
+    All-set Q c.in-Ok.lanes.items 0 c.push.new.self
     (subst (λ (ps : List ℕ). HasPushed k.plan [] ps) (sym pushed) (pushed_first k c.is_course.ensures))
-    (All-weaker P Q (λ lane f. subst (λ (ps : List ℕ). HasPushed k.plan [] ps) (sym (ap (λ (v : LaneView). v.pushed) f)) (pushed_none k.plan)) c.in_ok-lanes.lanes.items c.in_ok-lanes.ensures.fresh)
+    (All-weaker P Q (λ lane f. subst (λ (ps : List ℕ). HasPushed k.plan [] ps) (sym (ap (λ (v : LaneView). v.pushed) f)) (pushed_none k.plan)) c.in-Ok.lanes.items c.in-Ok.ensures.fresh)

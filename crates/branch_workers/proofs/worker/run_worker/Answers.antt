@@ -31,3 +31,21 @@ returns-then-ends-clause-finished g c = λ e.
 
 pub returns-then-ends-clause-counted : goal.returns-then-ends-clause-counted
 returns-then-ends-clause-counted g c = λ e. c.ends.ensures.work.counted
+
+pub loop-preserved : goal.loop-preserved
+loop-preserved g c = record {
+  can = tt;
+  fin = tt;
+  number = c.ends.ensures.number ∙ c.loop.invariant.number;
+  finished = c.ends.ensures.goes_on c.if-ends.false;
+  work = c.ends.ensures.work;
+}
+
+pub loop-preserved-else-not-try_segment : goal.loop-preserved-else-not-try_segment
+loop-preserved-else-not-try_segment g c = record {
+  can = tt;
+  fin = tt;
+  number = c.try_segment.ensures.number ∙ c.loop.invariant.number;
+  finished = c.try_segment.ensures.finished ∙ c.loop.invariant.finished;
+  work = c.try_segment.ensures.work c.if-not-try_segment.false;
+}

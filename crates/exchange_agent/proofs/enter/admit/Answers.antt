@@ -33,7 +33,7 @@ trade-requires-clause-fresh c =
     let agent = c.args.taking.now.agent in
     let token = c.args.e.now.token in
     let book = c.args.listing.now.book.list in
-    let new : has_pair (pair_of agent token) c.args.pairs.now.keys ≡ false = not-there _ _ c.in_ok-insert.ensures.added c.if-not-branch.false in
+    let new : has_pair (pair_of agent token) c.args.pairs.now.keys ≡ false = not-there _ _ c.in-Ok-insert.ensures.added c.if-not-new.false in
     ap (λ (b : List Resting). order_of agent token b) c.reserve-2.ensures.list
     ∙ c.changes_keep.ensures.lacks agent token book (lacks-known (length c.args.cash.now.items) c.args.counts.now.orders agent token c.args.pairs.now.keys book new c.requires.stock.known)
 
@@ -71,7 +71,7 @@ returns-clause-stock c =
     let e = c.args.e.now in
     let pair = pair_of agent e.token in
     let v = way_at c.trade.new.self c.trade.new.cash.items c.trade.new.matches c.trade.new.out in
-    let keys : after ≡ with_pair pair pairs = c.in_ok-insert.ensures.keys in
+    let keys : after ≡ with_pair pair pairs = c.in-Ok-insert.ensures.keys in
     let new : has_pair pair after ≡ true = subst (λ (ps : List Pair). has_pair pair ps ≡ true) (sym keys) (has-with_pair pair pairs) in
     let p = is_known n (orders + 1) after in
     let old : All (λ (o : Resting). p o ≡ true) c.args.listing.now.book.list =

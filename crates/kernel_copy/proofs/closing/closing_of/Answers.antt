@@ -11,4 +11,4 @@ returns-clause-positions c =
     let few : length s.floor.exchange.stocks ≤ 16 = omega (arith, c.requires.opening.market.few, c.requires.stocks) in
     let all = All-weaker (λ (a : ClosingAgent). length a.positions ≡ length s.floor.exchange.stocks) HasFewPositions
     (λ a q. omega (arith, q, few)) (closing_at c.args.o.now s).agents (c.agents_have_all_positions.ensures c.args.o.now s) in
-    subst (λ (xs : List ClosingAgent). All HasFewPositions xs) (sym (c.new-3.ensures ∙ c.in_ok-agents.ensures)) all
+    subst (λ (xs : List ClosingAgent). All HasFewPositions xs) (sym (c.new-3.ensures ∙ c.in-Ok-agents.ensures)) all

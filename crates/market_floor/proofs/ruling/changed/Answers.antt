@@ -14,15 +14,15 @@ returns-clause-state c =
     let o = c.args.o.now in
     let a = c.args.applied in
     let e : take (c.rules_at-due.result - a) (drop a c.as_slice.result.now) ≡ due o a c.args.time = slice-due o.dated c.as_slice.result.now a c.rules_at-due.result _ c.as_slice.ensures.value c.rules_at-due.ensures in
-    c.in_ok-change_all.ensures.state
-    ∙ ap (λ (ds : List Dated). (all_changed ds c.in_ok-copy.copy).state) e
-    ∙ ap (λ (s : State). (all_changed (due o a c.args.time) s).state) c.in_ok-copy.ensures
+    c.in-Ok-change_all.ensures.state
+    ∙ ap (λ (ds : List Dated). (all_changed ds c.in-Ok.copy).state) e
+    ∙ ap (λ (s : State). (all_changed (due o a c.args.time) s).state) c.in-Ok.ensures
 
 pub returns-clause-feed : goal.returns-clause-feed
 returns-clause-feed c =
     let o = c.args.o.now in
     let a = c.args.applied in
     let e : take (c.rules_at-due.result - a) (drop a c.as_slice.result.now) ≡ due o a c.args.time = slice-due o.dated c.as_slice.result.now a c.rules_at-due.result _ c.as_slice.ensures.value c.rules_at-due.ensures in
-    c.in_ok-change_all.ensures.feed
-    ∙ ap (λ (ds : List Dated). c.args.feed.now.list ++ (all_changed ds c.in_ok-copy.copy).feed) e
-    ∙ ap (λ (s : State). c.args.feed.now.list ++ (all_changed (due o a c.args.time) s).feed) c.in_ok-copy.ensures
+    c.in-Ok-change_all.ensures.feed
+    ∙ ap (λ (ds : List Dated). c.args.feed.now.list ++ (all_changed ds c.in-Ok.copy).feed) e
+    ∙ ap (λ (s : State). c.args.feed.now.list ++ (all_changed (due o a c.args.time) s).feed) c.in-Ok.ensures

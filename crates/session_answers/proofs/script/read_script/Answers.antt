@@ -15,14 +15,14 @@ returns-in-Ok-clause-acts c =
     let course : CourseTold = c.args.study.now.course.value in
     let bytes : List ℕ = c.args.bytes.now in
     let t : Members = table_view c.in-Ok.raw.table in
-    ok-by c.acts_in.result (λ acts. acts.items) (script_of course bytes) (acts_in course t) (script-acts course bytes t c.in-Ok.ensures.table) c.acts_in.ensures.acts
+    ok-by c.acts_in-acts.result (λ acts. acts.items) (script_of course bytes) (acts_in course t) (script-acts course bytes t c.in-Ok.ensures.table) c.acts_in-acts.ensures.acts
 
 pub returns-in-Ok-clause-refused : goal.returns-in-Ok-clause-refused
 returns-in-Ok-clause-refused c =
     let course : CourseTold = c.args.study.now.course.value in
     let bytes : List ℕ = c.args.bytes.now in
     let t : Members = table_view c.in-Ok.raw.table in
-    err-by c.acts_in.result (script_of course bytes) (acts_in course t) (script-acts course bytes t c.in-Ok.ensures.table) c.acts_in.ensures.refused
+    err-by c.acts_in-acts.result (script_of course bytes) (acts_in course t) (script-acts course bytes t c.in-Ok.ensures.table) c.acts_in-acts.ensures.refused
 
 pub returns-in-Err-clause-refused : goal.returns-in-Err-clause-refused
 returns-in-Err-clause-refused c =
@@ -37,8 +37,8 @@ returns-in-Ok-clause-fit c =
     let bytes : List ℕ = c.args.bytes.now in
     let t : Members = table_view c.in-Ok.raw.table in
     let table : table_of bytes ≡ Some t = c.in-Ok.ensures.table in
-    ok-is c.acts_in.result (λ acts. acts.items) (acts_in course t) (All (FitsOpening course.opening))
-    (λ acts is. all-fit course t acts (one-by-one course bytes t acts table (script-acts course bytes t table ∙ is))) c.acts_in.ensures.acts
+    ok-is c.acts_in-acts.result (λ acts. acts.items) (acts_in course t) (All (FitsOpening course.opening))
+    (λ acts is. all-fit course t acts (one-by-one course bytes t acts table (script-acts course bytes t table ∙ is))) c.acts_in-acts.ensures.acts
 
 pub returns-in-Ok-clause-few : goal.returns-in-Ok-clause-few
 returns-in-Ok-clause-few c =
@@ -46,8 +46,8 @@ returns-in-Ok-clause-few c =
     let bytes : List ℕ = c.args.bytes.now in
     let t : Members = table_view c.in-Ok.raw.table in
     let table : table_of bytes ≡ Some t = c.in-Ok.ensures.table in
-    ok-is c.acts_in.result (λ acts. acts.items) (acts_in course t) (λ (acts : List Act). length acts ≤ 64)
-    (λ acts is. (how-many course t acts (one-by-one course bytes t acts table (script-acts course bytes t table ∙ is))).1) c.acts_in.ensures.acts
+    ok-is c.acts_in-acts.result (λ acts. acts.items) (acts_in course t) (λ (acts : List Act). length acts ≤ 64)
+    (λ acts is. (how-many course t acts (one-by-one course bytes t acts table (script-acts course bytes t table ∙ is))).1) c.acts_in-acts.ensures.acts
 
 pub returns-in-Ok-clause-place : goal.returns-in-Ok-clause-place
 returns-in-Ok-clause-place c =
@@ -55,5 +55,5 @@ returns-in-Ok-clause-place c =
     let bytes : List ℕ = c.args.bytes.now in
     let t : Members = table_view c.in-Ok.raw.table in
     let table : table_of bytes ≡ Some t = c.in-Ok.ensures.table in
-    err-is c.acts_in.result (acts_in course t)
-    (λ n is. bad-low course t n (first-bad course bytes t n table (script-acts course bytes t table ∙ is))) c.acts_in.ensures.refused
+    err-is c.acts_in-acts.result (acts_in course t)
+    (λ n is. bad-low course t n (first-bad course bytes t n table (script-acts course bytes t table ∙ is))) c.acts_in-acts.ensures.refused

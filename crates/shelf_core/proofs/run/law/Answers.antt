@@ -11,8 +11,8 @@ use Rattle.shelf_core.proofs.run.law.Goals as goal
 pub returns-in_err-s-clause-law : goal.returns-in_err-s-clause-law
 returns-in_err-s-clause-law c = law_holds c.args.events.now
 
-pub returns-in_err-step-clause-law : goal.returns-in_err-step-clause-law
-returns-in_err-step-clause-law c = law_holds c.args.events.now
+pub returns-in_default-clause-law : goal.returns-in_default-clause-law
+returns-in_default-clause-law c = law_holds c.args.events.now
 
 pub returns-clause-law : goal.returns-clause-law
 returns-clause-law c = law_holds c.args.events.now
@@ -22,7 +22,7 @@ loop-event-preserved c =
     let e : Event = c.event-item.result in
     let s : System = c.loop-event.s in
     let at = slice_get_read c.args.events.now (length c.args.events.now) c.loop-event.event-index e refl c.loop-event-test.true c.event-item.is in
-    let is : c.step.new.s ≡ step_of s e = step_is s c.step.new.s e c.in_ok-step.field-0 c.in_ok-step.ensures.answer c.in_ok-step.ensures.made c.in_ok-step.ensures.not_made in
+    let is : c.step.new.s ≡ step_of s e = step_is s c.step.new.s e c.in-Ok._made c.in-Ok.ensures.answer c.in-Ok.ensures.made c.in-Ok.ensures.not_made in
     record {
       left = is ∙ ap (λ t. step_of t e) c.loop-event.invariant.left ∙ sym (left_next c.args.events.now c.loop-event.event-index e at);
       orderly = c.step.ensures.stays_orderly;

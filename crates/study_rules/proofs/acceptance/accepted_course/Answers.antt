@@ -35,7 +35,7 @@ new-requires c =
     let fit : All (λ (b : Branch). AreEdits (opening_of t rows) b.edits) (branches_of t) = edits-fit t rows (branches_of t) among in
     record {
       opening = subst IsOpening (sym c.requires.accepted.said) (is-opening t rows c.requires.accepted.accepted);
-      limit = ap (λ (p : Plan). p.limit) c.in_ok-plan.ensures;
-      edits = subst (λ (o : Opening). All (λ (b : Branch). AreEdits o b.edits) c.in_ok-plan.plan.branches) (sym c.requires.accepted.said)
-          (subst (λ (bs : List Branch). All (λ (b : Branch). AreEdits (opening_of t rows) b.edits) bs) (sym (ap (λ (p : Plan). p.branches) c.in_ok-plan.ensures ∙ c.requires.said)) fit);
+      limit = ap (λ (p : Plan). p.limit) c.in-Ok.ensures;
+      edits = subst (λ (o : Opening). All (λ (b : Branch). AreEdits o b.edits) c.in-Ok.plan.branches) (sym c.requires.accepted.said)
+          (subst (λ (bs : List Branch). All (λ (b : Branch). AreEdits (opening_of t rows) b.edits) bs) (sym (ap (λ (p : Plan). p.branches) c.in-Ok.ensures ∙ c.requires.said)) fit);
     }

@@ -6,7 +6,7 @@ use Rattle.exchange_agent.specs.Pairs.{has_pair, pair_of}
 use Rattle.exchange_agent.specs.State.{State}
 use Rattle.exchange_agent.specs.View.{state_of, stock_of, way_at}
 use Rattle.std.specs.List.{slice_set}
-use Rattle.std.specs.Prelude.{if◌then◌else◌, map, OnErr, Result, Ok, Err}
+use Rattle.std.specs.Prelude.{if◌then◌else◌, map}
 use Rattle.exchange_agent.specs.declared.listing.Listing.{Listing}
 use Rattle.exchange_agent.specs.declared.pair.Pair.{Pair}
 use Rattle.exchange_agent.specs.declared.told.Counts.{Counts}
@@ -40,31 +40,26 @@ overflow_add-taking c =
     let few : c.args.stock < 16 = few-stocks c.args.self.now i.stocks.items i.cash.items i.pairs.keys i.counts i.hidden c.args.stock view c.self.invariant c.requires.stock in
     search (rules, few)
 
-on-err : {A E : Type 0} (r : Result A E) (P : Type 0) → P → OnErr r P
-on-err (Ok x) P p = tt
-on-err (Err e) P p = p
-
 pub invariant_of-self : goal.invariant_of-self
 invariant_of-self c =
     let i = c.self.inside in
-    let e = c.in_err-admitted.ensures in
+    let e = c.in_default.ensures in
     subst (λ (q : State). IsSound q)
     (sym (state-refused i.stocks.items i.cash.items c.admit.new.cash.items i.pairs.keys c.admit.new.pairs.keys i.counts c.admit.new.counts i.hidden c.args.stock c.index_mut-listing.result.now c.admit.new.listing (search rules) e.stock_refused e.cash_refused e.pairs_refused e.counts_refused))
     c.self.invariant
 
-pub returns-in_err-admitted-clause-exchange_refused : goal.returns-in_err-admitted-clause-exchange_refused
-returns-in_err-admitted-clause-exchange_refused c =
+pub returns-in_default-clause-exchange_refused : goal.returns-in_default-clause-exchange_refused
+returns-in_default-clause-exchange_refused c =
     let i = c.self.inside in
-    let e = c.in_err-admitted.ensures in
+    let e = c.in_default.ensures in
     let view : c.args.self.now ≡ state_of i.stocks.items i.cash.items i.pairs.keys i.counts i.hidden = search rules in
-    on-err c.from_residual.result _
-    (state-refused i.stocks.items i.cash.items c.admit.new.cash.items i.pairs.keys c.admit.new.pairs.keys i.counts c.admit.new.counts i.hidden c.args.stock c.index_mut-listing.result.now c.admit.new.listing (search rules) e.stock_refused e.cash_refused e.pairs_refused e.counts_refused ∙ sym view)
+    state-refused i.stocks.items i.cash.items c.admit.new.cash.items i.pairs.keys c.admit.new.pairs.keys i.counts c.admit.new.counts i.hidden c.args.stock c.index_mut-listing.result.now c.admit.new.listing (search rules) e.stock_refused e.cash_refused e.pairs_refused e.counts_refused ∙ sym view
 
 pub invariant_of-self-else-not-admitted : goal.invariant_of-self-else-not-admitted
 invariant_of-self-else-not-admitted c =
     let i = c.self.inside in
-    let o = c.in_ok-admitted.ensures in
-    let b = c.in_ok-admitted.admitted in
+    let o = c.in-Ok.ensures in
+    let b = c.in-Ok.admitted in
     let went = c.if-not-admitted.false in
     let pair = pair_of c.args.from c.args.e.now.token in
     let view : c.args.self.now ≡ state_of i.stocks.items i.cash.items i.pairs.keys i.counts i.hidden = search rules in
@@ -79,8 +74,8 @@ returns-else-not-admitted-clause-state c =
     let e = c.args.e.now in
     let k = c.args.stock in
     let r = c.index_mut-listing.result.now in
-    let o = c.in_ok-admitted.ensures in
-    let b = c.in_ok-admitted.admitted in
+    let o = c.in-Ok.ensures in
+    let b = c.in-Ok.admitted in
     let went = c.if-not-admitted.false in
     let pair = pair_of c.args.from e.token in
     let view : s ≡ state_of i.stocks.items i.cash.items i.pairs.keys i.counts i.hidden = search rules in
@@ -95,8 +90,8 @@ returns-else-not-admitted-clause-state c =
 pub invariant_of-self-then-not-admitted : goal.invariant_of-self-then-not-admitted
 invariant_of-self-then-not-admitted c =
     let i = c.self.inside in
-    let o = c.in_ok-admitted.ensures in
-    let b = c.in_ok-admitted.admitted in
+    let o = c.in-Ok.ensures in
+    let b = c.in-Ok.admitted in
     let went = c.if-not-admitted.true in
     let kept = on-false b _ went o.ignored in
     subst (λ (q : State). IsSound q)
@@ -107,8 +102,8 @@ pub returns-then-not-admitted-clause-state : goal.returns-then-not-admitted-clau
 returns-then-not-admitted-clause-state c =
     let i = c.self.inside in
     let s = c.args.self.now in
-    let o = c.in_ok-admitted.ensures in
-    let b = c.in_ok-admitted.admitted in
+    let o = c.in-Ok.ensures in
+    let b = c.in-Ok.admitted in
     let went = c.if-not-admitted.true in
     let pair = pair_of c.args.from c.args.e.now.token in
     let view : s ≡ state_of i.stocks.items i.cash.items i.pairs.keys i.counts i.hidden = search rules in

@@ -11,5 +11,5 @@ invariant_of-self-2 c =
     let old = pairs_from 0 c.self.inside.agents.items in
     let pair = c.args.pair in
     ap (λ (n : ℕ). n + 1) c.self.invariant
-    ∙ sym (ap (λ (ps : List Pair). length ps) c.in_ok-added.ensures.keys
-    ∙ length-insert_key by_pair pair old (not-there c.in_ok-added.added (has_pair pair old) c.in_ok-added.ensures.added c.if-not-added.false))
+    ∙ sym (ap (λ (ps : List Pair). length ps) c.in-Ok.ensures.keys
+    ∙ length-insert_key by_pair pair old (not-there c.in-Ok.added (has_pair pair old) c.in-Ok.ensures.added c.if-not-added.false))

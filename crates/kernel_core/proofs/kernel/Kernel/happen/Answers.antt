@@ -53,7 +53,7 @@ returns-then-m-own-clause-state g c =
     let later : m.time < until = omega (arith, c.if-m-own.true) in
     let same : event_back o (state_of k) m until ≡ event_of o s (first_of s) = back-same c.mail_stays_sound.ensures.next o (state_of k) s m c.from-to.result until c.self.invariant c.self.view_is c.in-Ok.ensures.least c.from-to.ensures c.index-own.ensures later in
     let post = at-some (λ (x : Message). c.delay_least.new.self ≡ put_back k.mail x until) _ m (sym c.in-Ok.ensures.least) c.delay_least.ensures.back in
-    back-made o (state_of k) m until c.applied_by-self-inside.result c.delay_least.new.self c.tell_back.new.floor c.applied_by-self-inside.ensures.value post c.in_ok-kept.ensures.floor
+    back-made o (state_of k) m until c.applied_by-self-inside.result c.delay_least.new.self c.tell_back.new.floor c.applied_by-self-inside.ensures.value post c.in-Ok-tell_back.ensures.floor
     ∙ ap (λ (h : Happened). h.state) same
 
 pub returns-then-m-own-clause-taken : goal.returns-then-m-own-clause-taken
@@ -65,7 +65,7 @@ returns-then-m-own-clause-taken g c kept =
     let until = c.index-own.result.now in
     let later : m.time < until = omega (arith, c.if-m-own.true) in
     let same : event_back o (state_of k) m until ≡ event_of o s (first_of s) = back-same c.mail_stays_sound.ensures.next o (state_of k) s m c.from-to.result until c.self.invariant c.self.view_is c.in-Ok.ensures.least c.from-to.ensures c.index-own.ensures later in
-    taken-same g.K.Keeper.with (g.K.Keeper.told c.args.keeper.now) _ _ (event_back o (state_of k) m until) (event_of o s (first_of s)) (c.in_ok-kept.ensures.taken kept) c.in_ok-room.ensures.same same
+    taken-same g.K.Keeper.with (g.K.Keeper.told c.args.keeper.now) _ _ (event_back o (state_of k) m until) (event_of o s (first_of s)) (c.in-Ok-tell_back.ensures.taken kept) c.in-Ok-room.ensures.same same
 
 pub returns-then-m-own-clause-timely : goal.returns-then-m-own-clause-timely
 returns-then-m-own-clause-timely g c =
@@ -76,7 +76,7 @@ returns-then-m-own-clause-timely g c =
     let until = c.index-own.result.now in
     let later : m.time < until = omega (arith, c.if-m-own.true) in
     let same : event_back o (state_of k) m until ≡ event_of o s (first_of s) = back-same c.mail_stays_sound.ensures.next o (state_of k) s m c.from-to.result until c.self.invariant c.self.view_is c.in-Ok.ensures.least c.from-to.ensures c.index-own.ensures later in
-    let here : IsTimely (event (event_back o (state_of k) m until).entry) = (c.in_ok-kept.ensures.timely, All-nil (λ (f : Feed). f.time < 2 ^ 48)) in
+    let here : IsTimely (event (event_back o (state_of k) m until).entry) = (c.in-Ok-tell_back.ensures.timely, All-nil (λ (f : Feed). f.time < 2 ^ 48)) in
     subst (λ (h : Happened). IsTimely (event h.entry)) same here
 
 pub returns-then-m-own-clause-fitting : goal.returns-then-m-own-clause-fitting
@@ -142,7 +142,7 @@ invariant_of-self-2 g c =
     let n = next-is o s m fits next going in
     let times = slice_set k.own.items c.from-to.result until in
     let size : IsOfSize s times c.tell_delivery.new.floor = record { own = length-set k.own.items c.from-to.result until; stocks = c.tell_delivery.ensures.stocks; traders = c.tell_delivery.ensures.traders } in
-    let posted = c.in_ok-kept-2.ensures.posted in
+    let posted = c.in-Ok-tell_delivery.ensures.posted in
     let gone = at-some (λ (x : Message). c.drop_least.new.self ≡ taken k.mail x) _ m (sym c.in-Ok.ensures.least) c.drop_least.ensures.left in
     let post : c.send_all.new.mail ≡ all_sent o k.groups m.to until (taken k.mail m) h.postings =
     c.send_all.ensures.mail ∙ ap (λ (p : Post). all_sent o k.groups m.to until p h.postings) gone in
@@ -164,10 +164,10 @@ returns-clause-state g c =
     let until = m.time + h.delay in
     let gone = at-some (λ (x : Message). c.drop_least.new.self ≡ taken k.mail x) _ m (sym c.in-Ok.ensures.least) c.drop_least.ensures.left in
     let post = c.send_all.ensures.mail ∙ ap (λ (p : Post). all_sent o k.groups m.to until p h.postings) gone
-    ∙ ap (all_sent o k.groups m.to until (taken k.mail m)) c.in_ok-kept-2.ensures.postings in
+    ∙ ap (all_sent o k.groups m.to until (taken k.mail m)) c.in-Ok-tell_delivery.ensures.postings in
     let times = ap (λ i. slice_set k.own.items i until) c.from-to.ensures in
     delivered-made o (state_of k) m until c.applied_by-self-inside-2.result c.send_all.new.mail (slice_set k.own.items c.from-to.result until) c.tell_delivery.new.floor
-    (ap (λ d. m.time + d) c.in_ok-kept-2.ensures.delay) c.applied_by-self-inside-2.ensures.value post times c.in_ok-kept-2.ensures.floor
+    (ap (λ d. m.time + d) c.in-Ok-tell_delivery.ensures.delay) c.applied_by-self-inside-2.ensures.value post times c.in-Ok-tell_delivery.ensures.floor
     ∙ ap (λ (h : Happened). h.state) same
 
 pub returns-clause-taken : goal.returns-clause-taken
@@ -179,7 +179,7 @@ returns-clause-taken g c kept =
     let busy = c.index-own.result.now in
     let free : busy ≤ m.time = omega (arith, c.if-m-own.false) in
     let same : event_delivered o (state_of k) m ≡ event_of o s (first_of s) = delivered-same c.mail_stays_sound.ensures.next o (state_of k) s m c.from-to.result busy c.self.invariant c.self.view_is c.in-Ok.ensures.least c.from-to.ensures c.index-own.ensures free in
-    taken-same g.K.Keeper.with (g.K.Keeper.told c.args.keeper.now) _ _ (event_delivered o (state_of k) m) (event_of o s (first_of s)) (c.in_ok-kept-2.ensures.taken kept) c.in_ok-room.ensures.same same
+    taken-same g.K.Keeper.with (g.K.Keeper.told c.args.keeper.now) _ _ (event_delivered o (state_of k) m) (event_of o s (first_of s)) (c.in-Ok-tell_delivery.ensures.taken kept) c.in-Ok-room.ensures.same same
 
 pub returns-clause-timely : goal.returns-clause-timely
 returns-clause-timely g c =
@@ -190,7 +190,7 @@ returns-clause-timely g c =
     let busy = c.index-own.result.now in
     let free : busy ≤ m.time = omega (arith, c.if-m-own.false) in
     let same : event_delivered o (state_of k) m ≡ event_of o s (first_of s) = delivered-same c.mail_stays_sound.ensures.next o (state_of k) s m c.from-to.result busy c.self.invariant c.self.view_is c.in-Ok.ensures.least c.from-to.ensures c.index-own.ensures free in
-    let here : IsTimely (event (event_delivered o (state_of k) m).entry) = (c.in_ok-kept-2.ensures.timely, c.in_ok-kept-2.ensures.own_timely) in
+    let here : IsTimely (event (event_delivered o (state_of k) m).entry) = (c.in-Ok-tell_delivery.ensures.timely, c.in-Ok-tell_delivery.ensures.own_timely) in
     subst (λ (h : Happened). IsTimely (event h.entry)) same here
 
 pub returns-clause-fitting : goal.returns-clause-fitting

@@ -8,6 +8,6 @@ pub invariant_of-result : goal.invariant_of-result
 invariant_of-result c =
     let o = c.args.o.now in
     let post : c.wake_all.new.mail ≡ woken o 1 nothing_waits o.traders = search rules in
-    let own : c.in_ok-own.own.items ≡ replicate (length o.traders + 1) o.start = search rules in
-    sound-opened c.mail_stays_sound.ensures.sent o c.wake_all.new.mail c.in_ok-own.own.items c.in_ok-floor.floor c.in_ok-groups.groups c.requires
-    c.in_ok-floor.ensures.fits c.in_ok-floor.ensures.sound (c.mail_stays_sound.ensures.begun (length o.traders) (length o.stocks) o.start) post own
+    let own : c.in-Ok.own.items ≡ replicate (length o.traders + 1) o.start = search rules in
+    sound-opened c.mail_stays_sound.ensures.sent o c.wake_all.new.mail c.in-Ok.own.items c.in-Ok-open.floor c.in-Ok-copy.groups c.requires
+    c.in-Ok-open.ensures.fits c.in-Ok-open.ensures.sound (c.mail_stays_sound.ensures.begun (length o.traders) (length o.stocks) o.start) post own

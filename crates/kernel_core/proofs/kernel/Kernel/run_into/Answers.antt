@@ -14,13 +14,13 @@ events-preserved g c =
     let s = c.events.self in
     let q = c.step_into.new.self in
     let v = c.events.invariant in
-    let one : raised c.in_ok-end.field-0 ≡ 1 = ap raised c.in-Event.is in
-    let events : q.events ≡ s.events + raised c.in_ok-end.field-0 = c.in_ok-end.ensures.events in
+    let one : raised c.in-Ok.stepped ≡ 1 = ap raised c.in-Event.is in
+    let events : q.events ≡ s.events + raised c.in-Ok.stepped = c.in-Ok.ensures.events in
     let more = c.step_into.ensures.grows in
     record {
       fits = c.step_into.ensures.fitting;
       made = on-made o s0 s q v.grows more v.made c.step_into.ensures.made;
-      kept = on-kept g.K.Keeper.with _ _ _ o s0 s q v.grows more v.made v.kept c.in_ok-end.ensures.kept;
+      kept = on-kept g.K.Keeper.with _ _ _ o s0 s q v.grows more v.made v.kept c.in-Ok.ensures.kept;
       timely = on-timely o s0 s q v.grows more v.made v.timely c.step_into.ensures.timely;
       grows = omega (arith, v.grows);
       most = omega (arith, v.grows, v.most);
@@ -56,9 +56,9 @@ returns-in-Ended-clause-answer g c =
     let o = c.args.o.now in
     let s = c.events.self in
     let q = c.step_into.new.self in
-    let e = ended_from s (end_of o s) c.in-Ended.end (sym c.in-Ended.is ∙ c.in_ok-end.ensures.answer) in
-    let none : raised c.in_ok-end.field-0 ≡ 0 = ap raised c.in-Ended.is in
-    let events : q.events ≡ s.events + raised c.in_ok-end.field-0 = c.in_ok-end.ensures.events in
+    let e = ended_from s (end_of o s) c.in-Ended.end (sym c.in-Ended.is ∙ c.in-Ok.ensures.answer) in
+    let none : raised c.in-Ok.stepped ≡ 0 = ap raised c.in-Ended.is in
+    let events : q.events ≡ s.events + raised c.in-Ok.stepped = c.in-Ok.ensures.events in
     let same = stays o s q (omega arith) c.step_into.ensures.made in
     sym (ap (λ (x : State). end_of o x) same ∙ e)
 
@@ -68,9 +68,9 @@ returns-in-Ended-clause-ran g c =
     let s = c.events.self in
     let q = c.step_into.new.self in
     let v = c.events.invariant in
-    let e = ended_from s (end_of o s) c.in-Ended.end (sym c.in-Ended.is ∙ c.in_ok-end.ensures.answer) in
-    let none : raised c.in_ok-end.field-0 ≡ 0 = ap raised c.in-Ended.is in
-    let events : q.events ≡ s.events + raised c.in_ok-end.field-0 = c.in_ok-end.ensures.events in
+    let e = ended_from s (end_of o s) c.in-Ended.end (sym c.in-Ended.is ∙ c.in-Ok.ensures.answer) in
+    let none : raised c.in-Ok.stepped ≡ 0 = ap raised c.in-Ended.is in
+    let events : q.events ≡ s.events + raised c.in-Ok.stepped = c.in-Ok.ensures.events in
     stays o s q (omega arith) c.step_into.ensures.made ∙ v.made
     ∙ ap (λ (r : Run). r.state) (ended-run o c.args.self.now s c.args.stop c.in-Ended.end v.made v.most e)
 
@@ -80,11 +80,11 @@ returns-in-Ended-clause-kept g c =
     let s = c.events.self in
     let q = c.step_into.new.self in
     let v = c.events.invariant in
-    let e = ended_from s (end_of o s) c.in-Ended.end (sym c.in-Ended.is ∙ c.in_ok-end.ensures.answer) in
-    let none : raised c.in_ok-end.field-0 ≡ 0 = ap raised c.in-Ended.is in
-    let events : q.events ≡ s.events + raised c.in_ok-end.field-0 = c.in_ok-end.ensures.events in
+    let e = ended_from s (end_of o s) c.in-Ended.end (sym c.in-Ended.is ∙ c.in-Ok.ensures.answer) in
+    let none : raised c.in-Ok.stepped ≡ 0 = ap raised c.in-Ended.is in
+    let events : q.events ≡ s.events + raised c.in-Ok.stepped = c.in-Ok.ensures.events in
     let same = stays o s q (omega arith) c.step_into.ensures.made in
-    c.in_ok-end.ensures.kept
+    c.in-Ok.ensures.kept
     ∙ ap (λ (r : Run). folded g.K.Keeper.with (g.K.Keeper.told c.events.keeper) r.entries) (between-none o s q same)
     ∙ v.kept
     ∙ ap (λ (r : Run). folded g.K.Keeper.with (g.K.Keeper.told c.args.keeper.now) r.entries) (ended-run o c.args.self.now s c.args.stop c.in-Ended.end v.made v.most e)
@@ -97,7 +97,7 @@ returns-in-Ended-clause-made g c =
 pub returns-in-Ended-clause-made_kept : goal.returns-in-Ended-clause-made_kept
 returns-in-Ended-clause-made_kept g c sure =
     let v = c.events.invariant in
-    on-kept g.K.Keeper.with _ _ _ c.args.o.now c.args.self.now c.events.self c.step_into.new.self v.grows c.step_into.ensures.grows v.made v.kept c.in_ok-end.ensures.kept
+    on-kept g.K.Keeper.with _ _ _ c.args.o.now c.args.self.now c.events.self c.step_into.new.self v.grows c.step_into.ensures.grows v.made v.kept c.in-Ok.ensures.kept
 
 pub returns-in-Ended-clause-timely : goal.returns-in-Ended-clause-timely
 returns-in-Ended-clause-timely g c =
@@ -123,26 +123,26 @@ returns-in-Ended-clause-time g c before =
     time-run o s0 q (on-made o s0 s q v.grows c.step_into.ensures.grows v.made c.step_into.ensures.made) before
 
 -- after want of memory
-pub returns-in_err-end-clause-made : goal.returns-in_err-end-clause-made
-returns-in_err-end-clause-made g c =
+pub returns-in_default-clause-made : goal.returns-in_default-clause-made
+returns-in_default-clause-made g c =
     let v = c.events.invariant in
     on-made c.args.o.now c.args.self.now c.events.self c.step_into.new.self v.grows c.step_into.ensures.grows v.made c.step_into.ensures.made
 
-pub returns-in_err-end-clause-made_kept : goal.returns-in_err-end-clause-made_kept
-returns-in_err-end-clause-made_kept g c sure =
+pub returns-in_default-clause-made_kept : goal.returns-in_default-clause-made_kept
+returns-in_default-clause-made_kept g c sure =
     let o = c.args.o.now in
     let s0 = c.args.self.now in
-    let same = c.in_err-end.ensures.refused sure in
-    c.in_err-end.ensures.keeper_refused sure ∙ c.events.invariant.kept
+    let same = c.in_default.ensures.refused sure in
+    c.in_default.ensures.keeper_refused sure ∙ c.events.invariant.kept
     ∙ ap (λ (x : State). folded g.K.Keeper.with (g.K.Keeper.told c.args.keeper.now) (between o s0 x).entries) (sym same)
 
-pub returns-in_err-end-clause-timely : goal.returns-in_err-end-clause-timely
-returns-in_err-end-clause-timely g c =
+pub returns-in_default-clause-timely : goal.returns-in_default-clause-timely
+returns-in_default-clause-timely g c =
     let v = c.events.invariant in
     on-timely c.args.o.now c.args.self.now c.events.self c.step_into.new.self v.grows c.step_into.ensures.grows v.made v.timely c.step_into.ensures.timely
 
-pub returns-in_err-end-clause-within : goal.returns-in_err-end-clause-within
-returns-in_err-end-clause-within g c =
+pub returns-in_default-clause-within : goal.returns-in_default-clause-within
+returns-in_default-clause-within g c =
     let o = c.args.o.now in
     let s0 = c.args.self.now in
     let s = c.events.self in
@@ -150,8 +150,8 @@ returns-in_err-end-clause-within g c =
     let v = c.events.invariant in
     within-run o s0 q c.args.stop (on-made o s0 s q v.grows c.step_into.ensures.grows v.made c.step_into.ensures.made) (omega (arith, v.grows, c.step_into.ensures.one))
 
-pub returns-in_err-end-clause-time : goal.returns-in_err-end-clause-time
-returns-in_err-end-clause-time g c before =
+pub returns-in_default-clause-time : goal.returns-in_default-clause-time
+returns-in_default-clause-time g c before =
     let o = c.args.o.now in
     let s0 = c.args.self.now in
     let s = c.events.self in

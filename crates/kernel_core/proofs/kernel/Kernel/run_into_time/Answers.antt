@@ -14,13 +14,13 @@ events-preserved g c =
     let q = c.step_into.new.self in
     let v = c.events.invariant in
     let due = c.is_due.ensures.going c.events-test.true in
-    let one : raised c.in_ok-end.field-0 ≡ 1 = ap raised c.in-Event.is in
-    let events : q.events ≡ s.events + raised c.in_ok-end.field-0 = c.in_ok-end.ensures.events in
+    let one : raised c.in-Ok.stepped ≡ 1 = ap raised c.in-Event.is in
+    let events : q.events ≡ s.events + raised c.in-Ok.stepped = c.in-Ok.ensures.events in
     let more = c.step_into.ensures.grows in
     record {
       fits = c.step_into.ensures.fitting;
       made = on-made o s0 s q v.grows more v.made c.step_into.ensures.made;
-      kept = on-kept g.K.Keeper.with _ _ _ o s0 s q v.grows more v.made v.kept c.in_ok-end.ensures.kept;
+      kept = on-kept g.K.Keeper.with _ _ _ o s0 s q v.grows more v.made v.kept c.in-Ok.ensures.kept;
       timely = on-timely o s0 s q v.grows more v.made v.timely c.step_into.ensures.timely;
       grows = omega (arith, v.grows);
       rest = time-more o c.args.when c.args.most s0 s q v.grows (omega arith) v.made due.0 due.1 v.rest;
@@ -52,93 +52,37 @@ pub returns-clause-time : goal.returns-clause-time
 returns-clause-time g c before = time-run c.args.o.now c.args.self.now c.events.self c.events.invariant.made before
 
 -- a state with a due message has an event
-pub returns-in-Ended-clause-answer : goal.returns-in-Ended-clause-answer
-returns-in-Ended-clause-answer g c =
-    absurd (due-unended c.args.o.now c.args.when c.events.self c.in-Ended.end (c.is_due.ensures.going c.events-test.true).1 (sym c.in-Ended.is ∙ c.in_ok-end.ensures.answer))
-
-pub returns-in-Ended-clause-reached : goal.returns-in-Ended-clause-reached
-returns-in-Ended-clause-reached g c =
-    absurd (due-unended c.args.o.now c.args.when c.events.self c.in-Ended.end (c.is_due.ensures.going c.events-test.true).1 (sym c.in-Ended.is ∙ c.in_ok-end.ensures.answer))
-
-pub returns-in-Ended-clause-ran : goal.returns-in-Ended-clause-ran
-returns-in-Ended-clause-ran g c =
-    absurd (due-unended c.args.o.now c.args.when c.events.self c.in-Ended.end (c.is_due.ensures.going c.events-test.true).1 (sym c.in-Ended.is ∙ c.in_ok-end.ensures.answer))
-
-pub returns-in-Ended-clause-kept : goal.returns-in-Ended-clause-kept
-returns-in-Ended-clause-kept g c =
-    absurd (due-unended c.args.o.now c.args.when c.events.self c.in-Ended.end (c.is_due.ensures.going c.events-test.true).1 (sym c.in-Ended.is ∙ c.in_ok-end.ensures.answer))
-
-pub returns-in-Ended-clause-made : goal.returns-in-Ended-clause-made
-returns-in-Ended-clause-made g c =
-    absurd (due-unended c.args.o.now c.args.when c.events.self c.in-Ended.end (c.is_due.ensures.going c.events-test.true).1 (sym c.in-Ended.is ∙ c.in_ok-end.ensures.answer))
-
-pub returns-in-Ended-clause-made_kept : goal.returns-in-Ended-clause-made_kept
-returns-in-Ended-clause-made_kept g c =
-    absurd (due-unended c.args.o.now c.args.when c.events.self c.in-Ended.end (c.is_due.ensures.going c.events-test.true).1 (sym c.in-Ended.is ∙ c.in_ok-end.ensures.answer))
-
-pub returns-in-Ended-clause-timely : goal.returns-in-Ended-clause-timely
-returns-in-Ended-clause-timely g c =
-    absurd (due-unended c.args.o.now c.args.when c.events.self c.in-Ended.end (c.is_due.ensures.going c.events-test.true).1 (sym c.in-Ended.is ∙ c.in_ok-end.ensures.answer))
-
-pub returns-in-Ended-clause-ticks : goal.returns-in-Ended-clause-ticks
-returns-in-Ended-clause-ticks g c =
-    absurd (due-unended c.args.o.now c.args.when c.events.self c.in-Ended.end (c.is_due.ensures.going c.events-test.true).1 (sym c.in-Ended.is ∙ c.in_ok-end.ensures.answer))
-
-pub returns-in-Ended-clause-grows : goal.returns-in-Ended-clause-grows
-returns-in-Ended-clause-grows g c =
-    absurd (due-unended c.args.o.now c.args.when c.events.self c.in-Ended.end (c.is_due.ensures.going c.events-test.true).1 (sym c.in-Ended.is ∙ c.in_ok-end.ensures.answer))
-
-pub returns-in-Ended-clause-within : goal.returns-in-Ended-clause-within
-returns-in-Ended-clause-within g c =
-    absurd (due-unended c.args.o.now c.args.when c.events.self c.in-Ended.end (c.is_due.ensures.going c.events-test.true).1 (sym c.in-Ended.is ∙ c.in_ok-end.ensures.answer))
-
-pub returns-in-Ended-clause-time : goal.returns-in-Ended-clause-time
-returns-in-Ended-clause-time g c =
-    absurd (due-unended c.args.o.now c.args.when c.events.self c.in-Ended.end (c.is_due.ensures.going c.events-test.true).1 (sym c.in-Ended.is ∙ c.in_ok-end.ensures.answer))
-
-pub returns-in-Ended-clause-offsets : goal.returns-in-Ended-clause-offsets
-returns-in-Ended-clause-offsets g c =
-    absurd (due-unended c.args.o.now c.args.when c.events.self c.in-Ended.end (c.is_due.ensures.going c.events-test.true).1 (sym c.in-Ended.is ∙ c.in_ok-end.ensures.answer))
-
-pub returns-in-Ended-clause-editable : goal.returns-in-Ended-clause-editable
-returns-in-Ended-clause-editable g c =
-    absurd (due-unended c.args.o.now c.args.when c.events.self c.in-Ended.end (c.is_due.ensures.going c.events-test.true).1 (sym c.in-Ended.is ∙ c.in_ok-end.ensures.answer))
-
-pub returns-in-Ended-clause-drops : goal.returns-in-Ended-clause-drops
-returns-in-Ended-clause-drops g c =
-    absurd (due-unended c.args.o.now c.args.when c.events.self c.in-Ended.end (c.is_due.ensures.going c.events-test.true).1 (sym c.in-Ended.is ∙ c.in_ok-end.ensures.answer))
-
-pub returns-in-Ended-clause-fitting : goal.returns-in-Ended-clause-fitting
-returns-in-Ended-clause-fitting g c =
-    absurd (due-unended c.args.o.now c.args.when c.events.self c.in-Ended.end (c.is_due.ensures.going c.events-test.true).1 (sym c.in-Ended.is ∙ c.in_ok-end.ensures.answer))
+pub unreachable-requires : goal.unreachable-requires
+unreachable-requires g c =
+    due-unended c.args.o.now c.args.when c.events.self _ (c.is_due.ensures.going c.events-test.true).1 (sym c.in-Ended.is ∙ c.in-Ok.ensures.answer)
 
 -- after want of memory
-pub returns-in_err-end-clause-made : goal.returns-in_err-end-clause-made
-returns-in_err-end-clause-made g c =
+pub returns-in_default-clause-made : goal.returns-in_default-clause-made
+returns-in_default-clause-made g c =
     let v = c.events.invariant in
     on-made c.args.o.now c.args.self.now c.events.self c.step_into.new.self v.grows c.step_into.ensures.grows v.made c.step_into.ensures.made
 
-pub returns-in_err-end-clause-made_kept : goal.returns-in_err-end-clause-made_kept
-returns-in_err-end-clause-made_kept g c sure =
+pub returns-in_default-clause-made_kept : goal.returns-in_default-clause-made_kept
+returns-in_default-clause-made_kept g c sure =
     let o = c.args.o.now in
     let s0 = c.args.self.now in
-    let same = c.in_err-end.ensures.refused sure in
-    c.in_err-end.ensures.keeper_refused sure ∙ c.events.invariant.kept
+    let same = c.in_default.ensures.refused sure in
+    c.in_default.ensures.keeper_refused sure ∙ c.events.invariant.kept
     ∙ ap (λ (x : State). folded g.K.Keeper.with (g.K.Keeper.told c.args.keeper.now) (between o s0 x).entries) (sym same)
 
-pub returns-in_err-end-clause-timely : goal.returns-in_err-end-clause-timely
-returns-in_err-end-clause-timely g c =
+pub returns-in_default-clause-timely : goal.returns-in_default-clause-timely
+returns-in_default-clause-timely g c =
     let v = c.events.invariant in
     on-timely c.args.o.now c.args.self.now c.events.self c.step_into.new.self v.grows c.step_into.ensures.grows v.made v.timely c.step_into.ensures.timely
 
-pub returns-in_err-end-clause-within : goal.returns-in_err-end-clause-within
-returns-in_err-end-clause-within g c =
+pub returns-in_default-clause-within : goal.returns-in_default-clause-within
+returns-in_default-clause-within g c =
     let v = c.events.invariant in
     let due = c.is_due.ensures.going c.events-test.true in
     omega (arith, c.step_into.ensures.one, time-part-due c.args.o.now c.args.when c.args.most c.args.self.now c.events.self v.made due.0 due.1 v.rest)
 
-pub returns-in_err-end-clause-time : goal.returns-in_err-end-clause-time
-returns-in_err-end-clause-time g c before =
+pub returns-in_default-clause-time : goal.returns-in_default-clause-time
+returns-in_default-clause-time g c before =
     let o = c.args.o.now in
     let s0 = c.args.self.now in
     let s = c.events.self in

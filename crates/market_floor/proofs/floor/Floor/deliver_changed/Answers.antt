@@ -12,8 +12,8 @@ use Rattle.market_floor.proofs.Rulings.{ruled-fits, ruled-made, ruled-sound, rul
 use Rattle.market_floor.proofs.Sounds.{floor-later}
 use Rattle.market_floor.proofs.floor.Floor.deliver_changed.Goals as goal
 
-pub returns-in_err-exchange-clause-sound : goal.returns-in_err-exchange-clause-sound
-returns-in_err-exchange-clause-sound c = λ n h. floor-later c.traders_stay_in_range.ensures.later n (n + 1) c.args.self.now (omega arith) h
+pub returns-in_default-clause-sound : goal.returns-in_default-clause-sound
+returns-in_default-clause-sound c = λ n h. floor-later c.traders_stay_in_range.ensures.later n (n + 1) c.args.self.now (omega arith) h
 
 pub react-requires-clause-fits : goal.react-requires-clause-fits
 react-requires-clause-fits c =
@@ -21,8 +21,8 @@ react-requires-clause-fits c =
     let t = c.args.m.now.time in
     let f = c.args.self.now in
     let i = c.self.inside in
-    let made = ruled-made o c.args.applied t f i.exchange c.in_ok-exchange.exchange i.parties.items i.offsets.items c.self.view_is c.in_ok-exchange.ensures.state in
-    let base = whole _ c.in_ok-exchange.exchange i.parties.items i.offsets.items c.as_slice-offsets.result.now c.as_slice-offsets.ensures.value made in
+    let made = ruled-made o c.args.applied t f i.exchange c.in-Ok.exchange i.parties.items i.offsets.items c.self.view_is c.in-Ok.ensures.state in
+    let base = whole _ c.in-Ok.exchange i.parties.items i.offsets.items c.as_slice-offsets.result.now c.as_slice-offsets.ensures.value made in
     subst (λ (q : FloorState). FitsFloor o q) (sym base) (ruled-fits o c.args.applied t f c.requires.fits)
 
 pub react-requires-clause-sound : goal.react-requires-clause-sound
@@ -31,8 +31,8 @@ react-requires-clause-sound c =
     let t = c.args.m.now.time in
     let f = c.args.self.now in
     let i = c.self.inside in
-    let made = ruled-made o c.args.applied t f i.exchange c.in_ok-exchange.exchange i.parties.items i.offsets.items c.self.view_is c.in_ok-exchange.ensures.state in
-    let base = whole _ c.in_ok-exchange.exchange i.parties.items i.offsets.items c.as_slice-offsets.result.now c.as_slice-offsets.ensures.value made in
+    let made = ruled-made o c.args.applied t f i.exchange c.in-Ok.exchange i.parties.items i.offsets.items c.self.view_is c.in-Ok.ensures.state in
+    let base = whole _ c.in-Ok.exchange i.parties.items i.offsets.items c.as_slice-offsets.result.now c.as_slice-offsets.ensures.value made in
     subst (λ (q : FloorState). IsSoundFloor 1000000 q) (sym base) (ruled-sound c.books_stay_short.ensures.changes 1000000 o c.args.applied t f c.requires.sound)
 
 pub react-requires-clause-among : goal.react-requires-clause-among
@@ -41,8 +41,8 @@ react-requires-clause-among c =
     let m = c.args.m.now in
     let f = c.args.self.now in
     let i = c.self.inside in
-    let made = ruled-made o c.args.applied m.time f i.exchange c.in_ok-exchange.exchange i.parties.items i.offsets.items c.self.view_is c.in_ok-exchange.ensures.state in
-    let stocks : length c.in_ok-exchange.exchange.stocks ≡ length f.exchange.stocks = ap (λ (q : FloorState). length q.exchange.stocks) made ∙ ruled-stocks o c.args.applied m.time f in
+    let made = ruled-made o c.args.applied m.time f i.exchange c.in-Ok.exchange i.parties.items i.offsets.items c.self.view_is c.in-Ok.ensures.state in
+    let stocks : length c.in-Ok.exchange.stocks ≡ length f.exchange.stocks = ap (λ (q : FloorState). length q.exchange.stocks) made ∙ ruled-stocks o c.args.applied m.time f in
     let traders : length i.parties.items ≡ length f.parties = ap (λ (q : FloorState). length q.parties) c.self.view_is in
     let h = c.requires.among in
     record {
@@ -52,11 +52,11 @@ react-requires-clause-among c =
       asks = subst (λ (k : ℕ). IsAskable k m.body) (sym stocks) h.asks;
     }
 
-pub returns-in_err-react-clause-sound : goal.returns-in_err-react-clause-sound
-returns-in_err-react-clause-sound c =
+pub returns-in_default-react-clause-sound : goal.returns-in_default-react-clause-sound
+returns-in_default-react-clause-sound c =
     let f = c.args.self.now in
     let i = c.self.inside in
-    let same : floor_of i.exchange c.react.new.parties.items i.offsets.items ≡ f = ap (λ (ps : List PartyState). floor_of i.exchange ps i.offsets.items) c.in_err-react.ensures.parties_refused ∙ c.self.view_is in
+    let same : floor_of i.exchange c.react.new.parties.items i.offsets.items ≡ f = ap (λ (ps : List PartyState). floor_of i.exchange ps i.offsets.items) c.in_default-react.ensures.parties_refused ∙ c.self.view_is in
     λ n h. subst (λ (q : FloorState). IsSoundFloor (n + 1) q) (sym same) (floor-later c.traders_stay_in_range.ensures.later n (n + 1) f (omega arith) h)
 
 pub returns-clause-floor : goal.returns-clause-floor
@@ -66,10 +66,10 @@ returns-clause-floor c =
     let f = c.args.self.now in
     let i = c.self.inside in
     let same : c.as_slice-offsets.result.now ≡ i.offsets.items = c.as_slice-offsets.ensures.value in
-    let made = ruled-made o c.args.applied m.time f i.exchange c.in_ok-exchange.exchange i.parties.items i.offsets.items c.self.view_is c.in_ok-exchange.ensures.state in
-    let base = whole _ c.in_ok-exchange.exchange i.parties.items i.offsets.items c.as_slice-offsets.result.now same made in
+    let made = ruled-made o c.args.applied m.time f i.exchange c.in-Ok.exchange i.parties.items i.offsets.items c.self.view_is c.in-Ok.ensures.state in
+    let base = whole _ c.in-Ok.exchange i.parties.items i.offsets.items c.as_slice-offsets.result.now same made in
     ap (λ (l : List ℤ). floor_of c.react.new.exchange c.react.new.parties.items l) (sym same)
-    ∙ c.in_ok-react.ensures.floor
+    ∙ c.in-Ok-react.ensures.floor
     ∙ ap (λ (q : FloorState). (reaction o q m).floor) base
 
 pub returns-clause-before : goal.returns-clause-before
@@ -78,7 +78,7 @@ returns-clause-before c =
     let t = c.args.m.now.time in
     let i = c.self.inside in
     let told : c.changed.new.feed.list ≡ (all_changed (due o c.args.applied t) i.exchange).feed =
-    c.in_ok-exchange.ensures.feed ∙ ap (λ (l : List Feed). l ++ (all_changed (due o c.args.applied t) i.exchange).feed) c.requires.untold in
+    c.in-Ok.ensures.feed ∙ ap (λ (l : List Feed). l ++ (all_changed (due o c.args.applied t) i.exchange).feed) c.requires.untold in
     ap (λ (l : Room Feed). l.list) c.react.ensures.before
     ∙ ruled-told o c.args.applied t c.args.self.now i.exchange _ (ap (λ (f : FloorState). f.exchange) c.self.view_is) told
 
@@ -88,9 +88,9 @@ returns-clause-told c =
     let m = c.args.m.now in
     let f = c.args.self.now in
     let i = c.self.inside in
-    let made = ruled-made o c.args.applied m.time f i.exchange c.in_ok-exchange.exchange i.parties.items i.offsets.items c.self.view_is c.in_ok-exchange.ensures.state in
-    let base = whole _ c.in_ok-exchange.exchange i.parties.items i.offsets.items c.as_slice-offsets.result.now c.as_slice-offsets.ensures.value made in
-    subst (λ (q : FloorState). IsTold (reaction o q m) c.react.new.out) base c.in_ok-react.ensures.told
+    let made = ruled-made o c.args.applied m.time f i.exchange c.in-Ok.exchange i.parties.items i.offsets.items c.self.view_is c.in-Ok.ensures.state in
+    let base = whole _ c.in-Ok.exchange i.parties.items i.offsets.items c.as_slice-offsets.result.now c.as_slice-offsets.ensures.value made in
+    subst (λ (q : FloorState). IsTold (reaction o q m) c.react.new.out) base c.in-Ok-react.ensures.told
 
 pub returns-clause-posted : goal.returns-clause-posted
 returns-clause-posted c =
@@ -98,11 +98,11 @@ returns-clause-posted c =
     let m = c.args.m.now in
     let f = c.args.self.now in
     let i = c.self.inside in
-    let made = ruled-made o c.args.applied m.time f i.exchange c.in_ok-exchange.exchange i.parties.items i.offsets.items c.self.view_is c.in_ok-exchange.ensures.state in
-    let stocks : length c.in_ok-exchange.exchange.stocks ≡ length f.exchange.stocks = ap (λ (q : FloorState). length q.exchange.stocks) made ∙ ruled-stocks o c.args.applied m.time f in
+    let made = ruled-made o c.args.applied m.time f i.exchange c.in-Ok.exchange i.parties.items i.offsets.items c.self.view_is c.in-Ok.ensures.state in
+    let stocks : length c.in-Ok.exchange.stocks ≡ length f.exchange.stocks = ap (λ (q : FloorState). length q.exchange.stocks) made ∙ ruled-stocks o c.args.applied m.time f in
     let traders : length i.parties.items ≡ length f.parties = ap (λ (q : FloorState). length q.parties) c.self.view_is in
     subst (λ (k : ℕ). ArePosted k (length f.exchange.stocks) m c.react.new.out.postings) traders
-    (subst (λ (k : ℕ). ArePosted (length i.parties.items) k m c.react.new.out.postings) stocks c.in_ok-react.ensures.posted)
+    (subst (λ (k : ℕ). ArePosted (length i.parties.items) k m c.react.new.out.postings) stocks c.in-Ok-react.ensures.posted)
 
 pub returns-clause-times_before : goal.returns-clause-times_before
 returns-clause-times_before c =
@@ -117,8 +117,8 @@ returns-clause-sound c =
     let f = c.args.self.now in
     let i = c.self.inside in
     let same : c.as_slice-offsets.result.now ≡ i.offsets.items = c.as_slice-offsets.ensures.value in
-    let made = ruled-made o c.args.applied t f i.exchange c.in_ok-exchange.exchange i.parties.items i.offsets.items c.self.view_is c.in_ok-exchange.ensures.state in
-    let base = whole _ c.in_ok-exchange.exchange i.parties.items i.offsets.items c.as_slice-offsets.result.now same made in
+    let made = ruled-made o c.args.applied t f i.exchange c.in-Ok.exchange i.parties.items i.offsets.items c.self.view_is c.in-Ok.ensures.state in
+    let base = whole _ c.in-Ok.exchange i.parties.items i.offsets.items c.as_slice-offsets.result.now same made in
     λ n h. subst (λ (l : List ℤ). IsSoundFloor (n + 1) (floor_of c.react.new.exchange c.react.new.parties.items l)) same
     (c.react.ensures.sound n (subst (λ (q : FloorState). IsSoundFloor n q) (sym base) (ruled-sound c.books_stay_short.ensures.changes n o c.args.applied t f h)))
 
@@ -128,5 +128,5 @@ returns-clause-stocks c =
     let t = c.args.m.now.time in
     let f = c.args.self.now in
     let i = c.self.inside in
-    let made = ruled-made o c.args.applied t f i.exchange c.in_ok-exchange.exchange i.parties.items i.offsets.items c.self.view_is c.in_ok-exchange.ensures.state in
+    let made = ruled-made o c.args.applied t f i.exchange c.in-Ok.exchange i.parties.items i.offsets.items c.self.view_is c.in-Ok.ensures.state in
     c.react.ensures.stocks ∙ ap (λ (q : FloorState). length q.exchange.stocks) made ∙ ruled-stocks o c.args.applied t f

@@ -22,13 +22,13 @@ returns-then-not-is_due-clause-feed c =
 pub returns-clause-floor : goal.returns-clause-floor
 returns-clause-floor c =
     let i = c.self.inside in
-    ruled-made c.args.o.now c.args.applied c.args.time c.args.self.now i.exchange c.in_ok-self-inside.field-0 i.parties.items i.offsets.items c.self.view_is c.in_ok-self-inside.ensures.state
+    ruled-made c.args.o.now c.args.applied c.args.time c.args.self.now i.exchange c.in-Ok.exchange i.parties.items i.offsets.items c.self.view_is c.in-Ok.ensures.state
 
 pub returns-clause-feed : goal.returns-clause-feed
 returns-clause-feed c =
     let i = c.self.inside in
     let told : c.changed.new.feed.list ≡ (all_changed (due c.args.o.now c.args.applied c.args.time) i.exchange).feed =
-    c.in_ok-self-inside.ensures.feed ∙ ap (λ (l : Room Feed). l.list ++ (all_changed (due c.args.o.now c.args.applied c.args.time) i.exchange).feed) c.new-feed.ensures in
+    c.in-Ok.ensures.feed ∙ ap (λ (l : Room Feed). l.list ++ (all_changed (due c.args.o.now c.args.applied c.args.time) i.exchange).feed) c.new-feed.ensures in
     ruled-told c.args.o.now c.args.applied c.args.time c.args.self.now i.exchange _ (ap (λ (f : FloorState). f.exchange) c.self.view_is) told
 
 pub returns-clause-times : goal.returns-clause-times

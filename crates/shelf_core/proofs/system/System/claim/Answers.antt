@@ -1,8 +1,17 @@
 use Rattle.std.proofs.Common.{◌≡◌, refl}
 use Rattle.shelf_core.specs.Views.{changed_at}
 use Rattle.shelf_core.specs.After.{with_claim}
-use Rattle.shelf_core.proofs.Apply.{replaced}
+use Rattle.shelf_core.proofs.Apply.{replaced, seat_low, seat_there, claim_there}
 use Rattle.shelf_core.proofs.system.System.claim.Goals as goal
+
+pub view-requires : goal.view-requires
+view-requires c = seat_there c.args.self.now c.args.n _ c.requires.possible
+
+pub set-requires : goal.set-requires
+set-requires c = seat_low c.args.self.now _ _ c.view.ensures
+
+pub set-requires-2 : goal.set-requires-2
+set-requires-2 c = claim_there c.args.self.now c.args.n c.args.segment c.requires.possible
 
 pub returns-clause-after : goal.returns-clause-after
 returns-clause-after c =

@@ -1,8 +1,11 @@
 use Rattle.std.proofs.Common.{◌≡◌, refl, arith}
 use Rattle.shelf_core.specs.Views.{changed_at}
 use Rattle.shelf_core.specs.After.{with_count}
-use Rattle.shelf_core.proofs.Apply.{replaced, count_words, seat_low}
+use Rattle.shelf_core.proofs.Apply.{replaced, count_words, seat_low, seat_there}
 use Rattle.shelf_core.proofs.system.System.count.Goals as goal
+
+pub view-view-requires : goal.view-view-requires
+view-view-requires c = seat_there c.args.self.now c.args.n _ c.requires.possible
 
 pub prove-unreachable-requires : goal.prove-unreachable-requires
 prove-unreachable-requires c =

@@ -3,8 +3,14 @@ use Rattle.std.proofs.Math.ListN.{length-set}
 use Rattle.std.specs.Prelude.{slice_set}
 use Rattle.shelf_core.specs.Views.{changed_at, spent_view}
 use Rattle.shelf_core.specs.After.{joined_with, after_join}
-use Rattle.shelf_core.proofs.Apply.{replaced, seat_low, join_seats, counts_low}
+use Rattle.shelf_core.proofs.Apply.{replaced, seat_low, join_seats, counts_low, seat_there, other_there}
 use Rattle.shelf_core.proofs.system.System.join.Goals as goal
+
+pub view-view-requires : goal.view-view-requires
+view-view-requires c = seat_there c.args.self.now c.args.n _ c.requires.possible
+
+pub view-other-requires : goal.view-other-requires
+view-other-requires c = other_there c.args.self.now c.args.n c.args.m c.requires.possible
 
 pub prove-unreachable-requires : goal.prove-unreachable-requires
 prove-unreachable-requires c =

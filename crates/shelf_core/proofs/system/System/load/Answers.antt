@@ -1,8 +1,14 @@
 use Rattle.std.proofs.Common.{◌≡◌, Some, ◌∙◌, ap}
 use Rattle.shelf_core.specs.Views.{changed_at}
 use Rattle.shelf_core.specs.After.{having_loaded, seat}
-use Rattle.shelf_core.proofs.Apply.{replaced}
+use Rattle.shelf_core.proofs.Apply.{replaced, seat_low, seat_there}
 use Rattle.shelf_core.proofs.system.System.load.Goals as goal
+
+pub view-requires : goal.view-requires
+view-requires c = seat_there c.args.self.now c.args.n _ c.requires.possible
+
+pub set-requires : goal.set-requires
+set-requires c = seat_low c.args.self.now _ _ c.view.ensures
 
 pub returns-clause-after : goal.returns-clause-after
 returns-clause-after c =

@@ -1,6 +1,6 @@
 use Rattle.std.proofs.Common.{◌≡◌, map}
 use Rattle.study_report.specs.Tables.{rows_of}
-use Rattle.study_report.proofs.tables.rows.Given as goal
+use Rattle.study_report.proofs.tables.add_rows.Given as goal
 
 abbrev pub invariant-loop-b : goal.invariant-loop-b
 invariant-loop-b g l =
