@@ -11,9 +11,9 @@ unpacked=$out/abides_release
 unpacked_name=abides-x86_64-linux
 packed_name=$unpacked_name.xz
 packed=$home/release/$packed_name
-# How the C library's allocator gets memory for the program: in huge pages, and 2 MiB more each time than it needs. A long run
-# touches all that it asks for, and is faster by it (docs/PERFORMANCE.md).
-tunables=glibc.malloc.hugetlb=1:glibc.malloc.top_pad=2097152
+# How the C library's allocator gets memory for the program: in huge pages, a mebibyte more each time than it needs, and each
+# large piece by itself. A long run touches all that it asks for, and is faster by it (docs/PERFORMANCE.md).
+tunables=glibc.malloc.hugetlb=1:glibc.malloc.mmap_threshold=131072:glibc.malloc.top_pad=1048576
 
 # Prints one line on standard error, behind the name of the script, and ends with status 1, which the program never gives.
 fail() {
