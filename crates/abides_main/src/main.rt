@@ -1,7 +1,7 @@
 //! The program.
 #![tactic(auto)]
 
-use abides_program::run_command_line;
+use abides_run::run_command_line;
 use outside::{ErrSink, OutSink};
 use std::process::ExitCode;
 

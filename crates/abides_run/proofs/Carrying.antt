@@ -3,20 +3,20 @@ use Rattle.std.proofs.Common.{◌≡◌, ◌⊎◌, ◌<◌, ◌≤◌, ◌+◌,
 use Rattle.toml.specs.Data.{Members}
 use Rattle.kernel_copy.specs.Courses.{CourseTold}
 use Rattle.study_file.specs.Tables.{table_of}
-use Rattle.session_answers.specs.declared.act.Act.{Act}
-use Rattle.session_answers.specs.declared.act.ScriptError.{ScriptError}
-use Rattle.session_answers.specs.declared.act.ScriptError.TheVariants as error
+use Rattle.session_desk.specs.declared.act.Act.{Act}
+use Rattle.session_desk.specs.declared.act.ScriptError.{ScriptError}
+use Rattle.session_desk.specs.declared.act.ScriptError.TheVariants as error
 use Rattle.study_rules.specs.Scope.{scope_of_opening}
-use Rattle.session_answers.specs.Script.{act_entries, acts_in, acts_of, forks_by_time, is_fit, is_script, script_of}
+use Rattle.session_desk.specs.Script.{act_entries, acts_in, acts_of, forks_by_time, is_fit, is_script, script_of}
 use Rattle.session_desk.specs.Session.{SessionTold, first_session}
-use Rattle.session_answers.specs.declared.end.PastAct.{PastAct}
-use Rattle.session_answers.specs.declared.end.SessionEnd.{SessionEnd}
-use Rattle.session_answers.specs.declared.end.SessionEnd.TheVariants as end
-use Rattle.session_answers.specs.Acting.{after_act}
-use Rattle.session_answers.specs.Answered.{session_bytes}
-use Rattle.session_answers.specs.Counted.{all_reached, all_run, surely_kept}
-use Rattle.session_answers.specs.Past.{past_act, past_from, past_last, past_or}
-use Rattle.session_answers.specs.Refused.{act_refused}
+use Rattle.session_desk.specs.declared.end.PastAct.{PastAct}
+use Rattle.session_desk.specs.declared.end.SessionEnd.{SessionEnd}
+use Rattle.session_desk.specs.declared.end.SessionEnd.TheVariants as end
+use Rattle.session_desk.specs.Acting.{after_act}
+use Rattle.session_desk.specs.Answered.{session_bytes}
+use Rattle.session_desk.specs.Counted.{all_reached, all_run, surely_kept}
+use Rattle.session_desk.specs.Past.{past_act, past_from, past_last, past_or}
+use Rattle.session_desk.specs.Refused.{act_refused}
 use Rattle.study_rules.specs.Accepted.{StudyTold}
 use Rattle.abides_run.specs.Fetched.{IsAmong}
 use Rattle.abides_run.specs.Notes.{past_event}

@@ -2,7 +2,7 @@
 use Rattle.std.proofs.Common.{◌≡◌, ◌⊎◌, ◌≤◌, ◌+◌, ℕ, List, [], ◌∷◌, Option, None, Some, Result, length, refl, sym, ap, ◌∙◌, subst, arith}
 use Rattle.command_words.specs.declared.asked.Crossing.{Crossing}
 use Rattle.reopen_cross.specs.declared.cross.Interest.{Interest}
-use Rattle.order_file.specs.Orders.{orders_of}
+use Rattle.reopening_desk.specs.Orders.{orders_of}
 use Rattle.reopening_desk.specs.declared.stock.StockNamed.{StockNamed}
 use Rattle.reopening_desk.specs.Reopened.{reopened}
 use Rattle.reopening_desk.specs.Stocks.{stock_of}

@@ -8,7 +8,7 @@ use Rattle.rewind_desk.specs.Best.{best}
 use Rattle.rewind_desk.specs.Sure.{HoldsSure, sure}
 use Rattle.rewind_desk.specs.AfterWork.{IsAfterWork}
 use Rattle.rewind_desk.specs.declared.target.Target.{Target}
-use Rattle.session_answers.specs.Counted.{surely_kept}
+use Rattle.session_desk.specs.Counted.{surely_kept}
 use Rattle.study_rules.specs.Accepted.{StudyTold}
 use Rattle.abides_run.specs.Rewinds.{steps_from, steps_to}
 

@@ -15,3 +15,4 @@ pub mod Audits
 pub mod Sessions
 pub mod Code
 pub mod Worked
+pub mod Ended

@@ -15,10 +15,10 @@ use Rattle.reopening_desk.specs.declared.stock.StockNamed.{StockNamed}
 use Rattle.reopening_desk.specs.Reopened.{reopened}
 use Rattle.bundle_reader.specs.Told.{BundleTold}
 use Rattle.audit_desk.specs.Audited.{displayed_over}
-use Rattle.session_answers.specs.declared.act.Act.{Act}
+use Rattle.session_desk.specs.declared.act.Act.{Act}
 use Rattle.session_desk.specs.Session.{first_session}
-use Rattle.session_answers.specs.Answered.{session_bytes}
-use Rattle.session_answers.specs.Counted.{all_reached, all_run, surely_kept}
+use Rattle.session_desk.specs.Answered.{session_bytes}
+use Rattle.session_desk.specs.Counted.{all_reached, all_run, surely_kept}
 use Rattle.abides_run.specs.Rewinds.{rewinds_of, steps_to, steps_to_all, target_state}
 
 -- the bundle of a study: the trace of each branch

@@ -1,8 +1,8 @@
 -- The acts of a session by their numbers, and how a session ends whose script says none.
 use Rattle.std.specs.Prelude.{ℕ, zero, suc, List, [], ◌∷◌, ◌++◌, codes}
 use Rattle.std.specs.Fmt.{decimal}
-use Rattle.session_answers.specs.declared.act.ScriptError.{ScriptError}
-use Rattle.session_answers.specs.declared.act.ScriptError.TheVariants as error
+use Rattle.session_desk.specs.declared.act.ScriptError.{ScriptError}
+use Rattle.session_desk.specs.declared.act.ScriptError.TheVariants as error
 use Rattle.abides_run.specs.declared.status.Status.{Status}
 use Rattle.abides_run.specs.declared.status.Status.TheVariants.{BadScript, Memory}
 

@@ -13,7 +13,7 @@ use Rattle.rewind_desk.specs.declared.target.Target.{Target}
 use Rattle.rewind_desk.specs.Targets.{aimed_at, past_of, target_of}
 use Rattle.command_words.specs.declared.asked.Crossing.{Crossing}
 use Rattle.reopen_cross.specs.declared.cross.Interest.{Interest}
-use Rattle.order_file.specs.Orders.{orders_of}
+use Rattle.reopening_desk.specs.Orders.{orders_of}
 use Rattle.reopening_desk.specs.declared.stock.StockNamed.{StockNamed}
 use Rattle.reopening_desk.specs.Stocks.{stock_of}
 use Rattle.study_file.specs.LargeStudy.{large_study}
@@ -21,13 +21,13 @@ use Rattle.bundle_reader.specs.Told.{BundleTold}
 use Rattle.bundle_reader.specs.Reading.{Read, read, cut, bad_frame, bad_order, reading_of}
 use Rattle.audit_desk.specs.declared.failing.Failing.{Failing}
 use Rattle.audit_desk.specs.Audited.{audit_of}
-use Rattle.session_answers.specs.declared.act.Act.{Act}
-use Rattle.session_answers.specs.declared.act.ScriptError.{ScriptError}
-use Rattle.session_answers.specs.Script.{script_of}
+use Rattle.session_desk.specs.declared.act.Act.{Act}
+use Rattle.session_desk.specs.declared.act.ScriptError.{ScriptError}
+use Rattle.session_desk.specs.Script.{script_of}
 use Rattle.session_desk.specs.Session.{first_session}
-use Rattle.session_answers.specs.declared.end.PastAct.{PastAct}
-use Rattle.session_answers.specs.Refused.{act_refused}
-use Rattle.session_answers.specs.Past.{past_act}
+use Rattle.session_desk.specs.declared.end.PastAct.{PastAct}
+use Rattle.session_desk.specs.Refused.{act_refused}
+use Rattle.session_desk.specs.Past.{past_act}
 use Rattle.command_words.specs.declared.asked.Request.{Request}
 use Rattle.command_words.specs.declared.asked.Request.TheVariants.{File, Large, Bundle}
 use Rattle.command_words.specs.declared.asked.Task.{Task}

@@ -2,7 +2,7 @@
 
 ghost use Rattle.std.specs.Prelude.{◌≡◌, ◌∷◌, [], ◌+◌, ◌<◌, ◌≤◌, ◌^◌, ℕ, List, IfOk, IfSome, length, option_map, string_bytes, unwrap_or};
 ghost use Rattle.command_words.specs.Ranges.{IsMark};
-ghost use Rattle.order_file.specs.Filed.{AreFiled};
+ghost use Rattle.reopening_desk.specs.Filed.{AreFiled};
 ghost use Rattle.reopening_desk.specs.Reopened.{reopened};
 ghost use Rattle.reopening_desk.specs.Stocks.{stock_of};
 ghost use Rattle.rewind_desk.specs.Targets.{past_of, target_of};
@@ -24,11 +24,10 @@ use command_words::{Crossing, Mark};
 use kernel_copy::laws::courses_stay_in_range;
 use kernel_copy::{Checkpoint, Course};
 use market_laws::laws::live_orders_of_courses_are_small;
-use order_file::{OrdersError, read_orders};
 use outside::{Gate, Ledger, Sink, Steps};
 use plain_lists::Memory;
 use reopen_cross::Interest;
-use reopening_desk::{StockNamed, reopening, stock_named};
+use reopening_desk::{OrdersError, StockNamed, read_orders, reopening, stock_named};
 use rewind_desk::{RewindError, Target, branch_named, first_past, rewind};
 use std::alloc::Global;
 use std::sync::{Arc, Wait};

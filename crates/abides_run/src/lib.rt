@@ -1,4 +1,5 @@
-//! The one call of the program: words, a library and sinks in, a status out.
+//! The one call of the program: words, a library and sinks in, a status out; and that call over the system's files and
+//! streams.
 #![tactic(auto)]
 
 mod audits;
@@ -13,9 +14,11 @@ mod send;
 mod sessions;
 mod simulate;
 mod status;
+mod system;
 mod top;
 pub mod worked;
 
 pub use notes::write_note;
 pub use status::Status;
+pub use system::{run_command_line, run_words};
 pub use top::run;

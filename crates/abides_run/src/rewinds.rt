@@ -9,7 +9,7 @@ ghost use Rattle.kernel_copy.specs.Courses.{IsCourse};
 ghost use Rattle.rewind_desk.specs.Best.{best};
 ghost use Rattle.rewind_desk.specs.Targets.{aimed_at};
 ghost use Rattle.rewind_desk.specs.declared.target.Target.{Target as TargetTold};
-ghost use Rattle.session_answers.specs.Counted.{surely_kept};
+ghost use Rattle.session_desk.specs.Counted.{surely_kept};
 ghost use Rattle.study_rules.specs.Accepted.{study_told};
 ghost use Rattle.abides_run.specs.Fetched.{arguments_of};
 ghost use Rattle.abides_run.specs.Notes.{past_event};

@@ -2,10 +2,10 @@
 
 ghost use Rattle.std.specs.Prelude.{◌≡◌, ◌⊎◌, ◌≤◌, ◌<◌, ◌^◌, ℕ, false, None, All, length, map, IfOk, string_bytes};
 ghost use Rattle.branch_tree.specs.Stops.{is_time};
-ghost use Rattle.session_answers.specs.Fitting.{FitsOpening};
+ghost use Rattle.session_desk.specs.Fitting.{FitsOpening};
 ghost use Rattle.session_desk.specs.Session.{first_session};
-ghost use Rattle.session_answers.specs.Past.{past_act};
-ghost use Rattle.session_answers.specs.Refused.{act_refused};
+ghost use Rattle.session_desk.specs.Past.{past_act};
+ghost use Rattle.session_desk.specs.Refused.{act_refused};
 ghost use Rattle.study_rules.specs.Accepted.{study_told};
 ghost use Rattle.abides_run.specs.Notes.{past_event};
 ghost use Rattle.abides_run.specs.Performed.{Finished, IsStride};
@@ -19,10 +19,8 @@ use crate::status::Status;
 use outside::{Gate, Ledger, Sink, Steps};
 use plain_lists::Memory;
 use probe_desk::Probe;
-use session_answers::laws::{branches_fork_by_number, nearer_states_leave_less};
-use session_answers::{
-    Act, PastAct, ScriptError, SessionEnd, carry_out, first_refused, read_script,
-};
+use session_desk::carried_laws::{branches_fork_by_number, nearer_states_leave_less};
+use session_desk::{Act, PastAct, ScriptError, SessionEnd, carry_out, first_refused, read_script};
 use std::alloc::{AllocError, Global};
 use std::sync::Wait;
 use std::thread::Threads;

@@ -6,7 +6,7 @@ ghost use Rattle.abides_run.specs.Output.{audit_line, audited, carried_out, coun
 ghost use Rattle.branch_tree.specs.declared.stop.Stop.TheVariants.{When};
 ghost use Rattle.abides_run.specs.Worked.{crossing_at, first_stock, header_alone, empty_course, empty_run, late_parent, mark_at, no_branches, no_branches_bytes, slower_at_a_time, target_at, three_branches, three_branches_at, three_branches_study, study_with_series};
 ghost use Rattle.abides_run.specs.Rewinds.{lasts_of};
-ghost use Rattle.session_answers.specs.declared.act.Act.TheVariants as act;
+ghost use Rattle.session_desk.specs.declared.act.Act.TheVariants as act;
 ghost use Rattle.abides_run.specs.Sessions.{act_word};
 ghost use Rattle.abides_run.specs.Words.{asked_of};
 ghost use Rattle.abides_run.specs.Verdict.{verdict, usage, no_file, file_too_long, refused, no_branch, no_stock, bad_orders, bad_bundle, bad_script, refused_act, no_event, accepted, verdict_on_study, verdict_on_found, verdict_on_bundle, verdict_on_script};

@@ -5,7 +5,7 @@ use Rattle.market_types.specs.declared.feed.Feed.{Feed}
 use Rattle.kernel_copy.specs.Courses.{CourseTold}
 use Rattle.kernel_copy.specs.Full.{full_run}
 use Rattle.trace_bundle.specs.Feed.{opening_feed, system_event}
-use Rattle.round_trip.specs.Back.{branch_back, branches_back}
+use Rattle.audit_desk.specs.Back.{branch_back, branches_back}
 use Rattle.feed_rebuild.specs.Compared.{by_stock}
 use Rattle.feed_rebuild.specs.Feeds.{entries_feed}
 use Rattle.feed_rebuild.specs.Fold.{fold, Told}

@@ -8,7 +8,7 @@ use Rattle.market_types.specs.Told.{EntryTold, event, edit}
 use Rattle.bundle_frames.specs.declared.closing.Closing.{Closing}
 use Rattle.kernel_copy.specs.Courses.{CourseTold}
 use Rattle.bundle_reader.specs.Told.{BranchTold}
-use Rattle.round_trip.specs.Back.{branch_back, branches_back, bundle_back}
+use Rattle.audit_desk.specs.Back.{branch_back, branches_back, bundle_back}
 use Rattle.feed_rebuild.specs.Feeds.{entries_feed, entry_feed}
 use Rattle.feed_rebuild.specs.Fold.{fold}
 use Rattle.audit_desk.specs.Agrees.{Agrees}

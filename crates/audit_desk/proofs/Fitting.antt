@@ -14,7 +14,7 @@ use Rattle.kernel_copy.specs.Full.{full_run}
 use Rattle.trace_bundle.specs.Feed.{directories, directory, opening_feed, symbol_at, system_event, trading, tradings}
 use Rattle.feed_rebuild.specs.Feeds.{entries_feed}
 use Rattle.audit_desk.specs.Audited.{branch_feed}
-use Rattle.round_trip.specs.Back.{branch_back}
+use Rattle.audit_desk.specs.Back.{branch_back}
 use Rattle.market_laws.specs.Small.{IsSmallFeed, IsSmallOrder, IsSmallStock, IsSmallWhat}
 use Rattle.market_laws.specs.Market.{exchange_of}
 use Rattle.audit_desk.specs.Clipped.{HasBookNumbers, IsComparable, TellsBooks}

@@ -43,19 +43,19 @@ use Rattle.bundle_reader.specs.Told.{BranchTold, BundleTold}
 use Rattle.bundle_reader.specs.Bundle.{IsBranch, IsBundle, branch_list, branches_list, bundle_list, closing_list, edit_part, entry_list, event_part, feed_list}
 use Rattle.bundle_reader.proofs.Ranges.{are_in}
 use Rattle.bundle_reader.specs.Reading.{Read, bad_frame, bad_order, cut, read}
-use Rattle.round_trip.specs.AsRead.{as_read}
-use Rattle.round_trip.specs.Back.{branch_back, branches_back, bundle_back}
-use Rattle.round_trip.specs.Fields.{HasEventTexts, HasTexts, is_number, texts_in_range}
-use Rattle.round_trip.specs.Spelled.{AreMessagesSpelled}
-use Rattle.round_trip.proofs.Adds.{HasFeedTexts}
-use Rattle.round_trip.proofs.Around.{close-in, opening-in}
-use Rattle.round_trip.proofs.Branches.{StatesOf}
-use Rattle.round_trip.proofs.Lists.{length-back}
-use Rattle.round_trip.proofs.Marks.{IsMarkedInRange, marked-full}
-use Rattle.round_trip.proofs.Replies.{HasToken, HasTokens, all-at}
-use Rattle.round_trip.proofs.Spellings.{IsToken}
-use Rattle.round_trip.proofs.Splits.{same-frames}
-use Rattle.round_trip.proofs.Widths.{frame-short}
+use Rattle.audit_desk.specs.AsRead.{as_read}
+use Rattle.audit_desk.specs.Back.{branch_back, branches_back, bundle_back}
+use Rattle.audit_desk.specs.Fields.{HasEventTexts, HasTexts, is_number, texts_in_range}
+use Rattle.audit_desk.specs.Spelled.{AreMessagesSpelled}
+use Rattle.audit_desk.proofs.Adds.{HasFeedTexts}
+use Rattle.audit_desk.proofs.Around.{close-in, opening-in}
+use Rattle.audit_desk.proofs.Branches.{StatesOf}
+use Rattle.audit_desk.proofs.Lists.{length-back}
+use Rattle.audit_desk.proofs.Marks.{IsMarkedInRange, marked-full}
+use Rattle.audit_desk.proofs.Replies.{HasToken, HasTokens, all-at}
+use Rattle.audit_desk.proofs.Spellings.{IsToken}
+use Rattle.audit_desk.proofs.Splits.{same-frames}
+use Rattle.audit_desk.proofs.Widths.{frame-short}
 use Rattle.audit_desk.specs.Clipped.{AreNamed, clipped, clipped_branch}
 use Rattle.audit_desk.proofs.HeldBranches.{IsSteady, branch-kept, steady-read}
 use Rattle.audit_desk.proofs.HeldBundles.{bundle-moved}

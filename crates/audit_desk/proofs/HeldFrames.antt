@@ -25,10 +25,10 @@ use Rattle.bundle_reader.specs.declared.frame.Frame.TheVariants.{Header, Branch,
 use Rattle.bundle_reader.specs.declared.frame.EventFrame.{EventFrame}
 use Rattle.bundle_reader.specs.declared.frame.WaitingFrame.{WaitingFrame}
 use Rattle.bundle_reader.specs.Frames.{HasRanges, edit_with, event_with, payload, waiting_wire}
-use Rattle.round_trip.specs.Fields.{HasBodyTexts, HasTexts}
-use Rattle.round_trip.proofs.Around.{branch-in, byte-in, end-in, header-in}
-use Rattle.round_trip.proofs.Numbers.{delivery-in, letter-in, side-in, silence-in}
-use Rattle.round_trip.proofs.Spellings.{IsToken, texts-in}
+use Rattle.audit_desk.specs.Fields.{HasBodyTexts, HasTexts}
+use Rattle.audit_desk.proofs.Around.{branch-in, byte-in, end-in, header-in}
+use Rattle.audit_desk.proofs.Numbers.{delivery-in, letter-in, side-in, silence-in}
+use Rattle.audit_desk.proofs.Spellings.{IsToken, texts-in}
 use Rattle.audit_desk.specs.Clipped.{clipped_agent, clipped_body, clipped_counts, clipped_feed, clipped_number, clipped_order, clipped_signed, clipped_stock, clipped_wide}
 use Rattle.audit_desk.proofs.HeldFields.{held_wire, number-below, number-held, stand_all, wire-fits, wire-spelled}
 use Rattle.audit_desk.proofs.HeldSigned.{high-back, low-back, positions-fit, positions-same, signed-back, signed-fits, wide-fits}

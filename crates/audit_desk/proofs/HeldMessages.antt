@@ -18,9 +18,9 @@ use Rattle.itch_codec.specs.Back.{feed_back, feed_of}
 use Rattle.bundle_frames.specs.Layouts.{ask_kinds, quote_kinds}
 use Rattle.bundle_frames.specs.Wires.{body_bytes, letter_of_body, quote_values}
 use Rattle.bundle_reader.specs.Bodies.{HasRanges as HasBodyRanges}
-use Rattle.round_trip.specs.Fields.{HasBodyTexts, HasTexts}
-use Rattle.round_trip.proofs.Around.{byte-in}
-use Rattle.round_trip.proofs.Spellings.{texts-in}
+use Rattle.audit_desk.specs.Fields.{HasBodyTexts, HasTexts}
+use Rattle.audit_desk.proofs.Around.{byte-in}
+use Rattle.audit_desk.proofs.Spellings.{texts-in}
 use Rattle.audit_desk.specs.Clipped.{clipped_body, clipped_feed, clipped_inbound, clipped_number, clipped_reply, clipped_what}
 use Rattle.audit_desk.proofs.HeldFields.{fields-fit, fields-spelled, held_wire, stand_all, wire-fits, wire-kept, wire-spelled}
 

@@ -32,12 +32,12 @@ use Rattle.kernel_copy.specs.Courses.{CourseTold, IsCourse}
 use Rattle.kernel_copy.specs.UntilStop.{until_stop}
 use Rattle.kernel_copy.specs.Full.{edited_by, forks_of, full, full_along, opening_run}
 use Rattle.trace_bundle.proofs.Origins.{stop-some}
-use Rattle.round_trip.specs.Fields.{HasEventTexts}
-use Rattle.round_trip.specs.Spelled.{AreMessagesSpelled, HasMessageTexts}
-use Rattle.round_trip.proofs.Reactions.{HasNames, opened-spelled}
-use Rattle.round_trip.proofs.Replies.{all-at}
-use Rattle.round_trip.proofs.Steps.{IsSpelledRun, edits-spelled, state-opened, stop-spelled, until-spelled}
-use Rattle.round_trip.proofs.Texts.{symbol-in}
+use Rattle.audit_desk.specs.Fields.{HasEventTexts}
+use Rattle.audit_desk.specs.Spelled.{AreMessagesSpelled, HasMessageTexts}
+use Rattle.audit_desk.proofs.Reactions.{HasNames, opened-spelled}
+use Rattle.audit_desk.proofs.Replies.{all-at}
+use Rattle.audit_desk.proofs.Steps.{IsSpelledRun, edits-spelled, state-opened, stop-spelled, until-spelled}
+use Rattle.audit_desk.proofs.Texts.{symbol-in}
 use Rattle.audit_desk.proofs.HeldMessages.{HasBodyLetter}
 use Rattle.audit_desk.proofs.Letters.{HasLetter, listed-lettered}
 use Rattle.audit_desk.proofs.LettersSent.{HasPostingLetter, edit-lettered, reaction-lettered, ruled-lettered}

@@ -29,7 +29,7 @@ use Rattle.exchange_agent.specs.Outcome.{Outcome}
 use Rattle.exchange_agent.specs.Settle.{Way, added, all_settled, execution_of, removed, settled}
 use Rattle.exchange_agent.specs.State.{State, Stock, no_stock, stock_at, with_stock}
 use Rattle.market_floor.specs.Ruled.{all_changed}
-use Rattle.round_trip.proofs.Replies.{all-at, if-both}
+use Rattle.audit_desk.proofs.Replies.{all-at, if-both}
 use Rattle.audit_desk.proofs.HeldMessages.{HasBodyLetter}
 
 abbrev pub HasLetter : Stock → Type 0

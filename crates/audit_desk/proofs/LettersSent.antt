@@ -34,7 +34,7 @@ use Rattle.market_floor.specs.Postings.{body_of}
 use Rattle.market_floor.specs.Reaction.{Reaction, decided_by, market_reaction, reaction, sight_at, trader_reaction}
 use Rattle.market_floor.specs.Ruled.{due, ruled}
 use Rattle.exchange_agent.specs.Market.{market}
-use Rattle.round_trip.proofs.Replies.{if-both}
+use Rattle.audit_desk.proofs.Replies.{if-both}
 use Rattle.audit_desk.proofs.HeldMessages.{HasBodyLetter}
 use Rattle.audit_desk.proofs.Letters.{HasLetter, change-lettered, changes-lettered, market-lettered}
 

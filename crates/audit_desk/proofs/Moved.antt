@@ -6,7 +6,7 @@ use Rattle.market_types.specs.declared.feed.Feed.{Feed}
 use Rattle.market_types.specs.Told.{EntryTold, EditTold, event, edit}
 use Rattle.feed_rebuild.specs.Feeds.{entries_feed, entry_feed}
 use Rattle.bundle_reader.specs.Order.{belongs, is_none}
-use Rattle.round_trip.specs.AsRead.{as_read, with_first, without_first}
+use Rattle.audit_desk.specs.AsRead.{as_read, with_first, without_first}
 
 none-is : (xs : List Feed) → is_none xs ≡ true → xs ≡ []
 none-is [] h = refl

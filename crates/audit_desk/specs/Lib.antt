@@ -1,3 +1,10 @@
+pub mod AsRead
+pub mod Back
+pub mod Fields
+pub mod Ranges
+pub mod Spelled
+pub mod TripWorked
+pub mod AcceptedBack
 pub mod Audited
 pub mod Agrees
 pub mod Worked

@@ -15,19 +15,19 @@ ghost use Rattle.bundle_reader.specs.Told.{BundleTold};
 ghost use Rattle.bundle_reader.specs.Bundle.{IsBundle, bundle_bytes};
 ghost use Rattle.bundle_reader.specs.Reading.{read, reading_of};
 ghost use Rattle.study_rules.specs.Accepted.{StudyTold, study_of};
-ghost use Rattle.round_trip.specs.Back.{bundle_back};
-ghost use Rattle.round_trip.specs.Ranges.{IsInRange as IsCourseInRange};
-ghost use Rattle.round_trip.specs.Spelled.{AreMessagesSpelled};
+ghost use Rattle.audit_desk.specs.Back.{bundle_back};
+ghost use Rattle.audit_desk.specs.Ranges.{IsInRange as IsCourseInRange};
+ghost use Rattle.audit_desk.specs.Spelled.{AreMessagesSpelled};
 ghost use Rattle.audit_desk.specs.Clipped.{AreNamed, IsComparable, TellsBooks, clipped, clipped_closing, clipped_feed};
 ghost use Rattle.audit_desk.specs.ClippedWorked.{comes_at, one_branch};
 
+use crate::accepted_laws::accepted_messages_are_spelled;
+use crate::trip_laws::bundles_come_back;
 use branch_tree::Branch;
 use bundle_reader::laws::bytes_are_read_as_told;
 use kernel_copy::Course;
 use kernel_copy::closing_laws::agents_have_all_positions;
 use kernel_copy::laws::courses_stay_in_range;
-use round_trip::accepted_laws::accepted_messages_are_spelled;
-use round_trip::laws::bundles_come_back;
 
 /// A bundle is written as the same bytes where each number is taken as its field holds it.
 pub fn fields_hold_last_bytes()

@@ -1,9 +1,9 @@
 //! A study whose branch injects an order, read back.
 
 use crate::facts::{equal, holds};
+use audit_desk::run_and_read;
 use bundle_reader::Bundle;
 use outside::{Counted, Steps};
-use round_trip::run_and_read;
 use std::alloc::Global;
 use std::process::Abort;
 use std::sync::Wait;

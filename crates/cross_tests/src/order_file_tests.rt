@@ -1,11 +1,11 @@
 ghost use Rattle.std.specs.Prelude.{IfOk};
-ghost use Rattle.order_file.specs.Filed.{AreFiled};
+ghost use Rattle.reopening_desk.specs.Filed.{AreFiled};
 
 use crate::facts::{equal, holds};
 use crate::reopen_cross_tests::{FIVE, TWO, list_of};
 use market_types::{HIGHEST_PRICE, Side};
-use order_file::{OrdersError, join, read_orders};
 use reopen_cross::Interest;
+use reopening_desk::{OrdersError, join, read_orders};
 use std::alloc::{AllocError, Global};
 use std::process::Abort;
 

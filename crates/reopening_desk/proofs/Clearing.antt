@@ -7,7 +7,7 @@ use Rattle.reopen_cross.specs.declared.cross.Interest.{Interest}
 use Rattle.reopen_cross.specs.Clearing.{IsClearing}
 use Rattle.reopen_cross.specs.Cross.{cross_of, executed}
 use Rattle.reopen_cross.specs.Orderly.{AreInterests}
-use Rattle.order_file.specs.Filed.{AreFiled, numbered_after}
+use Rattle.reopening_desk.specs.Filed.{AreFiled, numbered_after}
 use Rattle.reopening_desk.specs.Books.{AreResting}
 use Rattle.reopening_desk.specs.Reopened.{Clears, interest_of, interests_of}
 use Rattle.reopening_desk.proofs.Interests.{are-interests, few-interests, last-interests}

@@ -1,3 +1,7 @@
+pub mod OneByOne
+pub mod Filed
+pub mod Joins
+pub mod Told
 mod Clearing
 mod Few
 mod Interests

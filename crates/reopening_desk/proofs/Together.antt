@@ -6,7 +6,7 @@ use Rattle.reopen_cross.specs.declared.cross.Cross.{Cross}
 use Rattle.reopen_cross.specs.declared.cross.Interest.{Interest}
 use Rattle.reopen_cross.specs.declared.cross.Part.{Part}
 use Rattle.reopen_cross.specs.Cross.{cross_of}
-use Rattle.order_file.specs.Filed.{numbered_after}
+use Rattle.reopening_desk.specs.Filed.{numbered_after}
 use Rattle.reopening_desk.specs.declared.whole.Reopening.{Reopening}
 use Rattle.reopening_desk.specs.Reopening.{reopening_frames}
 use Rattle.reopening_desk.specs.declared.stock.StockNamed.{StockNamed}

@@ -1,3 +1,7 @@
+pub mod Fields
+pub mod Orders
+pub mod Filed
+pub mod Told
 pub mod Layouts
 pub mod Wires
 pub mod Frames

@@ -9,7 +9,7 @@ use Rattle.reopen_cross.specs.declared.cross.Part.{Part}
 use Rattle.reopen_cross.specs.Clearing.{IsClearing}
 use Rattle.reopen_cross.specs.Cross.{cross_of, executed}
 use Rattle.reopen_cross.specs.Parts.{parts_of}
-use Rattle.order_file.specs.Filed.{numbered_after}
+use Rattle.reopening_desk.specs.Filed.{numbered_after}
 use Rattle.reopening_desk.specs.declared.whole.Reopening.{Reopening}
 use Rattle.reopening_desk.specs.Reopening.{reopening_frames}
 use Rattle.reopening_desk.specs.declared.stock.StockNamed.{StockNamed}

@@ -1,7 +1,7 @@
 //! What a stock's book and a file's orders come to.
 
 ghost use Rattle.std.specs.Prelude.{◌≡◌, ◌<◌, IfOk, length};
-ghost use Rattle.order_file.specs.Filed.{AreFiled};
+ghost use Rattle.reopening_desk.specs.Filed.{AreFiled};
 ghost use Rattle.reopen_cross.specs.Cross.{cross_of};
 ghost use Rattle.reopen_cross.specs.Orderly.{AreInterests};
 ghost use Rattle.market_laws.specs.Small.{IsSmallExchange};
@@ -10,10 +10,9 @@ ghost use Rattle.reopening_desk.specs.Reopened.{Clears, interests_of, parts_in, 
 use crate::book::interests;
 use crate::laws::{live_orders_are_in_range, reopenings_clear};
 use crate::stock::StockNamed;
-use crate::{Reopening, put_reopening};
+use crate::{Reopening, join, put_reopening};
 use kernel_core::Kernel;
 use market_types::Memory;
-use order_file::join;
 use reopen_cross::{Cross, Interest, Part, choose, parts};
 use std::alloc::Global;
 

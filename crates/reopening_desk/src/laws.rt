@@ -5,13 +5,13 @@ ghost use Rattle.exchange_agent.specs.State.{State as Exchange, stock_at};
 ghost use Rattle.kernel_core.specs.State.{State};
 ghost use Rattle.reopen_cross.specs.declared.cross.Interest.{Interest};
 ghost use Rattle.reopen_cross.specs.Orderly.{AreInterests};
-ghost use Rattle.order_file.specs.Filed.{AreFiled};
+ghost use Rattle.reopening_desk.specs.Filed.{AreFiled};
 ghost use Rattle.market_laws.specs.Small.{IsSmallExchange};
 ghost use Rattle.reopening_desk.specs.Books.{AreResting};
 ghost use Rattle.reopening_desk.specs.Reopened.{Clears, interests_of};
 
+use crate::file_laws::a_file_joins_a_book;
 use market_laws::small::small_exchanges_have_small_books;
-use order_file::laws::a_file_joins_a_book;
 use reopen_cross::laws::{crosses_clear, none_trades_where_none_crosses};
 
 /// The live orders of each stock are in the ranges of interest, where the exchange's numbers are small, as those of every

@@ -14,7 +14,7 @@ use Rattle.branch_tree.specs.Stops.{is_within, no_earlier}
 use Rattle.branch_tree.specs.Plan.{no_branch, branch_at, parent_at, stop_at}
 use Rattle.branch_tree.specs.Tree.{IsRooted, late_from, late_parent, is_in_range, out_from, out_of_range, same_name, repeated_from, repeated_name, mixes, mixed_from, mixed_stop, first_of, too_many, too_much, plan_refusal}
 use Rattle.branch_tree.proofs.TreeLemmas.{tree_from, late_passed as passed, none_first, none_mapped, few_passed, mixed_passed as unmet}
-use Rattle.session_desk.specs.Acts.{branch_with}
+use Rattle.session_desk.specs.TreeActs.{branch_with}
 
 -- Of branches that aren't refused none is refused for any cause.
 pub record Parts (bs : List Branch) (limit : ℕ) : Type 0 where

@@ -7,4 +7,10 @@ pub mod Anchors
 pub mod Nearest
 pub mod Traces
 pub mod Refused
-pub mod Acts
+pub mod TreeActs
+pub mod Entries
+pub mod Told
+pub mod Fits
+pub mod Watching
+pub mod Turns
+pub mod Nearer

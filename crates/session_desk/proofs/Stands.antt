@@ -11,7 +11,7 @@ use Rattle.branch_tree.specs.Stops.{is_time}
 use Rattle.branch_tree.specs.Tree.{plan_refusal}
 use Rattle.kernel_copy.specs.Courses.{AreEdits, CourseTold, IsCourse}
 use Rattle.session_desk.specs.Session.{SessionTold, IsSession, IsStudys, first_session, is_own}
-use Rattle.session_desk.specs.Acts.{branch_with, with_fork, with_edits}
+use Rattle.session_desk.specs.TreeActs.{branch_with, with_fork, with_edits}
 use Rattle.session_desk.specs.Answers.{fork_refusal}
 use Rattle.session_desk.proofs.Accepted.{accepted-edits, accepted-less, before-last, rooted-less, rooted-more}
 use Rattle.session_desk.proofs.Numbered.{numbers-at as number-at}

@@ -4,7 +4,7 @@ ghost use Rattle.std.specs.Prelude.{◌≡◌, ◌<◌, ◌++◌, ◌∷◌, [],
 ghost use Rattle.branch_tree.specs.Paths.{path_of};
 ghost use Rattle.kernel_copy.specs.Full.{full};
 ghost use Rattle.session_desk.specs.Session.{SessionTold, IsSession, full_in, is_own};
-ghost use Rattle.session_desk.specs.Acts.{Act, acted, after_acts};
+ghost use Rattle.session_desk.specs.TreeActs.{Act, acted, after_acts};
 ghost use Rattle.session_desk.specs.Anchors.{anchor_of};
 
 /// A branch's anchor is still the study's own, and so is each branch before it: it has the path and the runs that it has in the

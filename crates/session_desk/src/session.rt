@@ -7,7 +7,7 @@ ghost use Rattle.branch_tree.specs.Stops.{is_time};
 ghost use Rattle.branch_tree.specs.declared.stop.Stop.TheVariants.{At};
 ghost use Rattle.kernel_copy.specs.Courses.{AreEdits};
 ghost use Rattle.session_desk.specs.Session.{IsSession, first_session, is_own};
-ghost use Rattle.session_desk.specs.Acts.{fork, undo, edit, acted};
+ghost use Rattle.session_desk.specs.TreeActs.{fork, undo, edit, acted};
 ghost use Rattle.session_desk.specs.Answers.{fork_refusal};
 
 use crate::copies::{all_own, copies, push_both, refusal_with};

@@ -5,7 +5,7 @@ ghost use Rattle.branch_tree.specs.declared.branch.Branch.{Branch};
 ghost use Rattle.branch_tree.specs.Worked.{nested};
 ghost use Rattle.kernel_copy.specs.Courses.{CourseTold};
 ghost use Rattle.session_desk.specs.Session.{is_own};
-ghost use Rattle.session_desk.specs.Acts.{fork, undo, edit, after_acts};
+ghost use Rattle.session_desk.specs.TreeActs.{fork, undo, edit, after_acts};
 ghost use Rattle.session_desk.specs.Anchors.{anchor_of, follower_of, shared_count};
 ghost use Rattle.session_desk.specs.Worked.{nested_session};
 

@@ -3,7 +3,7 @@ use Rattle.market_floor.specs.declared.opening.Opening.{Opening}
 use Rattle.branch_tree.specs.Plan.{Plan}
 use Rattle.kernel_copy.specs.Courses.{CourseTold}
 use Rattle.reopen_cross.specs.declared.cross.Interest.{Interest}
-use Rattle.order_file.specs.Orders.{orders_of}
+use Rattle.reopening_desk.specs.Orders.{orders_of}
 use Rattle.reopening_desk.specs.Stocks.{stock_of}
 use Rattle.rewind_desk.specs.Targets.{past_of, target_of}
 use Rattle.study_rules.specs.Accepted.{study_told}

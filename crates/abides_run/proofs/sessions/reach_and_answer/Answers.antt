@@ -2,8 +2,8 @@ use Rattle.std.proofs.Common.{◌≡◌, ◌≤◌, ◌∙◌, ℕ, List, Some, 
 use Rattle.kernel_copy.specs.Courses.{CourseTold}
 use Rattle.rewind_desk.specs.Best.{best}
 use Rattle.session_desk.specs.Session.{first_session}
-use Rattle.session_answers.specs.Counted.{all_reached, surely_kept}
-use Rattle.session_answers.specs.Past.{past_act}
+use Rattle.session_desk.specs.Counted.{all_reached, surely_kept}
+use Rattle.session_desk.specs.Past.{past_act}
 use Rattle.study_rules.specs.Accepted.{study_told}
 use Rattle.abides_run.specs.Performed.{Sent}
 use Rattle.abides_run.proofs.Carrying.{acts-answered, acts-eventless, acts-wanting, told-past}

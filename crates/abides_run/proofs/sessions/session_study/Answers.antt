@@ -1,10 +1,10 @@
 use Rattle.std.proofs.Common.{◌≡◌, ◌∙◌, List, None, Ok, Result, sym, ap}
 use Rattle.kernel_copy.specs.Courses.{CourseTold}
-use Rattle.session_answers.specs.declared.act.Act.{Act}
-use Rattle.session_answers.specs.declared.act.ScriptError.{ScriptError}
-use Rattle.session_answers.specs.Script.{script_of}
+use Rattle.session_desk.specs.declared.act.Act.{Act}
+use Rattle.session_desk.specs.declared.act.ScriptError.{ScriptError}
+use Rattle.session_desk.specs.Script.{script_of}
 use Rattle.session_desk.specs.Session.{first_session}
-use Rattle.session_answers.specs.Refused.{act_refused}
+use Rattle.session_desk.specs.Refused.{act_refused}
 use Rattle.study_rules.specs.Accepted.{study_told}
 use Rattle.abides_run.proofs.Carrying.{acts-finish, numbers-alone}
 use Rattle.abides_run.proofs.sessions.session_study.Goals as goal

@@ -12,7 +12,7 @@ use Rattle.kernel_core.specs.Edited.{edited_one}
 use Rattle.kernel_core.specs.Step.{event_of}
 use Rattle.kernel_core.specs.Until.{advanced}
 use Rattle.kernel_copy.specs.Full.{begun, full}
-use Rattle.session_answers.specs.Script.{script_of}
+use Rattle.session_desk.specs.Script.{script_of}
 use Rattle.abides_run.proofs.worked.sessions_of_three_branches.Goals as goal
 
 pub returns : goal.returns

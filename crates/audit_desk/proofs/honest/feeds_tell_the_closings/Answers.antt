@@ -1,5 +1,5 @@
 use Rattle.std.proofs.Common.{length, arith}
-use Rattle.round_trip.specs.Back.{bundle_back}
+use Rattle.audit_desk.specs.Back.{bundle_back}
 use Rattle.audit_desk.specs.Clipped.{clipped}
 use Rattle.audit_desk.proofs.Agreements.{AreTold, branches-agree}
 use Rattle.audit_desk.proofs.Clipping.{AreSmall, Stays, all-clipped-agree}

@@ -1,7 +1,7 @@
 use Rattle.std.proofs.Common.{◌≡◌, ◌∙◌, None, sym, subst}
 use Rattle.bundle_reader.specs.Told.{BundleTold}
 use Rattle.bundle_reader.specs.Reading.{read}
-use Rattle.round_trip.specs.Back.{bundle_back}
+use Rattle.audit_desk.specs.Back.{bundle_back}
 use Rattle.audit_desk.specs.Audited.{audit_of}
 use Rattle.audit_desk.specs.Clipped.{clipped}
 use Rattle.audit_desk.proofs.honest.honest_bundles_pass.Goals as goal

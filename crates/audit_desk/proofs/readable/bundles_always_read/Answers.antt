@@ -1,6 +1,6 @@
 use Rattle.std.proofs.Common.{◌∙◌, sym}
 use Rattle.bundle_reader.specs.Reading.{reading_of}
-use Rattle.round_trip.specs.Back.{bundle_back}
+use Rattle.audit_desk.specs.Back.{bundle_back}
 use Rattle.trace_bundle.specs.Bundle.{bundle_of}
 use Rattle.audit_desk.specs.Clipped.{clipped}
 use Rattle.audit_desk.proofs.HeldCourses.{course-clipped, same-read}

@@ -2,7 +2,7 @@ use Rattle.std.proofs.Common.{ℕ, ◌≤◌, length, subst}
 use Rattle.std.proofs.lemmas.List.Elements.{All-more}
 use Rattle.branch_tree.specs.declared.branch.Branch.{Branch}
 use Rattle.branch_tree.specs.Names.{IsNameLength}
-use Rattle.round_trip.proofs.Each.{all-whole}
+use Rattle.audit_desk.proofs.Each.{all-whole}
 use Rattle.audit_desk.proofs.readable.names_fit.Goals as goal
 
 abbrev IsNamed : Branch → Type 0

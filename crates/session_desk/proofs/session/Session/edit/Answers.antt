@@ -5,7 +5,7 @@ use Rattle.branch_tree.specs.declared.branch.Branch.{Branch}
 use Rattle.branch_tree.specs.Plan.{no_branch, branch_at}
 use Rattle.kernel_copy.specs.Courses.{AreEdits}
 use Rattle.session_desk.specs.Session.{SessionTold, IsSession}
-use Rattle.session_desk.specs.Acts.{branch_with}
+use Rattle.session_desk.specs.TreeActs.{branch_with}
 use Rattle.session_desk.proofs.Stands.{edit-stands}
 use Rattle.session_desk.proofs.session.Session.edit.Goals as goal
 

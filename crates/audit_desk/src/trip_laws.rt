@@ -1,0 +1,38 @@
+//! What reading answers of what was written.
+
+ghost use Rattle.std.specs.Prelude.{◌≡◌, ℕ, All};
+ghost use Rattle.kernel_copy.specs.Courses.{CourseTold, IsCourse};
+ghost use Rattle.kernel_copy.specs.Full.{full};
+ghost use Rattle.trace_bundle.specs.Bundle.{bundle_of};
+ghost use Rattle.bundle_reader.specs.Bundle.{HasFeed, IsBranch, IsBundle, IsSplit, bundle_bytes};
+ghost use Rattle.audit_desk.specs.Back.{branch_back, bundle_back};
+ghost use Rattle.audit_desk.specs.Fields.{HasEventTexts};
+ghost use Rattle.audit_desk.specs.Ranges.{IsInRange};
+ghost use Rattle.audit_desk.specs.Spelled.{AreMessagesSpelled};
+
+use kernel_copy::laws::courses_stay_in_range;
+
+/// Before each event of a run stand trading actions, after it messages on orders; a halt or a resume of a branch has at most
+/// the one trading action of its own time, and any other edit has no feed.
+pub fn feeds_are_of_their_kinds()
+    ensures { (c : CourseTold) (b e : ℕ) → All HasFeed (full c.opening c.plan b e).entries }
+{}
+
+/// The texts of each event's order or reply are in their ranges, where those of the orders are that the branches' edits inject:
+/// traders send symbols of the opening's stocks and tokens of their own, and the exchange replies with what it was sent.
+pub fn texts_stay_in_range()
+    ensures { (c : CourseTold) (b e : ℕ) → IsCourse c → AreMessagesSpelled c → All HasEventTexts (full c.opening c.plan b e).entries }
+{}
+
+/// What is written of a course is the bytes of what tells the branches' full runs with their feed as reading splits it. That is
+/// a bundle, which reading answers, where each name has 1 to 32 bytes and the fields of events, of the messages behind them and
+/// of closings are in their ranges; all other fields are so in every course.
+pub fn bundles_come_back()
+    ensures bytes { (c : CourseTold) → bundle_bytes (bundle_back c) ≡ bundle_of c }
+    ensures split { (c : CourseTold) (b : ℕ) → IsSplit (branch_back c b).entries }
+    ensures branches { (c : CourseTold) → IsCourse c → All (IsBranch (bundle_back c).stocks (bundle_back c).agents) (bundle_back c).branches }
+    ensures bundle { (c : CourseTold) → IsCourse c → IsInRange c → IsBundle (bundle_back c) }
+{
+    feeds_are_of_their_kinds();
+    courses_stay_in_range();
+}

@@ -1,4 +1,0 @@
-pub mod OneByOne
-pub mod Filed
-pub mod Joins
-pub mod Told

@@ -1,4 +1,0 @@
-pub mod Fields
-pub mod Orders
-pub mod Filed
-pub mod Told

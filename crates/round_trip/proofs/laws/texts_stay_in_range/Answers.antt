@@ -1,5 +1,0 @@
-use Rattle.round_trip.proofs.Injected.{full-spelled}
-use Rattle.round_trip.proofs.laws.texts_stay_in_range.Goals as goal
-
-pub returns : goal.returns
-returns g c b e is edits = full-spelled c b e is edits

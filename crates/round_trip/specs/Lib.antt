@@ -1,7 +1,0 @@
-pub mod AsRead
-pub mod Back
-pub mod Fields
-pub mod Ranges
-pub mod Spelled
-pub mod Worked
-pub mod AcceptedBack

@@ -1,5 +1,0 @@
-use Rattle.session_answers.proofs.Told.{one-by-one}
-use Rattle.session_answers.proofs.script_laws.acts_are_told_one_by_one.Goals as goal
-
-pub returns : goal.returns
-returns c = one-by-one
