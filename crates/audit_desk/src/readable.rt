@@ -6,7 +6,6 @@ ghost use Rattle.market_types.specs.declared.feed.Feed.{Feed};
 ghost use Rattle.wire_fields.specs.Wire.{IsInRange};
 ghost use Rattle.itch_codec.specs.Messages.{feed_wire};
 ghost use Rattle.bundle_frames.specs.declared.closing.Closing.{Closing};
-ghost use Rattle.branch_tree.specs.Names.{IsNameLength};
 ghost use Rattle.kernel_copy.specs.Courses.{CourseTold, IsCourse};
 ghost use Rattle.feed_rebuild.specs.Fold.{Told, fold, told_what};
 ghost use Rattle.audit_desk.specs.Audited.{displayed, states_of};
@@ -23,7 +22,7 @@ ghost use Rattle.audit_desk.specs.ClippedWorked.{comes_at, one_branch};
 
 use crate::accepted_laws::accepted_messages_are_spelled;
 use crate::trip_laws::bundles_come_back;
-use branch_tree::Branch;
+use crate::typed_runs::names_fit;
 use bundle_reader::laws::bytes_are_read_as_told;
 use kernel_copy::Course;
 use kernel_copy::closing_laws::agents_have_all_positions;
@@ -57,15 +56,6 @@ pub fn bundles_always_read()
     agents_have_all_positions();
     bundles_come_back();
     bytes_are_read_as_told();
-}
-
-// The names of branches.
-fn names_fit(branches: &[Branch])
-    ensures { All (λ b. IsNameLength (length b.name)) branches.now }
-{
-    for i in 0..branches.len() {
-        let _ = branches[i].name.len();
-    }
 }
 
 /// Each branch of a course has a name, by the type of names.

@@ -87,7 +87,7 @@ fn branches_fit<W: RunOutcomes>(alloc: Global, course: &Course, ran: &W) -> Resu
 }
 
 // The names of branches.
-fn names_fit(branches: &[Branch])
+pub(crate) fn names_fit(branches: &[Branch])
     ensures { All (λ b. IsNameLength (length b.name)) branches.now }
 {
     for i in 0..branches.len() {

@@ -4,11 +4,11 @@ ghost use Rattle.std.specs.Prelude.{◌≡◌, true, Some, IfOk, IsSome};
 ghost use Rattle.shelf_core.specs.Plan.{place_of, is_in};
 ghost use Rattle.shelf_core.specs.Made.{Stays};
 
+use crate::rest::rest;
 use checkpoint_shelf::{Found, Key, Shelf, ShelfSeat};
 use kernel_copy::Checkpoint;
 use market_types::Memory;
 use std::sync::{Arc, Wait};
-use std::thread;
 
 // The value of a key, which is looked for again while it isn't there or another seat has it on loan.
 pub(crate) fn wait_for<R: Wait>(
@@ -28,7 +28,7 @@ pub(crate) fn wait_for<R: Wait>(
         if let Found::Here(value) = shelf.find(seat, key)? {
             return Ok(value);
         }
-        thread::yield_now();
+        rest(rt);
     }
     unreachable!()
 }

@@ -8,6 +8,7 @@ mod gather;
 mod grid;
 mod layout;
 mod order;
+mod rest;
 mod segment;
 mod shift;
 mod staff;

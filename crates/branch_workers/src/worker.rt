@@ -7,6 +7,7 @@ ghost use Rattle.branch_workers.specs.Runs.{IsShelfOf};
 ghost use Rattle.branch_workers.specs.Workers.{IsAtWork, HasEnded, HasFinished, own_of};
 
 use crate::order::add;
+use crate::rest::rest;
 use crate::segment::run_segment;
 use crate::shift::Shift;
 use branch_deques::{Lane, Room};
@@ -14,7 +15,6 @@ use checkpoint_shelf::{Shelf, ShelfSeat};
 use kernel_copy::{Checkpoint, Course, Outcome};
 use outside::{Gate, Ledger, Steps};
 use std::sync::Wait;
-use std::thread;
 
 // What one worker has.
 pub(crate) struct Worker<L: Ledger, B: Room> {
@@ -156,7 +156,7 @@ pub(crate) fn run_worker<R: Wait, G: Gate, L: Ledger, B: Room>(
                 if ends(shift, worker) {
                     return;
                 }
-                thread::yield_now();
+                rest(rt);
             }
         }
     }
