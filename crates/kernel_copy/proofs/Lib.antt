@@ -12,3 +12,4 @@ pub mod Keeping
 pub mod Pieces
 pub mod Adding
 pub mod Reaching
+pub mod Parts

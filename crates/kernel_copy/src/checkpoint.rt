@@ -48,21 +48,30 @@ impl Checkpoint {
         let Ok(shared) = Arc::try_clone(course) else {
             return Err(Memory);
         };
-        let kernel = match kernel.copy(alloc) {
-            Ok(kernel) => kernel,
-            Err(refused) => {
-                drop(shared);
-                return Err(refused);
-            }
+        let Ok(kernel) = kernel.copy(alloc) else {
+            drop(shared);
+            return Err(Memory);
         };
-        let kept = Checkpoint {
-            course: shared,
-            key,
-            kernel,
-        };
+        Checkpoint::shared(
+            alloc,
+            Checkpoint {
+                course: shared,
+                key,
+                kernel,
+            },
+        )
+    }
+
+    // A checkpoint that can be shared.
+    fn shared(alloc: Global, kept: Checkpoint) -> Result<Arc<Checkpoint>, Memory>
+        ensures { IfOk result (λ c. c.value ≡ kept) }
+    {
         match Arc::new(alloc, kept) {
             Ok(kept) => Ok(kept),
-            Err(_) => Err(Memory),
+            Err(refused) => {
+                drop(refused.value);
+                Err(Memory)
+            }
         }
     }
 

@@ -157,7 +157,7 @@ fn run_packed<L: Ledger>(
         .saturating_sub(kernel.events());
     events.packed.expect(left as usize);
     let ran = run_part(alloc, o, stop, most, kernel, &mut events, steps);
-    *packed = events.packed;
+    drop(replace(packed, events.packed));
     ran
 }
 

@@ -14,4 +14,4 @@ returns-clause-kept g c =
     let more = (until_part o c.args.stop c.args.most (afresh c.args.kernel.now)).entries in
     let start : c.expect.new.self.list ≡ told = ap (λ v. v.list) c.expect.ensures ∙ ap (λ v. v.list) c.replace.ensures.value in
     then-ok c.run_part-ran.result c.run_part-ran.ensures.kept
-    (λ is. ap (λ (es : List EntryTold). entries es) (is ∙ ap (λ (es : List EntryTold). folded listed es more) start ∙ part-lists told o c.args.stop c.args.most c.args.kernel.now))
+    (λ is. ap (λ (es : List EntryTold). entries es) (ap (λ v. v.list) c.replace-2.ensures.after ∙ is ∙ ap (λ (es : List EntryTold). folded listed es more) start ∙ part-lists told o c.args.stop c.args.most c.args.kernel.now))
