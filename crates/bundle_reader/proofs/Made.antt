@@ -1,5 +1,5 @@
 -- Frames as the reader makes them, of numbers that came through signed ones.
-use Rattle.std.proofs.Common.{◌≡◌, ◌∙◌, ℕ, ◌*◌, ◌/◌, ◌%◌, ◌^◌, ◌<◌, List, ◌∷◌, length, Option, Some, None, sym, ap, subst, arith}
+use Rattle.std.proofs.Common.{◌≡◌, ◌∙◌, ℕ, ◌*◌, ◌/◌, ◌%◌, ◌^◌, ◌<◌, List, [], ◌∷◌, length, Option, Some, None, sym, ap, subst, arith}
 use Rattle.std.specs.Prelude.{ℤ, All}
 use Rattle.std.specs.Int.{cast_unsigned, cast_signed, w64, w128}
 use Rattle.std.specs.Int.RustNames.{FitsSigned}
@@ -7,21 +7,23 @@ use Rattle.std.proofs.Math.Facts.{sfits_to_z}
 use Rattle.std.proofs.lemmas.Int.{of_z-to_z}
 use Rattle.market_types.specs.declared.message.Body.{Body}
 use Rattle.wire_fields.specs.Wire.{IsInRange}
-use Rattle.bundle_frames.specs.Layouts.{event_kinds, agent_kinds}
+use Rattle.bundle_frames.specs.Layouts.{event_kinds, stock_kinds, agent_kinds}
 use Rattle.bundle_frames.specs.Wires.{positions_bytes}
+use Rattle.bundle_frames.specs.declared.closing.ClosingStock.{ClosingStock}
 use Rattle.bundle_frames.specs.declared.closing.ClosingAgent.{ClosingAgent}
 use Rattle.bundle_reader.specs.declared.head.Head.TheVariants as head
 use Rattle.bundle_reader.specs.declared.head.EventHead.{EventHead}
+use Rattle.bundle_reader.specs.declared.head.StockHead.{StockHead}
 use Rattle.bundle_reader.specs.declared.head.AgentHead.{AgentHead}
-use Rattle.bundle_reader.specs.Heads.{head_wire, event_head, agent_head}
+use Rattle.bundle_reader.specs.Heads.{head_wire, event_head, stock_head, agent_head}
 use Rattle.bundle_reader.specs.Bodies.{IsBody}
 use Rattle.bundle_reader.specs.declared.frame.Frame.{Frame}
-use Rattle.bundle_reader.specs.declared.frame.Frame.TheVariants.{Event, Agent}
+use Rattle.bundle_reader.specs.declared.frame.Frame.TheVariants.{Event, Stock, Agent}
 use Rattle.bundle_reader.specs.Frames.{HasPositions}
 use Rattle.bundle_reader.specs.Parts.{IsOf, count_of}
 use Rattle.bundle_reader.proofs.Signed.{length-positions}
 use Rattle.bundle_reader.proofs.Ranges.{are_in, number_fits, delivery_is, silence_is}
-use Rattle.bundle_reader.proofs.FrameKinds.{kind, HasHalves, ArePositions, event_frame_of, event_is, agent_frame_of, agent_is, agent_only, one_list}
+use Rattle.bundle_reader.proofs.FrameKinds.{kind, HasHalves, ArePositions, event_frame_of, event_is, stock_frame_of, stock_is, stock_only, agent_frame_of, agent_is, agent_only, one_list}
 
 -- a number that was made signed and is so again
 signed_again : (z : ℤ) (n : ℕ) → n < 2 ^ 64 → z ≡ cast_signed w64 n → cast_signed w64 (cast_unsigned w64 z) ≡ cast_signed w64 n
@@ -38,7 +40,7 @@ event_made stocks h rest bytes b fee is bytes_are fee_is range =
     let lt = number_fits h.fee all.1.1.1.1.1.1.1.0 in
     subst P (sym (signed_again fee h.fee lt fee_is)) (event_is stocks h rest b (subst Q bytes_are is) lt (delivery_is h.delivery all.1.1.1.1.1.0) range)
 
--- ---- agents
+-- ---- stocks
 
 -- a number of sixteen bytes that was joined of its halves and is so again
 halves_again : (high low : ℕ) (z : ℤ) → high < 2 ^ 64 → cast_unsigned w128 z / 2 ^ 64 ≡ high → cast_unsigned w128 z % 2 ^ 64 ≡ low
@@ -52,6 +54,44 @@ halves_again high low z few high_is low_is =
       low_is = ap (λ (m : ℕ). m % 2 ^ 64) back ∙ low_is;
       fits = sfits_to_z (record { fits = lt });
     }
+
+-- the stock of these numbers, which came through their bits
+abbrev pub stock_of : StockHead → ℤ → ℤ → ClosingStock
+stock_of h fees offset = record (stock_frame_of h (cast_signed w128 (cast_unsigned w128 fees))) { offset = cast_signed w64 (cast_unsigned w64 offset) }
+
+-- what was read of the head of a stock
+pub record StockRead (h : StockHead) (fees offset : ℤ) : Type 0 where
+  pub high : cast_unsigned w128 fees / 2 ^ 64 ≡ h.fees_high
+  pub low : cast_unsigned w128 fees % 2 ^ 64 ≡ h.fees_low
+  pub offset_is : offset ≡ cast_signed w64 h.offset
+  pub range : IsInRange (head_wire (head.Stock h))
+
+stock_halves : (h : StockHead) (fees offset : ℤ) → StockRead h fees offset → HasHalves h.fees_high h.fees_low (cast_signed w128 (cast_unsigned w128 fees))
+stock_halves h fees offset read =
+    let all = are_in stock_kinds (stock_head h).values read.range in
+    halves_again h.fees_high h.fees_low fees (number_fits h.fees_high all.1.1.1.1.0) read.high read.low
+
+offset_fits : (h : StockHead) → IsInRange (head_wire (head.Stock h)) → h.offset < 2 ^ 64
+offset_fits h range =
+    let all = are_in stock_kinds (stock_head h).values range in number_fits h.offset all.1.1.1.1.1.1.0
+
+pub stock_made : (stocks : Option ℕ) (h : StockHead) (rest : List ℕ) (fees offset : ℤ) → rest ≡ [] → StockRead h fees offset
+    → IsOf stocks (head.Stock h) rest (Stock (stock_of h fees offset))
+stock_made stocks h rest fees offset none read =
+    let fees_now = cast_signed w128 (cast_unsigned w128 fees) in
+    let lt = offset_fits h read.range in
+    let P : ℤ → Type 0 = λ z. IsOf stocks (head.Stock h) rest (Stock (record (stock_frame_of h fees_now) { offset = z })) in
+    subst P (sym (signed_again offset h.offset lt read.offset_is)) (stock_is stocks h rest fees_now none (stock_halves h fees offset read) lt read.range)
+
+pub stock_alone : (stocks : Option ℕ) (h : StockHead) (rest : List ℕ) (fees offset : ℤ) → StockRead h fees offset
+    → (f : Frame) → IsOf stocks (head.Stock h) rest f → Some (Stock (stock_of h fees offset)) ≡ Some f
+stock_alone stocks h rest fees offset read f is =
+    let fees_now = cast_signed w128 (cast_unsigned w128 fees) in
+    let only = stock_only stocks h rest f fees_now (stock_halves h fees offset read) is in
+    ap (λ (z : ℤ). Some (Stock (record (stock_frame_of h fees_now) { offset = z }))) (signed_again offset h.offset (offset_fits h read.range) read.offset_is)
+    ∙ ap (λ (x : Frame). Some x) (sym only.1)
+
+-- ---- agents
 
 has_positions : (stocks : Option ℕ) (n count : ℕ) (ps : List ℤ) → count ≡ count_of stocks n → length ps ≡ count → HasPositions stocks ps
 has_positions None n count ps is len = tt

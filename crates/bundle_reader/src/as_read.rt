@@ -10,7 +10,6 @@ use std::alloc::Global;
 ///
 /// # Errors
 /// `Cut`, `BadFrame` and `BadOrder`, the first that applies in the order of the bytes, and `Memory`.
-#[tactic(auto, using(crate::proofs::AsRead::answer_as, crate::proofs::AsRead::bundle_as, crate::proofs::AsRead::refused_as))]
 pub fn read(alloc: Global, bytes: &[u8]) -> Result<Bundle, BundleError>
     ensures answer { IsReadAs result (reading_of bytes.now) }
 {
