@@ -1,5 +1,5 @@
 -- The first order of a side, from the first ones of its two queues.
-use Rattle.std.proofs.Common.{◌≡◌, ◌≢◌, ℕ, Bool, true, false, List, Option, Some, None, IfSome, sym, ap, ◌∙◌, inl, inr, subst}
+use Rattle.std.proofs.Common.{◌≡◌, ◌≢◌, ℕ, Bool, true, false, List, Option, Some, None, IfNone, IfSome, sym, ap, ◌∙◌, inl, inr, subst}
 use Rattle.std.proofs.lemmas.Bool.{cases_Bool}
 use Rattle.market_types.specs.declared.order.Side.{Side}
 use Rattle.price_time_book.specs.declared.levels.Queue.{Queue}
@@ -13,6 +13,10 @@ use Rattle.price_time_book.specs.declared.levels.Level.{Level}
 pub if_some : {A : Type 0} (P Q : A → Type 0) (r : Option A) → ((a : A) → P a → Q a) → IfSome r P → IfSome r Q
 if_some P Q None f h = tt
 if_some P Q (Some a) f h = f a h
+
+pub if_none : {A : Type 0} (P Q : Type 0) (r : Option A) → (P → Q) → IfNone r P → IfNone r Q
+if_none P Q None f h = f h
+if_none P Q (Some a) f h = tt
 
 -- what is known of the first order of a queue is known of the first order of the side, where that is in the queue
 pub from_one : (P : ℕ × ℕ → Type 0) (b : Bool) (r : Option First) (a : Option (ℕ × ℕ)) → IfSome r (λ f. f.shown ≡ b → a ≡ Some (f.level, f.place)) → IfSome a P → IfSome r (λ f. f.shown ≡ b → P (f.level, f.place))

@@ -101,7 +101,8 @@ fn earlier(
             place,
         }),
         (Some((level, place)), Some((hidden_level, hidden_place))) => {
-            if is_better(side, orders[hidden_place].price, orders[place].price) {
+            let hidden_first = is_better(side, orders[hidden_place].price, orders[place].price);
+            if hidden_first {
                 return Some(First {
                     shown: false,
                     level: hidden_level,

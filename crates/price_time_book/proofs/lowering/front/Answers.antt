@@ -3,6 +3,9 @@ use Rattle.price_time_book.specs.Indexed.{nothing}
 use Rattle.price_time_book.proofs.Lowers.{chain_on}
 use Rattle.price_time_book.proofs.lowering.front.Goals as goal
 
+pub loop-at-init : goal.loop-at-init
+loop-at-init c = record { placed = c.requires.right.first; before = c.requires.right.before; from = omega arith }
+
 pub loop-at-preserved : goal.loop-at-preserved
 loop-at-preserved c =
     let v = c.loop-at.invariant in

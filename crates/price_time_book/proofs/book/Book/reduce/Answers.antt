@@ -1,8 +1,9 @@
-use Rattle.std.proofs.Common.{sym, ap, ◌∙◌, subst, refl, arith, rules}
+use Rattle.std.proofs.Common.{◌-◌, List, sym, ap, ◌∙◌, subst, refl, arith, rules}
 use Rattle.market_types.specs.Room.{Room}
 use Rattle.market_types.specs.declared.order.Side.TheVariants.{Buy, Sell}
 use Rattle.price_time_book.specs.declared.resting.Resting.{Resting}
-use Rattle.price_time_book.specs.Indexed.{IsIndexed}
+use Rattle.price_time_book.specs.Indexed.{IsIndexed, open_orders}
+use Rattle.price_time_book.specs.Orders.{changed, order_with, reduced}
 use Rattle.price_time_book.specs.Queues.{hidden_of, shown_of}
 use Rattle.price_time_book.proofs.Indexes.{references_lessened, tokens_lessened}
 use Rattle.price_time_book.proofs.Takes.{held, others_buy, others_sell}
@@ -122,3 +123,69 @@ invariant_of-self-in-Sell c =
       orderly = c.lower_at-in-Sell.ensures.orderly;
       small = c.lower_at-in-Sell.ensures.small c.self.invariant.small;
     }
+
+pub lower_at-requires-clause-shown : goal.lower_at-requires-clause-shown
+lower_at-requires-clause-shown c =
+    let k = c.self.inside in
+    subst (λ n. IsIndexed (shown_of Buy) k.orders.items n k.buys.shown.items) (sym c.as_slice-nexts.ensures.value) c.self.invariant.buys
+
+pub lower_at-requires-clause-hidden : goal.lower_at-requires-clause-hidden
+lower_at-requires-clause-hidden c =
+    let k = c.self.inside in
+    subst (λ n. IsIndexed (hidden_of Buy) k.orders.items n k.buys.hidden.items) (sym c.as_slice-nexts.ensures.value) c.self.invariant.hidden_buys
+
+pub lower_at-requires-clause-count : goal.lower_at-requires-clause-count
+lower_at-requires-clause-count c = c.self.invariant.buy_count
+
+pub lower_at-requires-clause-orderly : goal.lower_at-requires-clause-orderly
+lower_at-requires-clause-orderly c = c.self.invariant.orderly
+
+pub returns-in-Buy-clause-was : goal.returns-in-Buy-clause-was
+returns-in-Buy-clause-was c =
+    c.in_ok-at.ensures.held ∙ ap (λ (w : List Resting). order_with c.args.reference (open_orders w)) c.as_slice.ensures.value ∙ ap (λ (r : Room Resting). order_with c.args.reference r.list) c.self.view_is
+
+pub returns-in-Buy-clause-reduced : goal.returns-in-Buy-clause-reduced
+returns-in-Buy-clause-reduced c =
+    let k = c.self.inside in
+    let o = c.in_ok-at.resting in
+    let seen = held c.as_slice.result.now k.orders.items c.args.self.now.list c.args.reference c.args.left c.in_ok-at.at o c.as_slice.ensures.value (ap (λ (r : Room Resting). r.list) c.self.view_is) c.in_ok-at.ensures.held c.in_ok-at.ensures.place c.requires c.self.invariant.orderly in
+    c.lower_at.ensures.list ∙ ap (λ (q : Resting). changed (record q { left = c.args.left; intended = o.intended - (o.left - c.args.left) }) (open_orders k.orders.items)) seen.same ∙ ap (λ (r : Room Resting). changed (reduced c.args.left o) r.list) c.self.view_is
+
+pub returns-in-Buy-clause-room : goal.returns-in-Buy-clause-room
+returns-in-Buy-clause-room c = omega (arith, ap (λ (r : Room Resting). r.spare) c.self.view_is)
+
+pub returns-in-Buy-clause-absent : goal.returns-in-Buy-clause-absent
+returns-in-Buy-clause-absent c = tt
+
+pub lower_at-requires-in-Sell-clause-shown : goal.lower_at-requires-in-Sell-clause-shown
+lower_at-requires-in-Sell-clause-shown c =
+    let k = c.self.inside in
+    subst (λ n. IsIndexed (shown_of Sell) k.orders.items n k.sells.shown.items) (sym c.as_slice-nexts.ensures.value) c.self.invariant.sells
+
+pub lower_at-requires-in-Sell-clause-hidden : goal.lower_at-requires-in-Sell-clause-hidden
+lower_at-requires-in-Sell-clause-hidden c =
+    let k = c.self.inside in
+    subst (λ n. IsIndexed (hidden_of Sell) k.orders.items n k.sells.hidden.items) (sym c.as_slice-nexts.ensures.value) c.self.invariant.hidden_sells
+
+pub lower_at-requires-in-Sell-clause-count : goal.lower_at-requires-in-Sell-clause-count
+lower_at-requires-in-Sell-clause-count c = c.self.invariant.sell_count
+
+pub lower_at-requires-in-Sell-clause-orderly : goal.lower_at-requires-in-Sell-clause-orderly
+lower_at-requires-in-Sell-clause-orderly c = c.self.invariant.orderly
+
+pub returns-in-Sell-clause-was : goal.returns-in-Sell-clause-was
+returns-in-Sell-clause-was c =
+    c.in_ok-at.ensures.held ∙ ap (λ (w : List Resting). order_with c.args.reference (open_orders w)) c.as_slice.ensures.value ∙ ap (λ (r : Room Resting). order_with c.args.reference r.list) c.self.view_is
+
+pub returns-in-Sell-clause-reduced : goal.returns-in-Sell-clause-reduced
+returns-in-Sell-clause-reduced c =
+    let k = c.self.inside in
+    let o = c.in_ok-at.resting in
+    let seen = held c.as_slice.result.now k.orders.items c.args.self.now.list c.args.reference c.args.left c.in_ok-at.at o c.as_slice.ensures.value (ap (λ (r : Room Resting). r.list) c.self.view_is) c.in_ok-at.ensures.held c.in_ok-at.ensures.place c.requires c.self.invariant.orderly in
+    c.lower_at-in-Sell.ensures.list ∙ ap (λ (q : Resting). changed (record q { left = c.args.left; intended = o.intended - (o.left - c.args.left) }) (open_orders k.orders.items)) seen.same ∙ ap (λ (r : Room Resting). changed (reduced c.args.left o) r.list) c.self.view_is
+
+pub returns-in-Sell-clause-room : goal.returns-in-Sell-clause-room
+returns-in-Sell-clause-room c = omega (arith, ap (λ (r : Room Resting). r.spare) c.self.view_is)
+
+pub returns-in-Sell-clause-absent : goal.returns-in-Sell-clause-absent
+returns-in-Sell-clause-absent c = tt

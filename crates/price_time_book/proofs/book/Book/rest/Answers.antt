@@ -1,4 +1,5 @@
-use Rattle.std.proofs.Common.{◌≡◌, ◌+◌, None, ◌<◌, ◌≤◌, ◌++◌, ◌∷◌, [], All, List, length, sym, ap, ◌∙◌, subst, refl, rules}
+use Rattle.std.proofs.Common.{◌≡◌, ◌+◌, None, ◌<◌, ◌≤◌, ◌++◌, ◌∷◌, [], All, List, length, sym, ap, ◌∙◌, subst, refl, arith, rules}
+use Rattle.std.proofs.lemmas.List.Sums.{count_by-le-length}
 use Rattle.market_types.specs.Room.{Room}
 use Rattle.market_types.specs.declared.order.Side.{Side}
 use Rattle.market_types.specs.declared.order.Side.TheVariants.{Buy, Sell}
@@ -7,7 +8,7 @@ use Rattle.price_time_book.specs.Index.{IsByReference, IsByToken}
 use Rattle.price_time_book.specs.Indexed.{IsIndexed, IsSmall, open_orders}
 use Rattle.price_time_book.specs.Orders.{order_of}
 use Rattle.price_time_book.specs.Queues.{hidden_of, shown_of}
-use Rattle.price_time_book.specs.Sides.{depth_of}
+use Rattle.price_time_book.specs.Sides.{depth_of, is_on}
 use Rattle.price_time_book.proofs.Counts.{depth-push_off, depth-push_on}
 use Rattle.price_time_book.specs.Orderly.{IsOrderly}
 use Rattle.price_time_book.proofs.Changes.{each-push, orderly-push}
@@ -124,3 +125,55 @@ invariant_of-self-in-Sell c =
 pub returns-in-Sell : goal.returns-in-Sell
 returns-in-Sell c =
     rw (c.join-in-Sell.ensures.orders, open_orders-push c.self.inside.orders.items c.args.order c.requires.shares, ← c.self.view_is) refl
+
+pub join-requires-clause-open : goal.join-requires-clause-open
+join-requires-clause-open c = c.requires.shares
+
+pub join-requires-clause-orders_room : goal.join-requires-clause-orders_room
+join-requires-clause-orders_room c = omega (arith, c.requires.room, c.self.invariant.orders_room, ap (λ (r : Room Resting). r.spare) c.self.view_is)
+
+pub join-requires-clause-nexts_room : goal.join-requires-clause-nexts_room
+join-requires-clause-nexts_room c = omega (arith, c.requires.room, c.self.invariant.nexts_room, ap (λ (r : Room Resting). r.spare) c.self.view_is)
+
+pub join-requires-clause-shown_room : goal.join-requires-clause-shown_room
+join-requires-clause-shown_room c = omega (arith, c.requires.room, c.self.invariant.buys_room, ap (λ (r : Room Resting). r.spare) c.self.view_is)
+
+pub join-requires-clause-hidden_room : goal.join-requires-clause-hidden_room
+join-requires-clause-hidden_room c = omega (arith, c.requires.room, c.self.invariant.hidden_buys_room, ap (λ (r : Room Resting). r.spare) c.self.view_is)
+
+pub overflow_add-self : goal.overflow_add-self
+overflow_add-self c =
+    let list = open_orders c.self.inside.orders.items in
+    omega (arith, c.join.ensures.count, c.self.invariant.buy_count, count_by-le-length (is_on Buy) list, c.requires.few, ap (λ (r : Room Resting). length r.list) c.self.view_is)
+
+pub overflow_sub-self : goal.overflow_sub-self
+overflow_sub-self c = omega (arith, c.requires.room, ap (λ (r : Room Resting). r.spare) c.self.view_is)
+
+pub join-requires-in-Sell-clause-open : goal.join-requires-in-Sell-clause-open
+join-requires-in-Sell-clause-open c = c.requires.shares
+
+pub join-requires-in-Sell-clause-orders_room : goal.join-requires-in-Sell-clause-orders_room
+join-requires-in-Sell-clause-orders_room c = omega (arith, c.requires.room, c.self.invariant.orders_room, ap (λ (r : Room Resting). r.spare) c.self.view_is)
+
+pub join-requires-in-Sell-clause-nexts_room : goal.join-requires-in-Sell-clause-nexts_room
+join-requires-in-Sell-clause-nexts_room c = omega (arith, c.requires.room, c.self.invariant.nexts_room, ap (λ (r : Room Resting). r.spare) c.self.view_is)
+
+pub join-requires-in-Sell-clause-shown_room : goal.join-requires-in-Sell-clause-shown_room
+join-requires-in-Sell-clause-shown_room c = omega (arith, c.requires.room, c.self.invariant.sells_room, ap (λ (r : Room Resting). r.spare) c.self.view_is)
+
+pub join-requires-in-Sell-clause-hidden_room : goal.join-requires-in-Sell-clause-hidden_room
+join-requires-in-Sell-clause-hidden_room c = omega (arith, c.requires.room, c.self.invariant.hidden_sells_room, ap (λ (r : Room Resting). r.spare) c.self.view_is)
+
+pub overflow_add-self-in-Sell : goal.overflow_add-self-in-Sell
+overflow_add-self-in-Sell c =
+    let list = open_orders c.self.inside.orders.items in
+    omega (arith, c.join-in-Sell.ensures.count, c.self.invariant.sell_count, count_by-le-length (is_on Sell) list, c.requires.few, ap (λ (r : Room Resting). length r.list) c.self.view_is)
+
+pub overflow_sub-self-in-Sell : goal.overflow_sub-self-in-Sell
+overflow_sub-self-in-Sell c = omega (arith, c.requires.room, ap (λ (r : Room Resting). r.spare) c.self.view_is)
+
+pub enter_reference-requires : goal.enter_reference-requires
+enter_reference-requires c = record { room = omega (arith, c.requires.room, c.self.invariant.references_room, ap (λ (r : Room Resting). r.spare) c.self.view_is) }
+
+pub enter_token-requires : goal.enter_token-requires
+enter_token-requires c = record { room = omega (arith, c.requires.room, c.self.invariant.tokens_room, ap (λ (r : Room Resting). r.spare) c.self.view_is) }
