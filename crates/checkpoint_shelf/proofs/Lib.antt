@@ -9,6 +9,7 @@ pub mod Spends
 pub mod Loans
 pub mod Hands
 pub mod Facts
+pub mod Turned
 pub mod Opens
 pub mod Closes
 pub mod Backs
