@@ -21,3 +21,4 @@ pub mod Openings
 pub mod EntryOrder
 pub mod OneKind
 pub mod Named
+pub mod ReadMore
