@@ -173,3 +173,10 @@ summed {X} xs ys e f = ap (λ (zs : List X). sum_by f zs) e
 -- What is written over all of a list.
 pub written_over : {X : Type 0} (ws rest : List X) (n : ℕ) → length ws ≡ n → take n (ws ++ rest) ≡ ws
 written_over {X} ws rest n long = ap (λ (m : ℕ). take m (ws ++ rest)) (sym long) ∙ take-append_seam ws rest
+
+-- Lengths of equal lists have the same room.
+pub still_few : {X : Type 0} (xs ys : List X) → xs ≡ ys → (m : ℕ) → length ys ≤ m → length xs ≤ m
+still_few {X} xs ys e m h = subst (λ (zs : List X). length zs ≤ m) (sym e) h
+
+pub still_fits : {X : Type 0} (xs ys : List X) → xs ≡ ys → (n m : ℕ) → n + length ys ≤ m → n + length xs ≤ m
+still_fits {X} xs ys e n m h = subst (λ (zs : List X). n + length zs ≤ m) (sym e) h

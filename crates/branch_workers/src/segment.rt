@@ -179,9 +179,10 @@ fn shelve_end<G>(
     ensures turns { seat.new.view.turns ≡ [] }
     ensures known { OnOk result (segment < last_of shift.now.course.now.value.plan.branches (segment_at shift.now.course.now.value.plan segment).branch → is_in (end_key shift.now.course.now.value.plan segment) seat.new.view.known ≡ true) }
 {
-    if let Some(end) = kept_end(shift.alloc, shift.course, segment, kernel)? {
-        shelve(shift.shelf, seat, end);
-    }
+    let Some(end) = kept_end(shift.alloc, shift.course, segment, kernel)? else {
+        return Ok(());
+    };
+    shelve(shift.shelf, seat, end);
     Ok(())
 }
 

@@ -5,7 +5,7 @@ use Rattle.checkpoint_shelf.specs.Told.{SeatTold}
 use Rattle.kernel_copy.specs.Courses.{CourseTold, IsCourse}
 use Rattle.branch_workers.specs.Claims.{HasPushed}
 use Rattle.branch_workers.specs.Workers.{IsAtWork, AreNumbered}
-use Rattle.branch_workers.proofs.Gathering.{ready, unfinished, moved, mapped, written_over, steps_few, numbered_still, hands_back, handed_as, summed}
+use Rattle.branch_workers.proofs.Gathering.{ready, unfinished, moved, mapped, written_over, steps_few, numbered_still, hands_back, handed_as, summed, still_few, still_fits}
 use Rattle.branch_workers.proofs.all.run_seated.Goals as goal
 
 pub run_all-requires-clause-some : goal.run_all-requires-clause-some
@@ -38,6 +38,36 @@ gather-steps-requires-clause-each g c =
     let long : length ws ≡ c.in-Ok-staff.workers.len = omega (arith, c.run_all.auto.workers, c.as_mut_slice.ensures.len) in
     moved _ ws (written_over ws _ c.in-Ok-staff.workers.len long) (λ w. w.steps < 2 ^ 52)
     (steps_few ws c.args.shift.now.course.now.value c.args.shift.now.keep c.args.shift.now.shelf.now (λ w. w.seat) (λ w. w.steps) (λ w. w.number) (λ w. w.outcomes) (λ w. w.lane) (λ w. w.finished) ws c.run_all.ensures.ended)
+
+pub gather-steps-requires-clause-few : goal.gather-steps-requires-clause-few
+gather-steps-requires-clause-few g c =
+    let ws = c.run_all.new.workers in
+    let long : length ws ≡ c.in-Ok-staff.workers.len = omega (arith, c.run_all.auto.workers, c.as_mut_slice.ensures.len) in
+    let kept : length ws ≡ length c.as_mut_slice.result.now = omega (arith, c.as_mut_slice.ensures.len) in
+    let same : length c.as_mut_slice.result.now ≡ length c.in-Ok-staff.workers.items = ap (λ ys. length ys) c.as_mut_slice.ensures.value in
+    let a = ap (λ (ss : List (SeatTold CourseTold)). length ss) c.in-Ok-staff.ensures.seats in
+    let b = length-map c.in-Ok-staff.workers.items (λ w. w.seat) in
+    still_few _ ws (written_over ws _ c.in-Ok-staff.workers.len long) 64 (omega (arith, c.requires.some.1))
+
+pub gather-steps-requires-clause-seats : goal.gather-steps-requires-clause-seats
+gather-steps-requires-clause-seats g c =
+    let ws = c.run_all.new.workers in
+    let long : length ws ≡ c.in-Ok-staff.workers.len = omega (arith, c.run_all.auto.workers, c.as_mut_slice.ensures.len) in
+    let kept : length ws ≡ length c.as_mut_slice.result.now = omega (arith, c.as_mut_slice.ensures.len) in
+    let same : length c.as_mut_slice.result.now ≡ length c.in-Ok-staff.workers.items = ap (λ ys. length ys) c.as_mut_slice.ensures.value in
+    let a = ap (λ (ss : List (SeatTold CourseTold)). length ss) c.in-Ok-staff.ensures.seats in
+    let b = length-map c.in-Ok-staff.workers.items (λ w. w.seat) in
+    (c.in-Ok-new.ensures.seats.0, still_fits _ ws (written_over ws _ c.in-Ok-staff.workers.len long) _ _ (omega (arith, c.in-Ok-new.ensures.seats.1)))
+
+pub gather-steps-requires-clause-outcomes : goal.gather-steps-requires-clause-outcomes
+gather-steps-requires-clause-outcomes g c =
+    let ws = c.run_all.new.workers in
+    let long : length ws ≡ c.in-Ok-staff.workers.len = omega (arith, c.run_all.auto.workers, c.as_mut_slice.ensures.len) in
+    let kept : length ws ≡ length c.as_mut_slice.result.now = omega (arith, c.as_mut_slice.ensures.len) in
+    let same : length c.as_mut_slice.result.now ≡ length c.in-Ok-staff.workers.items = ap (λ ys. length ys) c.as_mut_slice.ensures.value in
+    let a = ap (λ (ss : List (SeatTold CourseTold)). length ss) c.in-Ok-staff.ensures.seats in
+    let b = length-map c.in-Ok-staff.workers.items (λ w. w.seat) in
+    (c.in-Ok-new.ensures.outcomes.0, still_fits _ ws (written_over ws _ c.in-Ok-staff.workers.len long) _ _ (omega (arith, c.in-Ok-new.ensures.outcomes.1)))
 
 pub returns : goal.returns
 returns g c =

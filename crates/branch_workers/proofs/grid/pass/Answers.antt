@@ -72,3 +72,23 @@ returns-in_err-shelve_copy-clause-stays g c = c.shelve_copy.ensures.stays
 
 pub returns-clause-stays : goal.returns-clause-stays
 returns-clause-stays g c = c.shelve_copy.ensures.stays
+
+pub returns-then-is_none-clause-few : goal.returns-then-is_none-clause-few
+returns-then-is_none-clause-few g c =
+    let u = c.requires.underway in
+    omega (arith, ap (λ (x : RanTold). x.state.events) u.is, u.few)
+
+pub returns-then-is_none-clause-underway : goal.returns-then-is_none-clause-underway
+returns-then-is_none-clause-underway g c = c.requires.underway
+
+pub returns-then-events-key-clause-underway : goal.returns-then-events-key-clause-underway
+returns-then-events-key-clause-underway g c = c.in_ok-continue_to.ensures.underway
+
+pub returns-clause-underway : goal.returns-clause-underway
+returns-clause-underway g c = c.in_ok-continue_to.ensures.underway
+
+pub returns-clause-known : goal.returns-clause-known
+returns-clause-known g c = λ sole passed. c.in_ok-shelve_copy.ensures.known sole
+
+pub shelve_copy-requires-clause-claim : goal.shelve_copy-requires-clause-claim
+shelve_copy-requires-clause-claim g c = c.requires.claim

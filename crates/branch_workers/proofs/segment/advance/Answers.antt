@@ -1,5 +1,6 @@
-use Rattle.std.proofs.Common.{◌≡◌, ◌≤◌, ℕ, ap, sym, ◌∙◌, subst, arith}
+use Rattle.std.proofs.Common.{◌≡◌, ◌<◌, ◌≤◌, ℕ, List, ap, sym, ◌∙◌, subst, arith}
 use Rattle.branch_tree.specs.Segments.{segment_at}
+use Rattle.shelf_core.specs.Views.{times}
 use Rattle.market_floor.specs.declared.opening.Opening.{Opening}
 use Rattle.kernel_core.specs.Until.{Run}
 use Rattle.kernel_copy.specs.Courses.{CourseTold, IsCourse}
@@ -9,6 +10,9 @@ use Rattle.kernel_copy.specs.UntilStop.{until_part}
 use Rattle.kernel_copy.proofs.Trees.{course-tree}
 use Rattle.kernel_copy.proofs.Walks.{own-is}
 use Rattle.shelf_core.proofs.Staying.{stays_then}
+use Rattle.kernel_core.specs.State.{State}
+use Rattle.kernel_core.specs.Step.{Fits}
+use Rattle.branch_workers.specs.Layout.{end_key}
 use Rattle.branch_workers.specs.Runs.{IsUnderway, run_at_end, run_at_start}
 use Rattle.branch_workers.proofs.Underway.{begins, first_events, runs_whole}
 use Rattle.branch_workers.proofs.segment.advance.Goals as goal
@@ -106,3 +110,17 @@ returns-in_default-continue_to-clause-stays g c =
 pub returns-clause-stays : goal.returns-clause-stays
 returns-clause-stays g c =
     stays_then c.args.seat.now.view c.kernel_at_start.new.seat.view c.pass_grid.new.seat.view c.kernel_at_start.ensures.stays c.pass_grid.ensures.stays
+
+pub returns-clause-found : goal.returns-clause-found
+returns-clause-found g c = λ q is. c.pass_grid.ensures.stays.found (end_key c.args.shift.now.course.now.value.plan q) (c.in-Ok.ensures.found q is)
+
+pub returns-clause-grid : goal.returns-clause-grid
+returns-clause-grid g c = c.in-Ok-pass_grid.ensures.known
+
+pub returns-clause-fits : goal.returns-clause-fits
+returns-clause-fits g c =
+    let u = c.in-Ok-continue_to.ensures.underway in
+    subst (λ (s : State). Fits c.args.shift.now.course.now.value.opening s) (sym (ap (λ (x : RanTold). x.state) u.is)) u.fits
+
+pub pass_grid-requires-clause-claim : goal.pass_grid-requires-clause-claim
+pass_grid-requires-clause-claim g c = subst (λ (claims : List ℕ). 0 < times c.args.segment claims) (sym c.kernel_at_start.ensures.stays.claims) c.requires.claim

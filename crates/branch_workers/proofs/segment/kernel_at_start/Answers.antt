@@ -1,13 +1,19 @@
-use Rattle.std.proofs.Common.{◌≡◌, List, Some, None, length, sym, ap, ◌∙◌, arith}
+use Rattle.std.proofs.Common.{◌≡◌, ℕ, true, List, All, Some, None, length, sym, ap, ◌∙◌, subst, arith}
 use Rattle.branch_tree.specs.declared.segment.Segment.{Segment}
 use Rattle.branch_tree.specs.Segments.{segments_in, segment_at}
+use Rattle.std.proofs.lemmas.List.Elements.{All-nil}
 use Rattle.market_types.specs.Told.{EntryTold}
+use Rattle.market_types.specs.Timely.{IsTimely}
+use Rattle.kernel_core.specs.Step.{Fits}
 use Rattle.market_floor.specs.declared.opening.Opening.{Opening}
 use Rattle.kernel_core.specs.State.{State}
 use Rattle.kernel_core.specs.Open.{opened}
 use Rattle.kernel_core.specs.Until.{Run}
 use Rattle.kernel_copy.specs.Segmentwise.{started_from}
 use Rattle.kernel_copy.specs.Courses.{CourseTold}
+use Rattle.shelf_core.specs.Plan.{is_in}
+use Rattle.shelf_core.proofs.Lists.{not_some, some_same}
+use Rattle.branch_workers.specs.Layout.{end_key}
 use Rattle.shelf_core.proofs.Staying.{stays_self}
 use Rattle.branch_workers.specs.Runs.{run_at_start}
 use Rattle.kernel_copy.proofs.Walks.{started-first, started-goes}
@@ -57,3 +63,37 @@ returns-in_err-kernel-in-None-clause-stays g c = stays_self c.args.seat.now.view
 
 pub returns-in_ok-kernel-in-None-clause-stays : goal.returns-in_ok-kernel-in-None-clause-stays
 returns-in_ok-kernel-in-None-clause-stays g c = stays_self c.args.seat.now.view
+
+pub returns-in-Ok-clause-found : goal.returns-in-Ok-clause-found
+returns-in-Ok-clause-found g c = λ q is.
+    let k : CourseTold = c.args.shift.now.course.now.value in
+    let same = some_same c.in-Some.parent q
+    (sym c.in-Some.is ∙ ap (λ (y : Segment). y.parent) c.segment-g.ensures.value ∙ ap (λ (x : CourseTold). (segment_at x.plan c.args.segment).parent) c.deref-course.ensures ∙ is) in
+    subst (λ (n : ℕ). is_in (end_key k.plan n) c.end_of.new.seat.view.found ≡ true) same c.in_ok-kernel-in-Some.ensures.found
+
+pub returns-in_ok-kernel-in-None-clause-found : goal.returns-in_ok-kernel-in-None-clause-found
+returns-in_ok-kernel-in-None-clause-found g c = λ q is. absurd (not_some q
+    (sym c.in-None.is ∙ ap (λ (y : Segment). y.parent) c.segment-g.ensures.value ∙ ap (λ (x : CourseTold). (segment_at x.plan c.args.segment).parent) c.deref-course.ensures ∙ is))
+
+pub returns-in-Ok-clause-fits : goal.returns-in-Ok-clause-fits
+returns-in-Ok-clause-fits g c = subst (λ (x : CourseTold). Fits x.opening c.go_on.new.kernel) c.deref-course.ensures c.go_on.ensures.fits
+
+pub returns-in_ok-kernel-in-None-clause-fits : goal.returns-in_ok-kernel-in-None-clause-fits
+returns-in_ok-kernel-in-None-clause-fits g c =
+    subst (λ (x : CourseTold). Fits x.opening c.in_ok-kernel-in-None.kernel) c.deref-course.ensures
+    (subst (λ (o : Opening). Fits o c.in_ok-kernel-in-None.kernel) c.opening.ensures.value c.in_ok-kernel-in-None.ensures.fitting)
+
+pub returns-in-Ok-clause-timely : goal.returns-in-Ok-clause-timely
+returns-in-Ok-clause-timely g c = c.go_on.ensures.timely
+
+pub returns-in_default-clause-timely : goal.returns-in_default-clause-timely
+returns-in_default-clause-timely g c = c.go_on.ensures.timely
+
+pub returns-in_err-kernel-in-None-clause-timely : goal.returns-in_err-kernel-in-None-clause-timely
+returns-in_err-kernel-in-None-clause-timely g c = subst (λ (es : List EntryTold). All IsTimely es) (sym c.requires.empty) (All-nil IsTimely)
+
+pub returns-in_ok-kernel-in-None-clause-timely : goal.returns-in_ok-kernel-in-None-clause-timely
+returns-in_ok-kernel-in-None-clause-timely g c = subst (λ (es : List EntryTold). All IsTimely es) (sym c.requires.empty) (All-nil IsTimely)
+
+pub returns-in_err-kernel-in-Some-clause-timely : goal.returns-in_err-kernel-in-Some-clause-timely
+returns-in_err-kernel-in-Some-clause-timely g c = subst (λ (es : List EntryTold). All IsTimely es) (sym c.requires.empty) (All-nil IsTimely)

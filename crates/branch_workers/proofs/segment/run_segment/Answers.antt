@@ -1,9 +1,11 @@
-use Rattle.std.proofs.Common.{Result, Ok, Err, OnErr, ap, ◌∙◌, subst}
+use Rattle.std.proofs.Common.{Result, Ok, Err, OnErr, ℕ, ◌+◌, ◌<◌, List, length, sym, ap, ◌∙◌, subst, arith}
 use Rattle.market_floor.specs.declared.opening.Opening.{Opening}
 use Rattle.kernel_copy.specs.Closing.{closing_at}
 use Rattle.kernel_copy.specs.Courses.{CourseTold, IsCourse}
 use Rattle.kernel_copy.specs.Ran.{RanTold, ran_told}
 use Rattle.kernel_copy.proofs.Adding.{outcome-is, ran-ends}
+use Rattle.shelf_core.specs.Views.{times}
+use Rattle.shelf_core.specs.declared.seat.SeatView.{SeatView}
 use Rattle.shelf_core.proofs.Staying.{stays_then}
 use Rattle.branch_workers.proofs.Remaining.{remains_of, remains_counted, states_counted}
 use Rattle.branch_workers.proofs.segment.run_segment.Goals as goal
@@ -46,3 +48,30 @@ pub returns-clause-states : goal.returns-clause-states
 returns-clause-states g c =
     states_counted c.args.shift.now.course.now.value c.args.shift.now.shelf.now.plan c.args.segment c.advance-made.new.seat.view c.shelve_end.new.seat.view c.count.new.seat.view
     c.shelve_end.ensures.stays c.count.ensures.counted c.in-Ok.ensures.found c.in-Ok-shelve_end.ensures.known c.in-Ok.ensures.grid
+
+pub returns-clause-counted : goal.returns-clause-counted
+returns-clause-counted g c =
+    let stays = stays_then c.args.seat.now.view c.advance-made.new.seat.view c.shelve_end.new.seat.view c.advance-made.ensures.stays c.shelve_end.ensures.stays in
+    ap (λ (v : SeatView). v.counts) c.count.ensures.counted ∙ ap (λ (n : ℕ). n + 1) stays.counts
+
+pub returns-clause-turns : goal.returns-clause-turns
+returns-clause-turns g c = ap (λ (v : SeatView). v.turns) c.count.ensures.counted ∙ c.shelve_end.ensures.turns
+
+pub returns-in_default-clause-uncounted : goal.returns-in_default-clause-uncounted
+returns-in_default-clause-uncounted g c = c.advance-made.ensures.stays.counts
+
+pub returns-in_default-shelve_end-clause-uncounted : goal.returns-in_default-shelve_end-clause-uncounted
+returns-in_default-shelve_end-clause-uncounted g c =
+    (stays_then c.args.seat.now.view c.advance-made.new.seat.view c.shelve_end.new.seat.view c.advance-made.ensures.stays c.shelve_end.ensures.stays).counts
+
+pub returns-in_default-outcome_at-clause-uncounted : goal.returns-in_default-outcome_at-clause-uncounted
+returns-in_default-outcome_at-clause-uncounted g c =
+    (stays_then c.args.seat.now.view c.advance-made.new.seat.view c.shelve_end.new.seat.view c.advance-made.ensures.stays c.shelve_end.ensures.stays).counts
+
+pub shelve_end-requires-clause-claim : goal.shelve_end-requires-clause-claim
+shelve_end-requires-clause-claim g c = subst (λ (claims : List ℕ). 0 < times c.args.segment claims) (sym c.advance-made.ensures.stays.claims) c.requires.claim
+
+pub count-requires-clause-more : goal.count-requires-clause-more
+count-requires-clause-more g c =
+    let stays = stays_then c.args.seat.now.view c.advance-made.new.seat.view c.shelve_end.new.seat.view c.advance-made.ensures.stays c.shelve_end.ensures.stays in
+    omega (arith, c.requires.more, stays.counts, ap (λ (claims : List ℕ). length claims) stays.claims)

@@ -1,7 +1,11 @@
-use Rattle.std.proofs.Common.{◌≡◌, Option, Some, Global, option_map, sym, ap, ◌∙◌}
+use Rattle.std.proofs.Common.{◌≡◌, ◌<◌, ℕ, true, Option, Some, Global, option_map, sym, ap, ◌∙◌, subst}
 use Rattle.std.specs.declared.sync.Arc.{Arc}
 use Rattle.kernel_copy.specs.declared.checkpoint.Checkpoint.{Checkpoint}
 use Rattle.kernel_copy.specs.Courses.{CourseTold, CheckpointTold, kept_of}
+use Rattle.shelf_core.specs.declared.plan.Key.{Key}
+use Rattle.shelf_core.specs.Plan.{is_in}
+use Rattle.shelf_core.specs.Views.{times}
+use Rattle.shelf_core.proofs.Staying.{stays_self}
 use Rattle.branch_workers.proofs.Ends.{kept_is, has_place}
 use Rattle.branch_workers.proofs.segment.shelve_end.Goals as goal
 
@@ -23,3 +27,28 @@ shelve-requires-clause-sole g c =
     let kept : Some x ≡ kept_of k c.args.segment = sym (ap told c.in-Some.is) ∙ c.in_ok-end.ensures in
     let is = kept_is k c.args.segment x kept in
     (has_place k c.args.shift.now.stride c.args.shift.now.shelf.now c.args.segment x.key c.requires.shelf c.requires.segment is.1 (ap (λ (y : CheckpointTold). y.key) is.0)).1
+
+pub shelve-requires-clause-claim : goal.shelve-requires-clause-claim
+shelve-requires-clause-claim g c =
+    let k : CourseTold = c.args.shift.now.course.now.value in
+    let x : CheckpointTold = c.in-Some.end.value in
+    let kept : Some x ≡ kept_of k c.args.segment = sym (ap told c.in-Some.is) ∙ c.in_ok-end.ensures in
+    let is = (kept_is k c.args.segment x kept).0 in
+    subst (λ (s : ℕ). 0 < times s c.args.seat.now.view.claims) (sym (ap (λ (y : CheckpointTold). y.key.segment) is)) c.requires.claim
+
+pub returns-clause-known : goal.returns-clause-known
+returns-clause-known g c = λ less.
+    let k : CourseTold = c.args.shift.now.course.now.value in
+    let x : CheckpointTold = c.in-Some.end.value in
+    let kept : Some x ≡ kept_of k c.args.segment = sym (ap told c.in-Some.is) ∙ c.in_ok-end.ensures in
+    let is = (kept_is k c.args.segment x kept).0 in
+    subst (λ (key : Key). is_in key c.shelve.new.seat.view.known ≡ true) (ap (λ (y : CheckpointTold). y.key) is) c.shelve.ensures.known
+
+pub returns-clause-stays : goal.returns-clause-stays
+returns-clause-stays g c = c.shelve.ensures.stays
+
+pub returns-in_default-clause-stays : goal.returns-in_default-clause-stays
+returns-in_default-clause-stays g c = stays_self c.args.seat.now.view
+
+pub returns-in_err-end-clause-stays : goal.returns-in_err-end-clause-stays
+returns-in_err-end-clause-stays g c = stays_self c.args.seat.now.view

@@ -1,4 +1,4 @@
-use Rattle.std.proofs.Common.{ℕ, List, true≢false, sym, ◌∙◌, subst}
+use Rattle.std.proofs.Common.{ℕ, List, true≢false, refl, sym, ◌∙◌, subst}
 use Rattle.branch_workers.specs.Workers.{IsAtWork}
 use Rattle.branch_workers.proofs.Standing.{ends_here, finishes_here}
 use Rattle.branch_workers.proofs.worker.run_worker.Goals as goal
@@ -49,3 +49,15 @@ loop-preserved-else-not-try_segment g c = record {
   finished = c.try_segment.ensures.finished ∙ c.loop.invariant.finished;
   work = c.try_segment.ensures.work c.if-not-try_segment.false;
 }
+
+pub loop-init : goal.loop-init
+loop-init g c = record { can = tt; fin = tt; number = refl; finished = c.requires.finished; work = c.requires.work }
+
+pub returns-then-not-try_segment-clause-ended : goal.returns-then-not-try_segment-clause-ended
+returns-then-not-try_segment-clause-ended g c = c.try_segment.ensures.ended c.if-not-try_segment.true
+
+pub returns-then-not-try_segment-clause-stopped : goal.returns-then-not-try_segment-clause-stopped
+returns-then-not-try_segment-clause-stopped g c = λ _. c.try_segment.ensures.stopped c.if-not-try_segment.true
+
+pub returns-then-ends-clause-stopped : goal.returns-then-ends-clause-stopped
+returns-then-ends-clause-stopped g c = c.ends.ensures.stopped c.if-ends.true

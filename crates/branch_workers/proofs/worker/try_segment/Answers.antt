@@ -1,4 +1,4 @@
-use Rattle.std.proofs.Common.{◌<◌, ◌++◌, ◌∷◌, [], ℕ, List, All, length, sym, ap, ◌∙◌, subst, arith}
+use Rattle.std.proofs.Common.{◌<◌, ◌++◌, ◌∷◌, [], ℕ, List, All, true≢false, length, sym, ap, ◌∙◌, subst, arith}
 use Rattle.branch_tree.specs.Segments.{segments_in, children_of}
 use Rattle.shelf_core.specs.declared.seat.SeatView.{SeatView}
 use Rattle.kernel_copy.specs.Courses.{CourseTold}
@@ -89,3 +89,25 @@ returns-in_default-clause-stopped g c = λ _. ap (λ (v : SeatView). v.stopped) 
 
 pub returns-in_default-add-clause-stopped : goal.returns-in_default-add-clause-stopped
 returns-in_default-add-clause-stopped g c = λ _. ap (λ (v : SeatView). v.stopped) c.stop_others-in_default-add.ensures.stopped
+
+-- What is said of another answer.
+pub returns-then-not-claim-clause-ended : goal.returns-then-not-claim-clause-ended
+returns-then-not-claim-clause-ended g c = λ e. absurd (true≢false e)
+
+pub returns-then-not-claim-clause-stopped : goal.returns-then-not-claim-clause-stopped
+returns-then-not-claim-clause-stopped g c = λ e. absurd (true≢false e)
+
+pub returns-in_default-clause-work : goal.returns-in_default-clause-work
+returns-in_default-clause-work g c = λ e. absurd (true≢false (sym e))
+
+pub returns-in_default-add-clause-work : goal.returns-in_default-add-clause-work
+returns-in_default-add-clause-work g c = λ e. absurd (true≢false (sym e))
+
+pub returns-clause-ended : goal.returns-clause-ended
+returns-clause-ended g c = λ e. absurd (true≢false e)
+
+pub returns-clause-stopped : goal.returns-clause-stopped
+returns-clause-stopped g c = λ e. absurd (true≢false e)
+
+pub run_segment-requires-clause-claim : goal.run_segment-requires-clause-claim
+run_segment-requires-clause-claim g c = c.claim.ensures.mine c.if-not-claim.false
