@@ -11,30 +11,12 @@ ghost use Rattle.session_desk.specs.Refused.{act_refused, is_refused};
 
 use crate::named::branch_named;
 use crate::{Act, Session, SessionError};
-use branch_tree::{Branch, Name, Stop};
+use branch_tree::{Branch, Name, Stop, copy_edits};
 use kernel_copy::Course;
 use market_rules::Edit;
 use plain_lists::{Memory, Sequence};
 use std::alloc::Global;
 use std::sync::Arc;
-
-// The same edits.
-fn copied(alloc: Global, edits: &[Edit]) -> Result<Vec<Edit>, Memory>
-    ensures { IfOk result (λ v. v.items ≡ edits.now) }
-{
-    let mut copies = Vec::new(alloc);
-    for edit in edits {
-        let Ok(copy) = edit.copy(alloc) else {
-            drop(copies);
-            return Err(Memory);
-        };
-        let Ok(()) = copies.push(copy) else {
-            drop(copies);
-            return Err(Memory);
-        };
-    }
-    Ok(copies)
-}
 
 // A branch of this name becomes the last of the tree, unless no branch has the parent's name or the plan refuses it. Whether it
 // did.
@@ -53,7 +35,7 @@ fn fork(
     let Some(number) = branch_named(session, parent) else {
         return Ok(false);
     };
-    let Ok(edits) = copied(alloc, edits) else {
+    let Ok(edits) = copy_edits(alloc, edits) else {
         return Err(Memory);
     };
     let branch = Branch {
@@ -86,7 +68,7 @@ fn edit(alloc: Global, session: &mut Session, name: &Name, edits: &[Edit]) -> Re
     let Some(number) = branch_named(session, name) else {
         return Ok(false);
     };
-    let Ok(edits) = copied(alloc, edits) else {
+    let Ok(edits) = copy_edits(alloc, edits) else {
         return Err(Memory);
     };
     Ok(session.edit(number, edits).is_ok())

@@ -13,8 +13,14 @@ pub(crate) fn copies(alloc: Global, branches: &[Branch]) -> Result<Vec<Branch>, 
 {
     let mut copied = Vec::new(alloc);
     for branch in branches {
-        let copy = branch.copy(alloc)?;
-        copied.push(copy)?;
+        let Ok(copy) = branch.copy(alloc) else {
+            drop(copied);
+            return Err(Memory);
+        };
+        let Ok(()) = copied.push(copy) else {
+            drop(copied);
+            return Err(Memory);
+        };
     }
     Ok(copied)
 }
@@ -31,9 +37,17 @@ pub(crate) fn all_own(alloc: Global, count: usize) -> Result<Vec<bool>, Memory>
 fn with_one_more(alloc: Global, branches: &[Branch], branch: &Branch) -> Result<Vec<Branch>, Memory>
     ensures { IfOk result (λ v. v.items ≡ branches.now ++ branch.now ∷ []) }
 {
-    let mut more = copies(alloc, branches)?;
-    let copy = branch.copy(alloc)?;
-    more.push(copy)?;
+    let Ok(mut more) = copies(alloc, branches) else {
+        return Err(Memory);
+    };
+    let Ok(copy) = branch.copy(alloc) else {
+        drop(more);
+        return Err(Memory);
+    };
+    let Ok(()) = more.push(copy) else {
+        drop(more);
+        return Err(Memory);
+    };
     Ok(more)
 }
 
@@ -47,9 +61,14 @@ pub(crate) fn refusal_with(
     requires { IsRooted branches.now }
     ensures { IfOk result (λ r. r ≡ plan_refusal (branches.now ++ branch.now ∷ []) limit) }
 {
-    let more = with_one_more(alloc, branches, branch)?;
+    let Ok(more) = with_one_more(alloc, branches, branch) else {
+        return Err(Memory);
+    };
     match plan(alloc, more, limit) {
-        Ok(_) => Ok(None),
+        Ok(plan) => {
+            drop(plan);
+            Ok(None)
+        }
         Err(PlanError::Memory) => Err(Memory),
         Err(refusal) => Ok(Some(refusal)),
     }

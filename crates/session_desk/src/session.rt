@@ -49,11 +49,17 @@ impl Session {
         ensures { IfOk result (λ s. s ≡ first_session course.now.value) }
     {
         let tree = course.plan().branches();
-        let branches = copies(alloc, tree)?;
-        let own = all_own(alloc, tree.len())?;
-        let shared = match Arc::try_clone(course) {
-            Ok(shared) => shared,
-            Err(_) => return Err(Memory),
+        let Ok(branches) = copies(alloc, tree) else {
+            return Err(Memory);
+        };
+        let Ok(own) = all_own(alloc, tree.len()) else {
+            drop(branches);
+            return Err(Memory);
+        };
+        let Ok(shared) = Arc::try_clone(course) else {
+            drop(own);
+            drop(branches);
+            return Err(Memory);
         };
         Ok(Session {
             alloc,
@@ -109,8 +115,14 @@ impl Session {
     {
         let limit = self.course.opening().limit;
         match refusal_with(self.alloc, self.branches.as_slice(), &branch, limit) {
-            Err(Memory) => Err(SessionError::Memory),
-            Ok(Some(refusal)) => Err(SessionError::Plan(refusal)),
+            Err(Memory) => {
+                drop(branch);
+                Err(SessionError::Memory)
+            }
+            Ok(Some(refusal)) => {
+                drop(branch);
+                Err(SessionError::Plan(refusal))
+            }
             Ok(None) => match push_both(&mut self.branches, &mut self.own, branch) {
                 Ok(()) => Ok(()),
                 Err(Memory) => Err(SessionError::Memory),
@@ -152,6 +164,7 @@ impl Session {
     {
         let place = usize::from(branch);
         if place == 0 || place >= self.branches.len() {
+            drop(edits);
             return Err(SessionError::NoBranch);
         }
         self.branches[place].edits = Sequence::new(edits);

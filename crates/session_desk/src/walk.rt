@@ -52,12 +52,16 @@ pub(crate) fn reach<L: Ledger>(
     courses_stay_in_range();
     if is_kept(session, branch) {
         let alloc = session.allocator();
-        let found = reached(alloc, session.course(), shelf, branch, event, steps)?;
+        let Ok(found) = reached(alloc, session.course(), shelf, branch, event, steps) else {
+            return Err(Memory);
+        };
         return Ok(found.kernel);
     }
     let parent = parent_of(session, branch);
     let before = event.min(stop_of(session, branch));
-    let mut kernel = reach(session, shelf, parent, before, steps)?;
+    let Ok(mut kernel) = reach(session, shelf, parent, before, steps) else {
+        return Err(Memory);
+    };
     let mut trace = Trace::new(session.allocator());
     let Ok(()) = go_onward(session, branch, event, &mut kernel, &mut trace, steps) else {
         drop(kernel);
@@ -87,7 +91,9 @@ fn record_root<L: Ledger>(
 {
     let alloc = session.allocator();
     let o = session.course().opening();
-    let mut kernel = Kernel::open(alloc, o)?;
+    let Ok(mut kernel) = Kernel::open(alloc, o) else {
+        return Err(Memory);
+    };
     let Ok(_) = kernel.run_until(alloc, o, event, trace, steps) else {
         drop(kernel);
         return Err(Memory);
@@ -117,12 +123,13 @@ pub(crate) fn recorded<L: Ledger>(
 {
     courses_stay_in_range();
     if branch == 0 {
-        let root = record_root(session, event, trace, steps)?;
-        return Ok(root);
+        return record_root(session, event, trace, steps);
     }
     let parent = parent_of(session, branch);
     let before = event.min(stop_of(session, branch));
-    let mut kernel = recorded(session, parent, before, trace, steps)?;
+    let Ok(mut kernel) = recorded(session, parent, before, trace, steps) else {
+        return Err(Memory);
+    };
     let Ok(()) = go_onward(session, branch, event, &mut kernel, trace, steps) else {
         drop(kernel);
         return Err(Memory);

@@ -14,8 +14,8 @@ recorded-requires g t c κs within =
     let earlier = c.parent_of-parent.ensures.earlier pos in
     (omega (arith, earlier, c.decreases), (within, (omega (arith, earlier, c.requires.exists), (omega (arith, c.min-before.ensures, c.requires.within), omega (arith, c.min-before.ensures, c.requires.count)))))
 
-pub returns-in_err-kernel-clause-part : goal.returns-in_err-kernel-clause-part
-returns-in_err-kernel-clause-part g t c =
+pub returns-in_default-clause-part : goal.returns-in_default-clause-part
+returns-in_default-clause-part g t c =
     let s = c.args.session.now in
     let b = c.args.branch in
     let e = c.args.event in
@@ -32,18 +32,18 @@ go_onward-requires-clause-reached g t c =
     let h = c.parent_of-parent.ensures.session in
     let pos : 0 < c.args.branch = omega (arith, c.if-branch-eq0.false) in
     let earlier = c.parent_of-parent.ensures.earlier pos in
-    subst (λ (k : State). IsReached s.course.opening 4080 k) (sym (ap (λ (r : Run). r.state) c.in_ok-kernel.ensures.ran))
+    subst (λ (k : State). IsReached s.course.opening 4080 k) (sym (ap (λ (r : Run). r.state) c.in-Ok.ensures.ran))
     (c.courses_stay_in_range.ensures.states (standing s) c.parent_of-parent.result c.min-before.result h.tree (omega (arith, earlier, c.requires.exists)))
 
-pub returns-in_default-clause-part : goal.returns-in_default-clause-part
-returns-in_default-clause-part g t c =
+pub returns-in_default-go_onward-clause-part : goal.returns-in_default-go_onward-clause-part
+returns-in_default-go_onward-clause-part g t c =
     let s = c.args.session.now in
     let b = c.args.branch in
     let pre = c.args.trace.now.list in
     let pos : 0 < b = omega (arith, c.if-branch-eq0.false) in
-    let first : Run = record { state = c.in_ok-kernel.kernel; entries = c.recorded.new.trace.list } in
+    let first : Run = record { state = c.in-Ok.kernel; entries = c.recorded.new.trace.list } in
     let whole = record-onward s b c.args.event c.stop_of.result c.parent_of-parent.result c.min-before.result pre first c.parent_of-parent.ensures.session pos c.requires.exists c.stop_of.ensures c.requires.within
-    c.parent_of-parent.ensures.value c.min-before.ensures c.in_ok-kernel.ensures.ran in
+    c.parent_of-parent.ensures.value c.min-before.ensures c.in-Ok.ensures.ran in
     subst (λ (r : Run). BeginWith r.entries c.go_onward.new.trace.list) whole c.go_onward.ensures.part
 
 pub returns-clause-part : goal.returns-clause-part
@@ -52,9 +52,9 @@ returns-clause-part g t c =
     let b = c.args.branch in
     let pre = c.args.trace.now.list in
     let pos : 0 < b = omega (arith, c.if-branch-eq0.false) in
-    let first : Run = record { state = c.in_ok-kernel.kernel; entries = c.recorded.new.trace.list } in
+    let first : Run = record { state = c.in-Ok.kernel; entries = c.recorded.new.trace.list } in
     let whole = record-onward s b c.args.event c.stop_of.result c.parent_of-parent.result c.min-before.result pre first c.parent_of-parent.ensures.session pos c.requires.exists c.stop_of.ensures c.requires.within
-    c.parent_of-parent.ensures.value c.min-before.ensures c.in_ok-kernel.ensures.ran in
+    c.parent_of-parent.ensures.value c.min-before.ensures c.in-Ok.ensures.ran in
     subst (λ (r : Run). BeginWith r.entries c.go_onward.new.trace.list) whole c.go_onward.ensures.part
 
 pub returns-clause-ran : goal.returns-clause-ran
@@ -63,16 +63,16 @@ returns-clause-ran g t c =
     let b = c.args.branch in
     let pre = c.args.trace.now.list in
     let pos : 0 < b = omega (arith, c.if-branch-eq0.false) in
-    let first : Run = record { state = c.in_ok-kernel.kernel; entries = c.recorded.new.trace.list } in
-    c.in-Ok.ensures.ran
+    let first : Run = record { state = c.in-Ok.kernel; entries = c.recorded.new.trace.list } in
+    c.in-Ok-go_onward.ensures.ran
     ∙ record-onward s b c.args.event c.stop_of.result c.parent_of-parent.result c.min-before.result pre first c.parent_of-parent.ensures.session pos c.requires.exists c.stop_of.ensures c.requires.within
-    c.parent_of-parent.ensures.value c.min-before.ensures c.in_ok-kernel.ensures.ran
+    c.parent_of-parent.ensures.value c.min-before.ensures c.in-Ok.ensures.ran
 
-pub returns-in_default-clause-kept : goal.returns-in_default-clause-kept
-returns-in_default-clause-kept g t c = begin-on c.args.trace.now.list c.recorded.new.trace.list c.go_onward.new.trace.list c.recorded.ensures.kept c.go_onward.ensures.kept
+pub returns-in_default-go_onward-clause-kept : goal.returns-in_default-go_onward-clause-kept
+returns-in_default-go_onward-clause-kept g t c = begin-on c.args.trace.now.list c.recorded.new.trace.list c.go_onward.new.trace.list c.recorded.ensures.kept c.go_onward.ensures.kept
 
-pub returns-in_default-clause-counted : goal.returns-in_default-clause-counted
-returns-in_default-clause-counted g t c = omega (arith, c.recorded.ensures.counted, c.go_onward.ensures.counted)
+pub returns-in_default-go_onward-clause-counted : goal.returns-in_default-go_onward-clause-counted
+returns-in_default-go_onward-clause-counted g t c = omega (arith, c.recorded.ensures.counted, c.go_onward.ensures.counted)
 
 pub returns-clause-kept : goal.returns-clause-kept
 returns-clause-kept g t c = begin-on c.args.trace.now.list c.recorded.new.trace.list c.go_onward.new.trace.list c.recorded.ensures.kept c.go_onward.ensures.kept
