@@ -2,6 +2,7 @@ pub mod Accepts
 pub mod Admissions
 pub mod Agents
 pub mod Conserved
+mod Copied
 pub mod Crossings
 pub mod Ends
 pub mod Hiddens

@@ -35,6 +35,13 @@ gained-small agent n xs ys e in' p all =
     (All-weaker (IsWithin (2 ^ 100 + 2 ^ 80)) (IsWithin (2 ^ 120)) (λ x q. within-more (2 ^ 100 + 2 ^ 80) (2 ^ 120) x (lit≤ tt) q) (gained agent n xs)
     (gained-within (2 ^ 100) (2 ^ 80) agent n xs in' p all))
 
+-- positions that were small are not large after one gain
+pub gained-few : (agent : ℕ) (n : ℤ) (xs ys : List ℤ) → ys ≡ gained agent n xs → agent - 1 < length xs → IsWithin (2 ^ 40) n → All (IsWithin (2 ^ 50)) xs → All (IsWithin (2 ^ 60)) ys
+gained-few agent n xs ys e in' p all =
+    subst (λ (l : List ℤ). All (IsWithin (2 ^ 60)) l) (sym e)
+    (All-weaker (IsWithin (2 ^ 50 + 2 ^ 40)) (IsWithin (2 ^ 60)) (λ x q. within-more (2 ^ 50 + 2 ^ 40) (2 ^ 60) x (lit≤ tt) q) (gained agent n xs)
+    (gained-within (2 ^ 50) (2 ^ 40) agent n xs in' p all))
+
 -- two accounts gain, each by less than a bound
 pub gained-twice : (b d e first second : ℕ) (m n : ℤ) (xs ys zs : List ℤ) → ys ≡ gained first m xs → zs ≡ gained second n ys → first - 1 < length xs → second - 1 < length xs → IsWithin d m → IsWithin d n → b + d + d ≡ e → All (IsWithin b) xs → All (IsWithin e) zs
 gained-twice b d e first second m n xs ys zs is-ys is-zs in-first in-second p q sum all =

@@ -1,5 +1,5 @@
-use Rattle.std.proofs.Common.{◌+◌, ◌*◌, ◌^◌, arith, rules}
-use Rattle.exchange_agent.proofs.Withins.{gained-small, gained-twice, within-more}
+use Rattle.std.proofs.Common.{◌+◌, ◌*◌, ◌^◌, arith, lit≤, rules}
+use Rattle.exchange_agent.proofs.Withins.{all-within, gained-small, gained-twice, within-more}
 use Rattle.exchange_agent.proofs.settle.settle_money.Goals as goal
 
 pub gain_money-requires-2-clause-small : goal.gain_money-requires-2-clause-small
@@ -15,3 +15,21 @@ returns-clause-moves c = λ b all.
     (search (rules, c.gain_money.ensures)) (search (rules, c.gain_money-2.ensures))
     (omega (arith, c.requires.resting_trader, c.requires.resting_exists)) (omega (arith, c.requires.trader, c.requires.exists))
     c.net_for-gain.ensures.size c.net_for-gain-2.ensures.size (omega arith) all
+
+pub net_for-gain-requires-clause-few : goal.net_for-gain-requires-clause-few
+net_for-gain-requires-clause-few c = c.requires.few
+
+pub gain_money-requires-clause-trader : goal.gain_money-requires-clause-trader
+gain_money-requires-clause-trader c = c.requires.resting_trader
+
+pub gain_money-requires-clause-exists : goal.gain_money-requires-clause-exists
+gain_money-requires-clause-exists c = c.requires.resting_exists
+
+pub gain_money-requires-clause-small : goal.gain_money-requires-clause-small
+gain_money-requires-clause-small c = all-within (2 ^ 100) (2 ^ 120) c.args.cash.now.items (lit≤ tt) c.requires.small
+
+pub net_for-gain-requires-2-clause-few : goal.net_for-gain-requires-2-clause-few
+net_for-gain-requires-2-clause-few c = c.requires.few
+
+pub gain_money-requires-2-clause-trader : goal.gain_money-requires-2-clause-trader
+gain_money-requires-2-clause-trader c = c.requires.trader

@@ -114,3 +114,27 @@ returns-then-not-admitted-clause-state c =
     c.ignore_enter.ensures
     ∙ ap (λ (q : State). record q { counts = record q.counts { enters = q.counts.enters + 1 } }) same
     ∙ ap (λ (t : Bool). (entered_by s c.args.time c.args.from c.args.e.now (if t then Ignored else Accepted c.args.stock)).state) (sym old)
+
+pub admit-requires-clause-exists : goal.admit-requires-clause-exists
+admit-requires-clause-exists c =
+    let i = c.self.inside in
+    let view : c.args.self.now ≡ state_of i.stocks.items i.cash.items i.pairs.keys i.counts i.hidden = search rules in
+    omega (arith, c.requires.exists, ap (λ (q : State). length q.cash) view)
+
+pub admit-requires-clause-some_orders : goal.admit-requires-clause-some_orders
+admit-requires-clause-some_orders c =
+    let i = c.self.inside in
+    let view : c.args.self.now ≡ state_of i.stocks.items i.cash.items i.pairs.keys i.counts i.hidden = search rules in
+    omega (arith, c.requires.room, ap (λ (q : State). length q.pairs) view, c.self.invariant.orders)
+
+pub admit-requires-clause-some_pairs : goal.admit-requires-clause-some_pairs
+admit-requires-clause-some_pairs c =
+    let i = c.self.inside in
+    let view : c.args.self.now ≡ state_of i.stocks.items i.cash.items i.pairs.keys i.counts i.hidden = search rules in
+    omega (arith, c.requires.room, ap (λ (q : State). length q.pairs) view)
+
+pub admit-requires-clause-matches : goal.admit-requires-clause-matches
+admit-requires-clause-matches c = c.self.invariant.matches
+
+pub admit-requires-clause-money : goal.admit-requires-clause-money
+admit-requires-clause-money c = c.self.invariant.cash

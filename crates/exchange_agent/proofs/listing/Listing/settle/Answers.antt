@@ -22,3 +22,69 @@ returns-clause-small c = λ orders shares some h.
       positions = all-within (2000000 * orders + 2 * shares + 2 * n) (2000000 * orders + 2 * (shares + n)) _ (omega arith) (c.count.ensures.positions (2000000 * orders + 2 * shares) h.positions);
       fee = grind (arith, to_z-of_z, within);
     }
+
+pub settle_money-requires-clause-few : goal.settle_money-requires-clause-few
+settle_money-requires-clause-few c = c.requires.few
+
+pub settle_money-requires-clause-trader : goal.settle_money-requires-clause-trader
+settle_money-requires-clause-trader c = c.requires.trader
+
+pub settle_money-requires-clause-exists : goal.settle_money-requires-clause-exists
+settle_money-requires-clause-exists c = c.requires.exists
+
+pub settle_money-requires-clause-resting_trader : goal.settle_money-requires-clause-resting_trader
+settle_money-requires-clause-resting_trader c = c.requires.resting_trader
+
+pub settle_money-requires-clause-resting_exists : goal.settle_money-requires-clause-resting_exists
+settle_money-requires-clause-resting_exists c = c.requires.resting_exists
+
+pub settle_money-requires-clause-small : goal.settle_money-requires-clause-small
+settle_money-requires-clause-small c = c.requires.far.cash
+
+pub count-requires-clause-few : goal.count-requires-clause-few
+count-requires-clause-few c = c.requires.few
+
+pub count-requires-clause-trader : goal.count-requires-clause-trader
+count-requires-clause-trader c = c.requires.trader
+
+pub count-requires-clause-resting_trader : goal.count-requires-clause-resting_trader
+count-requires-clause-resting_trader c = c.requires.resting_trader
+
+pub count-requires-clause-exists : goal.count-requires-clause-exists
+count-requires-clause-exists c = omega (arith, c.requires.exists, c.requires.traders)
+
+pub count-requires-clause-resting_exists : goal.count-requires-clause-resting_exists
+count-requires-clause-resting_exists c = omega (arith, c.requires.resting_exists, c.requires.traders)
+
+pub count-requires-clause-positions : goal.count-requires-clause-positions
+count-requires-clause-positions c = c.requires.far.positions
+
+pub count-requires-clause-matched : goal.count-requires-clause-matched
+count-requires-clause-matched c = c.requires.far.matched
+
+pub count-requires-clause-taken : goal.count-requires-clause-taken
+count-requires-clause-taken c = c.requires.far.taken
+
+pub tell-requires-clause-room : goal.tell-requires-clause-room
+tell-requires-clause-room c = c.requires.room
+
+pub tell-requires-clause-feed_room : goal.tell-requires-clause-feed_room
+tell-requires-clause-feed_room c = c.requires.feed_room
+
+pub returns-clause-cash : goal.returns-clause-cash
+returns-clause-cash c = c.settle_money.ensures.value
+
+pub returns-clause-tally : goal.returns-clause-tally
+returns-clause-tally c = c.count.ensures.tally
+
+pub returns-clause-rest : goal.returns-clause-rest
+returns-clause-rest c = c.count.ensures.rest
+
+pub returns-clause-book : goal.returns-clause-book
+returns-clause-book c = c.count.ensures.book
+
+pub returns-clause-replies : goal.returns-clause-replies
+returns-clause-replies c = c.tell.ensures.replies
+
+pub overflow_add-matches : goal.overflow_add-matches
+overflow_add-matches c = omega (arith, c.requires.far.matches)
