@@ -23,3 +23,6 @@ returns-in_default c =
     let audit : bytes_eq c.args.name.now (codes "audit") ≡ false = search (tests, rules) in
     let session : bytes_eq c.args.name.now (codes "session") ≡ false = search (tests, rules) in
     none_is c.args.name.now c.args.study.now (map (λ word. word.now) c.args.more.now) c.args.places run table check rewind big cross audit session
+
+pub returns-in-audit : goal.returns-in-audit
+returns-in-audit c = search (tests, rules)
