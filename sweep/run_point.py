@@ -5,8 +5,9 @@
 
 `table` writes the changed study to STUDY, and to FILE its table as rows of the sweep: point, values, key, status, rule
 and place of a refusal, and the table's columns. A refused study is one row. `report` writes the study's page to FILE.
-Every other end but 0 and 5 (README's statuses: 6 and 7 of reading and writing, 10 of memory) is this script's end too,
-with the program's line, and FILE is not there: Snakemake then tries again. FILE appears whole or not at all.
+Every other end but 0 and 5 (docs/COMMANDS.md has the statuses: 6 and 7 of reading and writing, 10 of memory) is this
+script's end too, with the program's line, and FILE is not there: Snakemake then tries again. FILE appears whole or not
+at all.
 """
 
 from __future__ import annotations
