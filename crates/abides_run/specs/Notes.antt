@@ -33,8 +33,8 @@ act_line act = codes "act refused: " ++ decimal act ++ 10 ∷ []
 abbrev pub past_event : List ℕ → ℕ → List ℕ
 past_event word last = word ++ codes ", last event " ++ decimal last
 
--- the line for a status, where this is the name that it speaks of: a file's, a rewind's argument, or an argument or an act with
--- the last event of its branch
+-- the line for a status, where this is the name that it speaks of: a file's, an argument's, a stock's symbol, or an argument or
+-- an act with the last event of its branch
 abbrev pub note : List ℕ → Status → List ℕ
 note name Ok = []
 note name Usage = codes "usage: abides COMMAND STUDY [MORE...] [--workers N] [--places N]\n"

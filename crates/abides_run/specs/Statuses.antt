@@ -43,7 +43,7 @@ Cause come (ActRefused act) = status_of come ≡ ActRefused act
 Cause come NoEvent = status_of come ≡ NoEvent
 Cause come Memory = Unit {0}
 
--- The name is that of an argument whose event is past the last of its branch, and says which event that is.
+-- The name is that of an argument or an act whose event is past the last of its branch, and says which event that is.
 pub record IsPast (come : Verdict) (name : List ℕ) : Type 0 where
   pub word : List ℕ
   pub last : ℕ
@@ -52,8 +52,8 @@ pub record IsPast (come : Verdict) (name : List ℕ) : Type 0 where
   pub is : come ≡ no_event word last study past
   pub said : name ≡ past_event word last
 
--- What a status's line names, where words and files come to this verdict and these files are fetched: a file or an argument.
--- Which of the reads failed, no file tells.
+-- What a status's line names, where words and files come to this verdict and these files are fetched: a file, an argument, a
+-- stock's symbol or an act. Which of the reads failed, no file tells.
 abbrev pub Names : Verdict → List (List ℕ) → Status → List ℕ → Type 0
 Names come fetched Ok name = Unit {0}
 Names come fetched Usage name = Unit {0}

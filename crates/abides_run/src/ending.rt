@@ -10,8 +10,8 @@ use std::alloc::Global;
 pub struct Ending {
     /// How the run ends.
     pub status: Status,
-    /// What its line names: a file, or an argument of a rewind, behind which the last event of its branch may stand. Empty where
-    /// it names nothing.
+    /// What its line names: a file, a stock's symbol, or an argument or an act, behind which the last event of its branch may stand.
+    /// Empty where it names nothing.
     pub name: String,
 }
 

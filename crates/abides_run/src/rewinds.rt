@@ -169,7 +169,7 @@ fn past_text(alloc: Global, word: &str, last: u32) -> Result<String, AllocError>
     format!(in alloc; "{word}, last event {last}")
 }
 
-/// The end where a branch hasn't the event that an argument names.
+/// The end where a branch hasn't the event that an argument or an act names.
 pub fn no_event(alloc: Global, word: &str, last: u32) -> Ending
     ensures { (result.status ≡ Status.Memory) ⊎ ((result.status ≡ Status.NoEvent) × (string_bytes result.name ≡ past_event word.now last)) }
 {

@@ -18,8 +18,8 @@ use std::rt::{Env, Files};
 use std::sync::Wait;
 use std::thread::Threads;
 
-/// Runs the command line over the system's files. The bundle or the table goes to `out`, the line for the status to
-/// `notes`, and the number of the status is the exit status. It may wait.
+/// Runs the command line over the system's files. What its command writes goes to `out`, the line for the status to `notes`, and
+/// the number of the status is the exit status. It may wait.
 pub fn run_command_line<R: Env + Files + AllocGlobal + Threads + Wait + Sync, O: Sink, N: Sink>(
     rt: &R,
     out: &mut O,

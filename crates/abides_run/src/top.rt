@@ -43,11 +43,11 @@ fn answer<R: Threads + Wait + Sync, L: Library, O: Sink, G: Gate + Sync, D: Ledg
 }
 
 /// Does what the words ask for: the study's file, the series file that it names, a further file or a bundle come from the
-/// library, the bundle, the line of counts, the table, the lines of a large study, the states of a rewind, the frames of a cross or
-/// the line of an audit go to `out`, and the line for the status to `notes`. The words are
-/// the command line without the program's name; each simulated event ticks `steps` once. So many workers as the words say
-/// simulate the study's segments, each in a thread of its own where `rt` can make one; each passes the gate before the first
-/// step of a segment. It may wait.
+/// library, the bundle, the line of counts, the table, the lines of a large study, the states of a rewind, the frames of a cross,
+/// the answers of a session or the line of an audit go to `out`, and the line for the status to `notes`. The words are the command
+/// line without the program's name; each simulated event ticks `steps` once. So many workers as the words say simulate the study's
+/// segments, each in a thread of its own where `rt` can make one; each passes the gate before the first step of a segment. It may
+/// wait.
 ///
 /// What is promised of it are the fields of two records. `Answered` has the output, the rise of the counter, the cause of
 /// each status and the status of each cause, what stands at a refusal, and that want of memory is the only other end.

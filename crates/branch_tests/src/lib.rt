@@ -1,4 +1,4 @@
-//! Tests of branches: their runs by workers, their bundles written and read, rewinds and tables.
+//! Tests of branches: their runs by workers, their bundles written and read, rewinds, sessions and tables.
 #![tactic(auto)]
 
 #[cfg(test)]

@@ -219,34 +219,46 @@ fn three_branches_share_two_events_among_any_workers(rt: HostRuntime) {
     drop(ended);
 }
 
-const BY_TWO: [&[&str]; 2] = [
-    &["table", "s", "--workers", "2"],
-    &["rewind", "s", "root:0", "--workers", "2"],
+// The words of a command, and the file that they name beside the study.
+const BY_TWO: [(&[&str], &str); 4] = [
+    (&["table", "s", "--workers", "2"], ""),
+    (&["rewind", "s", "root:0", "--workers", "2"], ""),
+    (
+        &["cross", "s", "root:0", "ABM", "t", "--workers", "2"],
+        "agent,side,shares,price\n",
+    ),
+    (
+        &["session", "s", "t", "--workers", "2"],
+        "[[act]]\nkind = \"undo\"\n",
+    ),
 ];
 
-// Words run three branches past a gate that holds one segment, by two workers.
+// A command runs three branches past a gate that holds one segment, by two workers.
 fn runs_by_two<R: Abort + Threads + Wait + Sync>(
     rt: &R,
     alloc: Global,
     text: &str,
-    words: &[&str],
+    row: &(&[&str], &str),
 ) {
     let gate = HoldGate::new(2, 3, 100_000_000);
-    let around = alone(text, sized(4096, 4096));
+    let around = Around {
+        series: row.1,
+        ..alone(text, sized(4096, 4096))
+    };
     let probes = four_probes(rt, alloc);
-    let ended = ran_past(rt, alloc, words, &around, probes, &gate);
+    let ended = ran_past(rt, alloc, row.0, &around, probes, &gate);
     holds(rt, is_ended(&ended, Status::Ok, 18));
     drop(ended);
     holds(rt, !gate.exceeded() & (gate.passes() == 5));
 }
 
-// A table and a rewind have as many workers as their words say too.
+// The other commands that simulate a study have more than one worker too where their words say so.
 #[test]
-fn tables_and_rewinds_have_their_workers(rt: HostRuntime) {
+fn commands_have_their_workers(rt: HostRuntime) {
     let alloc = rt.alloc();
     let text = branched(&rt, alloc);
-    for words in BY_TWO.iter() {
-        runs_by_two(&rt, alloc, text.as_str(), words);
+    for row in BY_TWO.iter() {
+        runs_by_two(&rt, alloc, text.as_str(), row);
     }
     drop(text);
 }
