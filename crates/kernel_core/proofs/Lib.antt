@@ -13,5 +13,6 @@ pub mod Stops
 pub mod Times
 pub mod Fresh
 pub mod Making
+pub mod Timelies
 pub mod Traces
 pub mod EditRuns

@@ -1,19 +1,24 @@
-use Rattle.std.proofs.Common.{◌≡◌, ◌+◌, ◌<◌, ◌≤◌, ◌^◌, None, length, refl, sym, ap, ◌∙◌, subst, arith, slice_set}
+use Rattle.std.proofs.Common.{◌≡◌, ◌+◌, ◌<◌, ◌≤◌, ◌^◌, ℕ, All, None, length, refl, sym, ap, ◌∙◌, subst, arith, slice_set}
 use Rattle.std.proofs.lemmas.List.{length-set}
 use Rattle.std.proofs.lemmas.List.Elements.{All-nil}
 use Rattle.market_types.specs.declared.feed.Feed.{Feed}
 use Rattle.market_types.specs.declared.message.Message.{Message}
 use Rattle.market_types.specs.Timely.{IsTimely}
 use Rattle.market_types.specs.Told.{event}
+use Rattle.market_floor.specs.declared.posting.Posting.{Posting}
+use Rattle.market_floor.specs.Floor.{FloorState}
+use Rattle.market_floor.specs.Postings.{IsAddressed}
 use Rattle.kernel_core.specs.Post.{Post, put_back, taken}
 use Rattle.kernel_core.specs.Seen.{first_of}
 use Rattle.kernel_core.specs.Send.{all_sent}
+use Rattle.kernel_core.specs.Sound.{IsSound}
 use Rattle.kernel_core.specs.SoundMail.{IsSoundMail}
 use Rattle.kernel_core.specs.State.{State}
 use Rattle.kernel_core.specs.Step.{Fits, Happened, end_of, event_back, event_delivered, event_of}
 use Rattle.kernel_core.specs.View.{state_of}
 use Rattle.kernel_core.proofs.Making.{at-some, back-made, back-same, delivered-made, delivered-same, taken-same}
-use Rattle.kernel_core.proofs.Sound.{IsOfSize, fits-after, next-is, next-within, sound-after}
+use Rattle.kernel_core.proofs.Runs.{going-whole}
+use Rattle.kernel_core.proofs.Sound.{IsOfSize, fits-after, floor-fits, next-is, next-within, sound-after}
 use Rattle.kernel_core.proofs.kernel.Kernel.happen.Goals as goal
 
 pub index-own-requires : goal.index-own-requires
@@ -217,3 +222,123 @@ returns-clause-fitting g c =
       groups = k.groups;
     } in
     fits-after o s q fits size refl (c.applied_by-self-inside-2.ensures.within fits.dated) later (omega (arith, n.below))
+
+-- after want of memory the floor is as it was
+
+pub invariant_of-self : goal.invariant_of-self
+invariant_of-self g c = subst (λ (f : FloorState). IsSound (record (state_of c.self.inside) { floor = f })) (sym c.in_default-tell_back.ensures.refused) c.self.invariant
+
+pub returns-in_default-tell_back-clause-fitting : goal.returns-in_default-tell_back-clause-fitting
+returns-in_default-tell_back-clause-fitting g c =
+    let same = ap (λ (f : FloorState). record (state_of c.self.inside) { floor = f }) c.in_default-tell_back.ensures.refused ∙ c.self.view_is in
+    subst (λ (q : State). Fits c.args.o.now q) (sym same) c.requires.fits
+
+pub returns-in_default-tell_back-clause-refused : goal.returns-in_default-tell_back-clause-refused
+returns-in_default-tell_back-clause-refused g c = ap (λ (f : FloorState). record (state_of c.self.inside) { floor = f }) c.in_default-tell_back.ensures.refused ∙ c.self.view_is
+
+pub returns-in_default-tell_back-clause-keeper_refused : goal.returns-in_default-tell_back-clause-keeper_refused
+returns-in_default-tell_back-clause-keeper_refused g c = c.in_default-tell_back.ensures.keeper_refused ∙ c.in-Ok-room.ensures.same
+
+pub invariant_of-self-in_default-tell_delivery : goal.invariant_of-self-in_default-tell_delivery
+invariant_of-self-in_default-tell_delivery g c = subst (λ (f : FloorState). IsSound (record (state_of c.self.inside) { floor = f })) (sym c.in_default-tell_delivery.ensures.refused) c.self.invariant
+
+pub returns-in_default-tell_delivery-clause-fitting : goal.returns-in_default-tell_delivery-clause-fitting
+returns-in_default-tell_delivery-clause-fitting g c =
+    let same = ap (λ (f : FloorState). record (state_of c.self.inside) { floor = f }) c.in_default-tell_delivery.ensures.refused ∙ c.self.view_is in
+    subst (λ (q : State). Fits c.args.o.now q) (sym same) c.requires.fits
+
+pub returns-in_default-tell_delivery-clause-refused : goal.returns-in_default-tell_delivery-clause-refused
+returns-in_default-tell_delivery-clause-refused g c = ap (λ (f : FloorState). record (state_of c.self.inside) { floor = f }) c.in_default-tell_delivery.ensures.refused ∙ c.self.view_is
+
+pub returns-in_default-tell_delivery-clause-keeper_refused : goal.returns-in_default-tell_delivery-clause-keeper_refused
+returns-in_default-tell_delivery-clause-keeper_refused g c = c.in_default-tell_delivery.ensures.keeper_refused ∙ c.in-Ok-room.ensures.same
+
+-- what the calls ask
+
+pub overflow_add-number : goal.overflow_add-number
+overflow_add-number g c =
+    let n = next-is c.args.o.now (state_of c.self.inside) c.in-Ok.m.now (subst (λ (q : State). Fits c.args.o.now q) (sym c.self.view_is) c.requires.fits) c.in-Ok.ensures.least c.in-Ok.ensures.going in
+    omega (arith, n.few)
+
+pub tell_back-requires-clause-fits : goal.tell_back-requires-clause-fits
+tell_back-requires-clause-fits g c =
+    let fits = subst (λ (q : State). Fits c.args.o.now q) (sym c.self.view_is) c.requires.fits in
+    floor-fits c.args.o.now (state_of c.self.inside) fits
+
+pub tell_back-requires-clause-early : goal.tell_back-requires-clause-early
+tell_back-requires-clause-early g c =
+    let n = next-is c.args.o.now (state_of c.self.inside) c.in-Ok.m.now (subst (λ (q : State). Fits c.args.o.now q) (sym c.self.view_is) c.requires.fits) c.in-Ok.ensures.least c.in-Ok.ensures.going in
+    n.early
+
+pub tell_delivery-requires-clause-fits : goal.tell_delivery-requires-clause-fits
+tell_delivery-requires-clause-fits g c =
+    let fits = subst (λ (q : State). Fits c.args.o.now q) (sym c.self.view_is) c.requires.fits in
+    floor-fits c.args.o.now (state_of c.self.inside) fits
+
+pub tell_delivery-requires-clause-early : goal.tell_delivery-requires-clause-early
+tell_delivery-requires-clause-early g c =
+    let n = next-is c.args.o.now (state_of c.self.inside) c.in-Ok.m.now (subst (λ (q : State). Fits c.args.o.now q) (sym c.self.view_is) c.requires.fits) c.in-Ok.ensures.least c.in-Ok.ensures.going in
+    n.early
+
+pub tell_delivery-requires-clause-close : goal.tell_delivery-requires-clause-close
+tell_delivery-requires-clause-close g c =
+    let n = next-is c.args.o.now (state_of c.self.inside) c.in-Ok.m.now (subst (λ (q : State). Fits c.args.o.now q) (sym c.self.view_is) c.requires.fits) c.in-Ok.ensures.least c.in-Ok.ensures.going in
+    n.close
+
+pub overflow_add-until : goal.overflow_add-until
+overflow_add-until g c =
+    let n = next-is c.args.o.now (state_of c.self.inside) c.in-Ok.m.now (subst (λ (q : State). Fits c.args.o.now q) (sym c.self.view_is) c.requires.fits) c.in-Ok.ensures.least c.in-Ok.ensures.going in
+    omega (arith, n.early, c.in-Ok-tell_delivery.ensures.hour)
+
+pub send_all-requires-clause-opening : goal.send_all-requires-clause-opening
+send_all-requires-clause-opening g c = c.requires.fits.opening
+
+pub send_all-requires-clause-groups : goal.send_all-requires-clause-groups
+send_all-requires-clause-groups g c =
+    let fits = subst (λ (q : State). Fits c.args.o.now q) (sym c.self.view_is) c.requires.fits in
+    fits.groups
+
+pub send_all-requires-clause-addressed : goal.send_all-requires-clause-addressed
+send_all-requires-clause-addressed g c =
+    let k = c.self.inside in
+    let o = c.args.o.now in
+    let to = c.in-Ok.m.now.to in
+    let xs = c.tell_delivery.new.out.postings in
+    let fits = subst (λ (q : State). Fits o q) (sym c.self.view_is) c.requires.fits in
+    let here = subst (λ (n : ℕ). All (λ (x : Posting). IsAddressed (length k.floor.parties) n to x) xs) (sym fits.stocks) c.in-Ok-tell_delivery.ensures.posted.addressed in
+    subst (λ (n : ℕ). All (λ (x : Posting). IsAddressed n (length o.stocks) to x) xs) (sym fits.traders) here
+
+pub send_all-requires-clause-leaves : goal.send_all-requires-clause-leaves
+send_all-requires-clause-leaves g c =
+    let n = next-is c.args.o.now (state_of c.self.inside) c.in-Ok.m.now (subst (λ (q : State). Fits c.args.o.now q) (sym c.self.view_is) c.requires.fits) c.in-Ok.ensures.least c.in-Ok.ensures.going in
+    omega (arith, n.early, c.in-Ok-tell_delivery.ensures.hour)
+
+pub send_all-requires-clause-numbers : goal.send_all-requires-clause-numbers
+send_all-requires-clause-numbers g c =
+    let gone = at-some (λ (x : Message). c.drop_least.new.self ≡ taken c.self.inside.mail x) _ c.in-Ok.m.now (sym c.in-Ok.ensures.least) c.drop_least.ensures.left in
+    let same = ap (λ (p : Post). p.next_seq) gone in
+    let mail = c.self.invariant.mail in
+    omega (arith, same, mail.numbers, mail.orderly.few, c.self.invariant.events, c.in-Ok-tell_delivery.ensures.posted.few)
+
+pub send_all-requires-clause-drops : goal.send_all-requires-clause-drops
+send_all-requires-clause-drops g c =
+    let gone = at-some (λ (x : Message). c.drop_least.new.self ≡ taken c.self.inside.mail x) _ c.in-Ok.m.now (sym c.in-Ok.ensures.least) c.drop_least.ensures.left in
+    let whole = going-whole c.args.o.now (state_of c.self.inside) c.in-Ok.ensures.going in
+    let same = ap (λ (p : Post). p.dropped) gone in
+    omega (arith, same, whole, c.in-Ok-tell_delivery.ensures.posted.few)
+
+-- no message was dropped before, and no more are than the postings
+
+pub returns-then-m-own-clause-drops : goal.returns-then-m-own-clause-drops
+returns-then-m-own-clause-drops g c =
+    let back = at-some (λ (x : Message). c.delay_least.new.self ≡ put_back c.self.inside.mail x c.index-own.result.now) _ c.in-Ok.m.now (sym c.in-Ok.ensures.least) c.delay_least.ensures.back in
+    let whole = going-whole c.args.o.now (state_of c.self.inside) c.in-Ok.ensures.going in
+    let same = ap (λ (p : Post). p.dropped) back in
+    omega (arith, same, whole)
+
+pub returns-clause-drops : goal.returns-clause-drops
+returns-clause-drops g c =
+    let gone = at-some (λ (x : Message). c.drop_least.new.self ≡ taken c.self.inside.mail x) _ c.in-Ok.m.now (sym c.in-Ok.ensures.least) c.drop_least.ensures.left in
+    let whole = going-whole c.args.o.now (state_of c.self.inside) c.in-Ok.ensures.going in
+    let same = ap (λ (p : Post). p.dropped) gone in
+    omega (arith, c.send_all.ensures.drops, same, whole, c.in-Ok-tell_delivery.ensures.posted.few)
