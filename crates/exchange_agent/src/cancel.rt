@@ -72,7 +72,8 @@ fn tell_lowering(locate: u16, time: Time, order: &Resting, left: u32, out: &mut 
     ensures replies { out.new.replies ≡ out.old.replies }
     ensures fee { out.new.fee ≡ out.old.fee }
 {
-    if order.shown {
+    let shown = order.shown;
+    if shown {
         out.tell(Feed {
             locate,
             tracking: 0,

@@ -26,7 +26,8 @@ fn add_to_feed(taking: &Taking, e: &Enter, reference: u64, left: u32, out: &mut 
     ensures replies { out.new.replies ≡ out.old.replies }
     ensures fee { out.new.fee ≡ out.old.fee }
 {
-    if e.display == b'Y' {
+    let shown = e.display == b'Y';
+    if shown {
         out.tell(Feed {
             locate: taking.locate,
             tracking: 0,

@@ -33,3 +33,6 @@ net_for-gain-requires-2-clause-few c = c.requires.few
 
 pub gain_money-requires-2-clause-trader : goal.gain_money-requires-2-clause-trader
 gain_money-requires-2-clause-trader c = c.requires.trader
+
+pub returns-clause-value : goal.returns-clause-value
+returns-clause-value c = search rules

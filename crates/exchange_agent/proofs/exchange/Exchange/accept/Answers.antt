@@ -3,6 +3,7 @@ use Rattle.market_types.specs.declared.message.Body.TheVariants.{Answer}
 use Rattle.exchange_agent.specs.declared.verdict.Verdict.TheVariants.{Accepted, Ignored}
 use Rattle.exchange_agent.specs.Enter.{acceptance_of, entered_by, is_remembered, taking_of}
 use Rattle.exchange_agent.specs.Pairs.{has_pair, pair_of}
+use Rattle.exchange_agent.specs.Settle.{Way}
 use Rattle.exchange_agent.specs.State.{State}
 use Rattle.exchange_agent.specs.View.{state_of, stock_of, way_at}
 use Rattle.std.specs.List.{slice_set}
@@ -138,3 +139,103 @@ admit-requires-clause-matches c = c.self.invariant.matches
 
 pub admit-requires-clause-money : goal.admit-requires-clause-money
 admit-requires-clause-money c = c.self.invariant.cash
+
+-- what is told of an order that is accepted: that of its way
+
+pub returns-else-not-admitted-clause-replies : goal.returns-else-not-admitted-clause-replies
+returns-else-not-admitted-clause-replies c =
+    let i = c.self.inside in
+    let s = c.args.self.now in
+    let e = c.args.e.now in
+    let k = c.args.stock in
+    let r = c.index_mut-listing.result.now in
+    let o = c.in-Ok.ensures in
+    let b = c.in-Ok.admitted in
+    let went = c.if-not-admitted.false in
+    let pair = pair_of c.args.from e.token in
+    let view : s ≡ state_of i.stocks.items i.cash.items i.pairs.keys i.counts i.hidden = search rules in
+    let new : is_remembered s c.args.from e ≡ false = ap (λ (q : State). has_pair pair q.pairs) view ∙ not-there b (has_pair pair i.pairs.keys) o.new went in
+    let v = way_at c.admit.new.listing c.admit.new.cash.items c.admit.new.counts.matches c.admit.new.out in
+    let inside : k < length i.stocks.items = in-stocks i.stocks.items i.cash.items i.pairs.keys i.counts i.hidden s k k view refl c.requires.stock in
+    let clean = way-clean (taking_of c.args.time c.args.from e k) e (i.counts.orders + 1) (stock_of r) i.cash.items i.counts.matches (record { to = c.args.from; body = Answer (acceptance_of c.args.time e (i.counts.orders + 1)) }) c.args.out.now.replies.list c.args.out.now.feed.list c.args.out.now.fee c.requires.no_replies c.requires.no_feed c.requires.no_fee in
+    let way = way-accepted s i.stocks.items i.cash.items i.pairs.keys i.counts i.hidden c.args.time c.args.from e k r v view inside (search rules) (on-true b _ went o.way ∙ clean) in
+    ap (λ (w : Way). w.replies) way ∙ ap (λ (t : Bool). (entered_by s c.args.time c.args.from e (if t then Ignored else Accepted k)).replies) (sym new)
+
+pub returns-else-not-admitted-clause-feed : goal.returns-else-not-admitted-clause-feed
+returns-else-not-admitted-clause-feed c =
+    let i = c.self.inside in
+    let s = c.args.self.now in
+    let e = c.args.e.now in
+    let k = c.args.stock in
+    let r = c.index_mut-listing.result.now in
+    let o = c.in-Ok.ensures in
+    let b = c.in-Ok.admitted in
+    let went = c.if-not-admitted.false in
+    let pair = pair_of c.args.from e.token in
+    let view : s ≡ state_of i.stocks.items i.cash.items i.pairs.keys i.counts i.hidden = search rules in
+    let new : is_remembered s c.args.from e ≡ false = ap (λ (q : State). has_pair pair q.pairs) view ∙ not-there b (has_pair pair i.pairs.keys) o.new went in
+    let v = way_at c.admit.new.listing c.admit.new.cash.items c.admit.new.counts.matches c.admit.new.out in
+    let inside : k < length i.stocks.items = in-stocks i.stocks.items i.cash.items i.pairs.keys i.counts i.hidden s k k view refl c.requires.stock in
+    let clean = way-clean (taking_of c.args.time c.args.from e k) e (i.counts.orders + 1) (stock_of r) i.cash.items i.counts.matches (record { to = c.args.from; body = Answer (acceptance_of c.args.time e (i.counts.orders + 1)) }) c.args.out.now.replies.list c.args.out.now.feed.list c.args.out.now.fee c.requires.no_replies c.requires.no_feed c.requires.no_fee in
+    let way = way-accepted s i.stocks.items i.cash.items i.pairs.keys i.counts i.hidden c.args.time c.args.from e k r v view inside (search rules) (on-true b _ went o.way ∙ clean) in
+    ap (λ (w : Way). w.feed) way ∙ ap (λ (t : Bool). (entered_by s c.args.time c.args.from e (if t then Ignored else Accepted k)).feed) (sym new)
+
+pub returns-else-not-admitted-clause-fee : goal.returns-else-not-admitted-clause-fee
+returns-else-not-admitted-clause-fee c =
+    let i = c.self.inside in
+    let s = c.args.self.now in
+    let e = c.args.e.now in
+    let k = c.args.stock in
+    let r = c.index_mut-listing.result.now in
+    let o = c.in-Ok.ensures in
+    let b = c.in-Ok.admitted in
+    let went = c.if-not-admitted.false in
+    let pair = pair_of c.args.from e.token in
+    let view : s ≡ state_of i.stocks.items i.cash.items i.pairs.keys i.counts i.hidden = search rules in
+    let new : is_remembered s c.args.from e ≡ false = ap (λ (q : State). has_pair pair q.pairs) view ∙ not-there b (has_pair pair i.pairs.keys) o.new went in
+    let v = way_at c.admit.new.listing c.admit.new.cash.items c.admit.new.counts.matches c.admit.new.out in
+    let inside : k < length i.stocks.items = in-stocks i.stocks.items i.cash.items i.pairs.keys i.counts i.hidden s k k view refl c.requires.stock in
+    let clean = way-clean (taking_of c.args.time c.args.from e k) e (i.counts.orders + 1) (stock_of r) i.cash.items i.counts.matches (record { to = c.args.from; body = Answer (acceptance_of c.args.time e (i.counts.orders + 1)) }) c.args.out.now.replies.list c.args.out.now.feed.list c.args.out.now.fee c.requires.no_replies c.requires.no_feed c.requires.no_fee in
+    let way = way-accepted s i.stocks.items i.cash.items i.pairs.keys i.counts i.hidden c.args.time c.args.from e k r v view inside (search rules) (on-true b _ went o.way ∙ clean) in
+    ap (λ (w : Way). w.fee) way ∙ ap (λ (t : Bool). (entered_by s c.args.time c.args.from e (if t then Ignored else Accepted k)).fee) (sym new)
+
+-- an Enter that is ignored is not told of
+
+pub returns-then-not-admitted-clause-replies : goal.returns-then-not-admitted-clause-replies
+returns-then-not-admitted-clause-replies c =
+    let i = c.self.inside in
+    let s = c.args.self.now in
+    let o = c.in-Ok.ensures in
+    let b = c.in-Ok.admitted in
+    let went = c.if-not-admitted.true in
+    let pair = pair_of c.args.from c.args.e.now.token in
+    let view : s ≡ state_of i.stocks.items i.cash.items i.pairs.keys i.counts i.hidden = search rules in
+    let old : is_remembered s c.args.from c.args.e.now ≡ true = ap (λ (q : State). has_pair pair q.pairs) view ∙ there b (has_pair pair i.pairs.keys) o.new went in
+    let kept = on-false b _ went o.ignored in
+    kept.4 ∙ c.requires.no_replies ∙ ap (λ (t : Bool). (entered_by s c.args.time c.args.from c.args.e.now (if t then Ignored else Accepted c.args.stock)).replies) (sym old)
+
+pub returns-then-not-admitted-clause-feed : goal.returns-then-not-admitted-clause-feed
+returns-then-not-admitted-clause-feed c =
+    let i = c.self.inside in
+    let s = c.args.self.now in
+    let o = c.in-Ok.ensures in
+    let b = c.in-Ok.admitted in
+    let went = c.if-not-admitted.true in
+    let pair = pair_of c.args.from c.args.e.now.token in
+    let view : s ≡ state_of i.stocks.items i.cash.items i.pairs.keys i.counts i.hidden = search rules in
+    let old : is_remembered s c.args.from c.args.e.now ≡ true = ap (λ (q : State). has_pair pair q.pairs) view ∙ there b (has_pair pair i.pairs.keys) o.new went in
+    let kept = on-false b _ went o.ignored in
+    kept.5 ∙ c.requires.no_feed ∙ ap (λ (t : Bool). (entered_by s c.args.time c.args.from c.args.e.now (if t then Ignored else Accepted c.args.stock)).feed) (sym old)
+
+pub returns-then-not-admitted-clause-fee : goal.returns-then-not-admitted-clause-fee
+returns-then-not-admitted-clause-fee c =
+    let i = c.self.inside in
+    let s = c.args.self.now in
+    let o = c.in-Ok.ensures in
+    let b = c.in-Ok.admitted in
+    let went = c.if-not-admitted.true in
+    let pair = pair_of c.args.from c.args.e.now.token in
+    let view : s ≡ state_of i.stocks.items i.cash.items i.pairs.keys i.counts i.hidden = search rules in
+    let old : is_remembered s c.args.from c.args.e.now ≡ true = ap (λ (q : State). has_pair pair q.pairs) view ∙ there b (has_pair pair i.pairs.keys) o.new went in
+    let kept = on-false b _ went o.ignored in
+    kept.6 ∙ c.requires.no_fee ∙ ap (λ (t : Bool). (entered_by s c.args.time c.args.from c.args.e.now (if t then Ignored else Accepted c.args.stock)).fee) (sym old)

@@ -1,0 +1,8 @@
+use Rattle.std.proofs.Common.{rules}
+use Rattle.exchange_agent.proofs.cancel.tell_lowering.Goals as goal
+
+pub returns-then-shown-clause-feed : goal.returns-then-shown-clause-feed
+returns-then-shown-clause-feed c = search rules
+
+pub returns-else-shown-clause-feed : goal.returns-else-shown-clause-feed
+returns-else-shown-clause-feed c = search rules
