@@ -60,3 +60,38 @@ returns-clause-sound c =
     let base = whole f i.exchange i.parties.items i.offsets.items os same c.self.view_is in
     λ n h. subst (λ (l : List ℤ). IsSoundFloor (n + 1) (floor_of c.react.new.exchange c.react.new.parties.items l)) same
     (c.react.ensures.sound n (subst (λ (q : FloorState). IsSoundFloor n q) (sym base) h))
+
+-- where dated changes are due
+
+pub returns-then-is_due-clause-floor : goal.returns-then-is_due-clause-floor
+returns-then-is_due-clause-floor c = c.deliver_changed.ensures.floor
+
+pub returns-then-is_due-clause-before : goal.returns-then-is_due-clause-before
+returns-then-is_due-clause-before c = c.deliver_changed.ensures.before
+
+pub returns-then-is_due-clause-told : goal.returns-then-is_due-clause-told
+returns-then-is_due-clause-told c = c.deliver_changed.ensures.told
+
+pub returns-then-is_due-clause-posted : goal.returns-then-is_due-clause-posted
+returns-then-is_due-clause-posted c = c.deliver_changed.ensures.posted
+
+pub returns-then-is_due-clause-hour : goal.returns-then-is_due-clause-hour
+returns-then-is_due-clause-hour c = c.deliver_changed.ensures.hour
+
+pub returns-then-is_due-clause-times_before : goal.returns-then-is_due-clause-times_before
+returns-then-is_due-clause-times_before c = c.deliver_changed.ensures.times_before
+
+pub returns-then-is_due-clause-times_after : goal.returns-then-is_due-clause-times_after
+returns-then-is_due-clause-times_after c = c.deliver_changed.ensures.times_after
+
+pub returns-then-is_due-clause-sound : goal.returns-then-is_due-clause-sound
+returns-then-is_due-clause-sound c = c.deliver_changed.ensures.sound
+
+pub returns-then-is_due-clause-stocks : goal.returns-then-is_due-clause-stocks
+returns-then-is_due-clause-stocks c = c.deliver_changed.ensures.stocks
+
+pub returns-then-is_due-clause-traders : goal.returns-then-is_due-clause-traders
+returns-then-is_due-clause-traders c = c.deliver_changed.ensures.traders
+
+pub returns-then-is_due-clause-refused : goal.returns-then-is_due-clause-refused
+returns-then-is_due-clause-refused c = c.deliver_changed.ensures.refused
