@@ -1,5 +1,5 @@
 -- What a pass over entries finds first is the first broken rule.
-use Rattle.std.proofs.Common.{◌≡◌, ◌<◌, ◌+◌, ◌++◌, nat_lt, Bool, true, false, cond, not, ℕ, List, [], ◌∷◌, length, map, Option, None, Some, refl, ap, sym, ◌∙◌, append_assoc, arith, if◌then◌else◌}
+use Rattle.std.proofs.Common.{◌≡◌, ◌<◌, ◌+◌, ◌++◌, nat_lt, Bool, true, false, cond, not, ℕ, zero, suc, List, [], ◌∷◌, length, map, Option, None, Some, Result, Ok, Err, IfErr, IsErr, IsErrAnd, refl, ap, sym, ◌∙◌, append_assoc, arith, if◌then◌else◌}
 use Rattle.std.specs.List.{list_all, flat_map}
 use Rattle.std.proofs.lemmas.Bool.{and_parts, ltb-true}
 use Rattle.std.proofs.lemmas.Bool.Decides.{nat_tests}
@@ -11,6 +11,8 @@ use Rattle.toml.specs.declared.value.Value.{Value}
 use Rattle.study_file.specs.Keys.{passes, has_form}
 use Rattle.study_file.specs.Values.{first_failing}
 use Rattle.study_market.specs.declared.early_refusal.Refusal.{Refusal}
+use Rattle.study_market.specs.declared.early_refusal.ReadError.{ReadError}
+use Rattle.study_market.specs.declared.early_refusal.ReadError.TheVariants.{Refused}
 use Rattle.study_market.specs.Forms.{stock_form}
 use Rattle.study_market.specs.MarketRules.{size_of, start_of, span_of}
 use Rattle.study_market.specs.StockRules.{stocks, symbols, has_symbol, has_bands, has_fees, has_prices, has_pace, stock_count_broken, repeat_broken, series_broken}
@@ -218,6 +220,32 @@ broken-first number (Some at) others p e = e
 
 pub at_broken : (r : Rule) (rs : List Rule) (t : Members) (p : Refusal) → broken_at r.number (r.broken t) ≡ Some p → first_of_rules (r ∷ rs) t ≡ Some p
 at_broken r rs t p e = broken-first r.number (r.broken t) (first_of_rules rs t) p e
+
+-- so many of the first rules are kept, and the next one is broken
+abbrev pub BrokenAfter : ℕ → List Rule → Members → Refusal → Type 0
+BrokenAfter n [] t p = ⊥
+BrokenAfter zero (r ∷ rs) t p = broken_at r.number (r.broken t) ≡ Some p
+BrokenAfter (suc n) (r ∷ rs) t p = (r.broken t ≡ None) × BrokenAfter n rs t p
+
+pub broken_after : (n : ℕ) (rs : List Rule) (t : Members) (p : Refusal) → BrokenAfter n rs t p → first_of_rules rs t ≡ Some p
+broken_after n [] t p h = absurd h
+broken_after zero (r ∷ rs) t p h = at_broken r rs t p h
+broken_after (suc n) (r ∷ rs) t p h = sym (after_kept r rs t h.0) ∙ broken_after n rs t p h.1
+
+-- each of these rules is kept
+abbrev pub Kept : List Rule → Members → Type 0
+Kept [] t = Unit {0}
+Kept (r ∷ rs) t = (r.broken t ≡ None) × Kept rs t
+
+pub all_kept : (rs : List Rule) (t : Members) → Kept rs t → first_of_rules rs t ≡ None
+all_kept [] t h = refl
+all_kept (r ∷ rs) t h = sym (after_kept r rs t h.0) ∙ all_kept rs t h.1
+
+-- an error that is handed on
+pub told : {A : Type 0} (result : Result A ReadError) (error : ReadError) (P : Refusal → Type 0) → IsErr result × IsErrAnd result (λ x. x ≡ error)
+    → ((p : Refusal) → error ≡ Refused p → P p) → IfErr result (λ (e : ReadError). (p : Refusal) → e ≡ Refused p → P p)
+told (Ok a) error P is said = absurd (cc is.0)
+told (Err e) error P is said = λ p same. said p (sym is.1 ∙ same)
 
 -- the rules of the changes
 pub changes-in-order : (t : Members) (known : List (List ℕ)) (ds : List Data) → known ≡ symbols t → ds ≡ changes t → change_keys_broken t ≡ None → dates_broken t ≡ None

@@ -6,9 +6,10 @@ ghost use Rattle.study_file.specs.Keys.{has_form as form_in};
 ghost use Rattle.study_market.specs.AgentForms.{agent_form};
 ghost use Rattle.study_market.specs.AgentRules.{count_of, first_of as first_wakeup, has_timing as timing_in};
 
+use crate::forms::AGENT_KEYS;
 use crate::market_table::is_group;
 use market_types::Time;
-use study_file::{Kind, Table, has_between, has_form, needed, number_at, number_or, own, spare};
+use study_file::{Table, has_between, has_form, number_at, number_or};
 
 /// Whether an entry has its keys with their types and no other, and its kind is known.
 pub fn has_agent_keys(agent: &Table) -> bool
@@ -18,31 +19,7 @@ pub fn has_agent_keys(agent: &Table) -> bool
         agent,
         "kind",
         &["watcher", "noise", "value", "momentum", "maker"],
-        &[
-            needed("kind", Kind::Text),
-            needed("group", Kind::Number),
-            needed("stock", Kind::Text),
-            needed("first", Kind::Number),
-            needed("every", Kind::Number),
-            spare("wobble", Kind::Number),
-            spare("delay", Kind::Number),
-            spare("cash", Kind::Number),
-            spare("count", Kind::Number),
-            spare("spread", Kind::Number),
-            own(
-                "size",
-                Kind::Number,
-                &["noise", "value", "momentum", "maker"],
-            ),
-            own("noise", Kind::Number, &["value"]),
-            own("margin", Kind::Number, &["value"]),
-            own("short", Kind::Number, &["momentum"]),
-            own("long", Kind::Number, &["momentum"]),
-            own("half", Kind::Number, &["maker"]),
-            own("step", Kind::Number, &["maker"]),
-            own("levels", Kind::Number, &["maker"]),
-            own("pause", Kind::Number, &["maker"]),
-        ],
+        &AGENT_KEYS,
     )
 }
 

@@ -6,7 +6,8 @@ ghost use Rattle.study_file.specs.Keys.{has_form as form_in};
 ghost use Rattle.study_market.specs.AgentForms.{change_form};
 ghost use Rattle.study_market.specs.ChangeRules.{is_change as change_in, first_no_change as no_change_from};
 
-use study_file::{Kind, Table, Value, has_form, needed, own};
+use crate::forms::CHANGE_KEYS;
+use study_file::{Table, Value, has_form};
 
 // Whether a change has its keys with their types and no other, and its kind is known.
 fn has_change_keys(change: &Table) -> bool
@@ -16,14 +17,7 @@ fn has_change_keys(change: &Table) -> bool
         change,
         "kind",
         &["tick", "fee", "halt", "resume"],
-        &[
-            needed("time", Kind::Number),
-            needed("stock", Kind::Text),
-            needed("kind", Kind::Text),
-            own("bands", Kind::Pairs, &["tick"]),
-            own("add", Kind::Number, &["fee"]),
-            own("take", Kind::Number, &["fee"]),
-        ],
+        &CHANGE_KEYS,
     )
 }
 

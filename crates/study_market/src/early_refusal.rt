@@ -97,7 +97,6 @@ pub(crate) fn unbroken(rule: u32, place: Option<u32>) -> Result<(), ReadError>
 ///
 /// # Errors
 /// The first broken one of these rules.
-#[tactic(auto, using(crate::proofs::EntryOrder::after_kept, crate::proofs::EntryOrder::at_broken))]
 pub(crate) fn keep_market_rules(table: &Table) -> Result<(), ReadError>
     ensures kept { IfOk result (λ _. first_of_rules market_rules (table_view table.now) ≡ None) }
     ensures refused { IfErr result (λ e. (r : Refusal) → e ≡ ReadError.Refused r → first_of_rules market_rules (table_view table.now) ≡ Some r) }

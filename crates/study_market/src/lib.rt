@@ -12,6 +12,7 @@ mod dates;
 mod early_refusal;
 mod entries;
 mod file;
+mod forms;
 mod kind;
 mod late;
 mod latencies;

@@ -9,34 +9,17 @@ ghost use Rattle.study_file.specs.Values.{list_in as items_in};
 ghost use Rattle.study_market.specs.MarketRules.{top_keys_broken as rule_1, version_broken as rule_2, is_key as key_text, key_broken as rule_3, day_broken as rule_4, limits_broken as rule_5, exchange_of, latency_of, parts_broken as rule_6, bases as bases_of, jitters as jitters_of, is_square as square, squares_broken as rule_7, cells_broken as rule_8, is_group as group_of, size_of, is_exchange as exchange_in, exchange_broken as rule_9, span_of};
 
 use crate::cells::cell_outside;
+use crate::forms::{EXCHANGE_KEYS, LATENCY_KEYS, TOP_KEYS};
 use study_file::{
-    Kind, Table, Value, broken_key, broken_unless, has_between, has_keys, is_between, is_hex,
-    list_at, list_in, needed, number_at, number_or, spare, string_at, table_at,
+    Table, Value, broken_key, broken_unless, has_between, has_keys, is_between, is_hex, list_at,
+    list_in, number_at, number_or, string_at, table_at,
 };
 
 /// The least place at which a study hasn't its top keys with their types and no other: the key's number, or 99.
 pub fn top_keys_broken(table: &Table) -> Option<u32>
     ensures { result ≡ rule_1 (table_view table.now) }
 {
-    broken_key(
-        table,
-        "",
-        &[
-            needed("version", Kind::Number),
-            needed("key", Kind::Text),
-            needed("open", Kind::Number),
-            needed("close", Kind::Number),
-            needed("events", Kind::Number),
-            spare("stride", Kind::Number),
-            spare("series", Kind::Text),
-            needed("exchange", Kind::SubTable),
-            needed("latency", Kind::SubTable),
-            needed("stock", Kind::Tables),
-            spare("change", Kind::Tables),
-            needed("agent", Kind::Tables),
-            spare("branch", Kind::Tables),
-        ],
-    )
+    broken_key(table, "", &TOP_KEYS)
 }
 
 /// Whether the version is neither 1 nor 2.
@@ -89,11 +72,7 @@ fn has_exchange_keys(table: &Table) -> bool
     ensures { result ≡ keys_in [] exchange_keys (exchange_of (table_view table.now)) }
 {
     match table_at(table, "exchange") {
-        Some(exchange) => has_keys(
-            exchange,
-            "",
-            &[needed("group", Kind::Number), needed("delay", Kind::Number)],
-        ),
+        Some(exchange) => has_keys(exchange, "", &EXCHANGE_KEYS),
         None => false,
     }
 }
@@ -102,11 +81,7 @@ fn has_latency_keys(table: &Table) -> bool
     ensures { result ≡ keys_in [] latency_keys (latency_of (table_view table.now)) }
 {
     match table_at(table, "latency") {
-        Some(latency) => has_keys(
-            latency,
-            "",
-            &[needed("base", Kind::Rows), needed("jitter", Kind::Rows)],
-        ),
+        Some(latency) => has_keys(latency, "", &LATENCY_KEYS),
         None => false,
     }
 }

@@ -51,7 +51,6 @@ fn late_refusal(table: &Table, tables: &SeriesTables) -> Option<Refusal>
 ///
 /// # Errors
 /// The first broken rule up to those of the agents; or want of memory.
-#[tactic(auto, using(crate::proofs::Judging::market_refused, crate::proofs::Judging::stocks_refused, crate::proofs::Judging::series_refused, crate::proofs::Judging::late_refused, crate::proofs::Judging::changes_refused, crate::proofs::Judging::agents_refused))]
 pub fn read_opening(
     alloc: Global,
     table: &Table,

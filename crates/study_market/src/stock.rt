@@ -8,9 +8,9 @@ ghost use Rattle.study_file.specs.Keys.{has_form as form_in};
 ghost use Rattle.study_market.specs.Forms.{stock_form};
 ghost use Rattle.study_market.specs.StockRules.{stocks as stocks_of, symbol_in, has_pace as pace_in, stock_count_broken as rule_10, repeat_broken as rule_13, goes_by as by_word, has_prices as prices_in, is_by_rows as by_rows, has_rows as rows_in, series_broken as rule_18};
 
+use crate::forms::STOCK_KEYS;
 use study_file::{
-    Kind, Table, Value, broken_unless, has_between, has_form, list_at, needed, number_at, own,
-    string_at, text_at,
+    Table, Value, broken_unless, has_between, has_form, list_at, number_at, string_at, text_at,
 };
 
 /// The entries of the stocks.
@@ -48,23 +48,7 @@ pub fn few_stocks(table: &Table) -> &[Value]
 pub fn has_stock_keys(stock: &Table) -> bool
     ensures { result ≡ form_in stock_form (table_view stock.now) }
 {
-    has_form(
-        stock,
-        "series",
-        &["rule", "rows"],
-        &[
-            needed("symbol", Kind::Text),
-            needed("bands", Kind::Pairs),
-            needed("add", Kind::Number),
-            needed("take", Kind::Number),
-            needed("series", Kind::Text),
-            own("start", Kind::Number, &["rule"]),
-            own("mean", Kind::Number, &["rule"]),
-            own("pull", Kind::Number, &["rule"]),
-            own("shock", Kind::Number, &["rule"]),
-            own("every", Kind::Number, &["rule"]),
-        ],
-    )
+    has_form(stock, "series", &["rule", "rows"], &STOCK_KEYS)
 }
 
 /// The symbol of an entry.
