@@ -1,5 +1,6 @@
 -- The ends of segments on the shelf.
 use Rattle.std.proofs.Common.{◌≡◌, ℕ, ◌<◌, true, false, Option, None, Some, IsSome, is_some, length, nat_lt, ltb-true, Bool, if◌then◌else◌, sym, refl, ap, ◌∙◌, subst}
+use Rattle.std.proofs.lemmas.Bool.{lt-ltb}
 use Rattle.branch_tree.specs.declared.segment.Segment.{Segment}
 use Rattle.branch_tree.specs.Segments.{segments_in, segment_at, last_of}
 use Rattle.shelf_core.specs.Plan.{place_of, is_sole}
@@ -8,6 +9,7 @@ use Rattle.checkpoint_shelf.specs.Told.{ShelfTold}
 use Rattle.kernel_copy.specs.Segmentwise.{segment_end, fork_number}
 use Rattle.kernel_copy.specs.Courses.{CourseTold, CheckpointTold, state_at, end_of_segment, kept_of}
 use Rattle.kernel_copy.proofs.Keeping.{end-state}
+use Rattle.shelf_core.proofs.Lists.{not_some}
 use Rattle.branch_workers.specs.Layout.{end_key, key_at}
 use Rattle.branch_workers.specs.Runs.{IsShelfOf}
 use Rattle.branch_workers.proofs.Forks.{end_place}
@@ -36,3 +38,7 @@ kept_is c s x e = at (nat_lt s (last_of c.plan.branches (segment_at c.plan s).br
     at : (b : Bool) → nat_lt s (last_of c.plan.branches (segment_at c.plan s).branch) ≡ b → Some x ≡ (if b then Some (end_of_segment c s) else None) → (x ≡ end_of_segment c s) × (s < last_of c.plan.branches (segment_at c.plan s).branch)
     at true t e = (cc, ltb-true s (last_of c.plan.branches (segment_at c.plan s).branch) t)
     at false t e = absurd cc
+
+-- where nothing is kept, the segment is its branch's last
+pub kept_none : (c : CourseTold) (s : ℕ) → None ≡ kept_of c s → s < last_of c.plan.branches (segment_at c.plan s).branch → ⊥
+kept_none c s e less = not_some (end_of_segment c s) (e ∙ ap (λ (b : Bool). if b then Some (end_of_segment c s) else None) (lt-ltb s (last_of c.plan.branches (segment_at c.plan s).branch) less))

@@ -1,7 +1,7 @@
 -- Lists that are taken in one after another.
 use Rattle.std.proofs.Common.{◌≡◌, ℕ, zero, suc, ◌+◌, All, Bool, true, false, true≢false, ◌&&◌, List, [], ◌∷◌, ◌++◌, Some, length, map, sum_by, slice_get, append_assoc, sym, refl, ap, ◌∙◌, subst, arith, length-append}
-use Rattle.std.proofs.lemmas.List.{map-append, length-map}
-use Rattle.std.proofs.lemmas.List.Elements.{All-cons, All-head, All-tail, All-push}
+use Rattle.std.proofs.lemmas.List.{append-nil, map-append, length-map, nil_from_length}
+use Rattle.std.proofs.lemmas.List.Elements.{All-nil, All-cons, All-head, All-tail, All-push}
 use Rattle.std.proofs.lemmas.List.Sums.{sum_by-cons}
 use Rattle.shelf_core.proofs.Lists.{not_some, some_same}
 use Rattle.branch_workers.specs.Workers.{AreNumbered}
@@ -65,3 +65,15 @@ module _ {X : Type 0} (ws : List X) (w : X) (new : List X) (is : new ≡ ws ++ w
 
   pub longer : length new ≡ length ws + 1
   longer = let e = ap (λ (ys : List X). length ys) is in let l = length-append ws (w ∷ []) in omega arith
+
+-- Before the first stands nothing.
+module _ {X : Type 0} (ws : List X) (is : ws ≡ []) where
+  pub none_numbered : (f : X → ℕ) → AreNumbered (map f ws)
+  none_numbered f = subst (λ (ys : List X). AreNumbered (map f ys)) (sym is) (λ i n e. absurd (not_some n e))
+
+  pub none_of : (P : X → Type 0) → All P ws
+  none_of P = subst (λ (ys : List X). All P ys) (sym is) (All-nil P)
+
+-- Behind the last all are taken.
+pub all_taken : {S : Type 0} (done left all : List S) → done ++ left ≡ all → length left ≡ 0 → done ≡ all
+all_taken {S} done left all h none = sym (append-nil done) ∙ ap (λ (ys : List S). done ++ ys) (sym (nil_from_length left none)) ∙ h

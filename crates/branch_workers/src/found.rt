@@ -25,10 +25,13 @@ pub(crate) fn wait_for<R: Wait>(
     ensures found { IfOk result (λ a. (a.value.key ≡ key) × (a.value.course ≡ shelf.now.course) × (is_in key seat.new.view.found ≡ true)) }
 {
     for _ in rt.forever() {
-        if let Found::Here(value) = shelf.find(seat, key)? {
-            return Ok(value);
+        let Ok(found) = shelf.find(seat, key) else {
+            return Err(Memory);
+        };
+        match found {
+            Found::Here(value) => return Ok(value),
+            Found::NotYet(_) => rest(rt),
         }
-        rest(rt);
     }
     unreachable!()
 }

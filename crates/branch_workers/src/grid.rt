@@ -96,8 +96,7 @@ pub(crate) fn continue_to<G, L: Ledger>(
     ensures grows { ran.old.kernel.events ≤ ran.new.kernel.events }
 {
     let stop = shift.course.segment(segment).stop;
-    ran.run_to(shift.alloc, shift.course.opening(), stop, most, steps)?;
-    Ok(())
+    ran.run_to(shift.alloc, shift.course.opening(), stop, most, steps)
 }
 
 // Lets a run of a segment that began with fewer events go on to an event number that has a place on the shelf, and puts a
@@ -133,11 +132,15 @@ fn pass<G, L: Ledger>(
         return Ok(true);
     }
     shift.course.is_course();
-    continue_to(shift, key.segment, key.event, ran, steps)?;
+    let Ok(()) = continue_to(shift, key.segment, key.event, ran, steps) else {
+        return Err(Memory);
+    };
     if ran.kernel.events() != key.event {
         return Ok(false);
     }
-    shelve_copy(shift, seat, key, &ran.kernel)?;
+    let Ok(()) = shelve_copy(shift, seat, key, &ran.kernel) else {
+        return Err(Memory);
+    };
     Ok(true)
 }
 
@@ -177,7 +180,9 @@ pub(crate) fn pass_grid<G, L: Ledger>(
     let past = stop.div_ceil(shift.stride);
     for factor in first..past {
         let event = factor * shift.stride;
-        let on = pass(shift, seat, Key { segment, event }, ran, steps)?;
+        let Ok(on) = pass(shift, seat, Key { segment, event }, ran, steps) else {
+            return Err(Memory);
+        };
         if !on {
             return Ok(());
         }

@@ -77,12 +77,11 @@ fn kernel_at_start<R: Wait, G>(
     let course: &Course = shift.course;
     let g = course.segment(segment);
     match g.parent {
-        None => {
-            let kernel = Kernel::open(shift.alloc, course.opening())?;
-            Ok(kernel)
-        }
+        None => Kernel::open(shift.alloc, course.opening()),
         Some(parent) => {
-            let mut kernel = end_of(rt, shift, seat, parent)?;
+            let Ok(mut kernel) = end_of(rt, shift, seat, parent) else {
+                return Err(Memory);
+            };
             let Ok(()) = go_on(shift.alloc, course, g.branch, parent, &mut kernel, trace) else {
                 drop(kernel);
                 return Err(Memory);

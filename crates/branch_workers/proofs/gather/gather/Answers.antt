@@ -1,4 +1,4 @@
-use Rattle.std.proofs.Common.{◌<◌, ◌+◌, ◌^◌, ◌++◌, ℕ, length, map, sum_by, ap, ◌∙◌, arith}
+use Rattle.std.proofs.Common.{◌<◌, ◌+◌, ◌^◌, ◌++◌, ℕ, length, map, sum_by, ap, ◌∙◌, arith, refl}
 use Rattle.checkpoint_shelf.proofs.Closes.{first_split}
 use Rattle.branch_workers.proofs.Turns.{taken, counted_in, first_of_all, rest_of_all, finished_more}
 use Rattle.branch_workers.proofs.gather.gather.Goals as goal
@@ -31,3 +31,16 @@ loop-workers-preserved g c =
       small = omega arith;
       finished = finished_more ws rest x is (λ w. w.finished) c.loop-workers.back.finished c.args.workers.items inv.finished;
     }
+
+pub loop-workers-init : goal.loop-workers-init
+loop-workers-init g c = record {
+  seats = ap (λ ys. ys ++ map (λ w. w.seat) c.args.workers.items) c.requires.seats.0;
+  outcomes = ap (λ ys. ys ++ map (λ w. w.outcomes) c.args.workers.items) c.requires.outcomes.0;
+  seat_room = c.requires.seats.1;
+  outcome_room = c.requires.outcomes.1;
+  each = c.requires.each;
+  few = c.requires.few;
+  steps = refl;
+  small = omega (arith, c.requires.few);
+  finished = λ b all. all;
+}

@@ -1,4 +1,5 @@
 use Rattle.std.proofs.Common.{◌≤◌, ap, sym, ◌∙◌, subst, arith}
+use Rattle.std.proofs.lemmas.Result.{on_ok_weaker}
 use Rattle.branch_tree.specs.declared.segment.Segment.{Segment}
 use Rattle.branch_tree.specs.Segments.{segment_at}
 use Rattle.market_floor.specs.declared.opening.Opening.{Opening}
@@ -19,19 +20,6 @@ run_to-requires-clause-fits g c =
 pub run_to-requires-clause-count : goal.run_to-requires-clause-count
 run_to-requires-clause-count g c = omega (arith, c.requires.count, c.requires.most)
 
-pub returns-in_err-run_to-clause-few : goal.returns-in_err-run_to-clause-few
-returns-in_err-run_to-clause-few g c =
-    let k : CourseTold = c.args.shift.now.course.now.value in
-    let segment = c.segment-stop.ensures.value ∙ ap (λ (x : CourseTold). segment_at x.plan c.args.segment) c.deref.ensures in
-    let opening = c.opening.ensures.value ∙ ap (λ (x : CourseTold). x.opening) c.deref-2.ensures in
-    let within = stop_within k c.args.segment (subst IsCourse c.deref.ensures c.segment-stop.ensures.course) c.requires.segment in
-    let e = c.args.most in
-    let before : RanTold = ran_told c.args.ran.now in
-    let n = c.run_to.new.self.kernel.events in
-    goes_few k c.args.shift.now.keep c.args.segment e before before within c.requires.most c.requires.underway n
-    (subst (λ (x : Segment). n ≤ (until_part k.opening x.stop e (afresh before.state)).state.events) segment
-    (subst (λ (o : Opening). n ≤ (until_part o c.segment-stop.result.stop e (afresh before.state)).state.events) opening c.run_to.ensures.within))
-
 pub returns-clause-ran : goal.returns-clause-ran
 returns-clause-ran g c =
     let k : CourseTold = c.args.shift.now.course.now.value in
@@ -41,10 +29,10 @@ returns-clause-ran g c =
     let e = c.args.most in
     let before : RanTold = ran_told c.args.ran.now in
     let after : RanTold = ran_told c.run_to.new.self in
-    goes_to k c.args.shift.now.keep c.args.segment e before after within c.requires.most c.requires.underway
-    (c.in_ok-run_to.ensures.ran
+    on_ok_weaker c.run_to.result (λ ran. goes_to k c.args.shift.now.keep c.args.segment e before after within c.requires.most c.requires.underway
+    (ran
     ∙ ap (λ (o : Opening). ran_with before (until_part o c.segment-stop.result.stop e (afresh before.state))) opening
-    ∙ ap (λ (x : Segment). ran_with before (until_part k.opening x.stop e (afresh before.state))) segment)
+    ∙ ap (λ (x : Segment). ran_with before (until_part k.opening x.stop e (afresh before.state))) segment)) c.run_to.ensures.ran
 
 pub returns-clause-underway : goal.returns-clause-underway
 returns-clause-underway g c =
@@ -55,11 +43,11 @@ returns-clause-underway g c =
     let e = c.args.most in
     let before : RanTold = ran_told c.args.ran.now in
     let after : RanTold = ran_told c.run_to.new.self in
-    goes_on k c.args.shift.now.keep c.args.segment e before after within c.requires.most c.requires.underway
-    (c.in_ok-run_to.ensures.ran
+    on_ok_weaker c.run_to.result (λ ran. goes_on k c.args.shift.now.keep c.args.segment e before after within c.requires.most c.requires.underway
+    (ran
     ∙ ap (λ (o : Opening). ran_with before (until_part o c.segment-stop.result.stop e (afresh before.state))) opening
     ∙ ap (λ (x : Segment). ran_with before (until_part k.opening x.stop e (afresh before.state))) segment)
-    (subst (λ (o : Opening). Fits o after.state) opening c.run_to.ensures.fitting)
+    (subst (λ (o : Opening). Fits o after.state) opening c.run_to.ensures.fitting)) c.run_to.ensures.ran
 
 pub returns-clause-few : goal.returns-clause-few
 returns-clause-few g c =

@@ -1,10 +1,11 @@
-use Rattle.std.proofs.Common.{◌≡◌, ◌+◌, ◌-◌, ◌*◌, ◌/◌, ◌<◌, ◌≤◌, ◌⊎◌, ℕ, inl, inr, max, refl, sym, ap, ◌∙◌, subst, arith, div-le_self, div-mul-le_self, mul-le-mul_right}
+use Rattle.std.proofs.Common.{◌≡◌, ◌+◌, ◌-◌, ◌*◌, ◌/◌, ◌<◌, ◌≤◌, ◌⊎◌, ℕ, List, inl, inr, max, refl, sym, ap, ◌∙◌, subst, arith, div-le_self, div-mul-le_self, mul-le-mul_right}
 use Rattle.std.proofs.lemmas.Bool.{cases_lt}
 use Rattle.branch_tree.specs.declared.segment.Segment.{Segment}
 use Rattle.branch_tree.specs.Segments.{segment_at}
 use Rattle.market_floor.specs.declared.opening.Opening.{Opening}
 use Rattle.kernel_copy.specs.Courses.{CourseTold, IsCourse}
-use Rattle.kernel_copy.specs.Ran.{ran_told}
+use Rattle.shelf_core.specs.Views.{times}
+use Rattle.kernel_copy.specs.Ran.{RanTold, ran_told}
 use Rattle.kernel_copy.specs.Segmentwise.{from_count}
 use Rattle.shelf_core.proofs.Staying.{stays_then}
 use Rattle.branch_workers.specs.Layout.{start_number, stop_number}
@@ -138,11 +139,11 @@ loop-factor-preserved g c =
       turns = c.pass.ensures.turns;
       begins = omega (arith, v.begins);
       within = omega arith;
-      underway = subst (λ (m : ℕ). IsUnderway k c.args.shift.now.keep s m (ran_told c.pass.new.ran)) (sym here) c.in_ok-on.ensures.underway;
+      underway = subst (λ (m : ℕ). IsUnderway k c.args.shift.now.keep s m (ran_told c.pass.new.ran)) (sym here) c.in-Ok.ensures.underway;
       ticks = omega (arith, v.ticks, c.pass.ensures.ticks);
       grows = omega (arith, v.grows, c.pass.ensures.grows);
       known = knows_more k c.args.shift.now.shelf.now.plan stride s (n * stride) c.loop-factor.seat.view c.requires.shelf.grid ((n + 1) * stride) c.pass.new.seat.view
-          (λ e more less. between stride n e more less) v.known stays.known c.in_ok-on.ensures.known;
+          (λ e more less. between stride n e more less) v.known stays.known c.in-Ok.ensures.known;
     }
 
 pub returns-then-not-on-clause-underway : goal.returns-then-not-on-clause-underway
@@ -158,7 +159,7 @@ returns-then-not-on-clause-underway g c =
     ∙ ap (λ (x : Segment). stop_number k.opening.limit x.stop) (c.segment-g.ensures.value ∙ ap (λ (x : CourseTold). segment_at x.plan s) c.deref.ensures) in
     let to = grid_to k s course c.requires.segment in
     let below = times_below stride c.stop_number-stop.result n c.requires.shelf.some (subst (λ (q : ℕ). n < q) c.div_ceil-past.ensures c.loop-factor-test.true) in
-    goes_later k c.args.shift.now.keep s (n * stride) k.opening.limit (ran_told c.pass.new.ran) (omega arith) c.in_ok-on.ensures.underway
+    goes_later k c.args.shift.now.keep s (n * stride) k.opening.limit (ran_told c.pass.new.ran) (omega arith) c.in-Ok.ensures.underway
 
 pub returns-then-not-on-clause-known : goal.returns-then-not-on-clause-known
 returns-then-not-on-clause-known g c =
@@ -166,7 +167,7 @@ returns-then-not-on-clause-known g c =
     let n = c.loop-factor.factor in
     let v = c.loop-factor.invariant in
     knows_ended k c.args.shift.now.shelf.now.plan c.args.shift.now.stride c.args.segment (n * c.args.shift.now.stride) c.loop-factor.seat.view c.requires.shelf.grid c.pass.new.seat.view
-    v.begins v.known c.pass.ensures.stays.known (c.in_ok-on.ensures.ended c.if-not-on.true)
+    v.begins v.known c.pass.ensures.stays.known (c.in-Ok.ensures.ended c.if-not-on.true)
 
 pub returns-clause-underway : goal.returns-clause-underway
 returns-clause-underway g c =
@@ -190,8 +191,8 @@ returns-clause-known g c =
     let past = times_past stride c.stop_number-stop.result n c.requires.shelf.some (subst (λ (q : ℕ). q ≤ n) c.div_ceil-past.ensures c.loop-factor-test.false) in
     knows_all k c.args.shift.now.shelf.now.plan stride s (n * stride) c.loop-factor.seat.view c.requires.shelf.grid (omega arith) c.loop-factor.invariant.known
 
-pub returns-in_err-on-clause-stays : goal.returns-in_err-on-clause-stays
-returns-in_err-on-clause-stays g c =
+pub returns-in_default-clause-stays : goal.returns-in_default-clause-stays
+returns-in_default-clause-stays g c =
     stays_then c.args.seat.now.view c.loop-factor.seat.view c.pass.new.seat.view c.loop-factor.invariant.stays c.pass.ensures.stays
 
 pub returns-then-not-on-clause-stays : goal.returns-then-not-on-clause-stays
@@ -200,3 +201,66 @@ returns-then-not-on-clause-stays g c =
 
 pub returns-clause-stays : goal.returns-clause-stays
 returns-clause-stays g c = c.loop-factor.invariant.stays
+
+pub pass-requires-clause-begins : goal.pass-requires-clause-begins
+pass-requires-clause-begins g c = c.loop-factor.invariant.begins
+
+pub pass-requires-clause-claim : goal.pass-requires-clause-claim
+pass-requires-clause-claim g c = subst (λ (claims : List ℕ). 0 < times c.args.segment claims) (sym c.loop-factor.invariant.stays.claims) c.requires.claim
+
+pub pass-requires-clause-course : goal.pass-requires-clause-course
+pass-requires-clause-course g c = c.requires.shelf.course
+
+pub pass-requires-clause-seat : goal.pass-requires-clause-seat
+pass-requires-clause-seat g c = c.loop-factor.invariant.same ∙ c.requires.seat
+
+pub pass-requires-clause-segment : goal.pass-requires-clause-segment
+pass-requires-clause-segment g c = c.requires.segment
+
+pub pass-requires-clause-turns : goal.pass-requires-clause-turns
+pass-requires-clause-turns g c = c.loop-factor.invariant.turns
+
+pub returns-clause-few : goal.returns-clause-few
+returns-clause-few g c = let u = c.loop-factor.invariant.underway in omega (arith, ap (λ (x : RanTold). x.state.events) u.is, u.few)
+
+pub returns-clause-grows : goal.returns-clause-grows
+returns-clause-grows g c = c.loop-factor.invariant.grows
+
+pub returns-clause-same : goal.returns-clause-same
+returns-clause-same g c = c.loop-factor.invariant.same
+
+pub returns-clause-ticks : goal.returns-clause-ticks
+returns-clause-ticks g c = c.loop-factor.invariant.ticks
+
+pub returns-clause-turns : goal.returns-clause-turns
+returns-clause-turns g c = c.loop-factor.invariant.turns
+
+pub returns-in_default-clause-few : goal.returns-in_default-clause-few
+returns-in_default-clause-few g c = c.pass.ensures.few
+
+pub returns-in_default-clause-grows : goal.returns-in_default-clause-grows
+returns-in_default-clause-grows g c = omega (arith, c.pass.ensures.grows, c.loop-factor.invariant.grows)
+
+pub returns-in_default-clause-ticks : goal.returns-in_default-clause-ticks
+returns-in_default-clause-ticks g c = omega (arith, c.pass.ensures.ticks, c.loop-factor.invariant.ticks)
+
+pub returns-in_default-clause-same : goal.returns-in_default-clause-same
+returns-in_default-clause-same g c = c.pass.ensures.same ∙ c.loop-factor.invariant.same
+
+pub returns-in_default-clause-turns : goal.returns-in_default-clause-turns
+returns-in_default-clause-turns g c = c.pass.ensures.turns
+
+pub returns-then-not-on-clause-few : goal.returns-then-not-on-clause-few
+returns-then-not-on-clause-few g c = c.pass.ensures.few
+
+pub returns-then-not-on-clause-grows : goal.returns-then-not-on-clause-grows
+returns-then-not-on-clause-grows g c = omega (arith, c.pass.ensures.grows, c.loop-factor.invariant.grows)
+
+pub returns-then-not-on-clause-ticks : goal.returns-then-not-on-clause-ticks
+returns-then-not-on-clause-ticks g c = omega (arith, c.pass.ensures.ticks, c.loop-factor.invariant.ticks)
+
+pub returns-then-not-on-clause-same : goal.returns-then-not-on-clause-same
+returns-then-not-on-clause-same g c = c.pass.ensures.same ∙ c.loop-factor.invariant.same
+
+pub returns-then-not-on-clause-turns : goal.returns-then-not-on-clause-turns
+returns-then-not-on-clause-turns g c = c.pass.ensures.turns

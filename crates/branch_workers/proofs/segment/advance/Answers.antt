@@ -124,3 +124,69 @@ returns-clause-fits g c =
 
 pub pass_grid-requires-clause-claim : goal.pass_grid-requires-clause-claim
 pass_grid-requires-clause-claim g c = subst (λ (claims : List ℕ). 0 < times c.args.segment claims) (sym c.kernel_at_start.ensures.stays.claims) c.requires.claim
+
+pub kernel_at_start-requires-clause-seat : goal.kernel_at_start-requires-clause-seat
+kernel_at_start-requires-clause-seat g c = c.requires.seat
+
+pub kernel_at_start-requires-clause-segment : goal.kernel_at_start-requires-clause-segment
+kernel_at_start-requires-clause-segment g c = c.requires.segment
+
+pub kernel_at_start-requires-clause-shelf : goal.kernel_at_start-requires-clause-shelf
+kernel_at_start-requires-clause-shelf g c = c.requires.shelf
+
+pub pass_grid-requires-clause-seat : goal.pass_grid-requires-clause-seat
+pass_grid-requires-clause-seat g c = c.kernel_at_start.ensures.same ∙ c.requires.seat
+
+pub pass_grid-requires-clause-segment : goal.pass_grid-requires-clause-segment
+pass_grid-requires-clause-segment g c = c.requires.segment
+
+pub pass_grid-requires-clause-shelf : goal.pass_grid-requires-clause-shelf
+pass_grid-requires-clause-shelf g c = c.requires.shelf
+
+pub pass_grid-requires-clause-turns : goal.pass_grid-requires-clause-turns
+pass_grid-requires-clause-turns g c = c.kernel_at_start.ensures.turns ∙ c.requires.turns
+
+pub pass_grid-requires-clause-count : goal.pass_grid-requires-clause-count
+pass_grid-requires-clause-count g c = c.requires.count
+
+pub continue_to-requires-clause-segment : goal.continue_to-requires-clause-segment
+continue_to-requires-clause-segment g c = c.requires.segment
+
+pub returns-clause-same : goal.returns-clause-same
+returns-clause-same g c = c.pass_grid.ensures.same ∙ c.kernel_at_start.ensures.same
+
+pub returns-clause-turns : goal.returns-clause-turns
+returns-clause-turns g c = c.pass_grid.ensures.turns
+
+pub returns-clause-least : goal.returns-clause-least
+returns-clause-least g c = omega (arith, c.pass_grid.ensures.ticks, c.pass_grid.ensures.grows, c.continue_to.ensures.ticks, c.continue_to.ensures.grows)
+
+pub returns-in_default-clause-same : goal.returns-in_default-clause-same
+returns-in_default-clause-same g c = c.kernel_at_start.ensures.same
+
+pub returns-in_default-clause-turns : goal.returns-in_default-clause-turns
+returns-in_default-clause-turns g c = c.kernel_at_start.ensures.turns ∙ c.requires.turns
+
+pub returns-in_default-of-clause-same : goal.returns-in_default-of-clause-same
+returns-in_default-of-clause-same g c = c.kernel_at_start.ensures.same
+
+pub returns-in_default-of-clause-turns : goal.returns-in_default-of-clause-turns
+returns-in_default-of-clause-turns g c = c.kernel_at_start.ensures.turns ∙ c.requires.turns
+
+pub returns-in_default-pass_grid-clause-same : goal.returns-in_default-pass_grid-clause-same
+returns-in_default-pass_grid-clause-same g c = c.pass_grid.ensures.same ∙ c.kernel_at_start.ensures.same
+
+pub returns-in_default-pass_grid-clause-turns : goal.returns-in_default-pass_grid-clause-turns
+returns-in_default-pass_grid-clause-turns g c = c.pass_grid.ensures.turns
+
+pub returns-in_default-pass_grid-clause-least : goal.returns-in_default-pass_grid-clause-least
+returns-in_default-pass_grid-clause-least g c = omega (arith, c.pass_grid.ensures.ticks, c.pass_grid.ensures.grows)
+
+pub returns-in_default-continue_to-clause-same : goal.returns-in_default-continue_to-clause-same
+returns-in_default-continue_to-clause-same g c = c.pass_grid.ensures.same ∙ c.kernel_at_start.ensures.same
+
+pub returns-in_default-continue_to-clause-turns : goal.returns-in_default-continue_to-clause-turns
+returns-in_default-continue_to-clause-turns g c = c.pass_grid.ensures.turns
+
+pub returns-in_default-continue_to-clause-least : goal.returns-in_default-continue_to-clause-least
+returns-in_default-continue_to-clause-least g c = omega (arith, c.pass_grid.ensures.ticks, c.pass_grid.ensures.grows, c.continue_to.ensures.ticks, c.continue_to.ensures.grows)

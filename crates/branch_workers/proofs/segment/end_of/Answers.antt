@@ -22,3 +22,24 @@ returns-clause-state g c =
     let key = key_is k s c.number_of_end-event.result c.segment-stop.result is c.number_of_end-event.ensures in
     let state = end_state_of k s c.in-Ok.end.value (f.0 ∙ key) (f.1 ∙ c.requires.shelf.course) in
     subst (λ (y : State). IfOk c.resume-kernel.result (λ (z : State). z ≡ y)) (ap (λ (t : CheckpointTold). state_at t.course t.key) c.deref-2.ensures ∙ state) c.resume-kernel.ensures.state
+
+pub returns-clause-same : goal.returns-clause-same
+returns-clause-same g c = c.wait_for.ensures.same
+
+pub returns-clause-stays : goal.returns-clause-stays
+returns-clause-stays g c = c.wait_for.ensures.stays
+
+pub returns-clause-turns : goal.returns-clause-turns
+returns-clause-turns g c = c.wait_for.ensures.turns
+
+pub returns-in_default-clause-same : goal.returns-in_default-clause-same
+returns-in_default-clause-same g c = c.wait_for.ensures.same
+
+pub returns-in_default-clause-stays : goal.returns-in_default-clause-stays
+returns-in_default-clause-stays g c = c.wait_for.ensures.stays
+
+pub returns-in_default-clause-turns : goal.returns-in_default-clause-turns
+returns-in_default-clause-turns g c = c.wait_for.ensures.turns
+
+pub wait_for-requires-clause-seat : goal.wait_for-requires-clause-seat
+wait_for-requires-clause-seat g c = c.requires.seat

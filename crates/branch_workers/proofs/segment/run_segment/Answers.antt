@@ -75,3 +75,81 @@ pub count-requires-clause-more : goal.count-requires-clause-more
 count-requires-clause-more g c =
     let stays = stays_then c.args.seat.now.view c.advance-made.new.seat.view c.shelve_end.new.seat.view c.advance-made.ensures.stays c.shelve_end.ensures.stays in
     omega (arith, c.requires.more, stays.counts, ap (λ (claims : List ℕ). length claims) stays.claims)
+
+pub advance-made-requires-clause-claim : goal.advance-made-requires-clause-claim
+advance-made-requires-clause-claim g c = c.requires.claim
+
+pub advance-made-requires-clause-seat : goal.advance-made-requires-clause-seat
+advance-made-requires-clause-seat g c = c.requires.seat
+
+pub advance-made-requires-clause-segment : goal.advance-made-requires-clause-segment
+advance-made-requires-clause-segment g c = c.requires.segment
+
+pub advance-made-requires-clause-shelf : goal.advance-made-requires-clause-shelf
+advance-made-requires-clause-shelf g c = c.requires.shelf
+
+pub advance-made-requires-clause-turns : goal.advance-made-requires-clause-turns
+advance-made-requires-clause-turns g c = c.requires.turns
+
+pub count-requires-clause-seat : goal.count-requires-clause-seat
+count-requires-clause-seat g c = c.shelve_end.ensures.same ∙ c.advance-made.ensures.same ∙ c.requires.seat
+
+pub shelve_end-requires-clause-seat : goal.shelve_end-requires-clause-seat
+shelve_end-requires-clause-seat g c = c.advance-made.ensures.same ∙ c.requires.seat
+
+pub shelve_end-requires-clause-segment : goal.shelve_end-requires-clause-segment
+shelve_end-requires-clause-segment g c = c.requires.segment
+
+pub shelve_end-requires-clause-shelf : goal.shelve_end-requires-clause-shelf
+shelve_end-requires-clause-shelf g c = c.requires.shelf
+
+pub shelve_end-requires-clause-turns : goal.shelve_end-requires-clause-turns
+shelve_end-requires-clause-turns g c = c.advance-made.ensures.turns
+
+pub returns-clause-same : goal.returns-clause-same
+returns-clause-same g c = c.count.ensures.same ∙ c.shelve_end.ensures.same ∙ c.advance-made.ensures.same
+
+pub returns-in_default-clause-same : goal.returns-in_default-clause-same
+returns-in_default-clause-same g c = c.advance-made.ensures.same
+
+pub returns-in_default-clause-turns : goal.returns-in_default-clause-turns
+returns-in_default-clause-turns g c = c.advance-made.ensures.turns
+
+pub returns-in_default-shelve_end-clause-same : goal.returns-in_default-shelve_end-clause-same
+returns-in_default-shelve_end-clause-same g c = c.shelve_end.ensures.same ∙ c.advance-made.ensures.same
+
+pub returns-in_default-shelve_end-clause-turns : goal.returns-in_default-shelve_end-clause-turns
+returns-in_default-shelve_end-clause-turns g c = c.shelve_end.ensures.turns
+
+pub returns-in_default-outcome_at-clause-same : goal.returns-in_default-outcome_at-clause-same
+returns-in_default-outcome_at-clause-same g c = c.shelve_end.ensures.same ∙ c.advance-made.ensures.same
+
+pub returns-in_default-outcome_at-clause-turns : goal.returns-in_default-outcome_at-clause-turns
+returns-in_default-outcome_at-clause-turns g c = c.shelve_end.ensures.turns
+
+pub returns-clause-rose : goal.returns-clause-rose
+returns-clause-rose g c = omega (arith, c.join.ensures, c.split-own.ensures, c.in-Ok.ensures.rose)
+
+pub returns-clause-most : goal.returns-clause-most
+returns-clause-most g c = omega (arith, c.join.ensures, c.split-own.ensures, c.advance-made.ensures.most)
+
+pub returns-clause-least : goal.returns-clause-least
+returns-clause-least g c = omega (arith, c.join.ensures, c.split-own.ensures, c.advance-made.ensures.least)
+
+pub returns-in_default-clause-most : goal.returns-in_default-clause-most
+returns-in_default-clause-most g c = omega (arith, c.join.ensures, c.split-own.ensures, c.advance-made.ensures.most)
+
+pub returns-in_default-clause-least : goal.returns-in_default-clause-least
+returns-in_default-clause-least g c = omega (arith, c.join.ensures, c.split-own.ensures, c.advance-made.ensures.least)
+
+pub returns-in_default-shelve_end-clause-most : goal.returns-in_default-shelve_end-clause-most
+returns-in_default-shelve_end-clause-most g c = omega (arith, c.join.ensures, c.split-own.ensures, c.advance-made.ensures.most)
+
+pub returns-in_default-shelve_end-clause-least : goal.returns-in_default-shelve_end-clause-least
+returns-in_default-shelve_end-clause-least g c = omega (arith, c.join.ensures, c.split-own.ensures, c.advance-made.ensures.least)
+
+pub returns-in_default-outcome_at-clause-most : goal.returns-in_default-outcome_at-clause-most
+returns-in_default-outcome_at-clause-most g c = omega (arith, c.join.ensures, c.split-own.ensures, c.advance-made.ensures.most)
+
+pub returns-in_default-outcome_at-clause-least : goal.returns-in_default-outcome_at-clause-least
+returns-in_default-outcome_at-clause-least g c = omega (arith, c.join.ensures, c.split-own.ensures, c.advance-made.ensures.least)

@@ -6,7 +6,7 @@ use Rattle.shelf_core.specs.declared.plan.Key.{Key}
 use Rattle.shelf_core.specs.Plan.{is_in}
 use Rattle.shelf_core.specs.Views.{times}
 use Rattle.shelf_core.proofs.Staying.{stays_self}
-use Rattle.branch_workers.proofs.Ends.{kept_is, has_place}
+use Rattle.branch_workers.proofs.Ends.{kept_is, kept_none, has_place}
 use Rattle.branch_workers.proofs.segment.shelve_end.Goals as goal
 
 abbrev told : Option (Arc Checkpoint Global) → Option CheckpointTold
@@ -52,3 +52,31 @@ returns-in_default-clause-stays g c = stays_self c.args.seat.now.view
 
 pub returns-in_err-end-clause-stays : goal.returns-in_err-end-clause-stays
 returns-in_err-end-clause-stays g c = stays_self c.args.seat.now.view
+
+pub returns-clause-same : goal.returns-clause-same
+returns-clause-same g c = c.shelve.ensures.same
+
+pub returns-clause-turns : goal.returns-clause-turns
+returns-clause-turns g c = c.shelve.ensures.turns
+
+pub shelve-requires-clause-seat : goal.shelve-requires-clause-seat
+shelve-requires-clause-seat g c = c.requires.seat
+
+pub shelve-requires-clause-turns : goal.shelve-requires-clause-turns
+shelve-requires-clause-turns g c = c.requires.turns
+
+pub kept_end-requires-clause-state : goal.kept_end-requires-clause-state
+kept_end-requires-clause-state g c = c.requires.state
+
+pub returns-in_default-clause-known : goal.returns-in_default-clause-known
+returns-in_default-clause-known g c = λ less. absurd (kept_none c.args.shift.now.course.now.value c.args.segment (sym (ap told c.in_default.is) ∙ c.in_ok-end.ensures) less)
+
+pub shelve-requires-clause-course : goal.shelve-requires-clause-course
+shelve-requires-clause-course g c =
+    let k : CourseTold = c.args.shift.now.course.now.value in
+    let x : CheckpointTold = c.in-Some.end.value in
+    let kept : Some x ≡ kept_of k c.args.segment = sym (ap told c.in-Some.is) ∙ c.in_ok-end.ensures in
+    ap (λ (y : CheckpointTold). y.course) (kept_is k c.args.segment x kept).0 ∙ sym c.requires.shelf.course
+
+pub kept_end-requires-clause-segment : goal.kept_end-requires-clause-segment
+kept_end-requires-clause-segment g c = c.requires.segment

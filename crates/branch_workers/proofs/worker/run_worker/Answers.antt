@@ -61,3 +61,33 @@ returns-then-not-try_segment-clause-stopped g c = λ _. c.try_segment.ensures.st
 
 pub returns-then-ends-clause-stopped : goal.returns-then-ends-clause-stopped
 returns-then-ends-clause-stopped g c = c.ends.ensures.stopped c.if-ends.true
+
+pub ends-requires-clause-finished : goal.ends-requires-clause-finished
+ends-requires-clause-finished g c = c.loop.invariant.finished
+
+pub try_segment-requires-clause-shelf : goal.try_segment-requires-clause-shelf
+try_segment-requires-clause-shelf g c = c.requires.shelf
+
+pub try_segment-requires-clause-room : goal.try_segment-requires-clause-room
+try_segment-requires-clause-room g c = c.requires.room
+
+pub returns-then-ends-clause-number : goal.returns-then-ends-clause-number
+returns-then-ends-clause-number g c = c.ends.ensures.number ∙ c.loop.invariant.number
+
+pub returns-then-not-try_segment-clause-number : goal.returns-then-not-try_segment-clause-number
+returns-then-not-try_segment-clause-number g c = c.try_segment.ensures.number ∙ c.loop.invariant.number
+
+pub returns-clause-ended : goal.returns-clause-ended
+returns-clause-ended g c = absurd (true≢false (sym c.in-None.ensures.steps))
+
+pub returns-clause-stopped : goal.returns-clause-stopped
+returns-clause-stopped g c = absurd (true≢false (sym c.in-None.ensures.steps))
+
+pub returns-clause-finished : goal.returns-clause-finished
+returns-clause-finished g c = absurd (true≢false (sym c.in-None.ensures.steps))
+
+pub returns-clause-counted : goal.returns-clause-counted
+returns-clause-counted g c = absurd (true≢false (sym c.in-None.ensures.steps))
+
+pub returns-clause-number : goal.returns-clause-number
+returns-clause-number g c = absurd (true≢false (sym c.in-None.ensures.steps))

@@ -1,4 +1,4 @@
-use Rattle.std.proofs.Common.{◌<◌, ◌++◌, ◌∷◌, [], ℕ, List, All, true≢false, length, sym, ap, ◌∙◌, subst, arith}
+use Rattle.std.proofs.Common.{◌<◌, ◌++◌, ◌∷◌, [], ℕ, List, All, true≢false, length, sym, ap, ◌∙◌, subst, arith, refl}
 use Rattle.branch_tree.specs.Segments.{segments_in, children_of}
 use Rattle.shelf_core.specs.declared.seat.SeatView.{SeatView}
 use Rattle.kernel_copy.specs.Courses.{CourseTold}
@@ -111,3 +111,30 @@ returns-clause-stopped g c = λ e. absurd (true≢false e)
 
 pub run_segment-requires-clause-claim : goal.run_segment-requires-clause-claim
 run_segment-requires-clause-claim g c = c.claim.ensures.mine c.if-not-claim.false
+
+pub run_segment-requires-clause-shelf : goal.run_segment-requires-clause-shelf
+run_segment-requires-clause-shelf g c = c.requires.shelf
+
+pub returns-clause-finished : goal.returns-clause-finished
+returns-clause-finished g c = refl
+
+pub returns-clause-number : goal.returns-clause-number
+returns-clause-number g c = refl
+
+pub returns-in_default-add-clause-finished : goal.returns-in_default-add-clause-finished
+returns-in_default-add-clause-finished g c = refl
+
+pub returns-in_default-add-clause-number : goal.returns-in_default-add-clause-number
+returns-in_default-add-clause-number g c = refl
+
+pub returns-in_default-clause-finished : goal.returns-in_default-clause-finished
+returns-in_default-clause-finished g c = refl
+
+pub returns-in_default-clause-number : goal.returns-in_default-clause-number
+returns-in_default-clause-number g c = refl
+
+pub returns-then-not-claim-clause-finished : goal.returns-then-not-claim-clause-finished
+returns-then-not-claim-clause-finished g c = refl
+
+pub returns-then-not-claim-clause-number : goal.returns-then-not-claim-clause-number
+returns-then-not-claim-clause-number g c = refl
