@@ -10,7 +10,9 @@ use Rattle.shelf_core.specs.Sound.{ForViews, NumbersStand, TakerStands, standing
 use Rattle.shelf_core.specs.Orderly.{Orderly, HasShape, IsBare}
 use Rattle.shelf_core.specs.declared.plan.Key.{Key}
 use Rattle.shelf_core.specs.declared.plan.ShelfPlan.{ShelfPlan}
+use Rattle.shelf_core.specs.declared.words.ClaimWord.{ClaimWord}
 use Rattle.shelf_core.specs.declared.words.ClaimWord.TheVariants.{Open}
+use Rattle.shelf_core.specs.declared.words.PlaceWord.{PlaceWord}
 use Rattle.shelf_core.specs.declared.words.PlaceWord.TheVariants.{Free}
 use Rattle.shelf_core.specs.declared.seat.SeatView.{SeatView}
 use Rattle.shelf_core.specs.declared.system.System.{System}
@@ -114,3 +116,12 @@ opening_orderly = orderly_of opening
     numbers zero = refl
     numbers (suc n) = let t : times (suc n) (0 ∷ []) ≡ 0 = times_else (suc n) 0 [] (λ e. omega arith) in
         let x : total (standing (suc n)) (new_view 0 ∷ []) ≡ 0 = omega arith in x ∙ sym (not_below (suc n) 1 (omega arith))
+
+-- a system in which nothing stands but the view of seat 0
+pub opened : (claims : List ClaimWord) (places : List PlaceWord) (home : List (Option Key)) (views : List SeatView) → claims ≡ [] → places ≡ [] → home ≡ [] → views ≡ new_view 0 ∷ []
+    → ◌≡◌ {A = System} (record opening { claims = claims; places = places; home = home; views = views }) opening
+opened claims places home views a b d e =
+    ap (λ (x : List ClaimWord). record opening { claims = x; places = places; home = home; views = views }) a
+    ∙ ap (λ (x : List PlaceWord). record opening { places = x; home = home; views = views }) b
+    ∙ ap (λ (x : List (Option Key)). record opening { home = x; views = views }) d
+    ∙ ap (λ (x : List SeatView). record opening { views = x }) e

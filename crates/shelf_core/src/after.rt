@@ -54,10 +54,24 @@ impl System {
         ensures refused { OnErr result (self.new ≡ self.old) }
     {
         let count = plan.forks.len() + plan.places as usize;
-        let claims = Sequence::filled(alloc, ClaimWord::Open, plan.segments as usize)?;
-        let places = Sequence::filled(alloc, PlaceWord::Free, count)?;
-        let home = Sequence::filled(alloc, None, count)?;
-        let plan = plan.copy(alloc)?;
+        let Ok(claims) = Sequence::filled(alloc, ClaimWord::Open, plan.segments as usize) else {
+            return Err(Memory);
+        };
+        let Ok(places) = Sequence::filled(alloc, PlaceWord::Free, count) else {
+            drop(claims);
+            return Err(Memory);
+        };
+        let Ok(home) = Sequence::filled(alloc, None, count) else {
+            drop(places);
+            drop(claims);
+            return Err(Memory);
+        };
+        let Ok(plan) = plan.copy(alloc) else {
+            drop(home);
+            drop(places);
+            drop(claims);
+            return Err(Memory);
+        };
         self.plan = Some(plan);
         self.claims = claims;
         self.places = places;
@@ -72,7 +86,9 @@ impl System {
         ensures after { OnOk result (self.new ≡ after self.old (Event.Claim n segment)) }
         ensures refused { OnErr result (self.new ≡ self.old) }
     {
-        let view = self.view(n).with_claim(alloc, segment)?;
+        let Ok(view) = self.view(n).with_claim(alloc, segment) else {
+            return Err(Memory);
+        };
         self.views.set(n as usize, view);
         self.claims.set(segment as usize, ClaimWord::Taken(n));
         Ok(())
@@ -86,7 +102,9 @@ impl System {
         ensures refused { OnErr result (self.new ≡ self.old) }
     {
         let place = self.key_place(key);
-        let view = self.view(n).with_turn(alloc, place, key)?;
+        let Ok(view) = self.view(n).with_turn(alloc, place, key) else {
+            return Err(Memory);
+        };
         self.views.set(n as usize, view);
         self.put(place, PlaceWord::Writing(n), None);
         Ok(())
@@ -100,7 +118,9 @@ impl System {
         ensures refused { OnErr result (self.new ≡ self.old) }
     {
         let place = self.key_place(key);
-        let view = self.view(n).having_published(alloc, &self.plan, key)?;
+        let Ok(view) = self.view(n).having_published(alloc, &self.plan, key) else {
+            return Err(Memory);
+        };
         self.views.set(n as usize, view);
         self.put(place, PlaceWord::Ready(key), Some(key));
         Ok(())
@@ -114,7 +134,9 @@ impl System {
         ensures refused { OnErr result (self.new ≡ self.old) }
     {
         let place = self.key_place(key);
-        let view = self.view(n).without_turn(alloc, key)?;
+        let Ok(view) = self.view(n).without_turn(alloc, key) else {
+            return Err(Memory);
+        };
         self.views.set(n as usize, view);
         self.put(place, PlaceWord::Free, None);
         Ok(())
@@ -128,7 +150,9 @@ impl System {
         ensures refused { OnErr result (self.new ≡ self.old) }
     {
         let place = self.key_place(key);
-        let view = self.view(n).with_loan(alloc, &self.plan, place, key)?;
+        let Ok(view) = self.view(n).with_loan(alloc, &self.plan, place, key) else {
+            return Err(Memory);
+        };
         self.views.set(n as usize, view);
         self.put(place, PlaceWord::Lent(key, n), None);
         Ok(())
@@ -143,7 +167,9 @@ impl System {
         let Some((place, key)) = self.view(n).loan else {
             unreachable!()
         };
-        let view = self.view(n).having_returned(alloc, key)?;
+        let Ok(view) = self.view(n).having_returned(alloc, key) else {
+            return Err(Memory);
+        };
         self.views.set(n as usize, view);
         self.put(place, PlaceWord::Ready(key), Some(key));
         Ok(())
@@ -159,7 +185,9 @@ impl System {
         let view = self.view(n);
         prove!(self.done < segments);
         prove!(view.counts < segments);
-        let view = view.with_count(alloc)?;
+        let Ok(view) = view.with_count(alloc) else {
+            return Err(Memory);
+        };
         self.views.set(n as usize, view);
         self.done += 1;
         Ok(())
@@ -170,7 +198,9 @@ impl System {
         ensures after { OnOk result (self.new ≡ after self.old (Event.Stop n)) }
         ensures refused { OnErr result (self.new ≡ self.old) }
     {
-        let view = self.view(n).having_stopped(alloc)?;
+        let Ok(view) = self.view(n).having_stopped(alloc) else {
+            return Err(Memory);
+        };
         self.views.set(n as usize, view);
         self.stopped = true;
         Ok(())
@@ -185,7 +215,9 @@ impl System {
         let Some(seen) = self.seen_at(word) else {
             unreachable!()
         };
-        let view = self.view(n).having_loaded(alloc, &self.plan, seen)?;
+        let Ok(view) = self.view(n).having_loaded(alloc, &self.plan, seen) else {
+            return Err(Memory);
+        };
         self.views.set(n as usize, view);
         Ok(())
     }
@@ -195,7 +227,9 @@ impl System {
         ensures after { OnOk result (self.new ≡ after self.old (Event.Split n)) }
         ensures refused { OnErr result (self.new ≡ self.old) }
     {
-        let view = SeatView::new(alloc, self.views.len() as u32)?;
+        let Ok(view) = SeatView::new(alloc, self.views.len() as u32) else {
+            return Err(Memory);
+        };
         self.views.push(view)
     }
 
@@ -208,7 +242,9 @@ impl System {
         let (view, other) = (self.view(n), self.view(m));
         prove!(other.counts <= self.done);
         prove!(view.counts <= self.done - other.counts);
-        let view = view.joined_with(alloc, other)?;
+        let Ok(view) = view.joined_with(alloc, other) else {
+            return Err(Memory);
+        };
         self.views.set(n as usize, view);
         self.views.set(m as usize, SeatView::spent(alloc));
         Ok(())
@@ -249,10 +285,17 @@ impl ShelfPlan {
     pub fn copy(&self, alloc: Global) -> Result<ShelfPlan, Memory>
         ensures { IfOk result (λ plan. plan ≡ self.now) }
     {
+        let Ok(forks) = self.forks.copy(alloc) else {
+            return Err(Memory);
+        };
+        let Ok(grid) = self.grid.copy(alloc) else {
+            drop(forks);
+            return Err(Memory);
+        };
         Ok(ShelfPlan {
             segments: self.segments,
-            forks: self.forks.copy(alloc)?,
-            grid: self.grid.copy(alloc)?,
+            forks,
+            grid,
             places: self.places,
         })
     }

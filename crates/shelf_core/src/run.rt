@@ -19,8 +19,14 @@ impl System {
         ensures opening { IfOk result (λ s. s ≡ opening) }
         ensures orderly { IfOk result (λ s. Orderly s) }
     {
+        let Ok(view) = SeatView::new(alloc, 0) else {
+            return Err(Memory);
+        };
         let mut views = Sequence::empty(alloc);
-        views.push(SeatView::new(alloc, 0)?)?;
+        let Ok(()) = views.push(view) else {
+            drop(views);
+            return Err(Memory);
+        };
         Ok(System {
             plan: None,
             claims: Sequence::empty(alloc),

@@ -17,4 +17,4 @@ pub put-requires-clause-value : goal.put-requires-clause-value
 put-requires-clause-value c = (place_low _ _ _ c.requires.orderly (turn_at c.args.self.now c.args.n c.args.key c.requires.orderly c.requires.possible) c.key_place-place.ensures).1
 
 pub returns-clause-after : goal.returns-clause-after
-returns-clause-after c = placed c.args.self.now _ c.args.n _ _ Free None (λ place. without_turn c.args.key) _ _ _ c.view.ensures c.in_ok-view.ensures c.set.ensures c.key_place-place.ensures c.put.ensures
+returns-clause-after c = placed c.args.self.now _ c.args.n _ _ Free None (λ place. without_turn c.args.key) _ _ _ c.view.ensures c.in-Ok.ensures c.set.ensures c.key_place-place.ensures c.put.ensures

@@ -15,5 +15,5 @@ set-requires-2 c = claim_there c.args.self.now c.args.n c.args.segment c.require
 
 pub returns-clause-after : goal.returns-clause-after
 returns-clause-after c =
-    let views : c.set.new.self ≡ changed_at (with_claim c.args.segment) c.args.self.now.views c.args.n = replaced _ _ _ _ _ _ c.view.ensures c.in_ok-view.ensures c.set.ensures in
+    let views : c.set.new.self ≡ changed_at (with_claim c.args.segment) c.args.self.now.views c.args.n = replaced _ _ _ _ _ _ c.view.ensures c.in-Ok.ensures c.set.ensures in
     rw (c.set-2.ensures, views) refl

@@ -32,7 +32,7 @@ set-requires-2 c =
 
 pub returns-clause-after : goal.returns-clause-after
 returns-clause-after c =
-    let views : c.set.new.self ≡ changed_at (joined_with c.view-other.result.now) c.args.self.now.views c.args.n = replaced _ _ _ _ _ _ c.view-view.ensures c.in_ok-view.ensures c.set.ensures in
+    let views : c.set.new.self ≡ changed_at (joined_with c.view-other.result.now) c.args.self.now.views c.args.n = replaced _ _ _ _ _ _ c.view-view.ensures c.in-Ok.ensures c.set.ensures in
     let spent = c.set-2.ensures ∙ ap (slice_set c.set.new.self c.args.m) c.spent.ensures ∙ ap (λ l. slice_set l c.args.m spent_view) views in
     let two = join_seats c.args.self.now c.args.n c.args.m _ _ c.view-view.ensures c.view-other.ensures c.requires.possible in
     ap (λ l. record c.args.self.now { views = l }) spent ∙ ap (after_join c.args.self.now c.args.n c.args.m) (sym two.1)

@@ -22,6 +22,6 @@ put-requires-clause-value c = (loan_low c.args.self.now c.args.n _ (c.in-Some.pl
 
 pub returns-clause-after : goal.returns-clause-after
 returns-clause-after c =
-    let views : c.set.new.self ≡ changed_at (having_returned c.in-Some.key) c.args.self.now.views c.args.n = replaced _ _ _ _ _ _ c.view-2.ensures c.in_ok-view.ensures c.set.ensures in
+    let views : c.set.new.self ≡ changed_at (having_returned c.in-Some.key) c.args.self.now.views c.args.n = replaced _ _ _ _ _ _ c.view-2.ensures c.in-Ok.ensures c.set.ensures in
     c.put.ensures ∙ ap (λ l. put (record c.args.self.now { views = l }) c.in-Some.place (Ready c.in-Some.key) (Some c.in-Some.key)) views
     ∙ ap (after_return c.args.self.now c.args.n) (sym (loan_there c.args.self.now c.args.n _ (c.in-Some.place, c.in-Some.key) c.view.ensures c.requires.possible c.in-Some.is))

@@ -12,5 +12,5 @@ set-requires c = seat_low c.args.self.now _ _ c.view.ensures
 
 pub returns-clause-after : goal.returns-clause-after
 returns-clause-after c =
-    let views : c.set.new.self ≡ changed_at having_stopped c.args.self.now.views c.args.n = replaced _ _ _ _ _ _ c.view.ensures c.in_ok-view.ensures c.set.ensures in
+    let views : c.set.new.self ≡ changed_at having_stopped c.args.self.now.views c.args.n = replaced _ _ _ _ _ _ c.view.ensures c.in-Ok.ensures c.set.ensures in
     rw views refl
