@@ -119,12 +119,21 @@ fn is_copied(rt: &impl Abort, alloc: Global) -> bool {
     (copy.name.as_slice(), copy.parent, copy.stop) == (b"tick5".as_slice(), 3, Stop::When(9))
 }
 
+// Whether a tree is refused so, or not at all.
+fn is_answered(
+    rt: &impl Abort,
+    alloc: Global,
+    tree: &(&[u8], u16, Stop, u32, Option<PlanError>),
+) -> bool {
+    let (name, parent, stop, limit, wanted) = *tree;
+    planned(rt, alloc, name, parent, stop, limit).err() == wanted
+}
+
 #[test]
 fn refused_trees_and_names(rt: HostRuntime) {
     let alloc = rt.alloc();
-    for (name, parent, stop, limit, wanted) in TREES.iter() {
-        let refusal = planned(&rt, alloc, name, *parent, *stop, *limit).err();
-        holds(&rt, refusal == *wanted);
+    for tree in TREES.iter() {
+        holds(&rt, is_answered(&rt, alloc, tree));
     }
     holds(
         &rt,

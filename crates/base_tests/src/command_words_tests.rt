@@ -3,23 +3,28 @@ use command_words::{Asked, Crossing, Mark, Request, Task, ask};
 use std::alloc::Global;
 use std::process::Abort;
 
+// A mark in one text.
+fn mark_told(rt: &impl Abort, alloc: Global, mark: &Mark<'_>) -> String {
+    let (word, branch) = (mark.word.as_str(), mark.branch.as_str());
+    format!(in alloc; "{word}={branch}@{}", mark.event).expect(rt, "memory")
+}
+
 // The marks of a rewind, each behind a space.
 fn marks_told(rt: &impl Abort, alloc: Global, marks: &[Mark<'_>]) -> String {
     let mut text = String::new(alloc);
     for mark in marks {
-        let (word, branch) = (mark.word.as_str(), mark.branch.as_str());
-        let told = format!(in alloc; " {word}={branch}@{}", mark.event).expect(rt, "memory");
+        let told = mark_told(rt, alloc, mark);
+        text.push(' ').expect(rt, "memory");
         text.push_str(told.as_str()).expect(rt, "memory");
+        drop(told);
     }
     text
 }
 
 fn crossing_told(rt: &impl Abort, alloc: Global, crossing: &Crossing<'_>) -> String {
     let (symbol, file) = (crossing.symbol.as_str(), crossing.file.as_str());
-    let (word, branch) = (crossing.mark.word.as_str(), crossing.mark.branch.as_str());
-    format!(in alloc; "{symbol} {file} {word}={branch}@{}", crossing.mark.event).expect(
-        rt, "memory",
-    )
+    let mark = mark_told(rt, alloc, &crossing.mark);
+    format!(in alloc; "{symbol} {file} {mark}").expect(rt, "memory")
 }
 
 // What is to be done with a study, in one text, with the places that it has.

@@ -1,4 +1,4 @@
-ghost use Rattle.std.specs.Prelude.{◌≡◌, ◌<◌, ◌≤◌, ◌+◌, ◌-◌, All};
+ghost use Rattle.std.specs.Prelude.{◌≡◌, ◌<◌, ◌≤◌, ◌+◌, ◌-◌, [], All, length};
 
 use crate::facts::{equal, holds};
 use event_queue::Queue;
@@ -165,6 +165,25 @@ fn assert_copied(rt: &impl Abort, alloc: Global, queue: &Queue, plain: &mut Plai
     drop(copy);
 }
 
+// A wakeup joins both, and the least message of both is put back, leaves or stays.
+fn one_round(rt: &impl Abort, queue: &mut Queue, plain: &mut PlainQueue, next: u64)
+    requires room { 0 < queue.old.spare }
+    requires small { next < 10000 }
+    requires before { All (λ m. m.seq < next) queue.old.list }
+    ensures before { All (λ m. m.seq < next + 1) queue.new.list }
+    ensures spare { queue.old.spare ≤ queue.new.spare + 1 }
+{
+    let time = next.wrapping_mul(7919) % 101;
+    join(queue, time, next);
+    plain.push(rt, wakeup(time, next));
+    if next % 5 == 3 {
+        put_back_both(rt, queue, plain, time + 50, next + 1);
+    } else if next % 5 < 3 {
+        equal(rt, leave(queue, next + 1), plain.pop_least());
+    }
+    equal(rt, queue.len(), plain.messages.len());
+}
+
 #[test]
 fn agrees_with_a_plain_list(rt: HostRuntime) {
     let mut queue = Queue::new(rt.alloc());
@@ -173,57 +192,92 @@ fn agrees_with_a_plain_list(rt: HostRuntime) {
         messages: Vec::new(rt.alloc()),
     };
     for next in 0..PUSHES {
-        let time = next.wrapping_mul(7919) % 101;
-        join(&mut queue, time, next);
-        plain.push(&rt, wakeup(time, next));
-        if next % 5 == 3 {
-            put_back_both(&rt, &mut queue, &mut plain, time + 50, next + 1);
-        } else if next % 5 < 3 {
-            equal(&rt, leave(&mut queue, next + 1), plain.pop_least());
-        }
-        equal(&rt, queue.len(), plain.messages.len());
+        one_round(&rt, &mut queue, &mut plain, next);
     }
     assert_copied(&rt, rt.alloc(), &queue, &mut plain);
     drop(queue);
 }
 
+// Messages join an empty queue under the numbers from 0 on, each a question or a wakeup, and each at its time.
+fn join_all(queue: &mut Queue, messages: &[(bool, u64)])
+    requires none { queue.old.list ≡ [] }
+    requires room { length messages.now ≤ queue.old.spare }
+    ensures { All (λ m. m.seq < length messages.now) queue.new.list }
+{
+    for i in 0..messages.len() {
+        let (is_question, time) = messages[i];
+        if is_question {
+            ask(queue, time, i as u64);
+        } else {
+            join(queue, time, i as u64);
+        }
+    }
+}
+
+// These messages leave, each a question or a wakeup, with its time and its number.
+fn leave_all(rt: &impl Abort, queue: &mut Queue, next: u64, messages: &[(bool, u64, u64)])
+    requires { All (λ m. m.seq < next) queue.old.list }
+    ensures { All (λ m. m.seq < next) queue.new.list }
+{
+    for message in messages {
+        let (is_question, time, seq) = *message;
+        let hoped = if is_question {
+            question(time, seq)
+        } else {
+            wakeup(time, seq)
+        };
+        equal(rt, leave(queue, next), Some(hoped));
+    }
+}
+
+const FOUR_WAKEUPS: [(bool, u64); 4] = [(false, 1005), (false, 1003), (false, 1004), (false, 1009)];
+
+const FOUR_LEAVE: [(bool, u64, u64); 4] = [
+    (false, 1005, 0),
+    (false, 1006, 4),
+    (false, 1006, 5),
+    (false, 1009, 3),
+];
+
 #[test]
 fn replaces_the_least_among_several(rt: HostRuntime) {
     let mut queue = Queue::new(rt.alloc());
     assert!(rt; queue.reserve(4).is_ok());
-    join(&mut queue, 1005, 0);
-    join(&mut queue, 1003, 1);
-    join(&mut queue, 1004, 2);
-    join(&mut queue, 1009, 3);
+    join_all(&mut queue, &FOUR_WAKEUPS);
     equal(&rt, replace(&mut queue, 1006, 4), Some(wakeup(1003, 1)));
     equal(&rt, replace(&mut queue, 1006, 5), Some(wakeup(1004, 2)));
     equal(&rt, queue.len(), 4);
-    equal(&rt, leave(&mut queue, 6), Some(wakeup(1005, 0)));
-    equal(&rt, leave(&mut queue, 6), Some(wakeup(1006, 4)));
-    equal(&rt, leave(&mut queue, 6), Some(wakeup(1006, 5)));
-    equal(&rt, leave(&mut queue, 6), Some(wakeup(1009, 3)));
+    leave_all(&rt, &mut queue, 6, &FOUR_LEAVE);
     equal(&rt, replace(&mut queue, 1010, 6), None);
     drop(queue);
 }
+
+const FIVE_MESSAGES: [(bool, u64); 5] = [
+    (false, 1004),
+    (true, 1004),
+    (true, 1003),
+    (false, 1003),
+    (true, 1001),
+];
+
+const LAST_LEAVE: [(bool, u64, u64); 4] = [
+    (false, 1004, 0),
+    (true, 1004, 1),
+    (false, 1004, 5),
+    (true, 1006, 2),
+];
 
 #[test]
 fn delivers_wakeups_and_questions_in_one_order(rt: HostRuntime) {
     let mut queue = Queue::new(rt.alloc());
     assert!(rt; queue.reserve(5).is_ok());
-    join(&mut queue, 1004, 0);
-    ask(&mut queue, 1004, 1);
-    ask(&mut queue, 1003, 2);
-    join(&mut queue, 1003, 3);
-    ask(&mut queue, 1001, 4);
+    join_all(&mut queue, &FIVE_MESSAGES);
     equal(&rt, put_back(&mut queue, 1002, 5), Some(question(1001, 4)));
     equal(&rt, leave(&mut queue, 5), Some(question(1002, 4)));
     equal(&rt, put_back(&mut queue, 1006, 5), Some(question(1003, 2)));
     equal(&rt, replace(&mut queue, 1004, 5), Some(wakeup(1003, 3)));
     equal(&rt, queue.len(), 4);
-    equal(&rt, leave(&mut queue, 6), Some(wakeup(1004, 0)));
-    equal(&rt, leave(&mut queue, 6), Some(question(1004, 1)));
-    equal(&rt, leave(&mut queue, 6), Some(wakeup(1004, 5)));
-    equal(&rt, leave(&mut queue, 6), Some(question(1006, 2)));
+    leave_all(&rt, &mut queue, 6, &LAST_LEAVE);
     equal(&rt, leave(&mut queue, 6), None);
     drop(queue);
 }

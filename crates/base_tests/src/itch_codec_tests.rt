@@ -138,25 +138,21 @@ fn trades_both_ways(rt: HostRuntime) {
     holds(&rt, goes_both_ways(&feed(1, 3000, cross), &CROSS_BYTES));
 }
 
+// Whether bytes are refused so.
+fn is_refused(bytes: &[u8], error: CodecError) -> bool {
+    decode_feed(bytes) == Err(error)
+}
+
 #[test]
 fn refused_codes(rt: HostRuntime) {
-    holds(&rt, decode_feed(&[]) == Err(CodecError::WrongLength(0, 1)));
-    holds(&rt, decode_feed(b"Z") == Err(CodecError::UnknownType(0x5a)));
-    holds(
-        &rt,
-        decode_feed(b"D") == Err(CodecError::WrongLength(1, 19)),
-    );
+    holds(&rt, is_refused(&[], CodecError::WrongLength(0, 1)));
+    holds(&rt, is_refused(b"Z", CodecError::UnknownType(0x5a)));
+    holds(&rt, is_refused(b"D", CodecError::WrongLength(1, 19)));
     let mut other_state = TRADING_BYTES;
     other_state[19] = b'X';
-    holds(
-        &rt,
-        decode_feed(&other_state) == Err(CodecError::BadField(19)),
-    );
+    holds(&rt, is_refused(&other_state, CodecError::BadField(19)));
     other_state[11] = b' ';
-    holds(
-        &rt,
-        decode_feed(&other_state) == Err(CodecError::BadField(11)),
-    );
+    holds(&rt, is_refused(&other_state, CodecError::BadField(11)));
 }
 
 // Whether the first frame of some bytes has this payload, and leaves this rest.

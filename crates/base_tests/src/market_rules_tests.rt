@@ -45,6 +45,12 @@ fn assert_allowed(rt: &impl Abort, table: &TickTable) {
     }
 }
 
+fn assert_nearest(rt: &impl Abort, table: &TickTable) {
+    for (price, down, up) in NEAREST.iter() {
+        holds(rt, nearest(table, *price) == (*down, *up));
+    }
+}
+
 #[test]
 fn prices_move_to_their_ticks(rt: HostRuntime) {
     let table = two_bands(&rt, rt.alloc());
@@ -55,10 +61,9 @@ fn prices_move_to_their_ticks(rt: HostRuntime) {
         value: 100_000,
         ticks: &table,
     };
-    for (price, down, up) in NEAREST.iter() {
-        holds(&rt, nearest(view.ticks, *price) == (*down, *up));
-    }
+    assert_nearest(&rt, view.ticks);
     assert_allowed(&rt, &table);
+    drop(table);
 }
 
 fn refusal(alloc: Global, bands: &[Band]) -> Option<RuleError> {
@@ -118,15 +123,25 @@ fn dated(rt: &impl Abort, alloc: Global, times: &[u64]) -> Result<DatedList, Rul
 // Times, each with how many of the changes at 5, 5 and 7 are due by then.
 const DUE: [(u64, usize); 5] = [(4, 0), (5, 2), (6, 2), (7, 3), (u64::MAX, 3)];
 
+fn assert_due(rt: &impl Abort, list: &DatedList) {
+    for (time, count) in DUE.iter() {
+        equal(rt, list.rules_at(*time), *count);
+    }
+    holds(rt, list.as_slice().len() == 3);
+}
+
+// Why changes at these times are refused, if they are.
+fn date_refusal(rt: &impl Abort, alloc: Global, times: &[u64]) -> Option<RuleError> {
+    dated(rt, alloc, times).err()
+}
+
 #[test]
 fn changes_keep_their_order(rt: HostRuntime) {
     let list = dated(&rt, rt.alloc(), &[5, 5, 7]).expect(&rt, "a list");
-    for (time, count) in DUE.iter() {
-        equal(&rt, list.rules_at(*time), *count);
-    }
-    holds(&rt, list.as_slice().len() == 3);
-    holds(&rt, dated(&rt, rt.alloc(), &[]).is_ok());
-    let refused = dated(&rt, rt.alloc(), &[5, 6, 4, 3]).err();
+    assert_due(&rt, &list);
+    drop(list);
+    equal(&rt, date_refusal(&rt, rt.alloc(), &[]), None);
+    let refused = date_refusal(&rt, rt.alloc(), &[5, 6, 4, 3]);
     equal(&rt, refused, Some(RuleError::DatesNotRising(2)));
 }
 
@@ -156,18 +171,32 @@ fn edits(table: TickTable) -> [(Edit, u8); 8] {
     ]
 }
 
+// Compares an edit with its copy.
+fn is_copied(rt: &impl Abort, alloc: Global, edit: &Edit, letter: u8) {
+    let copy = edit.copy(alloc).expect(rt, "memory");
+    holds(rt, copy == *edit);
+    equal(rt, copy.letter(), letter);
+    drop(copy);
+}
+
+// Compares a change with its copy.
+fn change_is_copied(rt: &impl Abort, alloc: Global, change: &Change) {
+    let copy = change.copy(alloc).expect(rt, "memory");
+    holds(rt, copy == *change);
+    holds(rt, copy != Change::Halt);
+    drop(copy);
+}
+
 #[test]
 fn copies_are_equal(rt: HostRuntime) {
     let alloc = rt.alloc();
     for (edit, letter) in edits(two_bands(&rt, alloc)) {
-        let copy = edit.copy(alloc).expect(&rt, "memory");
-        holds(&rt, copy == edit);
-        equal(&rt, copy.letter(), letter);
+        is_copied(&rt, alloc, &edit, letter);
+        drop(edit);
     }
     let change = Change::Tick(two_bands(&rt, alloc));
-    let copy = change.copy(alloc).expect(&rt, "memory");
-    holds(&rt, copy == change);
-    holds(&rt, copy != Change::Halt);
+    change_is_copied(&rt, alloc, &change);
+    drop(change);
 }
 
 #[test]

@@ -2,23 +2,29 @@ use crate::facts::holds;
 use market_types::{Symbol, Token, TypeError, read_price, read_shares, read_symbol, read_token};
 use std::test::*;
 
+// Numbers, each with the price that it is read as.
+const PRICES: [(u64, Result<u32, TypeError>); 5] = [
+    (0, Err(TypeError::BadPrice)),
+    (1, Ok(1)),
+    (1_999_999_900, Ok(1_999_999_900)),
+    (1_999_999_901, Err(TypeError::BadPrice)),
+    (1 << 32 | 1, Err(TypeError::BadPrice)),
+];
+
+// Numbers, each with the shares that it is read as.
+const SHARES: [(u64, Result<u32, TypeError>); 3] = [
+    (0, Err(TypeError::BadShares)),
+    (999_999, Ok(999_999)),
+    (1_000_000, Err(TypeError::BadShares)),
+];
+
 #[test]
 fn numbers(rt: HostRuntime) {
-    for (n, want) in [
-        (0, Err(TypeError::BadPrice)),
-        (1, Ok(1)),
-        (1_999_999_900, Ok(1_999_999_900)),
-        (1_999_999_901, Err(TypeError::BadPrice)),
-        (1 << 32 | 1, Err(TypeError::BadPrice)),
-    ] {
-        holds(&rt, read_price(n) == want);
+    for (n, want) in PRICES.iter() {
+        holds(&rt, read_price(*n) == *want);
     }
-    for (n, want) in [
-        (0, Err(TypeError::BadShares)),
-        (999_999, Ok(999_999)),
-        (1_000_000, Err(TypeError::BadShares)),
-    ] {
-        holds(&rt, read_shares(n) == want);
+    for (n, want) in SHARES.iter() {
+        holds(&rt, read_shares(*n) == *want);
     }
 }
 

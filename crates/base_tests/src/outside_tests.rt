@@ -36,6 +36,13 @@ fn is_shown(alloc: Global, library: &mut impl Library, fetch: &Fetch) -> bool {
     shown(&library.fetch(alloc, name, most)) == want
 }
 
+// The same of fetches one after another.
+fn assert_shown(rt: &impl Abort, alloc: Global, library: &mut impl Library, fetches: &[Fetch]) {
+    for fetch in fetches {
+        holds(rt, is_shown(alloc, library, fetch));
+    }
+}
+
 const OF_THE_SYSTEM: [Fetch; 6] = [
     ("fetched.txt", 4999, "too long"),
     ("missing.txt", 9, "absent"),
@@ -45,17 +52,19 @@ const OF_THE_SYSTEM: [Fetch; 6] = [
     ("fetched.txt/x", 9, "failed"),
 ];
 
-const SEVENS: [u8; 5000] = [7; 5000];
-
 #[test]
 fn files_of_the_system(rt: HostRuntime) {
-    holds(&rt, fs::write(&rt, "fetched.txt", &SEVENS).is_ok());
+    let sevens = vec![in rt.alloc(); 7; 5000].expect(&rt, "memory");
+    holds(
+        &rt,
+        fs::write(&rt, "fetched.txt", sevens.as_slice()).is_ok(),
+    );
     let mut library = FileLibrary::new(&rt);
     let whole = library.fetch(rt.alloc(), "fetched.txt", 5000);
-    holds(&rt, is_whole(&whole, &SEVENS));
-    for fetch in OF_THE_SYSTEM.iter() {
-        holds(&rt, is_shown(rt.alloc(), &mut library, fetch));
-    }
+    holds(&rt, is_whole(&whole, sevens.as_slice()));
+    drop(whole);
+    drop(sevens);
+    assert_shown(&rt, rt.alloc(), &mut library, &OF_THE_SYSTEM);
     holds(&rt, fs::remove_file(&rt, "fetched.txt").is_ok());
 }
 
@@ -135,11 +144,11 @@ const IN_MEMORY: [Fetch; 4] = [
 #[test]
 fn files_in_memory(rt: HostRuntime) {
     let mut library = one_file(&rt, rt.alloc());
-    for fetch in IN_MEMORY.iter() {
-        holds(&rt, is_shown(rt.alloc(), &mut library, fetch));
-    }
+    assert_shown(&rt, rt.alloc(), &mut library, &IN_MEMORY);
     let whole = library.fetch(rt.alloc(), "study", 9);
     holds(&rt, is_whole(&whole, b"four"));
+    drop(whole);
+    drop(library);
 }
 
 // Room, the most bytes a call, the failing call (0: none), and what is taken of ten bytes.
@@ -153,14 +162,21 @@ const TAKEN: [(usize, usize, u32, &str); 7] = [
     (10, 0, 0, ""),
 ];
 
+// Compares what a sink takes of ten bytes.
+fn assert_taken(rt: &impl Abort, alloc: Global, row: &(usize, usize, u32, &str)) {
+    let (room, most, failing, want) = *row;
+    let failing = vec![in alloc; failing].expect(rt, "memory");
+    let mut sink = MemorySink::new(alloc, room, most, failing).expect(rt, "memory");
+    let answer = write_all(&mut sink, b"0123456789");
+    equal(rt, answer.is_ok(), want.len() == 10);
+    holds(rt, sink.taken() == want.as_bytes());
+    drop(sink);
+}
+
 #[test]
 fn bytes_in_memory(rt: HostRuntime) {
-    for (room, most, failing, want) in TAKEN.iter() {
-        let failing = vec![in rt.alloc(); *failing].expect(&rt, "memory");
-        let mut sink = MemorySink::new(rt.alloc(), *room, *most, failing).expect(&rt, "memory");
-        let answer = write_all(&mut sink, b"0123456789");
-        equal(&rt, answer.is_ok(), want.len() == 10);
-        holds(&rt, sink.taken() == want.as_bytes());
+    for row in TAKEN.iter() {
+        assert_taken(&rt, rt.alloc(), row);
     }
 }
 
