@@ -118,25 +118,50 @@ const ENDED: Feed = Feed {
 
 const ALL: usize = 11 + 16 + 14 + 45 + 20 + 47 + 45 + 68 + 46 + 46 + 46 + 80 + 5;
 
+// The frames before a trace, and whether each call went well.
+fn puts_head(out: &mut Vec<u8>) -> bool {
+    put_header(out, 2, 1, 1).is_ok()
+        & put_branch(out, 0, 65_535, 0, b"root").is_ok()
+        & ENDED.put(out).is_ok()
+}
+
+// Those of an event and of an edit.
+fn puts_entries(alloc: Global, out: &mut Vec<u8>) -> bool {
+    let event = Entry::Event(wakeup(alloc));
+    let is_put = event.put(out).is_ok();
+    drop(event);
+    let edit = Entry::Edit(edit(alloc));
+    let both = is_put & edit.put(out).is_ok();
+    drop(edit);
+    both
+}
+
+// Those of events by their parts.
+fn puts_parts(out: &mut Vec<u8>) -> bool {
+    put_parts(out, &HEAD, &Body::Ask(0)).is_ok()
+        & put_parts_with_feed(out, &HEAD, &Body::Wake, &[], &[]).is_ok()
+}
+
+// Those of a closing state and of the end.
+fn puts_closing(out: &mut Vec<u8>, agent: &ClosingAgent) -> bool
+    requires { length agent.now.positions ≡ 1 }
+{
+    COUNTS.put(out).is_ok()
+        & put_all(out, &[STOCK, STOCK]).is_ok()
+        & put_all(out, &[ORDER]).is_ok()
+        & agent.put(out).is_ok()
+        & put_end(out, 1).is_ok()
+}
+
 #[test]
 fn each_frame_has_its_length(rt: HostRuntime) {
     let alloc = rt.alloc();
-    let agent = agent(alloc).expect(&rt, "memory");
     let mut out = Vec::new(alloc);
-    holds(&rt, put_header(&mut out, 2, 1, 1).is_ok());
-    holds(&rt, put_branch(&mut out, 0, 65_535, 0, b"root").is_ok());
-    holds(&rt, ENDED.put(&mut out).is_ok());
-    holds(&rt, Entry::Event(wakeup(alloc)).put(&mut out).is_ok());
-    holds(&rt, Entry::Edit(edit(alloc)).put(&mut out).is_ok());
-    holds(&rt, put_parts(&mut out, &HEAD, &Body::Ask(0)).is_ok());
-    holds(
-        &rt,
-        put_parts_with_feed(&mut out, &HEAD, &Body::Wake, &[], &[]).is_ok(),
-    );
-    holds(&rt, COUNTS.put(&mut out).is_ok());
-    holds(&rt, put_all(&mut out, &[STOCK, STOCK]).is_ok());
-    holds(&rt, put_all(&mut out, &[ORDER]).is_ok());
-    holds(&rt, agent.put(&mut out).is_ok());
-    holds(&rt, put_end(&mut out, 1).is_ok());
+    holds(&rt, puts_head(&mut out));
+    holds(&rt, puts_entries(alloc, &mut out));
+    holds(&rt, puts_parts(&mut out));
+    let agent = agent(alloc).expect(&rt, "memory");
+    holds(&rt, puts_closing(&mut out, &agent));
+    drop(agent);
     holds(&rt, out.len() == ALL);
 }

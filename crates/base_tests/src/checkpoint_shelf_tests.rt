@@ -8,8 +8,9 @@ mod seats;
 ghost use Rattle.std.specs.Prelude.{◌≡◌, ◌<◌, IsSome, Some};
 ghost use Rattle.std.specs.Arc.{arc_value};
 ghost use Rattle.shelf_core.specs.Plan.{place_of};
+ghost use Rattle.shelf_core.specs.Views.{times};
 
-use self::seats::{FORK, fork_shelf, refusal};
+use self::seats::{FORK, claimed, fork_shelf, refusal};
 use crate::facts::holds;
 use checkpoint_shelf::{Begun, Found, Key, PlaceWord, Shelf, ShelfSeat, Shelved};
 use plain_lists::Memory;
@@ -53,7 +54,7 @@ fn meet_at_a_fork(
     requires key { (k.segment < shelf.now.plan.segments) × IsSome (place_of shelf.now.plan k) }
     requires value { ((arc_value value).key ≡ k) × ((arc_value value).course ≡ shelf.now.course) }
 {
-    assert!(rt; shelf.claim(zero, k.segment));
+    assert!(rt; claimed(shelf, zero, k.segment));
     holds(rt, !shelf.claim(one, k.segment));
     holds(rt, is_not_yet(shelf.find(one, k), PlaceWord::Free));
     let turn = match shelf.begin(zero, k) {
@@ -64,6 +65,22 @@ fn meet_at_a_fork(
     holds(rt, refusal(shelf, zero, k) == Some(PlaceWord::Writing(0)));
     shelf.publish(zero, turn, value);
     shelf.count(zero);
+    meet_its_value(rt, shelf, zero, one, k);
+}
+
+// Two seats at a fork whose value is there: each call answers as it must.
+fn meet_its_value(
+    rt: &impl Abort,
+    shelf: &Shelf<Item>,
+    zero: &mut ShelfSeat<Item>,
+    one: &mut ShelfSeat<Item>,
+    k: Key,
+)
+    requires zero { zero.old.shelf ≡ Some shelf.now }
+    requires one { one.old.shelf ≡ Some shelf.now }
+    requires claim { 0 < times k.segment zero.old.view.claims }
+    requires place { IsSome (place_of shelf.now.plan k) }
+{
     holds(rt, is_here(shelf.find(one, k), k));
     holds(rt, refusal(shelf, zero, k) == Some(PlaceWord::Ready(k)));
     shelf.stop(one);

@@ -9,9 +9,9 @@ fn mark_told(rt: &impl Abort, alloc: Global, mark: &Mark<'_>) -> String {
     format!(in alloc; "{word}={branch}@{}", mark.event).expect(rt, "memory")
 }
 
-// The marks of a rewind, each behind a space.
-fn marks_told(rt: &impl Abort, alloc: Global, marks: &[Mark<'_>]) -> String {
-    let mut text = String::new(alloc);
+// A study and the marks of a rewind, each behind a space.
+fn marks_told(rt: &impl Abort, alloc: Global, study: &str, marks: &[Mark<'_>]) -> String {
+    let mut text = String::from_str(alloc, study).expect(rt, "memory");
     for mark in marks {
         let told = mark_told(rt, alloc, mark);
         text.push(' ').expect(rt, "memory");
@@ -21,32 +21,50 @@ fn marks_told(rt: &impl Abort, alloc: Global, marks: &[Mark<'_>]) -> String {
     text
 }
 
-fn crossing_told(rt: &impl Abort, alloc: Global, crossing: &Crossing<'_>) -> String {
+// A study and what a cross of it is asked for.
+fn crossing_told(rt: &impl Abort, alloc: Global, study: &str, crossing: &Crossing<'_>) -> String {
     let (symbol, file) = (crossing.symbol.as_str(), crossing.file.as_str());
     let mark = mark_told(rt, alloc, &crossing.mark);
-    format!(in alloc; "{symbol} {file} {mark}").expect(rt, "memory")
+    format!(in alloc; "{study} {symbol} {file} {mark}").expect(rt, "memory")
+}
+
+// Two words.
+fn both_told(rt: &impl Abort, alloc: Global, first: &str, second: &str) -> String {
+    format!(in alloc; "{first} {second}").expect(rt, "memory")
+}
+
+// A command, what it is given, and its places.
+fn placed_told(
+    rt: &impl Abort,
+    alloc: Global,
+    command: &str,
+    words: String,
+    places: u32,
+) -> String {
+    let told = format!(in alloc; "{command} {words}, {places} places").expect(rt, "memory");
+    drop(words);
+    told
 }
 
 // What is to be done with a study, in one text, with the places that it has.
 fn task_told(rt: &impl Abort, alloc: Global, task: &Task<'_>, study: &str) -> String {
-    let told = match task {
-        Task::Run => format!(in alloc; "run {study}"),
-        Task::Table => format!(in alloc; "table {study}"),
-        Task::Check => format!(in alloc; "check {study}"),
+    match task {
+        Task::Run => both_told(rt, alloc, "run", study),
+        Task::Table => both_told(rt, alloc, "table", study),
+        Task::Check => both_told(rt, alloc, "check", study),
         Task::Rewind(marks, places) => {
-            let marks = marks_told(rt, alloc, marks.as_slice());
-            format!(in alloc; "rewind {study}{marks}, {places} places")
+            let words = marks_told(rt, alloc, study, marks.as_slice());
+            placed_told(rt, alloc, "rewind", words, *places)
         }
         Task::Cross(crossing, places) => {
-            let crossing = crossing_told(rt, alloc, crossing);
-            format!(in alloc; "cross {study} {crossing}, {places} places")
+            let words = crossing_told(rt, alloc, study, crossing);
+            placed_told(rt, alloc, "cross", words, *places)
         }
         Task::Session(script, places) => {
-            let script = script.as_str();
-            format!(in alloc; "session {study} {script}, {places} places")
+            let words = both_told(rt, alloc, study, script.as_str());
+            placed_told(rt, alloc, "session", words, *places)
         }
-    };
-    told.expect(rt, "memory")
+    }
 }
 
 // What is asked for, in one text.

@@ -166,7 +166,7 @@ fn assert_copied(rt: &impl Abort, alloc: Global, queue: &Queue, plain: &mut Plai
 }
 
 // A wakeup joins both, and the least message of both is put back, leaves or stays.
-fn one_round(rt: &impl Abort, queue: &mut Queue, plain: &mut PlainQueue, next: u64)
+fn one_step(rt: &impl Abort, queue: &mut Queue, plain: &mut PlainQueue, next: u64)
     requires room { 0 < queue.old.spare }
     requires small { next < 10000 }
     requires before { All (λ m. m.seq < next) queue.old.list }
@@ -192,7 +192,7 @@ fn agrees_with_a_plain_list(rt: HostRuntime) {
         messages: Vec::new(rt.alloc()),
     };
     for next in 0..PUSHES {
-        one_round(&rt, &mut queue, &mut plain, next);
+        one_step(&rt, &mut queue, &mut plain, next);
     }
     assert_copied(&rt, rt.alloc(), &queue, &mut plain);
     drop(queue);

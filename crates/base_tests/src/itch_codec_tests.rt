@@ -163,21 +163,24 @@ fn unframes(bytes: &[u8], payload: &[u8], rest: &[u8]) -> bool {
     }
 }
 
-// Why some bytes begin with no frame.
-fn refusal(bytes: &[u8]) -> Option<CodecError> {
-    unframe(bytes).err()
+// Whether some bytes begin with no frame, since they are cut off.
+fn is_cut(bytes: &[u8], length: usize) -> bool {
+    unframe(bytes).err() == Some(CodecError::Cut(length))
+}
+
+// A payload and an empty one are framed, and whether each call went well.
+fn frames_two(out: &mut Vec<u8>) -> bool {
+    frame(b"abc", out).is_ok() & frame(&[], out).is_ok()
 }
 
 #[test]
 fn frames(rt: HostRuntime) {
     let mut out = Vec::new(rt.alloc());
-    holds(&rt, frame(b"abc", &mut out).is_ok());
-    holds(&rt, frame(&[], &mut out).is_ok());
+    holds(&rt, frames_two(&mut out));
     holds(&rt, out.as_slice() == b"\x00\x03abc\x00\x00".as_slice());
     holds(&rt, unframes(out.as_slice(), b"abc", b"\x00\x00"));
     holds(&rt, unframes(&[0, 0], b"", b""));
-    holds(&rt, refusal(b"\x00\x03\x57") == Some(CodecError::Cut(3)));
-    holds(&rt, refusal(b"\x00") == Some(CodecError::Cut(1)));
+    holds(&rt, is_cut(b"\x00\x03\x57", 3) & is_cut(b"\x00", 1));
     let mut parts = Vec::new(rt.alloc());
     holds(&rt, frame_of_two(b"ab", b"c", &mut parts).is_ok());
     holds(&rt, parts.as_slice() == b"\x00\x03abc".as_slice());
