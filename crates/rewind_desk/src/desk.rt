@@ -67,7 +67,9 @@ pub fn reached<L: Ledger>(
     let last = course.last_segment(branch);
     let near = nearest_to(course, shelf, last, event);
     let most = event.min(course.opening().limit);
-    let arrival = reach(alloc, course, shelf, near, last, most, steps)?;
+    let Ok(arrival) = reach(alloc, course, shelf, near, last, most, steps) else {
+        return Err(Memory);
+    };
     Ok(Rewound {
         kernel: arrival.kernel,
         from: events_of(near),

@@ -113,8 +113,7 @@ fn resumed(
     let Some(kept) = shelf.get(near.key) else {
         unreachable!()
     };
-    let kernel = kept.resume(alloc)?;
-    Ok(kernel)
+    kept.resume(alloc)
 }
 
 // The state after so many events of a segment, or its end, from a state that the shelf holds of it.
@@ -135,9 +134,10 @@ fn from_near<L: Ledger>(
     ensures least { steps.old ≤ steps.new }
     ensures most { steps.new + near.events ≤ steps.old + event }
 {
-    let kernel = resumed(alloc, course, shelf, near)?;
-    let arrival = arrive(alloc, course, near.key.segment, event, kernel, steps)?;
-    Ok(arrival)
+    let Ok(kernel) = resumed(alloc, course, shelf, near) else {
+        return Err(Memory);
+    };
+    arrive(alloc, course, near.key.segment, event, kernel, steps)
 }
 
 // The state after so many events of a segment that goes on from no other, or its end, from the opening.
@@ -157,9 +157,10 @@ fn from_opening<L: Ledger>(
     ensures least { steps.old ≤ steps.new }
     ensures most { steps.new ≤ steps.old + event }
 {
-    let kernel = Kernel::open(alloc, course.opening())?;
-    let arrival = arrive(alloc, course, segment, event, kernel, steps)?;
-    Ok(arrival)
+    let Ok(kernel) = Kernel::open(alloc, course.opening()) else {
+        return Err(Memory);
+    };
+    arrive(alloc, course, segment, event, kernel, steps)
 }
 
 // The state after so many events of a segment, or its end, from its parent's end, with its branch's edits made where it is the
@@ -192,8 +193,7 @@ fn from_parent<L: Ledger>(
         return Err(Memory);
     };
     drop(trace);
-    let arrival = arrive(alloc, course, segment, event, kernel, steps)?;
-    Ok(arrival)
+    arrive(alloc, course, segment, event, kernel, steps)
 }
 
 // The state after so many events of a segment, or its end, from what was reached of its parent for as many: it goes on in the
@@ -247,21 +247,16 @@ pub(crate) fn reach<L: Ledger>(
     ensures most { steps.new + events_of near ≤ steps.old + event }
 {
     match own_of(near, segment) {
-        Some(own) => {
-            let near_by = from_near(alloc, course, shelf, own, event, steps)?;
-            Ok(near_by)
-        }
+        Some(own) => from_near(alloc, course, shelf, own, event, steps),
         None => {
             let g = course.segment(segment);
             match g.parent {
-                None => {
-                    let opened = from_opening(alloc, course, segment, event, steps)?;
-                    Ok(opened)
-                }
+                None => from_opening(alloc, course, segment, event, steps),
                 Some(parent) => {
-                    let before = reach(alloc, course, shelf, near, parent, event, steps)?;
-                    let gone_on = onward(alloc, course, parent, segment, event, before, steps)?;
-                    Ok(gone_on)
+                    let Ok(before) = reach(alloc, course, shelf, near, parent, event, steps) else {
+                        return Err(Memory);
+                    };
+                    onward(alloc, course, parent, segment, event, before, steps)
                 }
             }
         }

@@ -42,8 +42,8 @@ reach-requires-clause-count g c =
     let best = best-is c.args.shelf.now c.args.course.now c.args.branch c.args.event c.last_segment-last.result _ c.requires.shelf c.last_segment-last.ensures.last c.nearest_to-near.ensures.most in
     omega (arith, best, c.requires.count, c.min-most.ensures)
 
-pub returns-in_err-arrival-clause-most : goal.returns-in_err-arrival-clause-most
-returns-in_err-arrival-clause-most g c =
+pub returns-in_default-clause-most : goal.returns-in_default-clause-most
+returns-in_default-clause-most g c =
     let best = best-is c.args.shelf.now c.args.course.now c.args.branch c.args.event c.last_segment-last.result _ c.requires.shelf c.last_segment-last.ensures.last c.nearest_to-near.ensures.most in
     omega (arith, best, c.reach.ensures.most, c.min-most.ensures)
 
@@ -58,21 +58,21 @@ returns-clause-from g c =
     ∙ best-is c.args.shelf.now c.args.course.now c.args.branch c.args.event c.last_segment-last.result _ c.requires.shelf c.last_segment-last.ensures.last c.nearest_to-near.ensures.most
 
 pub returns-clause-ticks : goal.returns-clause-ticks
-returns-clause-ticks g c = omega (arith, c.events_of.ensures, c.in_ok-arrival.ensures.ticks)
+returns-clause-ticks g c = omega (arith, c.events_of.ensures, c.in-Ok.ensures.ticks)
 
 pub returns-clause-whole : goal.returns-clause-whole
 returns-clause-whole g c =
     let k : CourseTold = c.args.course.now in
     let limit = ap (λ (o : Opening). o.limit) c.opening.ensures.value in
-    (arrived k c.args.branch c.args.event c.min-most.result c.in_ok-arrival.arrival.kernel c.in_ok-arrival.arrival.has_more c.opening.ensures.course c.requires.branch (omega (arith, limit, c.min-most.ensures))
-    (subst (λ (s : ℕ). IsAt k s c.min-most.result c.in_ok-arrival.arrival.kernel c.in_ok-arrival.arrival.has_more) c.last_segment-last.ensures.last c.in_ok-arrival.ensures.at)).whole
+    (arrived k c.args.branch c.args.event c.min-most.result c.in-Ok.arrival.kernel c.in-Ok.arrival.has_more c.opening.ensures.course c.requires.branch (omega (arith, limit, c.min-most.ensures))
+    (subst (λ (s : ℕ). IsAt k s c.min-most.result c.in-Ok.arrival.kernel c.in-Ok.arrival.has_more) c.last_segment-last.ensures.last c.in-Ok.ensures.at)).whole
 
 pub returns-clause-state : goal.returns-clause-state
 returns-clause-state g c =
     let k : CourseTold = c.args.course.now in
     let limit = ap (λ (o : Opening). o.limit) c.opening.ensures.value in
-    (arrived k c.args.branch c.args.event c.min-most.result c.in_ok-arrival.arrival.kernel c.in_ok-arrival.arrival.has_more c.opening.ensures.course c.requires.branch (omega (arith, limit, c.min-most.ensures))
-    (subst (λ (s : ℕ). IsAt k s c.min-most.result c.in_ok-arrival.arrival.kernel c.in_ok-arrival.arrival.has_more) c.last_segment-last.ensures.last c.in_ok-arrival.ensures.at)).state
+    (arrived k c.args.branch c.args.event c.min-most.result c.in-Ok.arrival.kernel c.in-Ok.arrival.has_more c.opening.ensures.course c.requires.branch (omega (arith, limit, c.min-most.ensures))
+    (subst (λ (s : ℕ). IsAt k s c.min-most.result c.in-Ok.arrival.kernel c.in-Ok.arrival.has_more) c.last_segment-last.ensures.last c.in-Ok.ensures.at)).state
 
 pub returns-clause-along : goal.returns-clause-along
 returns-clause-along g c few =
@@ -80,26 +80,26 @@ returns-clause-along g c few =
     let b = c.args.branch in
     let limit = ap (λ (o : Opening). o.limit) c.opening.ensures.value in
     let same : c.min-most.result ≡ c.args.event = omega (arith, limit, c.min-most.ensures, few) in
-    at-last k b c.min-most.result c.in_ok-arrival.arrival.kernel c.in_ok-arrival.arrival.has_more c.opening.ensures.course c.requires.branch (omega (arith, same, few))
-    (subst (λ (s : ℕ). IsAt k s c.min-most.result c.in_ok-arrival.arrival.kernel c.in_ok-arrival.arrival.has_more) c.last_segment-last.ensures.last c.in_ok-arrival.ensures.at)
+    at-last k b c.min-most.result c.in-Ok.arrival.kernel c.in-Ok.arrival.has_more c.opening.ensures.course c.requires.branch (omega (arith, same, few))
+    (subst (λ (s : ℕ). IsAt k s c.min-most.result c.in-Ok.arrival.kernel c.in-Ok.arrival.has_more) c.last_segment-last.ensures.last c.in-Ok.ensures.at)
     ∙ ap (λ (x : ℕ). (full k.opening k.plan b x).state) same
 
 pub returns-clause-exists : goal.returns-clause-exists
 returns-clause-exists g c =
     let k : CourseTold = c.args.course.now in
     let limit = ap (λ (o : Opening). o.limit) c.opening.ensures.value in
-    (arrived k c.args.branch c.args.event c.min-most.result c.in_ok-arrival.arrival.kernel c.in_ok-arrival.arrival.has_more c.opening.ensures.course c.requires.branch (omega (arith, limit, c.min-most.ensures))
-    (subst (λ (s : ℕ). IsAt k s c.min-most.result c.in_ok-arrival.arrival.kernel c.in_ok-arrival.arrival.has_more) c.last_segment-last.ensures.last c.in_ok-arrival.ensures.at)).exists
+    (arrived k c.args.branch c.args.event c.min-most.result c.in-Ok.arrival.kernel c.in-Ok.arrival.has_more c.opening.ensures.course c.requires.branch (omega (arith, limit, c.min-most.ensures))
+    (subst (λ (s : ℕ). IsAt k s c.min-most.result c.in-Ok.arrival.kernel c.in-Ok.arrival.has_more) c.last_segment-last.ensures.last c.in-Ok.ensures.at)).exists
 
 pub returns-clause-within : goal.returns-clause-within
 returns-clause-within g c =
     let k : CourseTold = c.args.course.now in
     let limit = ap (λ (o : Opening). o.limit) c.opening.ensures.value in
-    (arrived k c.args.branch c.args.event c.min-most.result c.in_ok-arrival.arrival.kernel c.in_ok-arrival.arrival.has_more c.opening.ensures.course c.requires.branch (omega (arith, limit, c.min-most.ensures))
-    (subst (λ (s : ℕ). IsAt k s c.min-most.result c.in_ok-arrival.arrival.kernel c.in_ok-arrival.arrival.has_more) c.last_segment-last.ensures.last c.in_ok-arrival.ensures.at)).within
+    (arrived k c.args.branch c.args.event c.min-most.result c.in-Ok.arrival.kernel c.in-Ok.arrival.has_more c.opening.ensures.course c.requires.branch (omega (arith, limit, c.min-most.ensures))
+    (subst (λ (s : ℕ). IsAt k s c.min-most.result c.in-Ok.arrival.kernel c.in-Ok.arrival.has_more) c.last_segment-last.ensures.last c.in-Ok.ensures.at)).within
 
-pub returns-in_err-arrival-clause-keys : goal.returns-in_err-arrival-clause-keys
-returns-in_err-arrival-clause-keys g c = c.nearest_to-near.ensures.of
+pub returns-in_default-clause-keys : goal.returns-in_default-clause-keys
+returns-in_default-clause-keys g c = c.nearest_to-near.ensures.of
 
 pub returns-clause-keys : goal.returns-clause-keys
 returns-clause-keys g c = c.nearest_to-near.ensures.of

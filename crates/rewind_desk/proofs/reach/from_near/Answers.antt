@@ -1,4 +1,4 @@
-use Rattle.std.proofs.Common.{arith}
+use Rattle.std.proofs.Common.{◌≡◌, ℕ, ◌+◌, IfOk, subst, arith}
 use Rattle.rewind_desk.proofs.reach.from_near.Goals as goal
 
 pub resumed-requires-clause-near : goal.resumed-requires-clause-near
@@ -10,19 +10,17 @@ resumed-requires-clause-near g c = record {
 }
 
 pub arrive-requires-clause-early : goal.arrive-requires-clause-early
-arrive-requires-clause-early g c = omega (arith, c.in_ok-kernel.ensures.events, c.requires.near.early)
+arrive-requires-clause-early g c = omega (arith, c.in-Ok.ensures.events, c.requires.near.early)
 
 pub arrive-requires-clause-count : goal.arrive-requires-clause-count
-arrive-requires-clause-count g c = omega (arith, c.in_ok-kernel.ensures.events, c.requires.count)
+arrive-requires-clause-count g c = omega (arith, c.in-Ok.ensures.events, c.requires.count)
 
-pub returns-in_err-kernel-clause-most : goal.returns-in_err-kernel-clause-most
-returns-in_err-kernel-clause-most g c = omega (arith, c.requires.near.early)
-
-pub returns-in_err-arrival-clause-most : goal.returns-in_err-arrival-clause-most
-returns-in_err-arrival-clause-most g c = omega (arith, c.in_ok-kernel.ensures.events, c.arrive.ensures.most)
+pub returns-in_default-clause-most : goal.returns-in_default-clause-most
+returns-in_default-clause-most g c = omega (arith, c.requires.near.early)
 
 pub returns-clause-ticks : goal.returns-clause-ticks
-returns-clause-ticks g c = omega (arith, c.in_ok-kernel.ensures.events, c.in_ok-arrival.ensures.ticks)
+returns-clause-ticks g c =
+    subst (λ (n : ℕ). IfOk c.arrive.result (λ a. c.arrive.new.steps + n ≡ c.args.steps.now + a.kernel.events)) c.in-Ok.ensures.events c.arrive.ensures.ticks
 
 pub returns-clause-most : goal.returns-clause-most
-returns-clause-most g c = omega (arith, c.in_ok-kernel.ensures.events, c.arrive.ensures.most)
+returns-clause-most g c = omega (arith, c.in-Ok.ensures.events, c.arrive.ensures.most)

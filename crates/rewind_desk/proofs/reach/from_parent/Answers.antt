@@ -1,4 +1,4 @@
-use Rattle.std.proofs.Common.{Some, ap, ◌∙◌, arith}
+use Rattle.std.proofs.Common.{◌≡◌, ℕ, ◌+◌, Some, IfOk, ap, ◌∙◌, subst, arith}
 use Rattle.branch_tree.specs.declared.segment.Segment.{Segment}
 use Rattle.kernel_copy.specs.Courses.{CourseTold}
 use Rattle.kernel_copy.specs.Segmentwise.{started_from}
@@ -28,17 +28,12 @@ arrive-requires-clause-count g c =
     let started = c.in-Ok.ensures.state ∙ ap (λ (x : Segment). started_from k.opening k.plan x.branch (Some c.args.parent)) c.segment-branch.ensures.value in
     omega (arith, c.requires.count, go-events k c.args.segment c.args.parent c.args.kernel c.go_on.new.kernel c.go_on.new.trace.list c.segment-branch.ensures.course c.requires.segment c.requires.parent c.requires.end started)
 
-pub returns-in_err-arrival-clause-most : goal.returns-in_err-arrival-clause-most
-returns-in_err-arrival-clause-most g c =
-    let k : CourseTold = c.args.course.now in
-    let started = c.in-Ok.ensures.state ∙ ap (λ (x : Segment). started_from k.opening k.plan x.branch (Some c.args.parent)) c.segment-branch.ensures.value in
-    omega (arith, c.arrive.ensures.most, go-events k c.args.segment c.args.parent c.args.kernel c.go_on.new.kernel c.go_on.new.trace.list c.segment-branch.ensures.course c.requires.segment c.requires.parent c.requires.end started)
-
 pub returns-clause-ticks : goal.returns-clause-ticks
 returns-clause-ticks g c =
     let k : CourseTold = c.args.course.now in
     let started = c.in-Ok.ensures.state ∙ ap (λ (x : Segment). started_from k.opening k.plan x.branch (Some c.args.parent)) c.segment-branch.ensures.value in
-    omega (arith, c.in_ok-arrival.ensures.ticks, go-events k c.args.segment c.args.parent c.args.kernel c.go_on.new.kernel c.go_on.new.trace.list c.segment-branch.ensures.course c.requires.segment c.requires.parent c.requires.end started)
+    let events = go-events k c.args.segment c.args.parent c.args.kernel c.go_on.new.kernel c.go_on.new.trace.list c.segment-branch.ensures.course c.requires.segment c.requires.parent c.requires.end started in
+    subst (λ (n : ℕ). IfOk c.arrive.result (λ a. c.arrive.new.steps + n ≡ c.args.steps.now + a.kernel.events)) events c.arrive.ensures.ticks
 
 pub returns-clause-most : goal.returns-clause-most
 returns-clause-most g c =
