@@ -10,6 +10,8 @@ pub mod Fetching
 pub mod Finishing
 pub mod Holding
 pub mod Honesty
+pub mod Keeping
+pub mod Noting
 pub mod Performing
 pub mod Speaking
 pub mod Strides

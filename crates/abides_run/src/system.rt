@@ -10,7 +10,7 @@ ghost use Rattle.abides_run.specs.Ended.{Ended, EndedAs, TellsFaulty};
 use crate::{Status, run, write_note};
 use outside::{Counted, FileLibrary, OpenGate, Sink, Steps};
 use probe_desk::{Fees, Probe, Range, SpreadSum, Volume};
-use std::alloc::AllocError;
+use std::alloc::{AllocError, Global};
 use std::env;
 use std::io::ErrorKind;
 use std::process::ExitCode;
@@ -80,6 +80,33 @@ pub fn run_words<R: Files + AllocGlobal + Threads + Wait + Sync, O: Sink, N: Sin
     }
 }
 
+// The program's probes, each in a box.
+#[derive(Drop)]
+struct Boxes {
+    // The first column's.
+    volume: Box<Volume>,
+    // The second's.
+    spread: Box<SpreadSum>,
+    // The third's.
+    range: Box<Range>,
+    // The last's.
+    fees: Box<Fees>,
+}
+
+// The probes in their boxes.
+fn boxed_probes(alloc: Global) -> Result<Boxes, AllocError> {
+    let volume = Box::new(alloc, Volume::new())?;
+    let spread = Box::new(alloc, SpreadSum::new())?;
+    let range = Box::new(alloc, Range::new())?;
+    let fees = Box::new(alloc, Fees::new())?;
+    Ok(Boxes {
+        volume,
+        spread,
+        range,
+        fees,
+    })
+}
+
 // Makes the probes, in the order of their columns, and runs words with them. Nothing is done where there is no memory for
 // the probes.
 fn run_with_probes<R: Files + AllocGlobal + Threads + Wait + Sync, O: Sink, N: Sink>(
@@ -97,11 +124,9 @@ fn run_with_probes<R: Files + AllocGlobal + Threads + Wait + Sync, O: Sink, N: S
     ensures stand { OnErr result ((out.new ≡ out.old) × (notes.new ≡ notes.old)) }
 {
     let alloc = rt.alloc();
-    let mut probes: Vec<Box<dyn Probe>> = Vec::new(alloc);
-    probes.push(Box::new(alloc, Volume::new())?)?;
-    probes.push(Box::new(alloc, SpreadSum::new())?)?;
-    probes.push(Box::new(alloc, Range::new())?)?;
-    probes.push(Box::new(alloc, Fees::new())?)?;
+    let boxes = boxed_probes(alloc)?;
+    let all: [Box<dyn Probe>; 4] = [boxes.volume, boxes.spread, boxes.range, boxes.fees];
+    let probes = Vec::from_array(alloc, all)?;
     Ok(run_with(rt, words, probes, out, notes))
 }
 

@@ -1,11 +1,13 @@
-use Rattle.std.proofs.Common.{◌≡◌, ◌≤◌, ◌∙◌, ℕ, List, Some, subst, arith}
-use Rattle.kernel_copy.specs.Courses.{CourseTold}
+use Rattle.std.proofs.Common.{◌≡◌, ◌≤◌, ◌*◌, ◌∙◌, ℕ, List, Some, length, subst, arith}
+use Rattle.std.proofs.lemmas.Nat.{mul-le}
+use Rattle.kernel_copy.specs.Courses.{CourseTold, IsCourse}
 use Rattle.rewind_desk.specs.Best.{best}
 use Rattle.session_desk.specs.Session.{first_session}
 use Rattle.session_desk.specs.Counted.{all_reached, surely_kept}
 use Rattle.session_desk.specs.Past.{past_act}
 use Rattle.study_rules.specs.Accepted.{study_told}
 use Rattle.abides_run.specs.Performed.{Sent}
+use Rattle.abides_run.specs.Sessions.{act_words}
 use Rattle.abides_run.proofs.Carrying.{acts-answered, acts-eventless, acts-wanting, told-past}
 use Rattle.abides_run.proofs.Performing.{sent_done}
 use Rattle.abides_run.proofs.sessions.reach_and_answer.Goals as goal
@@ -41,3 +43,32 @@ returns g c =
     (omega (arith, c.in-Ok.ensures.rose, c.in-Ok-carry_out.ensures.rose)) (omega (arith, c.in-Ok.ensures.rose, c.in-Ok-carry_out.ensures.rose, saved)) (omega (arith, c.in-Ok.ensures.rose, c.carry_out.ensures.most))
     (subst (λ (bytes : List ℕ). Sent bytes (g.O.Sink.faults c.args.out.now) (g.O.Sink.faults c.send.new.out) (g.O.Sink.taken c.args.out.now) (g.O.Sink.taken c.send.new.out) c.send.result)
     (c.deref-2.ensures.value ∙ c.in-Ok-carry_out.ensures.bytes) c.send.ensures))
+
+pub returns-in-Err : goal.returns-in-Err
+returns-in-Err g c =
+    let k : CourseTold = c.args.study.now.course.value in
+    let acts = c.args.acts.now in
+    λ reads. acts-wanting acts c.args.places (study_told c.args.study.now) (past_act (first_session k) acts) _ act_words reads (g.O.Sink.faults c.args.out.now) c.args.steps.now c.simulate_kept.new.steps (g.O.Sink.taken c.args.out.now) c.nameless.result.status _
+    c.nameless.ensures c.simulate_kept.ensures.least (omega (arith, c.simulate_kept.ensures.most))
+
+pub carry_out-requires-clause-numbers : goal.carry_out-requires-clause-numbers
+carry_out-requires-clause-numbers g c = c.requires.numbers
+
+pub carry_out-requires-clause-fit : goal.carry_out-requires-clause-fit
+carry_out-requires-clause-fit g c = c.requires.fit
+
+pub carry_out-requires-clause-few : goal.carry_out-requires-clause-few
+carry_out-requires-clause-few g c = c.requires.few
+
+pub carry_out-requires-clause-stands : goal.carry_out-requires-clause-stands
+carry_out-requires-clause-stands g c = c.requires.stands
+
+pub carry_out-requires-clause-shelf : goal.carry_out-requires-clause-shelf
+carry_out-requires-clause-shelf g c = c.in-Ok.ensures.shelf
+
+pub carry_out-requires-clause-count : goal.carry_out-requires-clause-count
+carry_out-requires-clause-count g c =
+    let k : CourseTold = c.args.study.now.course.value in
+    let course : IsCourse k = subst (λ (x : CourseTold). IsCourse x) c.deref.ensures c.opening.ensures.course in
+    let acts : length c.args.acts.now * k.opening.limit ≤ 64 * 1000000 = mul-le (length c.args.acts.now) k.opening.limit 64 1000000 c.requires.few course.opening.limit in
+    omega (arith, acts, c.requires.steps, c.simulate_kept.ensures.most, c.simulate_kept.ensures.few)
