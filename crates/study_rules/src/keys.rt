@@ -8,9 +8,10 @@ ghost use Rattle.study_rules.specs.Entries.{branch_entries as entries_of};
 ghost use Rattle.study_rules.specs.BranchRules.{most_branches as most_of, has_branch_keys as branch_keys_in, is_branch as branch_in, first_no_branch as no_branch_from, branch_keys_broken as rule_30, edit_keys_broken as rule_34, forms_broken as forms_of, first_edit};
 
 use crate::entries::{branch_edits, branch_entries};
+use crate::forms::EDIT_KEYS;
 use study_file::{
     EntryRule, Kind, Table, Value, first_failing, has_form, has_keys, is_second_version, needed,
-    own, spare,
+    spare,
 };
 
 // Whether a branch whose stop stands at this key has its keys with their types and no other.
@@ -98,27 +99,7 @@ fn has_edit_keys(edit: &Table) -> bool
         &[
             "tick", "fee", "halt", "resume", "latency", "agent", "silence", "inject", "series",
         ],
-        &[
-            needed("kind", Kind::Text),
-            own(
-                "stock",
-                Kind::Text,
-                &["tick", "fee", "halt", "resume", "series"],
-            ),
-            own("bands", Kind::Pairs, &["tick"]),
-            own("add", Kind::Number, &["fee"]),
-            own("take", Kind::Number, &["fee"]),
-            own("from", Kind::Number, &["latency"]),
-            own("to", Kind::Number, &["latency"]),
-            own("base", Kind::Number, &["latency"]),
-            own("jitter", Kind::Number, &["latency"]),
-            own("agent", Kind::Number, &["agent", "silence", "inject"]),
-            own("name", Kind::Text, &["agent"]),
-            own("value", Kind::Number, &["agent"]),
-            own("after", Kind::Number, &["inject"]),
-            own("message", Kind::HexText, &["inject"]),
-            own("offset", Kind::Number, &["series"]),
-        ],
+        &EDIT_KEYS,
     )
 }
 

@@ -6,6 +6,7 @@ mod beside_rule;
 mod edit_list;
 mod edit_rules;
 mod entries;
+mod forms;
 mod keys;
 pub mod laws;
 mod made;
