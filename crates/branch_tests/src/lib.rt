@@ -1,4 +1,5 @@
-//! Tests of branches: their runs by workers, their bundles written and read, rewinds, sessions and tables.
+//! Tests of branches: their runs by workers, their bundles written and read, rewinds, sessions and tables; and of reopening
+//! crosses, files of orders and rebuilt books.
 #![tactic(auto)]
 
 #[cfg(test)]
@@ -14,11 +15,17 @@ mod bundle_reader_tests;
 #[cfg(test)]
 mod facts;
 #[cfg(test)]
+mod feed_rebuild_tests;
+#[cfg(test)]
 mod frame_parts_tests;
 #[cfg(test)]
 mod frame_reader_tests;
 #[cfg(test)]
 mod one_worker;
+#[cfg(test)]
+mod order_file_tests;
+#[cfg(test)]
+mod reopen_cross_tests;
 #[cfg(test)]
 mod rewind_examples;
 #[cfg(test)]

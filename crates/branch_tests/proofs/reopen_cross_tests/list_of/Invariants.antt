@@ -1,7 +1,7 @@
 use Rattle.std.proofs.Common.{◌≤◌, All, length}
 use Rattle.reopen_cross.specs.declared.cross.Interest.{Interest}
 use Rattle.reopen_cross.specs.Orderly.{AreInterests}
-use Rattle.cross_tests.proofs.reopen_cross_tests.list_of.Given as goal
+use Rattle.branch_tests.proofs.reopen_cross_tests.list_of.Given as goal
 
 abbrev pub invariant-loop-row : goal.invariant-loop-row
 invariant-loop-row l = record {
