@@ -193,6 +193,12 @@ edited-onward s o b e n es r y same is edits less made =
     ∙ ap (λ (q : Run). until s.course.opening e q) (made ∙ ap (λ (xs : List Edit). edited b xs r) edits)
     ∙ sym (onward-less s.course.opening s.branches b e r over)
 
+-- a kernel with one more event before the stop stays as it is
+pub onward-stays : (s : SessionTold) (o : Opening) (b e n : ℕ) (r : Run) → o ≡ s.course.opening → stop_at s.branches b ≡ At n → has_more o (At n) r.state ≡ true → r ≡ onward s.course.opening s.branches b e r
+onward-stays s o b e n r same is more =
+    let here : has_more s.course.opening (stop_at s.branches b) r.state ≡ true = ap (λ (x : Stop). has_more s.course.opening x r.state) is ∙ sym (ap (λ (x : Opening). has_more x (At n) r.state) same) ∙ more in
+    sym (onward-more s.course.opening s.branches b e r here)
+
 -- Full runs up to more events: no fewer events, and none more where a run ended before.
 along-grows : (o : Opening) (bs : List Branch) (e : ℕ) (xs : List ℕ) (r : Run) → r.state.events ≤ (full_along o bs e xs r).state.events
 along-grows o bs e [] r = until-grows o e r

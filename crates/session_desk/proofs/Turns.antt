@@ -13,7 +13,7 @@ use Rattle.session_desk.specs.Acting.{after_act}
 use Rattle.session_desk.specs.Answered.{answer_of, answers_of}
 use Rattle.session_desk.specs.Counted.{Kept, all_run, all_reached, reached_for, run_for}
 use Rattle.session_desk.specs.Past.{past_act, past_from, past_last, past_or}
-use Rattle.session_desk.specs.Refused.{is_refused, refused_from}
+use Rattle.session_desk.specs.Refused.{act_refused, is_refused, refused_from}
 
 -- The acts before this one were carried out: what was done and what the rest comes to are what all come to.
 pub record IsUnderWay (limit : ℕ) (kept : Kept) (ms : List Meaning) (first : SessionTold) (acts : List Act) (before i : ℕ) (s : SessionTold) (out : List ℕ) (steps : ℕ) : Type 0 where
@@ -24,6 +24,20 @@ pub record IsUnderWay (limit : ℕ) (kept : Kept) (ms : List Meaning) (first : S
   pub rose : steps + (all_run s (drop i acts) + all_reached kept s (drop i acts)) ≡ before + (all_run first acts + all_reached kept first acts)
   pub least : before ≤ steps
   pub most : steps + length (drop i acts) * limit ≤ before + length acts * limit
+
+-- before the first act nothing was done
+pub none-yet : (limit : ℕ) (kept : Kept) (ms : List Meaning) (first : SessionTold) (acts : List Act) (before : ℕ) (s : SessionTold) (out : List ℕ) → s ≡ first → out ≡ [] → act_refused first acts ≡ None
+    → IsUnderWay limit kept ms first acts before 0 s out before
+none-yet limit kept ms first acts before s out same none stands =
+    subst (λ (t : SessionTold). IsUnderWay limit kept ms first acts before 0 t out before) (sym same) (record {
+      course = refl;
+      stands = stands;
+      bytes = ap (λ (xs : List ℕ). xs ++ answers_of ms first acts) none;
+      past = refl;
+      rose = refl;
+      least = omega arith;
+      most = omega arith;
+    })
 
 -- an act changes nothing of the course
 pub course-stays : (s : SessionTold) (a : Act) → (after_act s a).course ≡ s.course

@@ -1,10 +1,12 @@
-use Rattle.std.proofs.Common.{◌∙◌, ◌+◌, ◌++◌, List, ℕ, length, ap, arith}
+use Rattle.std.proofs.Common.{◌∙◌, ◌+◌, ◌++◌, List, ℕ, length, ap, arith, refl, subst, sym}
 use Rattle.kernel_copy.specs.Courses.{CourseTold}
 use Rattle.bundle_frames.specs.Frames.{end_frame}
 use Rattle.probe_desk.specs.Probe.{Meaning}
+use Rattle.session_desk.specs.Fitting.{FitsOpening}
 use Rattle.session_desk.specs.Session.{first_session}
+use Rattle.session_desk.specs.declared.act.Act.{Act}
 use Rattle.session_desk.specs.Answered.{answer_of, session_bytes}
-use Rattle.session_desk.proofs.Turns.{all-answered, all-counted, all-there, next-ends, one-more, one-within}
+use Rattle.session_desk.proofs.Turns.{all-answered, all-counted, all-there, next-ends, next-stands, none-yet, one-more, one-within}
 use Rattle.session_desk.proofs.carrying.carry_out.Goals as goal
 
 pub put_answer-requires-clause-count : goal.put_answer-requires-clause-count
@@ -84,3 +86,27 @@ returns-in-Err-make-clause-meanings g c = c.in-Ok-put_answer.ensures.meanings �
 
 pub returns-in-Err-make-clause-titles : goal.returns-in-Err-make-clause-titles
 returns-in-Err-make-clause-titles g c = c.in-Ok-put_answer.ensures.titles ∙ c.loop-i.invariant.titles
+
+pub put_answer-requires-clause-stands : goal.put_answer-requires-clause-stands
+put_answer-requires-clause-stands g c =
+    next-stands c.args.acts.now c.loop-i.i c.loop-i.session c.index-acts-i.result c.loop-i-test.true c.index-acts-i.is c.loop-i.invariant.way.stands
+
+pub put_answer-requires-clause-shelf : goal.put_answer-requires-clause-shelf
+put_answer-requires-clause-shelf g c = c.requires.shelf ∙ sym c.loop-i.invariant.way.course
+
+pub make-requires-clause-stands : goal.make-requires-clause-stands
+make-requires-clause-stands g c =
+    next-stands c.args.acts.now c.loop-i.i c.loop-i.session c.index-acts-i.result c.loop-i-test.true c.index-acts-i.is c.loop-i.invariant.way.stands
+
+pub make-requires-clause-fit : goal.make-requires-clause-fit
+make-requires-clause-fit g c =
+    let a = c.index-acts-i.result in
+    subst (λ (k : CourseTold). FitsOpening k.opening a) (sym c.loop-i.invariant.way.course)
+    (subst (λ (x : Act). FitsOpening c.args.course.now.value.opening x) (sym c.index-acts-i.is) (c.requires.fit c.loop-i.i _ c.loop-i-test.true))
+
+pub loop-i-init : goal.loop-i-init
+loop-i-init g c = record {
+  way = none-yet _ _ _ _ c.args.acts.now c.args.steps.now c.in-Ok.session c.new-out.result.items c.in-Ok.ensures c.new-out.ensures.items c.requires.stands;
+  meanings = refl;
+  titles = refl;
+}
