@@ -3,7 +3,7 @@
 use plain_lists::Memory;
 
 /// How a run ends, with the number that is the program's exit status.
-#[derive(Clone, Copy, PartialEq, Eq, Debug)]
+#[derive(Clone, Copy, PartialEq, Eq)]
 pub enum Status {
     /// 0: what is asked for was written.
     Ok,

@@ -3,7 +3,7 @@
 use market_types::{Body, Roomy, Time};
 
 /// One message to the exchange, or a wakeup that the agent asks for.
-#[derive(Clone, Copy, PartialEq, Eq, Debug)]
+#[derive(Clone, Copy)]
 pub enum Sending {
     To {
         body: Body,

@@ -7,7 +7,7 @@ use market_rules::Param;
 use market_types::{StockNo, Time};
 
 /// A kind of trader with its own parameters. Sizes are shares, and distances of prices have four implied decimals.
-#[derive(Clone, Copy, PartialEq, Eq, Debug)]
+#[derive(Clone, Copy, PartialEq, Eq)]
 pub enum Kind {
     /// Asks for quotes and trades nothing.
     Watcher,
@@ -38,7 +38,7 @@ pub enum Kind {
 }
 
 /// How a maker quotes its levels. Distances of prices have four implied decimals.
-#[derive(Clone, Copy, PartialEq, Eq, Debug)]
+#[derive(Clone, Copy)]
 pub struct Levels {
     /// The shares of each order.
     pub size: u32,
@@ -51,7 +51,7 @@ pub struct Levels {
 }
 
 /// One trader as a study gives it.
-#[derive(Clone, Copy, PartialEq, Eq, Debug)]
+#[derive(Clone, Copy)]
 pub struct TraderSetting {
     pub kind: Kind,
     /// Its latency group.

@@ -24,7 +24,7 @@ pub(crate) const MOST_OWN: usize = 64;
 const FIRST_OWN: usize = 8;
 
 /// An open order of a trader's own list.
-#[derive(Clone, Copy, PartialEq, Eq, Debug)]
+#[derive(Clone, Copy)]
 pub struct OwnOrder {
     pub side: Side,
     /// Open shares.

@@ -6,7 +6,7 @@ ghost use Rattle.agent_shell.specs.Ordered.{sent_price};
 use market_types::{HIGHEST_PRICE, Side, Time};
 
 /// An order that is to be sent where its price is one.
-#[derive(Clone, Copy, PartialEq, Eq, Debug)]
+#[derive(Clone, Copy)]
 pub struct Wish {
     pub side: Side,
     pub shares: u32,

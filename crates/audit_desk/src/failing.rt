@@ -1,7 +1,7 @@
 //! What tells a bundle's feed from its closings.
 
 /// A branch whose closing isn't what its feed tells.
-#[derive(Clone, Copy, PartialEq, Eq, Debug)]
+#[derive(Clone, Copy)]
 pub struct Failing {
     /// The branch's number, from 0 for the root.
     pub branch: usize,

@@ -30,6 +30,18 @@ fn join(queue: &mut Queue, time: u64, next: u64)
     queue.push(wakeup(time, next));
 }
 
+// When a message comes, and its number.
+fn key(message: Option<Message>) -> Option<(u64, u64)> {
+    let message = message?;
+    Some((message.time, message.seq))
+}
+
+// Ends a test where two messages differ, and prints their keys where these do.
+fn same(rt: &impl Abort, told: Option<Message>, hoped: Option<Message>) {
+    equal(rt, key(told), key(hoped));
+    holds(rt, told == hoped);
+}
+
 // A question of agent 1 to the exchange.
 fn question(time: u64, seq: u64) -> Message
     ensures { result.seq ≡ seq }
@@ -135,12 +147,12 @@ fn assert_same(rt: &impl Abort, listed: &[Message], queue: &mut Queue, plain: &m
     for message in listed {
         let least = plain.pop_least();
         holds(rt, Some(*message) == least);
-        equal(rt, queue.peek_least().copied(), least);
-        equal(rt, queue.pop_least(), least);
+        same(rt, queue.peek_least().copied(), least);
+        same(rt, queue.pop_least(), least);
     }
     equal(rt, queue.len(), 0);
-    equal(rt, queue.peek_least().copied(), None);
-    equal(rt, queue.pop_least(), None);
+    same(rt, queue.peek_least().copied(), None);
+    same(rt, queue.pop_least(), None);
 }
 
 // The least message of both is put back to a time.
@@ -150,7 +162,7 @@ fn put_back_both(rt: &impl Abort, queue: &mut Queue, plain: &mut PlainQueue, tim
     ensures spare { queue.new.spare ≡ queue.old.spare }
 {
     let least = plain.pop_least();
-    equal(rt, put_back(queue, time, next), least);
+    same(rt, put_back(queue, time, next), least);
     if let Some(m) = least {
         plain.push(rt, Message { time, ..m });
     }
@@ -179,7 +191,7 @@ fn one_step(rt: &impl Abort, queue: &mut Queue, plain: &mut PlainQueue, next: u6
     if next % 5 == 3 {
         put_back_both(rt, queue, plain, time + 50, next + 1);
     } else if next % 5 < 3 {
-        equal(rt, leave(queue, next + 1), plain.pop_least());
+        same(rt, leave(queue, next + 1), plain.pop_least());
     }
     equal(rt, queue.len(), plain.messages.len());
 }
@@ -226,7 +238,7 @@ fn leave_all(rt: &impl Abort, queue: &mut Queue, next: u64, messages: &[(bool, u
         } else {
             wakeup(time, seq)
         };
-        equal(rt, leave(queue, next), Some(hoped));
+        same(rt, leave(queue, next), Some(hoped));
     }
 }
 
@@ -244,11 +256,11 @@ fn replaces_the_least_among_several(rt: HostRuntime) {
     let mut queue = Queue::new(rt.alloc());
     assert!(rt; queue.reserve(4).is_ok());
     join_all(&mut queue, &FOUR_WAKEUPS);
-    equal(&rt, replace(&mut queue, 1006, 4), Some(wakeup(1003, 1)));
-    equal(&rt, replace(&mut queue, 1006, 5), Some(wakeup(1004, 2)));
+    same(&rt, replace(&mut queue, 1006, 4), Some(wakeup(1003, 1)));
+    same(&rt, replace(&mut queue, 1006, 5), Some(wakeup(1004, 2)));
     equal(&rt, queue.len(), 4);
     leave_all(&rt, &mut queue, 6, &FOUR_LEAVE);
-    equal(&rt, replace(&mut queue, 1010, 6), None);
+    same(&rt, replace(&mut queue, 1010, 6), None);
     drop(queue);
 }
 
@@ -272,12 +284,12 @@ fn delivers_wakeups_and_questions_in_one_order(rt: HostRuntime) {
     let mut queue = Queue::new(rt.alloc());
     assert!(rt; queue.reserve(5).is_ok());
     join_all(&mut queue, &FIVE_MESSAGES);
-    equal(&rt, put_back(&mut queue, 1002, 5), Some(question(1001, 4)));
-    equal(&rt, leave(&mut queue, 5), Some(question(1002, 4)));
-    equal(&rt, put_back(&mut queue, 1006, 5), Some(question(1003, 2)));
-    equal(&rt, replace(&mut queue, 1004, 5), Some(wakeup(1003, 3)));
+    same(&rt, put_back(&mut queue, 1002, 5), Some(question(1001, 4)));
+    same(&rt, leave(&mut queue, 5), Some(question(1002, 4)));
+    same(&rt, put_back(&mut queue, 1006, 5), Some(question(1003, 2)));
+    same(&rt, replace(&mut queue, 1004, 5), Some(wakeup(1003, 3)));
     equal(&rt, queue.len(), 4);
     leave_all(&rt, &mut queue, 6, &LAST_LEAVE);
-    equal(&rt, leave(&mut queue, 6), None);
+    same(&rt, leave(&mut queue, 6), None);
     drop(queue);
 }

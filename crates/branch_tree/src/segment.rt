@@ -3,7 +3,7 @@
 use crate::stop::Stop;
 
 /// A part of a branch's own run, between two stops.
-#[derive(Clone, Copy, PartialEq, Eq, Debug)]
+#[derive(Clone, Copy)]
 pub struct Segment {
     /// The branch's number.
     pub branch: u16,

@@ -6,7 +6,7 @@ ghost use Rattle.branch_tree.specs.Stops.{number_of, is_time, same_kind, is_with
 use market_types::Time;
 
 /// Where a run stops: at an event number or at a time.
-#[derive(Clone, Copy, PartialEq, Eq, Debug)]
+#[derive(Clone, Copy, PartialEq, Eq)]
 pub enum Stop {
     /// So many events stand.
     At(u32),

@@ -3,7 +3,7 @@
 use market_types::{AgentNo, Money, Sequence, Side, StockNo, Time, Token};
 
 /// The counters of a state.
-#[derive(Clone, Copy, PartialEq, Eq, Debug)]
+#[derive(Clone, Copy, PartialEq, Eq)]
 pub struct ClosingCounts {
     /// `Q` no message waits, `C` the market is closed, `L` all events stand, `F` the queue was full, `-` not ended. A letter and
     /// no type of ends, since a reader of bundles takes any byte there.
@@ -29,7 +29,7 @@ pub struct ClosingCounts {
 }
 
 /// A stock of a state.
-#[derive(Clone, Copy, PartialEq, Eq, Debug)]
+#[derive(Clone, Copy)]
 pub struct ClosingStock {
     pub stock: StockNo,
     /// `T` trading, `H` halted.
@@ -47,7 +47,7 @@ pub struct ClosingStock {
 }
 
 /// A live order of a state.
-#[derive(Clone, Copy, PartialEq, Eq, Debug)]
+#[derive(Clone, Copy)]
 pub struct ClosingOrder {
     pub reference: u64,
     pub agent: AgentNo,

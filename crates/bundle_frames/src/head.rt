@@ -3,7 +3,7 @@
 use market_types::{AgentNo, Time};
 
 /// What stands in an event's frame before the body of its message.
-#[derive(Clone, Copy, PartialEq, Eq, Debug)]
+#[derive(Clone, Copy)]
 pub struct EventHead {
     /// The event's number, from 1.
     pub number: u32,

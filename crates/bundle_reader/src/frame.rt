@@ -6,7 +6,7 @@ use bundle_frames::{ClosingAgent, ClosingCounts, ClosingOrder, ClosingStock};
 use market_types::{AgentNo, Body, Feed, Time};
 
 /// `h`, the header of a bundle of version 1.
-#[derive(Clone, Copy, PartialEq, Eq, Debug)]
+#[derive(Clone, Copy)]
 pub struct HeaderFrame {
     /// Agents with the exchange.
     pub agents: u16,
@@ -25,7 +25,7 @@ pub struct BranchFrame {
 }
 
 /// `e`, an event without its feed.
-#[derive(Clone, Copy, PartialEq, Eq, Debug)]
+#[derive(Clone, Copy)]
 pub struct EventFrame {
     /// The event's number.
     pub number: u32,
@@ -45,7 +45,7 @@ pub struct EventFrame {
 }
 
 /// `w`, a waiting message.
-#[derive(Clone, Copy, PartialEq, Eq, Debug)]
+#[derive(Clone, Copy)]
 pub struct WaitingFrame {
     /// When it is due, in nanoseconds past midnight.
     pub time: Time,

@@ -40,7 +40,7 @@ pub(crate) enum Reading {
 }
 
 // Why a frame was not taken.
-#[derive(Clone, Copy, PartialEq, Eq, Debug)]
+#[derive(Clone, Copy)]
 pub(crate) enum Misplaced {
     // It may not stand there.
     Order,

@@ -6,7 +6,7 @@ use market_types::{AgentNo, Body, Feed, FeedList, Memory, Roomy};
 use std::alloc::Global;
 
 /// A reply and its receiver.
-#[derive(Clone, Copy, PartialEq, Eq, Debug)]
+#[derive(Clone, Copy)]
 pub struct Outgoing {
     pub to: AgentNo,
     pub body: Body,

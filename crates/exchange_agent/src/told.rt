@@ -12,7 +12,7 @@ pub struct StockRules {
 }
 
 /// A stock's state.
-#[derive(Clone, Copy, PartialEq, Eq, Debug)]
+#[derive(Clone, Copy)]
 pub struct StockTold {
     /// `T` is trading, `H` is halted.
     pub state: u8,
@@ -27,7 +27,7 @@ pub struct StockTold {
 }
 
 /// The exchange's counts.
-#[derive(Clone, Copy, PartialEq, Eq, Debug)]
+#[derive(Clone, Copy)]
 pub struct Counts {
     /// Orders accepted; the last one's reference.
     pub orders: u64,

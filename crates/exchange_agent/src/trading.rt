@@ -5,7 +5,7 @@ ghost use Rattle.exchange_agent.specs.State.{trades};
 ghost use Rattle.exchange_agent.specs.View.{trading_letter};
 
 /// A stock's trading state.
-#[derive(Clone, Copy, PartialEq, Eq)]
+#[derive(Clone, Copy)]
 pub enum Trading {
     /// Orders are taken.
     Open,

@@ -7,7 +7,7 @@ ghost use Rattle.feed_rebuild.specs.Compared.{is_same};
 use market_types::{Memory, Side, StockNo};
 
 /// A displayed order, as a feed and a closing tell it.
-#[derive(Clone, Copy, PartialEq, Eq, Debug)]
+#[derive(Clone, Copy)]
 pub struct Shown {
     /// Its stock.
     pub stock: StockNo,

@@ -10,7 +10,7 @@ use draw_streams::centred;
 use market_types::{HIGHEST_PRICE, Time};
 
 /// A rule by which a value goes from step to step.
-#[derive(Clone, Copy, PartialEq, Eq, Debug)]
+#[derive(Clone, Copy)]
 pub struct SeriesRule {
     /// The value of the first step, from 1 to 1,999,999,900.
     pub start: u32,
@@ -26,7 +26,7 @@ pub struct SeriesRule {
 }
 
 /// A row of a series file: the value from a time on.
-#[derive(Clone, Copy, PartialEq, Eq, Debug)]
+#[derive(Clone, Copy)]
 pub struct SeriesRow {
     /// Nanoseconds past midnight.
     pub time: Time,

@@ -12,7 +12,7 @@ use packed_entries::{Packed, Step, Walk, blank_edit, blank_event};
 use std::alloc::Global;
 
 /// What is to be kept of a run's entries.
-#[derive(Clone, Copy, PartialEq, Eq, Debug)]
+#[derive(Clone, Copy)]
 pub enum Keep {
     /// They themselves, about 80 bytes each.
     Entries,

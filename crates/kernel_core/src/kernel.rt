@@ -46,7 +46,7 @@ impl Model for Kernel {
 }
 
 /// The counters of the mail.
-#[derive(Clone, Copy, PartialEq, Eq, Debug)]
+#[derive(Clone, Copy, PartialEq, Eq)]
 pub struct KernelTold {
     /// The number of the next message that joins.
     pub next_seq: u64,

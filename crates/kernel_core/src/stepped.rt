@@ -3,7 +3,7 @@
 use market_types::End;
 
 /// What a step did.
-#[derive(Clone, Copy, PartialEq, Eq, Debug)]
+#[derive(Clone, Copy, PartialEq, Eq)]
 pub enum Stepped {
     /// The event of this number was made.
     Event(u32),

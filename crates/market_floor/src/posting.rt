@@ -3,7 +3,7 @@
 use market_types::{AgentNo, Body, Time};
 
 /// One message that is to leave for an agent, or a wakeup that the agent asks for.
-#[derive(Clone, Copy, PartialEq, Eq, Debug)]
+#[derive(Clone, Copy)]
 pub enum Posting {
     To {
         to: AgentNo,

@@ -6,7 +6,7 @@ ghost use Rattle.market_rules.specs.Nearest.{IsGreatest, IsLeast, greatest_allow
 ghost use Rattle.market_rules.specs.Refusals.{table_refusal};
 
 /// Prices from one on, up to the next band, of which the multiples of a tick are allowed.
-#[derive(Clone, Copy, PartialEq, Eq, Debug)]
+#[derive(Clone, Copy, PartialEq, Eq)]
 pub struct Band {
     /// The first price, with four implied decimals.
     pub from: u32,

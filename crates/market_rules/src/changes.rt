@@ -12,7 +12,7 @@ use std::alloc::Global;
 use std::marker::Model;
 
 /// A change of a stock's rules.
-#[derive(PartialEq, Eq, Debug, Drop)]
+#[derive(PartialEq, Eq, Drop)]
 pub enum Change {
     /// Another tick table.
     Tick(TickTable),
@@ -39,7 +39,7 @@ impl Change {
 }
 
 /// A change of one stock's rules at a time of the day.
-#[derive(PartialEq, Eq, Debug, Drop)]
+#[derive(Drop)]
 pub struct Dated {
     /// Nanoseconds past midnight.
     pub time: Time,

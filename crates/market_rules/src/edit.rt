@@ -9,7 +9,7 @@ use market_types::{AgentNo, Inbound, Memory, StockNo, Time};
 use std::alloc::Global;
 
 /// A parameter of a trader.
-#[derive(Clone, Copy, PartialEq, Eq, Debug)]
+#[derive(Clone, Copy, PartialEq, Eq)]
 pub enum Param {
     /// The shares of an order.
     Size,
@@ -34,7 +34,7 @@ pub enum Param {
 }
 
 /// A change that a branch makes where it forks, at the time of its state.
-#[derive(PartialEq, Eq, Debug, Drop)]
+#[derive(PartialEq, Eq, Drop)]
 pub enum Edit {
     /// Another tick table.
     Tick {

@@ -4,7 +4,7 @@ ghost use Rattle.std.specs.Prelude.{◌≡◌, ◌<◌};
 ghost use Rattle.market_rules.specs.Fees.{fee_of};
 
 /// What a match costs each side, in millionths of a dollar a share; a negative fee is a rebate.
-#[derive(Clone, Copy, PartialEq, Eq, Debug)]
+#[derive(Clone, Copy, PartialEq, Eq)]
 pub struct FeeTable {
     /// For the order that rested and added liquidity.
     pub add: i32,

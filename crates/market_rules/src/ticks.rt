@@ -16,7 +16,7 @@ use std::marker::Model;
 ///
 /// The first band starts at 0 and each other above the one before it, at a multiple of its own tick. All prices
 /// are in dollars with four implied decimals.
-#[derive(Debug, Drop)]
+#[derive(Drop)]
 pub struct TickTable {
     bands: Vec<Band>,
 }

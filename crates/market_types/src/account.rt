@@ -3,7 +3,7 @@
 use crate::Money;
 
 /// A trader's own account, by the replies that it heard.
-#[derive(Clone, Copy, PartialEq, Eq, Debug)]
+#[derive(Clone, Copy, PartialEq, Eq)]
 pub struct Account {
     /// Shares; negative where more were sold than bought.
     pub position: i64,
@@ -12,7 +12,7 @@ pub struct Account {
 }
 
 /// The counters and the account of a trader.
-#[derive(Clone, Copy, PartialEq, Eq, Debug)]
+#[derive(Clone, Copy, PartialEq, Eq)]
 pub struct TraderTold {
     /// Order tokens given.
     pub tokens: u32,

@@ -51,7 +51,7 @@ pub enum Entry {
 }
 
 /// Why a state has no next event.
-#[derive(Clone, Copy, PartialEq, Eq, Debug)]
+#[derive(Clone, Copy, PartialEq, Eq)]
 pub enum End {
     /// No message waits.
     Quiet,

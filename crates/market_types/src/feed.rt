@@ -4,7 +4,7 @@ use crate::Time;
 use crate::order::{Side, Symbol};
 
 /// One feed message.
-#[derive(Clone, Copy, PartialEq, Eq, Debug)]
+#[derive(Clone, Copy, PartialEq, Eq)]
 pub struct Feed {
     /// Stock locate: the stock's number and one; 0 for a system event.
     pub locate: u16,
@@ -16,7 +16,7 @@ pub struct Feed {
 }
 
 /// What a feed message says. Prices have four implied decimals; one-byte fields are letters.
-#[derive(Clone, Copy, PartialEq, Eq, Debug)]
+#[derive(Clone, Copy, PartialEq, Eq)]
 pub enum What {
     /// System Event: `O` starts the messages, `C` ends them.
     System {

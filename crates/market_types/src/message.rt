@@ -5,7 +5,7 @@ use crate::reply::Reply;
 use crate::{AgentNo, StockNo, Time};
 
 /// The market in one stock as the exchange tells it.
-#[derive(Clone, Copy, PartialEq, Eq, Debug)]
+#[derive(Clone, Copy, PartialEq, Eq)]
 pub struct Quote {
     pub stock: StockNo,
     /// `T` is trading, `H` is halted.
@@ -23,7 +23,7 @@ pub struct Quote {
 }
 
 /// What a message says.
-#[derive(Clone, Copy, PartialEq, Eq, Debug)]
+#[derive(Clone, Copy, PartialEq, Eq)]
 pub enum Body {
     /// The wakeup that a trader asked for.
     Wake,
@@ -38,7 +38,7 @@ pub enum Body {
 }
 
 /// A message that waits or is delivered.
-#[derive(Clone, Copy, PartialEq, Eq, Debug)]
+#[derive(Clone, Copy, PartialEq, Eq)]
 pub struct Message {
     /// When it is due, in nanoseconds past midnight.
     pub time: Time,

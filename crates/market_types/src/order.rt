@@ -4,7 +4,7 @@ ghost use Rattle.std.specs.Prelude.{◌≡◌};
 ghost use Rattle.market_types.specs.Sides.{opposite_of};
 
 /// A stock's symbol in ASCII, padded with spaces on the right.
-#[derive(Clone, Copy, PartialEq, Eq, Debug)]
+#[derive(Clone, Copy, PartialEq, Eq)]
 pub struct Symbol(pub [u8; 8]);
 
 /// An order token in ASCII, which its sender chose, padded with spaces on the right.
@@ -31,7 +31,7 @@ impl Side {
 }
 
 /// A new order: OUCH's Enter Order.
-#[derive(Clone, Copy, PartialEq, Eq, Debug)]
+#[derive(Clone, Copy, PartialEq, Eq)]
 pub struct Enter {
     pub token: Token,
     pub side: Side,
@@ -58,7 +58,7 @@ pub struct Enter {
 }
 
 /// Lowers an order: OUCH's Cancel Order.
-#[derive(Clone, Copy, PartialEq, Eq, Debug)]
+#[derive(Clone, Copy, PartialEq, Eq)]
 pub struct Cancel {
     pub token: Token,
     /// The new intended size in shares; 0 cancels all that is open.
@@ -66,7 +66,7 @@ pub struct Cancel {
 }
 
 /// What a trader sends to the exchange.
-#[derive(Clone, Copy, PartialEq, Eq, Debug)]
+#[derive(Clone, Copy, PartialEq, Eq)]
 pub enum Inbound {
     Enter(Enter),
     Cancel(Cancel),

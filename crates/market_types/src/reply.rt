@@ -4,7 +4,7 @@ use crate::Time;
 use crate::order::{Side, Symbol, Token};
 
 /// What the exchange answers to a trader. Times are nanoseconds past midnight, prices have four implied decimals.
-#[derive(Clone, Copy, PartialEq, Eq, Debug)]
+#[derive(Clone, Copy, PartialEq, Eq)]
 pub enum Reply {
     /// System Event.
     System {

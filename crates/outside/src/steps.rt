@@ -8,7 +8,7 @@ use std::marker::{Model, PhantomData};
 pub trait Ledger {}
 
 /// The mark of the simulator's own counter.
-#[derive(Clone, Copy, PartialEq, Eq, Debug)]
+#[derive(Clone, Copy)]
 pub struct Counted;
 
 impl Ledger for Counted {}

@@ -3,7 +3,7 @@
 use market_types::{AgentNo, Side, StockNo, Symbol, Time, Token};
 
 // What an entry is: an edit, or an event with a message of this kind.
-#[derive(Clone, Copy, PartialEq, Eq, Debug)]
+#[derive(Clone, Copy, PartialEq, Eq)]
 pub(crate) enum Kind {
     Wake,
     Ask,

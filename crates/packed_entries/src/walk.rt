@@ -11,7 +11,7 @@ use market_types::{EditMark, Memory, Record};
 use std::marker::Model;
 
 /// What was read.
-#[derive(Clone, Copy, PartialEq, Eq, Debug)]
+#[derive(Clone, Copy)]
 pub enum Step {
     Event,
     Edit,

@@ -23,7 +23,7 @@ pub struct Resting {
 }
 
 /// A resting order and the shares that an incoming order took of it.
-#[derive(Clone, Copy, PartialEq, Eq, Debug)]
+#[derive(Clone, Copy)]
 pub struct Fill {
     /// The resting order as it was before.
     pub resting: Resting,
@@ -32,7 +32,7 @@ pub struct Fill {
 }
 
 /// The best price of the shown orders of a side and their open shares at it.
-#[derive(Clone, Copy, PartialEq, Eq, Debug)]
+#[derive(Clone, Copy)]
 pub struct Best {
     /// Dollars with four implied decimals.
     pub price: u32,

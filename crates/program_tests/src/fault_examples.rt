@@ -1,6 +1,6 @@
 //! Writes and notes that fail.
 
-use crate::facts::{equal, holds};
+use crate::facts::{ends, equal, holds};
 use crate::fault_runs::{Around, QUIET, WATCHERS, branched_study, empty_study, ran};
 use crate::runs::{is_whole, is_write_fault};
 use abides_run::Status;
@@ -173,7 +173,7 @@ fn ends_so<R: Abort + Threads + Wait + Sync>(
     let ran = ran(rt, alloc, row.0, row.1, around);
     let (status, is_silent) = (ran.status, ran.notes.taken().is_empty());
     drop(ran);
-    equal(rt, status, row.4);
+    ends(rt, status, row.4);
     equal(rt, is_silent, notes_room == 0 || row.4 == Status::Ok);
 }
 

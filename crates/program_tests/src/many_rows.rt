@@ -1,6 +1,6 @@
 //! A series file with as many rows as there may be, and one with one more.
 
-use crate::facts::{equal, holds};
+use crate::facts::{ends, equal, holds};
 use crate::fault_runs::WATCHERS;
 use crate::runs::{Around, Ended, NOTES, is_whole, ran};
 use abides_run::Status;
@@ -72,7 +72,7 @@ fn is_taken<R: Abort + Threads + Wait + Sync>(rt: &R, alloc: Global, study: &str
 fn is_refused<R: Abort + Threads + Wait + Sync>(rt: &R, alloc: Global, study: &str, rows: &str) {
     let refused = checked(rt, alloc, study, rows);
     let (rule, place) = (19, 1_000_001);
-    equal(rt, refused.status, Status::Refused { rule, place });
+    ends(rt, refused.status, Status::Refused { rule, place });
     holds(rt, refused.out.taken().is_empty());
     holds(rt, refused.notes.taken() == REFUSED);
     drop(refused);

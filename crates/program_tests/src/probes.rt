@@ -1,6 +1,6 @@
 //! A probe whose sum stays at the ends of its type.
 
-use crate::facts::{equal, holds};
+use crate::facts::{ends, holds};
 use crate::fault_runs::{QUIET, branched_study, ran_with};
 use abides_run::Status;
 use market_types::Record;
@@ -81,7 +81,7 @@ fn stays<R: Abort + Threads + Wait + Sync>(
 ) {
     let probes = adding_probe(rt, alloc, term);
     let ran = ran_with(rt, alloc, "table s", study, QUIET, probes);
-    equal(rt, ran.status, Status::Ok);
+    ends(rt, ran.status, Status::Ok);
     let table = table_of(rt, alloc, sum);
     holds(rt, ran.out.taken() == table.as_bytes());
     drop(table);

@@ -37,7 +37,7 @@ pub struct Cross {
 }
 
 /// What an order trades.
-#[derive(Clone, Copy, PartialEq, Eq, Debug)]
+#[derive(Clone, Copy, PartialEq, Eq)]
 pub struct Part {
     /// Whether it buys or sells.
     pub side: Side,

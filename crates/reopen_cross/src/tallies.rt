@@ -8,7 +8,7 @@ use crate::Interest;
 use market_types::Side;
 
 /// How many shares there are to buy and to sell at a price.
-#[derive(Clone, Copy)]
+#[derive(Clone, Copy, PartialEq, Eq)]
 pub struct Tally {
     /// Dollars with four implied decimals.
     pub price: u32,

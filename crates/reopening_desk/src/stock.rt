@@ -7,7 +7,7 @@ use exchange_agent::StockRules;
 use market_types::{StockNo, Symbol, read_symbol};
 
 /// A stock by its symbol.
-#[derive(Clone, Copy, PartialEq, Eq, Debug)]
+#[derive(Clone, Copy)]
 pub struct StockNamed {
     pub number: StockNo,
     pub symbol: Symbol,

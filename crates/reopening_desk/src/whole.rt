@@ -13,7 +13,7 @@ use market_types::{Feed, Memory, Symbol, Time, What};
 use reopen_cross::{Cross, Interest, Part};
 
 /// A stock that would reopen, and when.
-#[derive(Clone, Copy, PartialEq, Eq, Debug)]
+#[derive(Clone, Copy)]
 pub struct Reopening {
     /// Nanoseconds past midnight, below 2^48.
     pub time: Time,

@@ -1,7 +1,7 @@
 //! What a mark names.
 
 /// A branch and the number of one of its events.
-#[derive(Clone, Copy, PartialEq, Eq, Debug)]
+#[derive(Clone, Copy, PartialEq, Eq)]
 pub struct Target {
     /// The branch's number; 0 is the root's.
     pub branch: u16,

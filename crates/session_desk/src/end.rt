@@ -1,7 +1,7 @@
 //! Why acts give no bytes.
 
 /// A rewind past its branch's last event.
-#[derive(Clone, Copy, PartialEq, Eq, Debug)]
+#[derive(Clone, Copy)]
 pub struct PastAct {
     /// The number of the act, from 0.
     pub act: u32,
@@ -10,7 +10,7 @@ pub struct PastAct {
 }
 
 /// Why the acts of a session give no bytes.
-#[derive(Clone, Copy, PartialEq, Eq, Debug)]
+#[derive(Clone, Copy)]
 pub enum SessionEnd {
     /// The first rewind past its branch's last event.
     NoEvent(PastAct),

@@ -3,7 +3,7 @@
 use crate::Key;
 
 /// The word of a segment.
-#[derive(Clone, Copy, PartialEq, Eq, Debug)]
+#[derive(Clone, Copy, PartialEq, Eq)]
 pub enum ClaimWord {
     /// No seat has claimed the segment.
     Open,
@@ -25,7 +25,7 @@ pub enum PlaceWord {
 }
 
 /// The name of a word.
-#[derive(Clone, Copy, PartialEq, Eq, Debug)]
+#[derive(Clone, Copy)]
 pub enum Word {
     /// The word of a segment, by the segment's number.
     Claim(u32),
@@ -36,7 +36,7 @@ pub enum Word {
 }
 
 /// A word by its name, and what stood in it.
-#[derive(Clone, Copy, PartialEq, Eq, Debug)]
+#[derive(Clone, Copy, PartialEq, Eq)]
 pub enum Seen {
     /// A segment's number and its word.
     Claim(u32, ClaimWord),

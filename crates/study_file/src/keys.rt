@@ -15,7 +15,7 @@ use toml::value::Array;
 use toml::{Table, Value};
 
 /// The type of the value at a key.
-#[derive(Clone, Copy, PartialEq, Eq, Debug)]
+#[derive(Clone, Copy, PartialEq, Eq)]
 pub enum Kind {
     /// A whole number.
     Number,
@@ -34,7 +34,7 @@ pub enum Kind {
 }
 
 /// A key that a table may have.
-#[derive(Clone, Copy)]
+#[derive(Clone, Copy, PartialEq, Eq)]
 pub struct Key<'a> {
     /// Its name.
     pub name: &'a str,

@@ -14,7 +14,7 @@ use market_types::Time;
 use study_file::Value;
 
 /// A row of a series file: the place of its stock in the study, and the stock's value from a time on.
-#[derive(Clone, Copy, PartialEq, Eq, Debug)]
+#[derive(Clone, Copy)]
 pub struct FileRow {
     /// The place of the stock, from 0.
     pub stock: usize,

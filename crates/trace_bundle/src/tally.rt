@@ -5,7 +5,7 @@ ghost use Rattle.trace_bundle.specs.Tallied.{IsTallyOf};
 
 /// How many bytes there are, and their sum. Each is kept in 128 bits and stands still at their last value, which no bytes that a
 /// memory holds reach.
-#[derive(Clone, Copy, PartialEq, Eq, Debug)]
+#[derive(Clone, Copy, PartialEq, Eq)]
 pub struct Tally {
     /// How many.
     pub count: u128,

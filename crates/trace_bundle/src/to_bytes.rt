@@ -11,7 +11,7 @@ use kernel_copy::{Course, Kept};
 use plain_lists::Memory;
 
 /// Carries the parts of a bundle to a vector. What stands in the vector after want of memory is left open.
-#[derive(Clone, Copy, PartialEq, Eq, Debug)]
+#[derive(Clone, Copy)]
 pub struct ToBytes;
 
 impl Carrier<Vec<u8>> for ToBytes {

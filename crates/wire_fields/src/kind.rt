@@ -5,7 +5,7 @@ ghost use Rattle.std.specs.List.{list_any};
 ghost use Rattle.wire_fields.specs.Kinds.{width, admits, is_padded};
 
 /// What stands in a field of a message.
-#[derive(Clone, Copy, PartialEq, Eq, Debug)]
+#[derive(Clone, Copy, PartialEq, Eq)]
 pub enum Kind {
     /// An unsigned number of so many bytes, the most significant first.
     Number(usize),

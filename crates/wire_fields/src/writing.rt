@@ -10,7 +10,7 @@ use crate::kind::Kind;
 use market_types::{Side, Symbol, Token};
 
 /// A field's value.
-#[derive(Clone, Copy, PartialEq, Eq, Debug)]
+#[derive(Clone, Copy)]
 pub enum Value {
     Number(u64),
     Byte(u8),
