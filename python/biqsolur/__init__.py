@@ -11,18 +11,39 @@ pandas' Timedelta), an amount of shares is shares, a price is a whole number wit
 `dollars` turns a column of prices into dollars, for pictures.
 A number that a row does not have is 0 and its column in dollars is not-a-number: no price, share,
 reference or match number of a market is 0.  A stock is its number from 0, and -1 where there is none.
+
+Importing the package loads none of its modules: each is loaded when one of its names is first asked for.
 """
 
-from biqsolur.bundle import Branch, Bundle, read
-from biqsolur.closing import Closing
-from biqsolur.columns import dollars, timedeltas
-from biqsolur.errors import BundleError, InputError, LevelsError, OutputExistsError, UnknownBranchError
-from biqsolur.itch import to_itch
-from biqsolur.lobster import to_lobster
-from biqsolur.rewind import Rewind, State, read_rewind
-from biqsolur.table import read_table
+from __future__ import annotations
 
-__all__ = [
-    "Branch", "Bundle", "BundleError", "Closing", "InputError", "LevelsError", "OutputExistsError", "Rewind",
-    "State", "UnknownBranchError", "dollars", "read", "read_rewind", "read_table", "timedeltas", "to_itch", "to_lobster",
-]
+import importlib
+from typing import Any
+
+# The module of each name that the package hands out.
+HOMES = {
+    **dict.fromkeys(("Branch", "Bundle", "read"), "bundle"),
+    "Closing": "closing",
+    **dict.fromkeys(("dollars", "timedeltas"), "columns"),
+    **dict.fromkeys(("BundleError", "InputError", "LevelsError", "OutputExistsError", "UnknownBranchError"), "errors"),
+    "to_itch": "itch",
+    "to_lobster": "lobster",
+    **dict.fromkeys(("Rewind", "State", "read_rewind"), "rewind"),
+    "read_table": "table",
+}
+
+__all__ = sorted(HOMES)
+
+
+def __getattr__(name: str) -> Any:
+    """A name of the package, from its module, which is loaded at the first use."""
+    if name not in HOMES:
+        raise AttributeError(f"module 'biqsolur' has no attribute {name!r}")
+    value = getattr(importlib.import_module(f"biqsolur.{HOMES[name]}"), name)
+    globals()[name] = value
+    return value
+
+
+def __dir__() -> list[str]:
+    """The names of the package."""
+    return sorted({*globals(), *__all__})
