@@ -25,18 +25,23 @@ HOMES = {
     **dict.fromkeys(("Branch", "Bundle", "read"), "bundle"),
     "Closing": "closing",
     **dict.fromkeys(("dollars", "timedeltas"), "columns"),
-    **dict.fromkeys(("BundleError", "InputError", "LevelsError", "OutputExistsError", "UnknownBranchError"), "errors"),
+    **dict.fromkeys(("BundleError", "InputError", "LevelsError", "OuchError", "OutputExistsError", "UnknownBranchError"), "errors"),
     "to_itch": "itch",
     "to_lobster": "lobster",
     **dict.fromkeys(("Rewind", "State", "read_rewind"), "rewind"),
     "read_table": "table",
 }
 
-__all__ = sorted(HOMES)
+# The modules that are used by their own name.
+MODULES = ("ouch",)
+
+__all__ = sorted([*HOMES, *MODULES])
 
 
 def __getattr__(name: str) -> Any:
     """A name of the package, from its module, which is loaded at the first use."""
+    if name in MODULES:
+        return importlib.import_module(f"biqsolur.{name}")
     if name not in HOMES:
         raise AttributeError(f"module 'biqsolur' has no attribute {name!r}")
     value = getattr(importlib.import_module(f"biqsolur.{HOMES[name]}"), name)

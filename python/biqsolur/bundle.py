@@ -2,6 +2,7 @@
 
 from __future__ import annotations
 
+from collections.abc import Iterator
 from functools import cached_property
 from pathlib import Path
 
@@ -16,7 +17,7 @@ from biqsolur.columns import Tokens
 from biqsolur.difference import first_difference
 from biqsolur.errors import BundleError, UnknownBranchError
 from biqsolur.frames import Frames, read_frames
-from biqsolur.messages import Source
+from biqsolur.messages import Sent, Source
 from biqsolur.output import new_folder, plain_name
 
 FRAME_NAMES = ("events", "orders", "replies", "quotes", "feed", "trades", "edits")
@@ -95,6 +96,11 @@ class Branch:
         execution those that traded, of a canceled order those that went), symbol, price, price_dollars, reference,
         match, flag ("A" added, "R" removed liquidity), reason."""
         return messages.replies_frame(self._source, self._event_frames(put_back=False))
+
+    def messages(self) -> Iterator[Sent]:
+        """The orders and replies that were delivered, in order: event, time (ns), trader, data (bytes of OUCH 4.2) and message
+        (those as an object of `biqsolur.ouch`). Each is made when it is asked for; `orders` and `replies` are quicker."""
+        return messages.sent_messages(self._source, self._event_frames(put_back=False))
 
     @cached_property
     def quotes(self) -> pandas.DataFrame:

@@ -31,5 +31,13 @@ class LevelsError(InputError):
     """A number of levels below 1."""
 
 
+class OuchError(InputError):
+    """A field of an order or reply can't be what it is. `offset` is the field's, in bytes from the message's first."""
+
+    def __init__(self, text: str, offset: int) -> None:
+        super().__init__(text)
+        self.offset = offset
+
+
 class OutputExistsError(InputError, FileExistsError):
     """What was to be written is there already. Nothing is ever overwritten."""

@@ -5,12 +5,13 @@ Each function takes the indexes of frames that have a message: `e` frames of a b
 
 from __future__ import annotations
 
+from collections.abc import Iterator
 from dataclasses import dataclass
 
 import numpy
 import pandas
 
-from biqsolur import columns, layouts
+from biqsolur import columns, layouts, ouch
 from biqsolur.columns import Tokens
 from biqsolur.frames import Frames
 
@@ -39,6 +40,43 @@ class Source:
     def body(self, indexes: numpy.ndarray, layout: numpy.dtype) -> numpy.ndarray:
         """The fields of the bodies of these frames."""
         return self.frames.records(indexes, layout, skip=self.layout.itemsize)
+
+
+@dataclass(frozen=True)
+class Sent:
+    """An order or a reply where it was delivered.
+
+    event: the number of the event that delivered it. time: ns past midnight; of an order when the exchange took it, of a
+    reply when its trader heard it. trader: who sent the order, or whom the reply is for. data: the bytes as they stand.
+    """
+
+    event: int
+    time: int
+    trader: int
+    data: bytes
+
+    @property
+    def message(self) -> ouch.Message:
+        """The bytes as an object of `biqsolur.ouch`."""
+        return ouch.decode(self.data)
+
+    @property
+    def is_order(self) -> bool:
+        """Whether it goes to the exchange; else it comes from there."""
+        return self.data[:1] in (b"O", b"X")
+
+
+def sent_messages(source: Source, indexes: numpy.ndarray) -> Iterator[Sent]:
+    """The orders and replies of those of these frames that have one, in order, each made when it is asked for."""
+    indexes = source.with_bodies(indexes, [*ORDER_SIZES, *REPLY_SIZES])
+    head = source.frames.records(indexes, source.layout)
+    raw, skip = source.frames.raw, source.layout.itemsize
+    is_order = numpy.isin(source.frames.sizes[indexes] - skip, list(ORDER_SIZES))
+    traders = numpy.where(is_order, head["sender"], head["receiver"])
+    rows = zip(head["number"].tolist(), head["time"].tolist(), traders.tolist(), source.frames.starts[indexes].tolist(),
+               source.frames.sizes[indexes].tolist())
+    for event, time, trader, start, size in rows:
+        yield Sent(event, time, trader, raw[start + skip:start + size].tobytes())
 
 
 class Table:
