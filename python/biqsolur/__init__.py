@@ -25,7 +25,12 @@ HOMES = {
     **dict.fromkeys(("Branch", "Bundle", "read"), "bundle"),
     "Closing": "closing",
     **dict.fromkeys(("dollars", "timedeltas"), "columns"),
-    **dict.fromkeys(("BundleError", "InputError", "LevelsError", "OuchError", "OutputExistsError", "UnknownBranchError"), "errors"),
+    **dict.fromkeys((
+        "BundleError", "InputError", "LevelsError", "OuchError", "OutputExistsError", "PlayError", "PolicyError", "PriceError",
+        "ScheduleError", "StudyError", "StudySyntaxError", "TimeError", "UnknownBranchError"), "errors"),
+    **dict.fromkeys((
+        "AgentParameter", "Edit", "Fee", "Halt", "Inject", "Latency", "Resume", "SeriesOffset", "Silence", "Tick"), "edits"),
+    "Study": "study",
     "to_itch": "itch",
     "to_lobster": "lobster",
     **dict.fromkeys(("Rewind", "State", "read_rewind"), "rewind"),

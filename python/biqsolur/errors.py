@@ -41,3 +41,42 @@ class OuchError(InputError):
 
 class OutputExistsError(InputError, FileExistsError):
     """What was to be written is there already. Nothing is ever overwritten."""
+
+
+class StudyError(InputError):
+    """A study, a change of one, or a value in one, that cannot be: a wrong type, an unknown key, no such entry.
+
+    It is raised before the program is asked. What the program refuses is StudyRefused.
+    """
+
+
+class StudySyntaxError(StudyError):
+    """The text is no TOML. The message has line and column."""
+
+
+class TimeError(StudyError):
+    """What was given is no time of day, or no length of time."""
+
+
+class PriceError(StudyError):
+    """What was given is no exact price or amount of money; a floating-point number never is."""
+
+
+class ScheduleError(StudyError):
+    """A list of orders that no chain of branches can send as it stands."""
+
+
+class PlayError(StudyError):
+    """A strategy cannot be played so: over a limit, an unknown trader, no time left."""
+
+
+class PolicyError(PlayError):
+    """The policy raised, or gave what is no list of orders. `decision` is which (from 1), `time` when (ns).
+
+    The message has the policy's own traceback; `__cause__` is its exception, None where its answer was wrong.
+    """
+
+    def __init__(self, decision: int, time: int, message: str) -> None:
+        super().__init__(message)
+        self.decision = decision
+        self.time = time

@@ -2,7 +2,9 @@
 
 from __future__ import annotations
 
+import os
 import re
+import tempfile
 from pathlib import Path
 from typing import BinaryIO
 
@@ -33,3 +35,29 @@ def plain_name(name: str, number: int, kind: str) -> str:
     """A name as part of a path: itself where it has plain characters alone, else the kind and the number, with a `+`
     between them, which no plain name has."""
     return name if PLAIN_NAME.fullmatch(name) else f"{kind}+{number}"
+
+
+def write_new(path: str | Path, data: bytes) -> None:
+    """Writes a file that is not there yet, whole or not at all: the bytes go to a file beside it, which gets the name
+    once they are all there."""
+    path = Path(path)
+    if path.exists():
+        raise OutputExistsError(f"{path} is there already; nothing was written")
+    handle, beside = tempfile.mkstemp(prefix=f".{path.name}.", dir=path.parent)
+    try:
+        with os.fdopen(handle, "wb") as file:
+            file.write(data)
+        os.chmod(beside, 0o666 & ~current_umask())
+        try:
+            os.link(beside, path)
+        except FileExistsError:
+            raise OutputExistsError(f"{path} is there already; nothing was written") from None
+    finally:
+        os.unlink(beside)
+
+
+def current_umask() -> int:
+    """The permissions that a new file of this process does not get."""
+    mask = os.umask(0o077)
+    os.umask(mask)
+    return mask
