@@ -17,8 +17,10 @@ from biqsolur.columns import Tokens
 from biqsolur.difference import first_difference
 from biqsolur.errors import BundleError, UnknownBranchError
 from biqsolur.frames import Frames, read_frames
+from biqsolur.measures.tape import Tape
 from biqsolur.messages import Sent, Source
 from biqsolur.output import new_folder, plain_name
+from biqsolur.top import top_frame
 
 FRAME_NAMES = ("events", "orders", "replies", "quotes", "feed", "trades", "edits")
 TABLE_START = b"branch,parent,"
@@ -155,6 +157,17 @@ class Branch:
         those of the message in `feed`. In a market of many stocks each row has the book of its own stock."""
         return book_frame(self.bundle.frames, self.part, self.symbols, levels)
 
+    def top(self) -> pandas.DataFrame:
+        """The best displayed prices of each stock after each event that changed them, from the feed alone: no hidden
+        order is in them. A row an event and stock: event, time (ns), stock, bid, bid_shares, ask, ask_shares (prices
+        with four implied decimals; 0 and 0 where the side is empty). Before a stock's first row its book is empty."""
+        return top_frame(self.tape.messages, self.tape.tops)
+
+    @cached_property
+    def tape(self) -> Tape:
+        """What the measures of this branch share, made when they first ask for it."""
+        return Tape(self)
+
     def displayed_orders(self) -> pandas.DataFrame:
         """The orders that rest at the end, from the feed alone, by stock and then by arrival: reference, side, open
         (shares), stock, symbol, price, price_dollars. They are those of `closing.orders` that are not hidden."""
@@ -170,8 +183,8 @@ class Branch:
         return first_difference(self.bundle.frames, self.part, self.bundle.branches[parent].part)
 
     def forget(self) -> None:
-        """Gives up the data frames that were made."""
-        for name in (*FRAME_NAMES, "closing"):
+        """Gives up the data frames that were made, and what the measures keep."""
+        for name in (*FRAME_NAMES, "closing", "tape"):
             self.__dict__.pop(name, None)
 
     @property

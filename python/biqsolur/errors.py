@@ -80,3 +80,7 @@ class PolicyError(PlayError):
         super().__init__(message)
         self.decision = decision
         self.time = time
+
+
+class MeasureError(InputError):
+    """A measure that there is not, a setting that it has not, or one that this run cannot answer."""

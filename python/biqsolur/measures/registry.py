@@ -1,0 +1,137 @@
+"""The measures by their names, each with its settings and the units of its numbers."""
+
+from __future__ import annotations
+
+import importlib.util
+import inspect
+from collections.abc import Callable, Mapping
+from dataclasses import dataclass, field
+from pathlib import Path
+from typing import TYPE_CHECKING, Any
+
+from biqsolur.errors import MeasureError
+from biqsolur.measures import spreads
+
+if TYPE_CHECKING:
+    from biqsolur.bundle import Branch
+
+PRICE, SHARES, PART = "0.0001 dollars", "shares", "a part of 1"
+
+
+@dataclass(frozen=True)
+class Measure:
+    """A measure.
+
+    Attributes: name; function (of a branch and settings by name, to a number or to numbers by their names); units (by the
+    names of its numbers, without the symbol of a stock); settings (those that are bound: `find` binds what is named with
+    the measure, and `compute` adds to them).
+    """
+
+    name: str
+    function: Callable[..., Any]
+    units: Mapping[str, str]
+    settings: Mapping[str, Any] = field(default_factory=dict)
+
+    @property
+    def about(self) -> str:
+        """What it is, in a sentence: the first paragraph of its docstring."""
+        return (inspect.getdoc(self.function) or self.name).split("\n\n")[0].replace("\n", " ")
+
+    @property
+    def takes(self) -> list[str]:
+        """The names of the settings that it takes."""
+        return [name for name in inspect.signature(self.function).parameters][1:]
+
+    def unit(self, number: str) -> str:
+        """The unit of one of its numbers, which may have the symbol of a stock behind it; "" where it is not known."""
+        return self.units.get(number, self.units.get(number.split(".")[0], ""))
+
+    def compute(self, branch: Branch, **settings: Any) -> dict[str, float]:
+        """Its numbers of a branch, by their names. A number that the run does not give is not-a-number. Settings that all
+        measures may be given, `after`, `stock` and `study`, are left out where this one takes none of them; another that
+        it does not take is a MeasureError."""
+        return as_numbers(self.name, self.function(branch, **self.taken({**self.settings, **settings})))
+
+    def taken(self, settings: dict[str, Any]) -> dict[str, Any]:
+        """Those of the settings that the measure takes."""
+        takes = self.takes
+        wrong = [name for name in settings if name not in takes and name not in ("after", "stock", "study")]
+        if wrong:
+            raise MeasureError(f"measure {self.name} has no setting {wrong[0]!r}; it has {', '.join(takes) or 'none'}")
+        return {name: value for name, value in settings.items() if name in takes}
+
+
+def as_numbers(name: str, answer: Any) -> dict[str, float]:
+    """What a measure's function answered as numbers by their names; a single number is called as the measure is."""
+    numbers = answer if isinstance(answer, Mapping) else {name: answer}
+    try:
+        return {str(key): float(value) for key, value in numbers.items()}
+    except (TypeError, ValueError) as error:
+        raise MeasureError(f"measure {name} answered {answer!r}: it has to answer a number, or numbers by names") from error
+
+
+def measure(function: Callable[..., Any], **units: str) -> Measure:
+    """A measure of the package, called as its function is."""
+    return Measure(function.__name__, function, units)
+
+
+NAMES: dict[str, Measure] = {each.name: each for each in [
+    measure(spreads.quoted_spread, quoted_spread=PRICE, quoted_spread_bps="basis points", two_sided=PART),
+    measure(spreads.effective_spread, effective_spread=PRICE, effective_spread_by_shares=PRICE,
+            effective_spread_bps="basis points"),
+    measure(spreads.realised_spread, realised_spread=PRICE, realised_spread_by_shares=PRICE),
+    measure(spreads.price_impact, price_impact=PRICE, price_impact_by_shares=PRICE),
+]}
+
+# Names of R's highfrequency for what a measure here is, or is the mean of.
+OTHER_NAMES = {
+    "quotedSpread": "quoted_spread", "effectiveSpread": "effective_spread", "realizedSpread": "realised_spread",
+    "realized_spread": "realised_spread", "realized_variance": "realised_variance",
+}
+
+
+def find(wanted: str | Mapping[str, Any] | Callable[..., Any] | Measure, folder: str | Path = ".") -> Measure:
+    """The measure that is named.
+
+    By its name; by a table with `name` and settings, as {"name": "realised_spread", "horizon": "5s"}; by a function of a
+    branch, to a number or to numbers by their names; or by a text FILE.py:FUNCTION, a file of Python from `folder` on.
+    MeasureError where there is none such.
+    """
+    if isinstance(wanted, Measure):
+        return wanted
+    if isinstance(wanted, Mapping):
+        return with_settings(wanted, folder)
+    if callable(wanted):
+        return Measure(getattr(wanted, "__name__", "measure"), wanted, {})
+    if isinstance(wanted, str) and ".py:" in wanted:
+        return of_file(wanted, Path(folder))
+    known = NAMES.get(OTHER_NAMES.get(wanted, wanted)) if isinstance(wanted, str) else None
+    if known is None:
+        raise MeasureError(f"no measure {wanted!r}; there are {', '.join(NAMES)}, and your own as FILE.py:FUNCTION")
+    return known
+
+
+def with_settings(wanted: Mapping[str, Any], folder: str | Path) -> Measure:
+    """The measure that a table names, with its settings."""
+    settings = dict(wanted)
+    name = settings.pop("name", None)
+    if name is None:
+        raise MeasureError(f"a measure {dict(wanted)!r} has no name: write name and then its settings")
+    found = find(name, folder)
+    found.taken(settings)
+    return Measure(found.name, found.function, found.units, {**found.settings, **settings})
+
+
+def of_file(wanted: str, folder: Path) -> Measure:
+    """The measure that is a function of a file of Python."""
+    place, name = wanted.rsplit(":", 1)
+    path = folder / place
+    if not path.is_file():
+        raise MeasureError(f"measure {wanted}: there is no file {path}")
+    specification = importlib.util.spec_from_file_location(path.stem, path)
+    module = importlib.util.module_from_spec(specification)
+    specification.loader.exec_module(module)
+    function = getattr(module, name, None)
+    if not callable(function):
+        raise MeasureError(f"measure {wanted}: {path} has no function {name}")
+    return Measure(name, function, {})
