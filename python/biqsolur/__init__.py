@@ -26,8 +26,9 @@ HOMES = {
     "Closing": "closing",
     **dict.fromkeys(("dollars", "timedeltas"), "columns"),
     **dict.fromkeys((
-        "BundleError", "InputError", "LevelsError", "OuchError", "OutputExistsError", "PlayError", "PolicyError", "PriceError",
-        "ScheduleError", "StudyError", "StudySyntaxError", "TimeError", "UnknownBranchError"), "errors"),
+        "BundleError", "CalibrationError", "FactsError", "InputError", "LevelsError", "OuchError", "OutputExistsError", "PlayError",
+        "PolicyError", "PriceError", "ScheduleError", "SeriesError", "StudyError", "StudySyntaxError", "TapeError", "TimeError",
+        "UnknownBranchError"), "errors"),
     **dict.fromkeys((
         "AgentParameter", "Edit", "Fee", "Halt", "Inject", "Latency", "Resume", "SeriesOffset", "Silence", "Tick"), "edits"),
     "Study": "study",
@@ -38,7 +39,7 @@ HOMES = {
 }
 
 # The modules that are used by their own name.
-MODULES = ("ouch",)
+MODULES = ("ouch", "values")
 
 __all__ = sorted([*HOMES, *MODULES])
 

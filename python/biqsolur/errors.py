@@ -84,3 +84,19 @@ class PolicyError(PlayError):
 
 class MeasureError(InputError):
     """A measure that there is not, a setting that it has not, or one that this run cannot answer."""
+
+
+class SeriesError(InputError):
+    """A course of values that can't be made: the text says which setting is wrong and what it may be."""
+
+
+class TapeError(InputError):
+    """Files that are no public record of a stock: the text says which file, which row, and what is wanted there."""
+
+
+class FactsError(InputError):
+    """Facts that can't be measured of what was given."""
+
+
+class CalibrationError(InputError):
+    """A calibration that can't be made of its configuration, or whose journal is another one's."""
