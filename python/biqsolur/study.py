@@ -14,7 +14,6 @@ from __future__ import annotations
 import copy
 import json
 import os
-import tempfile
 import tomllib
 from collections.abc import Mapping, Sequence
 from functools import cached_property
@@ -23,12 +22,12 @@ from typing import Any
 
 from biqsolur.edits import Edit, edit_of
 from biqsolur.errors import StudyError, StudySyntaxError
-from biqsolur.fields import FIELDS, Table, plain_table
-from biqsolur.study_changes import changed_table, changed_text, text_with_branches, text_without_branch
+from biqsolur.fields import Table, plain_table
+from biqsolur.study_changes import changed_table, changed_text, text_with_branches, text_without_branches
+from biqsolur.times import clock_text, nanoseconds
 from biqsolur.toml_text import study_text
 
 HIDDEN_OFFSET = 2 * 40      # of the display in the digits of an Enter
-MOST_BRANCHES = {1: 127, 2: 255}
 
 
 class Study:
@@ -163,22 +162,46 @@ class Study:
             raise StudyError(f"there is a branch {name!r} already; a branch has a name of its own")
         self._known(parent)
         stop = {"at": after} if at is None else {"when": at}
-        table = plain_table("branch", {"name": name, "parent": parent, **stop, "edit": list(edits)}, f"branch {name!r}")
+        more = {"edit": list(edits)} if edits else {}
+        table = plain_table("branch", {"name": name, "parent": parent, **stop, **more}, f"branch {name!r}")
         study = self if at is None else self.in_version_2()
         return study._with_branches([table])
 
     def without_branch(self, name: str) -> Study:
         """The study without a branch that no other has as its parent. Raises StudyError else."""
-        entry = self._branch(name)
+        self._branch(name)
         children = [branch["name"] for branch in self._table["branch"] if branch["parent"] == name]
         if children:
             raise StudyError(f"the branch {name!r} has branches of its own, to be taken away first: {', '.join(children)}")
-        place = self._table["branch"].index(entry)
-        table = {**self._table, "branch": self._table["branch"][:place] + self._table["branch"][place + 1:]}
-        if not table["branch"]:
-            del table["branch"]
-        text = None if self._text is None else text_without_branch(self._text, place, table)
-        return Study._made(table, text, self.folder)
+        return self._with_only({*self.branches} - {name})
+
+    def only(self, branch: str) -> Study:
+        """The study with this branch and those on the way to it alone; of "root", with no branch."""
+        self._known(branch)
+        line = {branch}
+        while branch != "root":
+            branch = self._branch(branch)["parent"]
+            line.add(branch)
+        return self._with_only(line)
+
+    def until(self, time: object, branch: str = "root") -> Study:
+        """The study of one branch, closed at a time of day within its hours: its run is the branch's own up to there.
+
+        Dated changes that are later are left out, and so are the other branches. Raises StudyError where the time is
+        outside the hours, or before a time at which the branch or one on the way to it leaves its parent.
+        """
+        table, moment = self.only(branch).to_dict(), nanoseconds(time)
+        if not table["open"] <= moment <= table["close"]:
+            raise StudyError(f"{clock_text(moment)} is outside the hours, {clock_text(table['open'])} to "
+                             f"{clock_text(table['close'])}")
+        for entry in table.get("branch", []):
+            if entry.get("when", moment) > moment:
+                raise StudyError(f"at {clock_text(moment)} the branch {entry['name']!r} has not begun: it leaves at "
+                                 f"{clock_text(entry['when'])}")
+        table["close"] = moment
+        if "change" in table:
+            table["change"] = [change for change in table["change"] if change["time"] <= moment]
+        return Study._made(table, None, self.folder)
 
     def in_version_2(self) -> Study:
         """The study in version 2 of the format, in which branches may leave at times. All else means what it meant, but
@@ -195,6 +218,18 @@ class Study:
         """The study with a chain of branches that sends these orders in a trader's name: `biqsolur.schedules.schedule`."""
         from biqsolur.schedules import schedule
         return schedule(self, trader, orders, **settings)
+
+    def _with_only(self, names: set[str]) -> Study:
+        """The study with its branches of these names alone."""
+        entries = self._table.get("branch", [])
+        gone = [number for number, branch in enumerate(entries) if branch["name"] not in names]
+        if not gone:
+            return self
+        table = {**self._table, "branch": [branch for branch in entries if branch["name"] in names]}
+        if not table["branch"]:
+            del table["branch"]
+        text = None if self._text is None else text_without_branches(self._text, gone, table)
+        return Study._made(table, text, self.folder)
 
     def _with_branches(self, branches: list[Table]) -> Study:
         """The study with more branches, which are plain tables, behind the others."""

@@ -17,6 +17,7 @@ from biqsolur.toml_text import section_lines, study_text, value_text
 
 Places = list[str | int]
 PLURALS = {"stocks": "stock", "changes": "change", "agents": "agent", "branches": "branch", "edits": "edit"}
+GROUPED = re.compile(r"=\s*\d{1,3}(?:_\d{3})+\b")      # a number with an underscore between its thousands
 BRANCH_HEAD = re.compile(r"^[ \t]*\[\[[ \t]*branch[ \t]*\]\]", re.MULTILINE)
 
 
@@ -103,7 +104,7 @@ def changed_text(text: str, places: Places, table: Table) -> str | None:
         holder: Any = document
         for place in places[:-1]:
             holder = holder[place]
-        holder[places[-1]] = tomlkit.value(value_text(value_at(table, places)))
+        holder[places[-1]] = tomlkit.value(value_text(value_at(table, places), grouped=GROUPED.search(text) is not None))
         return said(tomlkit.dumps(document), table)
     except (TOMLKitError, KeyError, IndexError, TypeError, ValueError):
         return None
@@ -118,12 +119,13 @@ def text_with_branches(text: str, branches: list[Table], table: Table) -> str | 
     return said(text + ("" if text.endswith("\n") else end) + end.join(lines).replace("\r\n", "\n").replace("\n", end) + end, table)
 
 
-def text_without_branch(text: str, number: int, table: Table) -> str | None:
-    """The text without a branch; None where that isn't possible."""
+def text_without_branches(text: str, numbers: list[int], table: Table) -> str | None:
+    """The text without the branches of these numbers; None where that isn't possible."""
     try:
         document = tomlkit.parse(text)
         branches: Any = document["branch"]
-        del branches[number]
+        for number in reversed(numbers):
+            del branches[number]
         if "branch" not in table:
             del document["branch"]
         return said(tomlkit.dumps(document), table)

@@ -5,6 +5,7 @@ What is written is TOML 1.0 and 1.1, so that both Python and the program read it
 
 from __future__ import annotations
 
+import re
 from collections.abc import Mapping
 from typing import Any
 
@@ -13,6 +14,8 @@ import tomlkit
 WIDEST = 120
 ARRAYS_OF_TABLES = ("stock", "change", "agent", "branch")
 SMALLEST_GROUPED = 10_000
+BARE = re.compile(r"[A-Za-z0-9_-]+")
+PLAIN = re.compile(r"[ !#-\[\]-~]*")     # what stands in quotes as it is
 
 
 def study_text(study: Mapping[str, Any]) -> str:
@@ -58,20 +61,22 @@ def wrapped(words: list[str]) -> list[str]:
     return lines
 
 
-def value_text(value: object) -> str:
-    """A value on one line. Large numbers have an underscore between their thousands."""
+def value_text(value: object, grouped: bool = True) -> str:
+    """A value on one line. `grouped`: large numbers have an underscore between their thousands."""
     if isinstance(value, bool):
         return "true" if value else "false"
     if isinstance(value, int):
-        return f"{value:_}" if abs(value) >= SMALLEST_GROUPED else str(value)
+        return f"{value:_}" if grouped and abs(value) >= SMALLEST_GROUPED else str(value)
     if isinstance(value, list):
-        return f"[{', '.join(map(value_text, value))}]"
+        return f"[{', '.join(value_text(item, grouped) for item in value)}]"
     if isinstance(value, Mapping):
-        pairs = ", ".join(f"{key_text(key)} = {value_text(item)}" for key, item in value.items())
+        pairs = ", ".join(f"{key_text(key)} = {value_text(item, grouped)}" for key, item in value.items())
         return f"{{ {pairs} }}" if pairs else "{}"
+    if isinstance(value, str) and PLAIN.fullmatch(value):
+        return f'"{value}"'
     return str(tomlkit.item(value).as_string())     # type: ignore[call-overload]
 
 
 def key_text(key: str) -> str:
     """A key, in quotes where it has to be."""
-    return str(tomlkit.key(key).as_string())
+    return key if BARE.fullmatch(key) else str(tomlkit.key(key).as_string())

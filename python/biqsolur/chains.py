@@ -1,0 +1,81 @@
+"""Orders as edits: the moment from which an order's time is counted, and branches that inject orders."""
+
+from __future__ import annotations
+
+from collections.abc import Iterable
+from dataclasses import dataclass
+from os import PathLike
+from typing import Any
+
+from biqsolur.bundle import Branch
+from biqsolur.errors import StudyError
+from biqsolur.fields import Table
+from biqsolur.study import Study
+from biqsolur.times import clock_text
+
+EDITS_OF_A_BRANCH = 16
+MOST_BRANCHES = 255
+MOST_EVENTS = 4_000_000     # of all branches together, with the root
+
+
+@dataclass(frozen=True)
+class Moment:
+    """The state in which a branch stands once all has come that is due by a time.
+
+    branch: its run up to there. time: that of its last event, or of the opening, in nanoseconds past midnight; an edit's
+    `after` counts from it. end: "Closed" where the run went on but for the time, else why it ended before.
+    """
+
+    branch: Branch
+    time: int
+    end: str
+
+
+def moment_of(study: Study, branch: str, time: int, **running: Any) -> Moment:
+    """Runs a branch up to a time (ns past midnight). Raises StudyError where the branch has not begun by then."""
+    from biqsolur.running import run
+    bundle = run(study.until(time, branch), **running)
+    entries = {entry["name"]: entry for entry in study.to_dict().get("branch", [])}
+    for name, run_of_branch in bundle.branches.items():
+        stop = entries[name].get("at", 0) if name in entries else 0
+        parent = run_of_branch.parent
+        if parent is not None and bundle.branches[parent].closing.counts["events"] < stop:
+            raise StudyError(f"at {clock_text(time)} the branch {name!r} has not begun: it leaves after {stop} events")
+    last = bundle.branches[branch]
+    counts = last.closing.counts
+    return Moment(last, int(counts["time"]), str(counts["end"]))
+
+
+def inject_edits(trader: int, sends: Iterable[tuple[int, str]], state_time: int) -> list[Table]:
+    """Edits that send messages (hexadecimal digits) which are due at these times, in a state of this time (ns)."""
+    return [{"kind": "inject", "agent": trader, "after": due - state_time, "message": message} for due, message in sends]
+
+
+def room_fault(study: Study, branches: int) -> str | None:
+    """Why a study can't have so many more branches, or None: 255 at most, and a bound of events over all of them."""
+    table = study.to_dict()
+    count = len(table.get("branch", [])) + branches
+    if count > MOST_BRANCHES:
+        return f"that makes {count} branches, and a study has at most {MOST_BRANCHES}"
+    if (count + 1) * table["events"] > MOST_EVENTS:
+        return (f"with {count} branches and the root, `events` may be at most {MOST_EVENTS // (count + 1)}, since all "
+                f"together have at most {MOST_EVENTS:,}; the study says {table['events']}: with_(\"events\", ...) lowers it, "
+                "as far as the market's run allows")
+    return None
+
+
+def trader_fault(study: Study, trader: object) -> str | None:
+    """Why a number is that of no trader, or None."""
+    count = len(study.traders)
+    if isinstance(trader, int) and not isinstance(trader, bool) and 1 <= trader <= count:
+        return None
+    return f"there is no trader {trader!r}; the study has the traders 1 to {count}"
+
+
+def siblings_fault(study: Study, parent: str) -> str | None:
+    """Why no branch may leave a parent at a time, or None: branches of one parent leave all at times or all after events."""
+    others = [branch["name"] for branch in study.to_dict().get("branch", []) if branch["parent"] == parent and "at" in branch]
+    if not others:
+        return None
+    return (f"{', '.join(map(repr, others))} leave {parent!r} after a number of events, and branches of one parent leave it "
+            f"all so or all at times: begin with study.only({parent!r})")
