@@ -32,6 +32,8 @@ HOMES = {
     **dict.fromkeys((
         "AgentParameter", "Edit", "Fee", "Halt", "Inject", "Latency", "Resume", "SeriesOffset", "Silence", "Tick"), "edits"),
     "Study": "study",
+    **dict.fromkeys(("Game", "play"), "playing"),
+    **dict.fromkeys(("Account", "Observation", "OpenOrder"), "observation"),
     "to_itch": "itch",
     "to_lobster": "lobster",
     **dict.fromkeys(("Rewind", "State", "read_rewind"), "rewind"),

@@ -12,7 +12,7 @@ import pandas
 from biqsolur import columns, feed, layouts, messages
 from biqsolur.book import book_frame
 from biqsolur.check import Part, bundle_parts
-from biqsolur.closing import Closing, read_closing
+from biqsolur.closing import Closing, read_closing, read_counts
 from biqsolur.columns import Tokens
 from biqsolur.difference import first_difference
 from biqsolur.errors import BundleError, UnknownBranchError
@@ -74,8 +74,13 @@ class Branch:
         return fork
 
     @property
+    def counts(self) -> dict[str, int | str]:
+        """The counters at the end, as in `closing`: end, events, time (ns), orders, matches and others."""
+        return read_counts(self.bundle.frames, self.part)
+
+    @property
     def _event_count(self) -> int:
-        return int(self.bundle.frames.records(numpy.array([self.part.counts]), layouts.COUNTS)["events"][0])
+        return int(self.counts["events"])
 
     @cached_property
     def events(self) -> pandas.DataFrame:

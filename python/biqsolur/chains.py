@@ -39,11 +39,10 @@ def moment_of(study: Study, branch: str, time: int, **running: Any) -> Moment:
     for name, run_of_branch in bundle.branches.items():
         stop = entries[name].get("at", 0) if name in entries else 0
         parent = run_of_branch.parent
-        if parent is not None and bundle.branches[parent].closing.counts["events"] < stop:
+        if stop and parent is not None and bundle.branches[parent].counts["events"] < stop:
             raise StudyError(f"at {clock_text(time)} the branch {name!r} has not begun: it leaves after {stop} events")
     last = bundle.branches[branch]
-    counts = last.closing.counts
-    return Moment(last, int(counts["time"]), str(counts["end"]))
+    return Moment(last, int(last.counts["time"]), str(last.counts["end"]))
 
 
 def inject_edits(trader: int, sends: Iterable[tuple[int, str]], state_time: int) -> list[Table]:

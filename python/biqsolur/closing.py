@@ -41,14 +41,19 @@ class Closing:
 
 def read_closing(frames: Frames, part: Part, tokens: Tokens, symbols: list[str]) -> Closing:
     """The closing of a branch or state."""
-    counts = frames.records(numpy.array([part.counts]), layouts.COUNTS)[0]
-    letter = chr(counts["end"])
     return Closing(
-        {"end": ENDS.get(letter, letter), **{name: int(counts[name]) for name in layouts.COUNTS.names[1:]}},
+        read_counts(frames, part),
         stocks_frame(frames, numpy.arange(part.stocks, part.orders), symbols),
         orders_frame(frames, numpy.arange(part.orders, part.agents), tokens, symbols),
         agents_frame(frames, numpy.arange(part.agents, part.waiting), symbols),
     )
+
+
+def read_counts(frames: Frames, part: Part) -> dict[str, int | str]:
+    """The counters of a closing."""
+    counts = frames.records(numpy.array([part.counts]), layouts.COUNTS)[0]
+    letter = chr(counts["end"])
+    return {"end": ENDS.get(letter, letter), **{name: int(counts[name]) for name in layouts.COUNTS.names[1:]}}
 
 
 def stocks_frame(frames: Frames, indexes: numpy.ndarray, symbols: list[str]) -> pandas.DataFrame:
