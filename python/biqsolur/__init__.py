@@ -26,14 +26,15 @@ HOMES = {
     "Closing": "closing",
     **dict.fromkeys(("dollars", "timedeltas"), "columns"),
     **dict.fromkeys((
-        "BundleError", "CalibrationError", "FactsError", "InputError", "LevelsError", "OuchError", "OutputExistsError", "PlayError",
-        "PolicyError", "PriceError", "ScheduleError", "SeriesError", "StudyError", "StudySyntaxError", "TapeError", "TimeError",
-        "UnknownBranchError"), "errors"),
+        "BundleError", "CalibrationError", "FactsError", "InputError", "LevelsError", "MissingPackageError", "OuchError",
+        "OutputExistsError", "PlayError", "PolicyError", "PriceError", "ScheduleError", "SeriesError", "StudyError",
+        "StudySyntaxError", "TapeError", "TimeError", "UnknownBranchError"), "errors"),
     **dict.fromkeys((
         "AgentParameter", "Edit", "Fee", "Halt", "Inject", "Latency", "Resume", "SeriesOffset", "Silence", "Tick"), "edits"),
     "Study": "study",
     **dict.fromkeys(("Game", "play"), "playing"),
     **dict.fromkeys(("Account", "Observation", "OpenOrder"), "observation"),
+    "to_capture": "capture",
     "to_itch": "itch",
     "to_lobster": "lobster",
     **dict.fromkeys(("Rewind", "State", "read_rewind"), "rewind"),

@@ -35,6 +35,12 @@ def parser() -> argparse.ArgumentParser:
     itch.add_argument("-o", "--output", metavar="FILE", required=True, help="a file that is not there yet")
     itch.set_defaults(run=run_itch)
 
+    capture = commands.add_parser("capture", help="the orders and replies of a branch as a network capture for Wireshark (pcap)")
+    capture.add_argument("bundle", metavar="BUNDLE")
+    capture.add_argument("branch", metavar="BRANCH")
+    capture.add_argument("-o", "--output", metavar="FILE", required=True, help="a file that is not there yet")
+    capture.set_defaults(run=run_capture)
+
     lobster = commands.add_parser("lobster", help="the feed of a branch as LOBSTER's message and orderbook files")
     lobster.add_argument("bundle", metavar="BUNDLE")
     lobster.add_argument("branch", metavar="BRANCH")
@@ -59,6 +65,12 @@ def run_csv(arguments: argparse.Namespace) -> int:
 def run_itch(arguments: argparse.Namespace) -> int:
     """The command `itch`."""
     biqsolur.to_itch(arguments.output, biqsolur.read(arguments.bundle).branches[arguments.branch])
+    return 0
+
+
+def run_capture(arguments: argparse.Namespace) -> int:
+    """The command `capture`."""
+    biqsolur.to_capture(arguments.output, biqsolur.read(arguments.bundle).branches[arguments.branch])
     return 0
 
 

@@ -31,6 +31,10 @@ class LevelsError(InputError):
     """A number of levels below 1."""
 
 
+class MissingPackageError(InputError, ImportError):
+    """A library that only this command needs is not installed."""
+
+
 class OuchError(InputError):
     """A field of an order or reply can't be what it is. `offset` is the field's, in bytes from the message's first."""
 

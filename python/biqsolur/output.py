@@ -2,9 +2,11 @@
 
 from __future__ import annotations
 
+import contextlib
 import os
 import re
-import tempfile
+import secrets
+from collections.abc import Iterator
 from pathlib import Path
 from typing import BinaryIO
 
@@ -23,12 +25,35 @@ def new_folder(path: str | Path) -> Path:
     return folder
 
 
-def new_file(path: str | Path) -> BinaryIO:
-    """Opens a file that is not there yet."""
+def refuse_existing(path: str | Path) -> None:
+    """Raises OutputExistsError where something has this name already, be it a link that leads nowhere."""
+    if os.path.lexists(path):
+        raise OutputExistsError(f"{path} is there already; nothing was written")
+
+
+@contextlib.contextmanager
+def new_file(path: str | Path) -> Iterator[BinaryIO]:
+    """Opens a file that is not there yet. It stands under its name once all is written: the bytes are written to a file
+    beside it, of which nothing stays where writing fails or is interrupted. Raises OutputExistsError."""
+    path = Path(path)
+    refuse_existing(path)
+    beside = path.with_name(f".{path.name[:100]}.{secrets.token_hex(8)}.part")
     try:
-        return open(path, "xb")
+        with open(beside, "xb") as file:
+            yield file
+        put_in_place(beside, path)
+    finally:
+        beside.unlink(missing_ok=True)
+
+
+def put_in_place(beside: Path, path: Path) -> None:
+    """Gives a written file its name, unless that name was given to another one in the meantime."""
+    try:
+        os.link(beside, path)
     except FileExistsError:
         raise OutputExistsError(f"{path} is there already; nothing was written") from None
+    except OSError:                         # a file system without hard links
+        os.rename(beside, path)
 
 
 def plain_name(name: str, number: int, kind: str) -> str:
@@ -38,26 +63,6 @@ def plain_name(name: str, number: int, kind: str) -> str:
 
 
 def write_new(path: str | Path, data: bytes) -> None:
-    """Writes a file that is not there yet, whole or not at all: the bytes go to a file beside it, which gets the name
-    once they are all there."""
-    path = Path(path)
-    if path.exists():
-        raise OutputExistsError(f"{path} is there already; nothing was written")
-    handle, beside = tempfile.mkstemp(prefix=f".{path.name}.", dir=path.parent)
-    try:
-        with os.fdopen(handle, "wb") as file:
-            file.write(data)
-        os.chmod(beside, 0o666 & ~current_umask())
-        try:
-            os.link(beside, path)
-        except FileExistsError:
-            raise OutputExistsError(f"{path} is there already; nothing was written") from None
-    finally:
-        os.unlink(beside)
-
-
-def current_umask() -> int:
-    """The permissions that a new file of this process does not get."""
-    mask = os.umask(0o077)
-    os.umask(mask)
-    return mask
+    """Writes a file that is not there yet, whole or not at all. Raises OutputExistsError."""
+    with new_file(path) as file:
+        file.write(data)
