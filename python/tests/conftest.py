@@ -1,10 +1,22 @@
-"""Finds the program and runs it over random studies."""
+"""What all tests share: the program, random studies that it ran, a cache of their own, and the tally of `./test`.
 
+The markers `browser` (a page in a real browser) and `long` (minutes of a processor) name what `./test` leaves out unless it
+is asked. No test may hang: after LONGEST seconds it fails.
+"""
+
+from __future__ import annotations
+
+import json
 import os
+import shutil
+import signal
 import subprocess
 import sys
+import tempfile
+from collections.abc import Iterator
 from dataclasses import dataclass
 from pathlib import Path
+from typing import Any
 
 import pytest
 
@@ -15,33 +27,100 @@ sys.path[:0] = [str(PACKAGE), str(Path(__file__).resolve().parent)]
 import studies  # noqa: E402
 
 SEEDS = range(60)
-STUDY = ROOT / "examples" / "two_watchers.toml"
+MARKERS = ("browser: a page in a real browser (./test --browser)", "long: minutes of a processor (./test --all)")
+LONGEST = 900
+PLUGIN = "tally of ./test"
 
 
-def program_path():
-    """The program: BIQSOLUR_PROGRAM, else what rt built, else ./abides; None where none of them runs.
+def pytest_configure(config: pytest.Config) -> None:
+    """Registers the markers; the first process makes the cache and the tally, its workers use its cache."""
+    for marker in MARKERS:
+        config.addinivalue_line("markers", marker)
+    if "PYTEST_XDIST_WORKER" not in os.environ:
+        config._own_cache = tempfile.mkdtemp(prefix="biqsolur-tests-")
+        os.environ["XDG_CACHE_HOME"] = config._own_cache
+        if os.environ.get("BIQSOLUR_TALLY"):
+            config.pluginmanager.register(Tally(Path(os.environ["BIQSOLUR_TALLY"])), PLUGIN)
 
-    ./abides is asked only where there is a release: else it would prove and build the program, which takes hours.
-    """
-    released = ROOT / "abides" if (ROOT / "release/SOURCES").exists() else None
-    for place in (os.environ.get("BIQSOLUR_PROGRAM"), ROOT / "crates/abides_main/out/abides_main", released):
-        if place and Path(place).is_file():
-            try:
-                answer = subprocess.run([str(place), "check", str(STUDY)], capture_output=True, cwd=ROOT, timeout=600)
-            except (OSError, subprocess.TimeoutExpired):
-                continue
-            if answer.returncode == 0:
-                return str(place)
-    return None
+
+def pytest_unconfigure(config: pytest.Config) -> None:
+    """Takes the cache of the tests away."""
+    shutil.rmtree(getattr(config, "_own_cache", "/nonexistent"), ignore_errors=True)
+
+
+class Tally:
+    """Notes how each test ended, and writes it down for `./test`, which runs the failed ones again."""
+
+    def __init__(self, path: Path) -> None:
+        """`path`: the JSON file to write at the end."""
+        self.path = path
+        self.ended: dict[str, tuple[str, str]] = {}
+
+    def pytest_runtest_logreport(self, report: pytest.TestReport) -> None:
+        """One of the three parts of a test. What failed in one part has failed."""
+        before = self.ended.get(report.nodeid, ("", ""))[0]
+        if report.failed:
+            self.ended[report.nodeid] = ("failed", report.when or "")
+        elif report.skipped and before != "failed":
+            self.ended[report.nodeid] = ("skipped", reason_of(report))
+        elif report.when == "call" and before != "failed":
+            self.ended[report.nodeid] = ("passed", "")
+
+    def pytest_collectreport(self, report: pytest.CollectReport) -> None:
+        """A file that can't be read as tests, or that asks to be left out."""
+        if report.failed:
+            self.ended[report.nodeid] = ("failed", "collect")
+        elif report.skipped:
+            self.ended[report.nodeid] = ("skipped", reason_of(report))
+
+    def pytest_sessionfinish(self) -> None:
+        """Writes the file beside its place and renames it."""
+        beside = self.path.with_suffix(".new")
+        beside.write_text(json.dumps(self.ended))
+        beside.replace(self.path)
+
+
+def reason_of(report: Any) -> str:
+    """Why a test was left out, as it says itself."""
+    said = report.longrepr[2] if isinstance(report.longrepr, tuple) else str(report.longrepr)
+    return said.removeprefix("Skipped: ")
+
+
+def too_long(number: int, frame: object) -> None:
+    """Ends a test that hangs."""
+    raise TimeoutError(f"the test took longer than {LONGEST} s")
+
+
+@pytest.hookimpl(hookwrapper=True)
+def pytest_runtest_protocol(item: pytest.Item) -> Iterator[None]:
+    """Bounds the time of one test with its fixtures, generously: only a hang comes near it."""
+    before = signal.signal(signal.SIGALRM, too_long)
+    signal.alarm(LONGEST)
+    yield
+    signal.alarm(0)
+    signal.signal(signal.SIGALRM, before)
+
+
+@pytest.fixture
+def tmp_path(tmp_path: Path) -> Iterator[Path]:
+    """pytest's own folder for a test, taken away behind it, so that a small disk suffices."""
+    yield tmp_path
+    shutil.rmtree(tmp_path, ignore_errors=True)
+
+
+def program_path() -> str:
+    """The program that the package would run, which is what `./abides` would run. Nothing is built from here."""
+    try:
+        from biqsolur.program import find_program
+    except ImportError:
+        return subprocess.run([ROOT / "abides", "--program"], check=True, capture_output=True, text=True).stdout.strip()
+    return str(find_program())
 
 
 @pytest.fixture(scope="session")
-def program():
-    """The path of the program, or the test is left out."""
-    found = program_path()
-    if found is None:
-        pytest.skip("no program runs: set BIQSOLUR_PROGRAM, or build it by ./prove or ./abides")
-    return found
+def program() -> str:
+    """The path of the program."""
+    return program_path()
 
 
 @dataclass
@@ -52,24 +131,25 @@ class Market:
     folder: Path
     program: str
 
-    def run(self, command, *more):
+    def run(self, command: str, *more: str) -> bytes:
         """What the program writes of this study."""
         answer = subprocess.run([self.program, command, "study.toml", *more], cwd=self.folder, capture_output=True)
         assert (answer.returncode, answer.stderr) == (0, b"")
         return answer.stdout
 
     @property
-    def bundle(self):
+    def bundle(self) -> Path:
+        """The file of its bundle."""
         return self.folder / "study.bundle"
 
     @property
-    def traders(self):
+    def traders(self) -> list[dict | None]:
         """The entry of each trader, by its number; of the exchange None."""
         return [None] + [entry for entry in self.study["agent"] for _ in range(entry.get("count", 1))]
 
 
 @pytest.fixture(scope="session", params=SEEDS)
-def market(request, program, tmp_path_factory):
+def market(request: pytest.FixtureRequest, program: str, tmp_path_factory: pytest.TempPathFactory) -> Market:
     """The market of each seed, run once."""
     study, series = studies.make_study(request.param)
     folder = tmp_path_factory.mktemp(f"market{request.param}")
