@@ -31,6 +31,7 @@ HOMES = {
         "StudySyntaxError", "TapeError", "TimeError", "UnknownBranchError"), "errors"),
     **dict.fromkeys((
         "AgentParameter", "Edit", "Fee", "Halt", "Inject", "Latency", "Resume", "SeriesOffset", "Silence", "Tick"), "edits"),
+    "map": "mapping",
     "Study": "study",
     **dict.fromkeys(("Game", "play"), "playing"),
     **dict.fromkeys(("Account", "Observation", "OpenOrder"), "observation"),

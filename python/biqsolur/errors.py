@@ -104,3 +104,19 @@ class FactsError(InputError):
 
 class CalibrationError(InputError):
     """A calibration that can't be made of its configuration, or whose journal is another one's."""
+
+
+class KeysError(InputError):
+    """Keys that are none: the text says which one is wrong."""
+
+
+class MapError(InputError):
+    """A study could not be mapped: a run or the function failed. The text names the key."""
+
+
+class SweepError(InputError):
+    """A sweep that can't be made of its configuration, or did not come to its end. The text says why."""
+
+
+class FigureError(InputError):
+    """A figure that can't be drawn of what was given. The text says what may be asked for."""
