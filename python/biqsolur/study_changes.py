@@ -17,6 +17,7 @@ from biqsolur.toml_text import section_lines, study_text, value_text
 
 Places = list[str | int]
 PLURALS = {"stocks": "stock", "changes": "change", "agents": "agent", "branches": "branch", "edits": "edit"}
+BYTE_ORDER_MARK = "\ufeff"
 GROUPED = re.compile(r"=\s*\d{1,3}(?:_\d{3})+\b")      # a number with an underscore between its thousands
 BRANCH_HEAD = re.compile(r"^[ \t]*\[\[[ \t]*branch[ \t]*\]\]", re.MULTILINE)
 
@@ -100,12 +101,12 @@ def changed_text(text: str, places: Places, table: Table) -> str | None:
     """The text with the value that `table` has at these places; None where that can't be done without losing anything,
     and the text is to be written anew."""
     try:
-        document = tomlkit.parse(text)
+        mark, document = parsed(text)
         holder: Any = document
         for place in places[:-1]:
             holder = holder[place]
         holder[places[-1]] = tomlkit.value(value_text(value_at(table, places), grouped=GROUPED.search(text) is not None))
-        return said(tomlkit.dumps(document), table)
+        return said(mark + tomlkit.dumps(document), table)
     except (TOMLKitError, KeyError, IndexError, TypeError, ValueError):
         return None
 
@@ -122,20 +123,26 @@ def text_with_branches(text: str, branches: list[Table], table: Table) -> str | 
 def text_without_branches(text: str, numbers: list[int], table: Table) -> str | None:
     """The text without the branches of these numbers; None where that isn't possible."""
     try:
-        document = tomlkit.parse(text)
+        mark, document = parsed(text)
         branches: Any = document["branch"]
         for number in reversed(numbers):
             del branches[number]
         if "branch" not in table:
             del document["branch"]
-        return said(tomlkit.dumps(document), table)
+        return said(mark + tomlkit.dumps(document), table)
     except (TOMLKitError, KeyError, IndexError, TypeError, ValueError):
         return None
+
+
+def parsed(text: str) -> tuple[str, tomlkit.TOMLDocument]:
+    """The byte order mark, which tomlkit doesn't read, or an empty text; and the document behind it."""
+    mark = BYTE_ORDER_MARK if text.startswith(BYTE_ORDER_MARK) else ""
+    return mark, tomlkit.parse(text.removeprefix(mark))
 
 
 def said(text: str, table: Table) -> str | None:
     """The text where it says this very table, else None."""
     try:
-        return text if tomllib.loads(text.removeprefix("\ufeff")) == table else None
+        return text if tomllib.loads(text.removeprefix(BYTE_ORDER_MARK)) == table else None
     except ValueError:
         return None
