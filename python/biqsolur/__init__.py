@@ -28,7 +28,7 @@ HOMES = {
     **dict.fromkeys((
         "BundleError", "CalibrationError", "FactsError", "InputError", "LevelsError", "MissingPackageError", "OuchError",
         "OutputExistsError", "PlayError", "PolicyError", "PriceError", "ScheduleError", "SeriesError", "StudyError",
-        "StudySyntaxError", "TapeError", "TimeError", "UnknownBranchError"), "errors"),
+        "StudyNeededError", "StudySyntaxError", "TapeError", "TimeError", "UnknownBranchError", "UnknownSymbolError"), "errors"),
     **dict.fromkeys((
         "AgentParameter", "Edit", "Fee", "Halt", "Inject", "Latency", "Resume", "SeriesOffset", "Silence", "Tick"), "edits"),
     "map": "mapping",

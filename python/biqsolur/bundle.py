@@ -2,7 +2,7 @@
 
 from __future__ import annotations
 
-from collections.abc import Iterator
+from collections.abc import Iterable, Iterator
 from functools import cached_property
 from pathlib import Path
 
@@ -172,6 +172,25 @@ class Branch:
     def tape(self) -> Tape:
         """What the measures of this branch share, made when they first ask for it."""
         return Tape(self)
+
+    def value(self, symbol: str, study: object = None) -> pandas.DataFrame:
+        """The fundamental value of a stock: a row for each step or row of its series, from the open to the close, also where
+        the run ended before, and for each edit of it. At a time the last of the rows that are not later holds.
+
+        Columns: time (ns), value (as traders are told it, four implied decimals), value_dollars, series (without the edits'
+        offset), offset (of the edits until then, four implied decimals).
+
+        `study` is needed where the bundle was not made by `biqsolur.run`: a Study, a path, or what else makes one. Raises
+        StudyNeededError where there is none or it isn't this bundle's, UnknownSymbolError, and MissingPackageError where
+        `cryptography` is not installed."""
+        from biqsolur.fundamental import value_frame
+        return value_frame(self, symbol, study)
+
+    def value_at(self, symbol: str, events: Iterable[int], study: object = None) -> numpy.ndarray:
+        """The fundamental value of a stock at each of these events (their numbers), as a trader was told it there: whole numbers
+        with four implied decimals, shape (events,). Raises as `value`, and IndexError where there is no such event."""
+        from biqsolur.fundamental import values_at
+        return values_at(self, symbol, events, study)
 
     def displayed_orders(self) -> pandas.DataFrame:
         """The orders that rest at the end, from the feed alone, by stock and then by arrival: reference, side, open

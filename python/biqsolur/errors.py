@@ -27,6 +27,20 @@ class UnknownBranchError(InputError, KeyError):
         return str(self.args[0])
 
 
+class UnknownSymbolError(InputError, KeyError):
+    """A stock that the market has not."""
+
+    def __init__(self, symbol: object, known: list[str]) -> None:
+        super().__init__(f"no stock {symbol!r}; there are {', '.join(known)}")
+
+    def __str__(self) -> str:
+        return str(self.args[0])
+
+
+class StudyNeededError(InputError):
+    """What was asked follows from the study, which is not there, or is another one's."""
+
+
 class LevelsError(InputError):
     """A number of levels below 1."""
 
