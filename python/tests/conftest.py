@@ -1,4 +1,4 @@
-"""What all tests share: the program, random studies that it ran, a cache of their own, and the tally of `./test`.
+"""What all tests share: the program, random studies that it ran, and a cache of their own.
 
 The markers `browser` (a page in a real browser) and `long` (minutes of a processor) name what `./test` leaves out unless it
 is asked. No test may hang: after LONGEST seconds it fails.
@@ -6,7 +6,6 @@ is asked. No test may hang: after LONGEST seconds it fails.
 
 from __future__ import annotations
 
-import json
 import os
 import shutil
 import signal
@@ -16,7 +15,6 @@ import tempfile
 from collections.abc import Iterator
 from dataclasses import dataclass
 from pathlib import Path
-from typing import Any
 
 import pytest
 
@@ -29,61 +27,20 @@ import studies  # noqa: E402
 SEEDS = range(60)
 MARKERS = ("browser: a page in a real browser (./test --browser)", "long: minutes of a processor (./test --all)")
 LONGEST = 900
-PLUGIN = "tally of ./test"
 
 
 def pytest_configure(config: pytest.Config) -> None:
-    """Registers the markers; the first process makes the cache and the tally, its workers use its cache."""
+    """Registers the markers; the first process makes the cache, and its workers use it."""
     for marker in MARKERS:
         config.addinivalue_line("markers", marker)
     if "PYTEST_XDIST_WORKER" not in os.environ:
         config._own_cache = tempfile.mkdtemp(prefix="biqsolur-tests-")
         os.environ["XDG_CACHE_HOME"] = config._own_cache
-        if os.environ.get("BIQSOLUR_TALLY"):
-            config.pluginmanager.register(Tally(Path(os.environ["BIQSOLUR_TALLY"])), PLUGIN)
 
 
 def pytest_unconfigure(config: pytest.Config) -> None:
     """Takes the cache of the tests away."""
     shutil.rmtree(getattr(config, "_own_cache", "/nonexistent"), ignore_errors=True)
-
-
-class Tally:
-    """Notes how each test ended, and writes it down for `./test`, which runs the failed ones again."""
-
-    def __init__(self, path: Path) -> None:
-        """`path`: the JSON file to write at the end."""
-        self.path = path
-        self.ended: dict[str, tuple[str, str]] = {}
-
-    def pytest_runtest_logreport(self, report: pytest.TestReport) -> None:
-        """One of the three parts of a test. What failed in one part has failed."""
-        before = self.ended.get(report.nodeid, ("", ""))[0]
-        if report.failed:
-            self.ended[report.nodeid] = ("failed", report.when or "")
-        elif report.skipped and before != "failed":
-            self.ended[report.nodeid] = ("skipped", reason_of(report))
-        elif report.when == "call" and before != "failed":
-            self.ended[report.nodeid] = ("passed", "")
-
-    def pytest_collectreport(self, report: pytest.CollectReport) -> None:
-        """A file that can't be read as tests, or that asks to be left out."""
-        if report.failed:
-            self.ended[report.nodeid] = ("failed", "collect")
-        elif report.skipped:
-            self.ended[report.nodeid] = ("skipped", reason_of(report))
-
-    def pytest_sessionfinish(self) -> None:
-        """Writes the file beside its place and renames it."""
-        beside = self.path.with_suffix(".new")
-        beside.write_text(json.dumps(self.ended))
-        beside.replace(self.path)
-
-
-def reason_of(report: Any) -> str:
-    """Why a test was left out, as it says itself."""
-    said = report.longrepr[2] if isinstance(report.longrepr, tuple) else str(report.longrepr)
-    return said.removeprefix("Skipped: ")
 
 
 def too_long(number: int, frame: object) -> None:
