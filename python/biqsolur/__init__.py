@@ -54,7 +54,12 @@ def __getattr__(name: str) -> Any:
         return importlib.import_module(f"biqsolur.{name}")
     if name not in HOMES:
         raise AttributeError(f"module 'biqsolur' has no attribute {name!r}")
-    value = getattr(importlib.import_module(f"biqsolur.{HOMES[name]}"), name)
+    try:
+        value = getattr(importlib.import_module(f"biqsolur.{HOMES[name]}"), name)
+    except ModuleNotFoundError as error:
+        from biqsolur import missing
+
+        raise ModuleNotFoundError(missing.advice(error), name=error.name) from None
     globals()[name] = value
     return value
 

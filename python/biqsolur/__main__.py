@@ -6,7 +6,7 @@ import argparse
 import sys
 
 import biqsolur
-from biqsolur import why
+from biqsolur import missing, why
 
 
 def parser() -> argparse.ArgumentParser:
@@ -86,6 +86,9 @@ def main(words: list[str] | None = None) -> int:
     arguments = parser().parse_args(words)
     try:
         return arguments.run(arguments)
+    except ModuleNotFoundError as error:
+        print(f"biqsolur: {missing.advice(error)}", file=sys.stderr)
+        return 1
     except (biqsolur.InputError, OSError) as error:
         print(f"biqsolur: {error}", file=sys.stderr)
         return 1
