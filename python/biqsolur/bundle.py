@@ -5,6 +5,7 @@ from __future__ import annotations
 from collections.abc import Iterable, Iterator
 from functools import cached_property
 from pathlib import Path
+from typing import Any
 
 import numpy
 import pandas
@@ -262,6 +263,23 @@ class Bundle:
     def tokens(self) -> Tokens:
         """Turns numbers of order tokens into texts."""
         return Tokens(self.frames)
+
+    def compare(self, measures: Any, parent: bool = True, **settings: Any) -> pandas.DataFrame:
+        """Measures of each branch beside those of its parent, over the events behind the fork alone.
+
+        `measures` is one measure or a list of them: a name of `biqsolur.measures.NAMES`, a table of a name and settings
+        such as {"name": "realised_spread", "horizon": "1s"}, a function of a branch, or FILE.py:FUNCTION. `settings` go to
+        each measure that takes them (`stock`, `study`, `horizon`, ...).
+
+        A row a branch and number: branch, measure (the number's name), value, parent (that of the parent), difference (value
+        less parent), unit. Of a branch and of its parent those events count that are numbered above the branch's `fork`, and
+        the times from that of the event `fork`, which both have, to that of each one's own last event. The root counts from
+        the opening, and its parent is not-a-number. With parent=False all branches count from the opening, and parent and
+        difference are left out. A number that a run does not give is not-a-number. MeasureError where there is no such
+        measure or setting.
+        """
+        from biqsolur.compare import compare
+        return compare(self, measures, parent, **settings)
 
     def to_csv(self, folder: str | Path) -> None:
         """Writes each data frame of each branch as FOLDER/BRANCH/NAME.csv. The folder must not be there yet."""

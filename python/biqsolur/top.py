@@ -134,23 +134,35 @@ def greatest_covering(starts: numpy.ndarray, ends: numpy.ndarray, values: numpy.
     return best
 
 
-def level_totals(messages: BookMessages) -> tuple[numpy.ndarray, numpy.ndarray, numpy.ndarray]:
-    """The open shares of each price level after each message that changes it: the level of each order (a number that
-    rises with stock, side and price), and the sums' keys (level times the number of messages, and the row), which rise,
-    with the sums."""
+@dataclass
+class Levels:
+    """The open shares of each price level after each message that changes it.
+
+    level: of each order, a number that rises with stock, side and price. keys: level times the number of messages, and the
+    row, in rising order; sums: the open shares of that level after that row.
+    """
+
+    level: numpy.ndarray
+    keys: numpy.ndarray
+    sums: numpy.ndarray
+
+    def open_shares(self, level: numpy.ndarray, row: numpy.ndarray, count: int) -> numpy.ndarray:
+        """The open shares of these levels after these rows, of `count` messages; a level has been changed by then."""
+        return self.sums[numpy.searchsorted(self.keys, level * count + row, side="right") - 1]
+
+
+def level_totals(messages: BookMessages) -> Levels:
+    """The open shares of all levels: a running sum over the messages, level by level."""
     orders, count = len(messages.row), len(messages.index)
     key = (messages.stock[messages.row].astype(numpy.int64) << 1 | messages.buy) << 32 | messages.price
     level = numpy.unique(key, return_inverse=True)[1] if orders else numpy.zeros(0, numpy.int64)
     keys = level[messages.order] * count + numpy.arange(count)
     by_level = numpy.argsort(keys, kind="stable")
-    # Each order gives back what it took, but for those that are open at the end: so each level's sum starts at what the
-    # levels before it left.
     sums = numpy.cumsum(messages.change[by_level])
-    levels = level[messages.order][by_level]
-    first = numpy.flatnonzero(numpy.diff(levels, prepend=-1))
-    before = numpy.append(0, sums)[first]
-    sums -= numpy.repeat(before, numpy.diff(numpy.append(first, count)))
-    return level, keys[by_level], sums
+    # A level's own sum is what the sum over all has more than where the level begins.
+    first = numpy.flatnonzero(numpy.diff(level[messages.order][by_level], prepend=-1))
+    sums -= numpy.repeat(numpy.append(0, sums)[first], numpy.diff(numpy.append(first, count)))
+    return Levels(level, keys[by_level], sums)
 
 
 @dataclass
@@ -166,24 +178,23 @@ class Tops:
     ask_shares: numpy.ndarray
 
 
-def tops(messages: BookMessages) -> Tops:
-    """The best prices after each message. The longest part of the time is one sort of the orders by price."""
+def tops(messages: BookMessages, levels: Levels) -> Tops:
+    """The best prices after each message."""
     count = len(messages.index)
-    level, keys, sums = level_totals(messages)
-    levels = numpy.full((2, count), -1, numpy.int64)
+    best = numpy.full((2, count), -1, numpy.int64)
     order_stock = messages.stock[messages.row]
     for stock in numpy.unique(order_stock):
         rows = numpy.flatnonzero(messages.stock == stock)
         for buy in (0, 1):
             own = numpy.flatnonzero((order_stock == stock) & (messages.buy == bool(buy)))
-            levels[buy, rows] = best_levels(messages, own, rows, level, bool(buy))
-    prices = numpy.zeros(len(level) + 1, numpy.int64)       # by level; the last one is that of an empty side
-    prices[level] = messages.price
-    shares = []
-    for best in levels:
-        place = numpy.searchsorted(keys, best * count + numpy.arange(count), side="right") - 1
-        shares.append(numpy.where(best >= 0, sums[place], 0))
-    return Tops(prices[levels[1]], shares[1], prices[levels[0]], shares[0])
+            best[buy, rows] = best_levels(messages, own, rows, levels.level, bool(buy))
+    prices = numpy.zeros(len(levels.level) + 1, numpy.int64)    # by level; the last one is that of an empty side
+    prices[levels.level] = messages.price
+    shares = [numpy.zeros(count, numpy.int64), numpy.zeros(count, numpy.int64)]
+    for side in (0, 1):
+        there = numpy.flatnonzero(best[side] >= 0)
+        shares[side][there] = levels.open_shares(best[side, there], there, count)
+    return Tops(prices[best[1]], shares[1], prices[best[0]], shares[0])
 
 
 def best_levels(messages: BookMessages, own: numpy.ndarray, rows: numpy.ndarray, level: numpy.ndarray,

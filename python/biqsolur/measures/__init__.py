@@ -12,8 +12,21 @@ it count. docs/MEASURES.md has each formula with its numbers on a worked market.
 
 from __future__ import annotations
 
+from biqsolur.measures.agents import accounts, inventory, maker_income, profit, profits
+from biqsolur.measures.depth import depths, displayed_depth, imbalance, order_flow_imbalance, order_flows, resiliency
+from biqsolur.measures.impact import amihud, kyle_lambda, trade_flows
+from biqsolur.measures.latency import reaction_latency, reaction_times
+from biqsolur.measures.orders import (
+    cancel_ratio, fill_probability, fills_by_distance, lives, order_fates, order_lifetime, queue_at_entry, queue_path,
+    time_to_fill)
 from biqsolur.measures.registry import NAMES, Measure, find
 from biqsolur.measures.spreads import effective_spread, price_impact, quoted_spread, realised_spread, trade_spreads
+from biqsolur.measures.volatility import autocorrelation, autocorrelations, realised_variance, roll_spread, signature_plot
 
-__all__ = ["NAMES", "Measure", "effective_spread", "find", "price_impact", "quoted_spread", "realised_spread",
-           "trade_spreads"]
+__all__ = [
+    "NAMES", "Measure", "accounts", "amihud", "autocorrelation", "autocorrelations", "cancel_ratio", "depths",
+    "displayed_depth", "effective_spread", "fill_probability", "fills_by_distance", "find", "imbalance", "inventory", "kyle_lambda",
+    "lives", "maker_income", "order_fates", "order_flow_imbalance", "order_flows", "order_lifetime", "price_impact", "profit",
+    "profits", "queue_at_entry", "queue_path", "quoted_spread", "reaction_latency", "reaction_times", "realised_spread", "realised_variance",
+    "resiliency", "roll_spread", "signature_plot", "time_to_fill", "trade_flows", "trade_spreads",
+]

@@ -10,7 +10,7 @@ from pathlib import Path
 from typing import TYPE_CHECKING, Any
 
 from biqsolur.errors import MeasureError
-from biqsolur.measures import spreads
+from biqsolur.measures import agents, depth, impact, latency, orders, spreads, volatility
 
 if TYPE_CHECKING:
     from biqsolur.bundle import Branch
@@ -43,8 +43,10 @@ class Measure:
         return [name for name in inspect.signature(self.function).parameters][1:]
 
     def unit(self, number: str) -> str:
-        """The unit of one of its numbers, which may have the symbol of a stock behind it; "" where it is not known."""
-        return self.units.get(number, self.units.get(number.split(".")[0], ""))
+        """The unit of one of its numbers, which may have a kind of agents or the symbol of a stock behind it; "" where it is
+        not known."""
+        name = number.split(".")[0]
+        return self.units.get(name) or self.units.get(name.rsplit("_", 1)[0], "")
 
     def compute(self, branch: Branch, **settings: Any) -> dict[str, float]:
         """Its numbers of a branch, by their names. A number that the run does not give is not-a-number. Settings that all
@@ -75,12 +77,35 @@ def measure(function: Callable[..., Any], **units: str) -> Measure:
     return Measure(function.__name__, function, units)
 
 
+BASIS, LENGTH, COUNT, MONEY, LINE = "basis points", "ns", "orders", "0.000001 dollars", "0.0001 dollars a share"
+
 NAMES: dict[str, Measure] = {each.name: each for each in [
-    measure(spreads.quoted_spread, quoted_spread=PRICE, quoted_spread_bps="basis points", two_sided=PART),
-    measure(spreads.effective_spread, effective_spread=PRICE, effective_spread_by_shares=PRICE,
-            effective_spread_bps="basis points"),
+    measure(spreads.quoted_spread, quoted_spread=PRICE, quoted_spread_bps=BASIS, two_sided=PART),
+    measure(spreads.effective_spread, effective_spread=PRICE, effective_spread_by_shares=PRICE, effective_spread_bps=BASIS),
     measure(spreads.realised_spread, realised_spread=PRICE, realised_spread_by_shares=PRICE),
     measure(spreads.price_impact, price_impact=PRICE, price_impact_by_shares=PRICE),
+    measure(depth.displayed_depth, bid_depth=SHARES, ask_depth=SHARES, depth=SHARES),
+    measure(depth.imbalance, imbalance="-1 to 1", imbalance_absolute=PART),
+    measure(depth.order_flow_imbalance, order_flow_slope=LINE, order_flow_r2=PART),
+    measure(depth.resiliency, resiliency=PART, recovery_time=LENGTH),
+    measure(volatility.realised_variance, realised_variance="squared log-returns", realised_volatility_bps=BASIS),
+    measure(volatility.autocorrelation, autocorrelation_returns="-1 to 1", autocorrelation_absolute="-1 to 1",
+            autocorrelation_signs="-1 to 1"),
+    measure(volatility.roll_spread, roll_spread=PRICE),
+    measure(impact.amihud, amihud="a part of the price per million dollars"),
+    measure(impact.kyle_lambda, kyle_lambda=LINE, kyle_r2=PART),
+    measure(orders.order_fates, orders=COUNT, **{f"orders_{fate}": COUNT for fate in orders.FATES}),
+    measure(orders.order_lifetime, order_lifetime=LENGTH, order_lifetime_median=LENGTH),
+    measure(orders.cancel_ratio, cancel_ratio=PART, orders_per_trade="orders a trade"),
+    measure(orders.fill_probability, fill_probability=PART, fill_probability_improving=PART,
+            fill_probability_at_touch=PART, fill_probability_behind=PART),
+    measure(orders.time_to_fill, time_to_fill=LENGTH, time_to_fill_improving=LENGTH, time_to_fill_at_touch=LENGTH,
+            time_to_fill_behind=LENGTH),
+    measure(orders.queue_at_entry, queue_at_entry=SHARES, queue_at_touch=SHARES),
+    measure(agents.profit, profit=MONEY),
+    measure(agents.maker_income, earned=MONEY, lost=MONEY, kept=MONEY),
+    measure(agents.inventory, inventory=SHARES, inventory_most=SHARES),
+    measure(latency.reaction_latency, quote_to_order=LENGTH, order_to_fill=LENGTH, fill_to_report=LENGTH),
 ]}
 
 # Names of R's highfrequency for what a measure here is, or is the mean of.

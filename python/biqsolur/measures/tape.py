@@ -7,7 +7,7 @@ with its event. It is known, and not guessed from prices as by Lee and Ready (19
 
 from __future__ import annotations
 
-from collections.abc import Iterator
+from collections.abc import Callable, Iterator
 from dataclasses import dataclass, field
 from functools import cached_property
 from typing import TYPE_CHECKING
@@ -15,7 +15,7 @@ from typing import TYPE_CHECKING
 import numpy
 import pandas
 
-from biqsolur import layouts, top
+from biqsolur import layouts, times, top
 from biqsolur.errors import MeasureError
 from biqsolur.feed import feed_time
 
@@ -109,7 +109,13 @@ class Tape:
     """The best prices and the trades of a branch, each made once when it is first asked for."""
 
     branch: Branch
-    made: dict[object, object] = field(default_factory=dict)
+    made: dict[str, pandas.DataFrame] = field(default_factory=dict)
+
+    def keep(self, name: str, make: Callable[[Branch], pandas.DataFrame]) -> pandas.DataFrame:
+        """A data frame that a measure makes of the branch, made when it is first asked for."""
+        if name not in self.made:
+            self.made[name] = make(self.branch)
+        return self.made[name]
 
     @cached_property
     def messages(self) -> top.BookMessages:
@@ -119,7 +125,12 @@ class Tape:
     @cached_property
     def tops(self) -> top.Tops:
         """The best prices after each message."""
-        return top.tops(self.messages)
+        return top.tops(self.messages, self.levels)
+
+    @cached_property
+    def levels(self) -> top.Levels:
+        """The open shares of each price level after each message."""
+        return top.level_totals(self.messages)
 
     @cached_property
     def event_times(self) -> numpy.ndarray:
@@ -181,11 +192,11 @@ class Tape:
 
     def window(self, after: int = 0) -> Window:
         """The events numbered above `after`. A branch with fewer events has an empty window at its end."""
-        times = self.event_times
+        moments = self.event_times
         if after < 0:
             raise MeasureError(f"after = {after}: events are numbered from 1, so take 0 or more")
-        end = int(times[-1]) if len(times) else self.opening
-        return Window(after, self.opening if after == 0 else int(times[after - 1]) if after <= len(times) else end, end)
+        end = int(moments[-1]) if len(moments) else self.opening
+        return Window(after, self.opening if after == 0 else int(moments[after - 1]) if after <= len(moments) else end, end)
 
     def stocks(self, stock: int | str | None) -> list[int]:
         """The stocks that a measure takes: the one that is named by its symbol or number, or all of them."""
@@ -215,13 +226,10 @@ def tape_of(branch: Branch) -> Tape:
     return branch.tape
 
 
-def duration(value: int | float | str | pandas.Timedelta, name: str = "horizon") -> int:
-    """A length of time in nanoseconds: from nanoseconds, a Timedelta, or a text such as "5s", "250ms" or "1 min"."""
-    try:
-        length = value if isinstance(value, int) else int(pandas.Timedelta(value).value)
-    except ValueError as error:
-        raise MeasureError(f"{name} = {value!r} is no length of time: write nanoseconds, or a text such as \"5s\"") from error
-    if isinstance(value, bool) or length < 0:
+def duration(value: object, name: str = "horizon") -> int:
+    """A length of time in nanoseconds: from nanoseconds, a Timedelta, or a text such as "5s" or "250ms"."""
+    length = times.duration(value)
+    if length < 0:
         raise MeasureError(f"{name} = {value!r}: take a length of time of 0 or more")
     return length
 
