@@ -1,0 +1,104 @@
+"""The command `explore`: opens a study, serves its page on this machine, and ends with Ctrl-C."""
+
+from __future__ import annotations
+
+import argparse
+import contextlib
+import html
+import os
+import secrets
+import socket
+import sys
+import tempfile
+import threading
+import webbrowser
+from pathlib import Path
+from types import FrameType
+from typing import Iterator
+
+import uvicorn
+
+from biqsolur.errors import InputError
+from biqsolur.explore.engine import Engine
+from biqsolur.explore.model import Explorer
+from biqsolur.explore.server import make_app
+from biqsolur.study import Study
+
+HERE = "127.0.0.1"
+SECONDS_TO_END = 2          # that answers under way get when the explorer ends
+
+
+class Server(uvicorn.Server):
+    """A server that first ends what its answers wait for, when it is to end."""
+
+    explorer: Explorer
+
+    def handle_exit(self, sig: int, frame: FrameType | None) -> None:
+        """Ctrl-C, or the system's wish that this ends."""
+        self.explorer.engine.stop()
+        self.force_exit = self.should_exit
+        self.should_exit = True
+
+
+def make_server(explorer: Explorer, token: str) -> Server:
+    """The server of an explorer, which has not begun."""
+    config = uvicorn.Config(
+        make_app(explorer, token), log_level="critical", access_log=False, server_header=False, date_header=False,
+        lifespan="off", ws="none", timeout_keep_alive=5)
+    server = Server(config)
+    server.explorer = explorer
+    return server
+
+
+def listen(port: int) -> socket.socket:
+    """A socket of this machine alone; port 0 is any that is free."""
+    out = socket.socket()
+    out.setsockopt(socket.SOL_SOCKET, socket.SO_REUSEADDR, 1)
+    try:
+        out.bind((HERE, port))
+    except (OSError, OverflowError) as error:
+        out.close()
+        raise InputError(f"port {port} cannot be used: {error}; leave it out, and a free one is taken") from None
+    out.listen(128)
+    return out
+
+
+@contextlib.contextmanager
+def door(address: str) -> Iterator[Path]:
+    """A file that leads a browser to an address, so that the address with its secret word stands in no command line.
+    Only this user may read it, and it goes at the end."""
+    handle, name = tempfile.mkstemp(prefix="biqsolur-", suffix=".html")
+    with os.fdopen(handle, "w", encoding="utf-8") as file:
+        file.write(f'<!doctype html><meta http-equiv="refresh" content="0;url={html.escape(address, quote=True)}">')
+    try:
+        yield Path(name)
+    finally:
+        Path(name).unlink(missing_ok=True)
+
+
+def main(arguments: argparse.Namespace) -> int:
+    """Serves the explorer of a study until it is told to end."""
+    from biqsolur.program import find_program
+    study = Study.read(arguments.study)
+    engine = Engine(Path(arguments.program) if arguments.program else find_program(), arguments.workers)
+    try:
+        study.check(engine.program)
+        serve(Explorer(study, Path(arguments.study).name, engine), arguments.port, arguments.browser)
+    finally:
+        engine.close()
+    return 0
+
+
+def serve(explorer: Explorer, port: int, browser: bool) -> None:
+    """Serves an explorer, and opens its page where that is wished."""
+    token = secrets.token_urlsafe(24)
+    with listen(port) as listening:
+        address = f"http://{HERE}:{listening.getsockname()[1]}/{token}/"
+        server = make_server(explorer, token)
+        explorer.open()
+        print(f"The explorer of {explorer.name} is at\n    {address}\nfor this machine alone; Ctrl-C ends it.", flush=True)
+        with door(address) as file:
+            if browser:
+                threading.Thread(target=webbrowser.open, args=(file.as_uri(),), daemon=True).start()
+            server.run(sockets=[listening])
+    print("The explorer has ended.", file=sys.stderr)
