@@ -50,25 +50,25 @@ class Engine:
 
     def run(self, text: str, home: Path, progress: Progress | None = None) -> Bundle:
         """The bundle of a study; `home` is the folder from which its series file is looked for."""
-        return read(self._output(text, home, "run", ["--workers", str(self.workers)], progress))
+        return read(self._output(text, home, ["run", "--workers", str(self.workers)], [], progress))
 
     def rewind(self, text: str, home: Path, targets: list[tuple[str, int]]) -> Rewind:
         """The states of these branches after these events."""
         words = [f"{branch}:{event}" for branch, event in targets]
-        path = self._output(text, home, "rewind", words, None)
+        path = self._output(text, home, ["rewind"], words, None)
         rewind = read_rewind(path)
         path.unlink()               # the mapping keeps the bytes
         return rewind
 
-    def _output(self, text: str, home: Path, command: str, more: list[str], progress: Progress | None) -> Path:
-        """A file with what the program writes."""
+    def _output(self, text: str, home: Path, command: list[str], more: list[str], progress: Progress | None) -> Path:
+        """A file with what the program writes. A branch's name may begin with a dash: so `--` ends the options."""
         with self.lock:
             self.count += 1
             stem = self.folder / str(self.count)
-        study, output = stem.with_suffix(".toml"), stem.with_suffix(f".{command}")
+        study, output = stem.with_suffix(".toml"), stem.with_suffix(f".{command[0]}")
         study.write_text(text, "utf-8")
         try:
-            self._process([command, str(study), *more], home, output, progress)
+            self._process([*command, "--", str(study), *more], home, output, progress)
         except BaseException:
             output.unlink(missing_ok=True)
             raise
