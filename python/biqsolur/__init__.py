@@ -31,6 +31,7 @@ HOMES = {
         "StudyNeededError", "StudySyntaxError", "TapeError", "TimeError", "UnknownBranchError", "UnknownSymbolError"), "errors"),
     **dict.fromkeys((
         "AgentParameter", "Edit", "Fee", "Halt", "Inject", "Latency", "Resume", "SeriesOffset", "Silence", "Tick"), "edits"),
+    **dict.fromkeys(("causes", "effects"), "causing"),
     "map": "mapping",
     "Study": "study",
     **dict.fromkeys(("Game", "play"), "playing"),

@@ -22,16 +22,18 @@ import numpy
 
 from biqsolur import layouts
 from biqsolur.bundle import Branch
-from biqsolur.errors import InputError
-from biqsolur.frames import Frames, bytes_at
+from biqsolur.errors import StudyNeededError
+from biqsolur.frames import bytes_at, records_at
 
 OPENING, EDIT, UNKNOWN = 0, -1, -2
 ASKED_AT_ONCE = 64
 Counters = Callable[[list[int]], list[int]]     # of events: the next message's number after each
 
 
-class CauseError(InputError):
-    """A cause that the bundle alone does not tell."""
+def opening_time(branch: Branch) -> int:
+    """The time of a branch's opening, nanoseconds past midnight: that of the System Event with which its feed begins."""
+    head = branch.bundle.frames.records(numpy.array([branch.part.branch + 1]), layouts.FEED_HEAD)[0]
+    return (int(head["time_upper"]) << 32) + int(head["time_lower"])
 
 
 class Senders:
@@ -40,7 +42,7 @@ class Senders:
     Attributes, a row a message, by number: numbers, sender, receiver, letter (of its body), size (of its body, bytes),
     first (the event in which it first stands), delivered (the event in which it is delivered, 0 where it is not), event
     (the one during which it was sent: OPENING where it stood at the opening, EDIT where an edit injected it, UNKNOWN
-    where only the program could tell).
+    where only the program could tell), fork (where an edit injected it, the event after which that edit was made; else 0).
     """
 
     def __init__(self, branch: Branch, counters: Counters | None = None) -> None:
@@ -61,6 +63,7 @@ class Senders:
         events = numpy.flatnonzero(heads["delivery"] == ord("D"))
         self.delivered[self.rows_of(heads["message"][events].astype(numpy.int64))] = events + 1
         self.event = numpy.full(len(self.numbers), UNKNOWN, numpy.int64)
+        self.fork = numpy.zeros(len(self.numbers), numpy.int64)
         self._find()
 
     def rows_of(self, numbers: numpy.ndarray) -> numpy.ndarray:
@@ -91,8 +94,9 @@ class Senders:
         forks, counts = numpy.unique(events, return_counts=True)
         if len(forks) == 0:
             return
-        for last, count in zip(self._counters(forks.tolist()), counts.tolist()):
-            self.event[(self.numbers >= last - count) & (self.numbers < last)] = EDIT
+        for fork, last, count in zip(forks.tolist(), self._counters(forks.tolist()), counts.tolist()):
+            rows = slice(*numpy.searchsorted(self.numbers, [last - count, last]))
+            self.event[rows], self.fork[rows] = EDIT, fork
 
     def _wakeups(self) -> None:
         """A trader's first wakeup stands at the opening; each later one was sent as the one before it was delivered."""
@@ -161,7 +165,7 @@ class Senders:
 
     def _tokens(self, rows: numpy.ndarray, layout: numpy.dtype, times: numpy.ndarray, agents: numpy.ndarray) -> list[bytes]:
         """A key of each message: its time, agent and token."""
-        frames: Frames = self.branch.bundle.frames
+        frames = self.branch.bundle.frames
         table = numpy.zeros((len(rows), 30), numpy.uint8)
         table[:, :8] = numpy.ascontiguousarray(times.astype(">u8")).view(numpy.uint8).reshape(-1, 8)
         table[:, 8:16] = numpy.ascontiguousarray(agents.astype(">u8")).view(numpy.uint8).reshape(-1, 8)
@@ -170,7 +174,6 @@ class Senders:
 
     def _field(self, rows: numpy.ndarray, layout: numpy.dtype, name: str) -> numpy.ndarray:
         """A field of the bodies of these messages."""
-        from biqsolur.frames import records_at
         return records_at(self.branch.bundle.frames.raw, self.bodies[rows], layout)[name].astype(numpy.int64)
 
     def _quotes(self) -> None:
@@ -234,7 +237,7 @@ class Senders:
 
     def _counters(self, events: list[int]) -> list[int]:
         if self.counters is None:
-            raise CauseError(f"which event sent a message of branch {self.branch.name} is told by the program alone, since an "
+            raise StudyNeededError(f"which event sent a message of branch {self.branch.name} is told by the program alone, since an "
                              "edit injected messages: give the study too, as in causes(branch, event, study=study)")
         out = []
         for begin in range(0, len(events), ASKED_AT_ONCE):

@@ -3,25 +3,31 @@
 from __future__ import annotations
 
 from dataclasses import dataclass
+from pathlib import Path, PurePath
 from typing import Any, Callable
 
-import numpy
-
 from biqsolur.explore.changes import BadRequest, wanted
+from biqsolur.explore.compare import compared
 from biqsolur.explore.model import Explorer, Run
 from biqsolur.explore.moment import moment, trader_table
-from biqsolur.explore.rules import rules_at
+from biqsolur.explore.taking import session_script
+from biqsolur.explore.view import View
+from biqsolur.explore.words import sentence
 
 Table = dict[str, Any]
 Words = dict[str, str]
 
 
+CHAIN_DEPTH = 4             # of the causes that the page shows
+MOST_EFFECTS = 60           # messages of one event that it shows
+
+
 @dataclass
 class Download:
-    """A file for the page's user."""
+    """A file for the page's user: its bytes, or where they lie."""
 
     name: str
-    content: bytes
+    content: bytes | Path
     kind: str = "application/octet-stream"
 
 
@@ -135,8 +141,66 @@ def at(explorer: Explorer, words: Words) -> Table:
     return {"event": event, "time": view.time_of(event)}
 
 
+def why(explorer: Explorer, words: Words) -> Table:
+    """The causes of an event as a chain, and what came of it, in words; `waiting`: how many of the messages that it sent
+    had not come up by the end."""
+    run = run_of(explorer, words)
+    view = run.view(words.get("branch", "root"))
+    event = view.check(number(words, "event"))
+    causes = run.causes(view)
+    chain = causes.chain(event, CHAIN_DEPTH)
+    effects = causes.effects(event)
+    return {
+        "causes": [cause_table(view, link.event, link.link, depth) for depth, link in chain],
+        "effects": [cause_table(view, effect["event"] or effect["first"], effect_link(effect, event), 1)
+                    for effect in effects[:MOST_EFFECTS]],
+        "more": max(0, len(effects) - MOST_EFFECTS),
+        "waiting": run.sent_by(view, event) - len(effects),
+    }
+
+
+def cause_table(view: View, event: int, link: str, depth: int) -> Table:
+    """A step of a chain: which event, how it is linked, and its words."""
+    return {"event": event, "time": view.time_of(event), "link": link, "depth": depth, "words": sentence(view, event)}
+
+
+def effect_link(effect: Table, event: int) -> str:
+    """How what an event sent is linked with where it arrived."""
+    return f"its {effect['kind']} in" if effect["event"] else f"its {effect['kind']} was last put back in"
+
+
+def compare(explorer: Explorer, words: Words) -> Table:
+    """A branch beside its parent."""
+    run = run_of(explorer, words)
+    view = run.view(words.get("branch", ""))
+    if view.branch.parent is None:
+        raise BadRequest("the root has no parent")
+    return run.compared(view.branch.name, lambda: compared(view, run.view(view.branch.parent)))
+
+
+def take(explorer: Explorer, words: Words) -> Download:
+    """A file of what is looked at: `what` is study, bundle, report, session or state."""
+    run = run_of(explorer, words)
+    stem = PurePath(explorer.name).stem
+    what = words.get("what", "")
+    if what == "study":
+        return Download(f"{stem}.toml", run.study.to_text().encode(), "application/toml")
+    if what == "bundle":
+        return Download(f"{stem}.bundle", Path(run.bundle.path))
+    if what == "report":
+        return Download(f"{stem}.html", explorer.engine.report(run.bundle), "text/html; charset=utf-8")
+    branch = run.view(words.get("branch", "root")).branch.name
+    event = run.view(branch).check(number(words, "event"))
+    if what == "session":
+        return Download(f"{stem}.session.toml", session_script(explorer.opened, run.study, branch, event).encode(), "application/toml")
+    if what == "state":
+        return Download(f"{stem}.{branch}.{event}.states", run.state_bytes(branch, event))
+    raise BadRequest("what can be taken is study, bundle, report, session or state")
+
+
 QUESTIONS: dict[str, Callable[[Explorer, Words], Any]] = {
-    "status": status, "study": study, "timeline": timeline, "state": state, "find": find, "at": at,
+    "status": status, "study": study, "timeline": timeline, "state": state, "find": find, "at": at, "why": why,
+    "compare": compare, "take": take,
 }
 
 
@@ -162,4 +226,10 @@ def stop(explorer: Explorer, table: Table) -> Table:
     return explorer.status()
 
 
-ACTIONS: dict[str, Callable[[Explorer, Table], Any]] = {"change": change, "step": step, "stop": stop}
+def reopen(explorer: Explorer, table: Table) -> Table:
+    """Runs the study again whose first run failed or was stopped."""
+    explorer.reopen()
+    return explorer.status()
+
+
+ACTIONS: dict[str, Callable[[Explorer, Table], Any]] = {"change": change, "step": step, "stop": stop, "reopen": reopen}

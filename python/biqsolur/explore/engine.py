@@ -3,6 +3,7 @@
 from __future__ import annotations
 
 import os
+import shutil
 import subprocess
 import tempfile
 import threading
@@ -12,7 +13,9 @@ from typing import Callable
 
 from biqsolur.bundle import Bundle, read
 from biqsolur.errors import InputError
+from biqsolur.report import write_report
 from biqsolur.rewind import Rewind, read_rewind
+from biqsolur.why import REFUSED, why
 
 Progress = Callable[[int], None]
 LOOK_AGAIN = 0.02           # seconds between two looks at a run
@@ -32,6 +35,15 @@ class ProgramEnded(InputError):
         self.said = said
 
 
+class Refused(InputError):
+    """A study that the program refuses: the first rule that is broken, its place, and the sentence of `why`."""
+
+    def __init__(self, rule: int, place: int, sentence: str) -> None:
+        super().__init__(f"the study is refused: {sentence}")
+        self.rule = rule
+        self.place = place
+
+
 class Engine:
     """Runs the program in a folder of its own, which goes with `close`.
 
@@ -43,22 +55,58 @@ class Engine:
         self.workers = workers
         self.folder = Path(tempfile.mkdtemp(prefix="biqsolur-explore-"))
         self.lock = threading.Lock()
+        self.reports = threading.Lock()
         self.running: dict[int, subprocess.Popen[bytes]] = {}
         self.stopped: set[int] = set()
         self.closed = False
         self.count = 0
 
-    def run(self, text: str, home: Path, progress: Progress | None = None) -> Bundle:
-        """The bundle of a study; `home` is the folder from which its series file is looked for."""
-        return read(self._output(text, home, ["run", "--workers", str(self.workers)], [], progress))
+    def run(self, text: str, home: Path, name: str, progress: Progress | None = None) -> Bundle:
+        """The bundle of a study; `home` is the folder from which its series file is looked for, `name` is what the
+        bundle is called."""
+        path = self._output(text, home, ["run", "--workers", str(self.workers)], [], progress)
+        folder = path.with_suffix("")
+        folder.mkdir()
+        return read(path.rename(folder / f"{name}.bundle"))
 
     def rewind(self, text: str, home: Path, targets: list[tuple[str, int]]) -> Rewind:
         """The states of these branches after these events."""
-        words = [f"{branch}:{event}" for branch, event in targets]
-        path = self._output(text, home, ["rewind"], words, None)
+        path = self._rewound(text, home, targets)
         rewind = read_rewind(path)
         path.unlink()               # the mapping keeps the bytes
         return rewind
+
+    def rewind_bytes(self, text: str, home: Path, targets: list[tuple[str, int]]) -> bytes:
+        """The same as the program writes it."""
+        path = self._rewound(text, home, targets)
+        data = path.read_bytes()
+        path.unlink()
+        return data
+
+    def _rewound(self, text: str, home: Path, targets: list[tuple[str, int]]) -> Path:
+        return self._output(text, home, ["rewind"], [f"{branch}:{event}" for branch, event in targets], None)
+
+    def report(self, bundle: Bundle) -> Path:
+        """The report of a bundle, a file beside it that is made once."""
+        path = Path(bundle.path).with_suffix(".html")
+        with self.reports:
+            if not path.exists():
+                write_report(bundle.path, path)
+        return path
+
+    def check(self, text: str, home: Path) -> None:
+        """Asks the program whether it accepts a study. Raises Refused where it does not."""
+        try:
+            self._output(text, home, ["check"], [], None).unlink()
+        except ProgramEnded as error:
+            match = REFUSED.search(error.said)
+            if match is None:
+                raise
+            rule, place = int(match[1]), int(match[2])
+            with tempfile.NamedTemporaryFile(dir=self.folder, suffix=".toml") as file:
+                file.write(text.encode())
+                file.flush()
+                raise Refused(rule, place, why(file.name, rule, place)) from None
 
     def _output(self, text: str, home: Path, command: list[str], more: list[str], progress: Progress | None) -> Path:
         """A file with what the program writes. A branch's name may begin with a dash: so `--` ends the options."""
@@ -115,6 +163,4 @@ class Engine:
         with self.lock:
             self.closed = True
         self.stop()
-        for path in sorted(self.folder.glob("*")):
-            path.unlink(missing_ok=True)
-        self.folder.rmdir()
+        shutil.rmtree(self.folder, ignore_errors=True)

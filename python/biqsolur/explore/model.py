@@ -4,15 +4,16 @@ from __future__ import annotations
 
 import threading
 import time
-from pathlib import Path
+from pathlib import Path, PurePath
 from typing import Any, Callable
 
 from biqsolur.bundle import Bundle
+from biqsolur.causing import Causes
 from biqsolur.errors import InputError
 from biqsolur.explore.changes import CHANGES, BadRequest
 from biqsolur.explore.engine import Engine, Stopped
 from biqsolur.explore.people import People
-from biqsolur.explore.states import States
+from biqsolur.explore.states import States, cut_study
 from biqsolur.explore.timeline import Timeline
 from biqsolur.explore.view import View
 from biqsolur.rewind import Rewind, State
@@ -39,15 +40,55 @@ class Run:
         self.study = study
         self.table = study.to_dict()
         self.bundle = bundle
+        bundle.study = study
         self.seconds = seconds
         self.engine = engine
         self.people = People(self.table)
         self.views = {name: View(branch, self.people) for name, branch in bundle.branches.items()}
         self.timelines = {name: Timeline(view) for name, view in self.views.items()}
         self.states = States(self.table, self._ask)
+        self.lock = threading.Lock()
+        self.made: dict[Any, Any] = {}
 
     def _ask(self, cut: Table, targets: list[tuple[str, int]]) -> Rewind:
         return self.engine.rewind(Study.from_dict(cut).to_text(), home_of(self.study), targets)
+
+    def _once(self, key: Any, make: Callable[[], Any]) -> Any:
+        """What is made at the first question and kept; other questions that need one made wait."""
+        with self.lock:
+            if key not in self.made:
+                self.made[key] = make()
+            return self.made[key]
+
+    def causes(self, view: View) -> Causes:
+        """Why the events of a branch came."""
+        name = view.branch.name
+        return self._once(("causes", name), lambda: Causes(view.branch, lambda events: self.counters(name, events)))
+
+    def counters(self, name: str, events: list[int]) -> list[int]:
+        """The next message's number after each of these events, at most 64, of a branch."""
+        rewind = self._ask(cut_study(self.table, name, max(events)), [(name, event) for event in events])
+        return [int(state.closing.counts["next_message"]) for state in rewind.states]
+
+    def sent_by(self, view: View, event: int) -> int:
+        """How many messages an event sent, those that its branch's edits injected right after it left out."""
+        name = view.branch.name
+        after = self.state(name, event).closing.counts["next_message"]
+        if event == 0:
+            return after - self._injected(view, 0)
+        return after - self.state(name, event - 1).closing.counts["next_message"] - self._injected(view, event)
+
+    def _injected(self, view: View, event: int) -> int:
+        edits = view.branch.edits
+        return int(((edits["event"] == event) & (edits["kind"] == "inject")).sum())
+
+    def compared(self, name: str, make: Callable[[], Any]) -> Any:
+        """A branch laid over its parent, made once."""
+        return self._once(("compared", name), make)
+
+    def state_bytes(self, name: str, event: int) -> bytes:
+        """What the program writes of a state of the whole study."""
+        return self.engine.rewind_bytes(self.study.to_text(), home_of(self.study), [(name, event)])
 
     def view(self, name: str) -> View:
         """A branch by its name; UnknownBranchError where there is none."""
@@ -74,6 +115,7 @@ class Explorer:
         self.name = name
         self.engine = engine
         self.lock = threading.RLock()
+        self.opened = study
         self.history: list[tuple[str, Study]] = [("open " + name, study)]
         self.place = 0
         self.tag = 0
@@ -89,6 +131,13 @@ class Explorer:
         """Begins the first run."""
         self._begin(self.history[0][1], self.history[0][0], lambda: None)
 
+    def reopen(self) -> None:
+        """Begins the first run again, where it failed or was stopped."""
+        with self.lock:
+            self._idle()
+            if self.run is None:
+                self.open()
+
     def change(self, kind: str, table: Table) -> None:
         """Begins the run of a changed study, which becomes the version that is looked at once it has ended. Raises
         StudyRefused where the program refuses it, and Busy where another run goes on."""
@@ -97,7 +146,7 @@ class Explorer:
         with self.lock:
             self._idle()
             label, study = CHANGES[kind](self.history[self.place][1], table)
-            study.check(self.engine.program)
+            self.engine.check(study.to_text(), home_of(study))
             self._begin(study, label, lambda: self._append(label, study))
 
     def step(self, by: int) -> None:
@@ -142,7 +191,7 @@ class Explorer:
     def _work(self, study: Study, done: Callable[[], None]) -> None:
         began = time.monotonic()
         try:
-            bundle = self.engine.run(study.to_text(), home_of(study), self._progress)
+            bundle = self.engine.run(study.to_text(), home_of(study), PurePath(self.name).stem, self._progress)
             self._show(Run(study, bundle, time.monotonic() - began, self.engine), done)
         except Stopped as error:
             self.failure = {"error": str(error), "stopped": True}

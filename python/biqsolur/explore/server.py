@@ -10,12 +10,14 @@ from __future__ import annotations
 import json
 import secrets
 from importlib import resources
-from typing import Any, Awaitable, Callable
+from pathlib import Path
+from typing import Any, Callable
+from urllib.parse import quote
 
 from starlette.applications import Starlette
 from starlette.concurrency import run_in_threadpool
 from starlette.requests import Request
-from starlette.responses import Response
+from starlette.responses import FileResponse, Response
 from starlette.routing import Route
 from starlette.types import ASGIApp, Message, Receive, Scope, Send
 
@@ -147,8 +149,10 @@ def served(explorer: Explorer, work: Callable[[], Any]) -> Callable[[], Response
         except OSError as error:
             return said(500, f"the system refused: {error.strerror or error}")
         if isinstance(result, Download):
-            disposition = f'attachment; filename="{result.name}"'
-            return Response(result.content, media_type=result.kind, headers={"content-disposition": disposition})
+            headers = {"content-disposition": f"attachment; filename*=UTF-8''{quote(result.name)}"}
+            if isinstance(result.content, Path):
+                return FileResponse(result.content, media_type=result.kind, headers=headers)
+            return Response(result.content, media_type=result.kind, headers=headers)
         return answer(result)
     return guarded
 

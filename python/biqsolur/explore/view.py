@@ -12,6 +12,7 @@ from biqsolur.bundle import Branch
 from biqsolur.errors import InputError
 from biqsolur.explore.people import People
 from biqsolur.frames import records_at
+from biqsolur.senders import opening_time
 
 SEARCHES = ("trade", "agent", "stock", "difference")
 
@@ -57,9 +58,7 @@ class View:
     @cached_property
     def open(self) -> int:
         """The time of the opening, nanoseconds past midnight."""
-        first = self.branch.bundle.frames.records(
-            numpy.array([self.branch.part.branch + 1]), layouts.FEED_HEAD)[0]
-        return (int(first["time_upper"]) << 32) + int(first["time_lower"])
+        return opening_time(self.branch)
 
     def check(self, event: int) -> int:
         """The event, where the branch has it; 0 is the opening."""
