@@ -47,6 +47,15 @@ def parser() -> argparse.ArgumentParser:
     lobster.add_argument("-o", "--output", metavar="FOLDER", required=True, help="a folder that is not there yet")
     lobster.add_argument("--levels", metavar="N", type=int, default=10, help="levels of the book, 10 where nothing is said")
     lobster.set_defaults(run=run_lobster)
+
+    explore = commands.add_parser("explore", help="a study in the browser: a time line to walk along, to look into and to fork")
+    explore.add_argument("study", metavar="STUDY")
+    explore.add_argument("--port", metavar="N", type=int, default=0, help="of this machine alone; any free one where nothing is said")
+    explore.add_argument("--workers", metavar="N", type=int, default=0,
+                         help="of the program, 1 to 64; one for each processor where nothing is said")
+    explore.add_argument("--program", metavar="PATH", help="the program that is run, where it is not ./abides of the checkout")
+    explore.add_argument("--no-browser", dest="browser", action="store_false", help="print the address, and open no browser")
+    explore.set_defaults(run=run_explore)
     return out
 
 
@@ -79,6 +88,12 @@ def run_lobster(arguments: argparse.Namespace) -> int:
     branch = biqsolur.read(arguments.bundle).branches[arguments.branch]
     biqsolur.to_lobster(arguments.output, branch, arguments.levels)
     return 0
+
+
+def run_explore(arguments: argparse.Namespace) -> int:
+    """The command `explore`."""
+    from biqsolur.explore import command
+    return command.main(arguments)
 
 
 def main(words: list[str] | None = None) -> int:

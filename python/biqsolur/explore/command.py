@@ -14,18 +14,18 @@ import threading
 import webbrowser
 from pathlib import Path
 from types import FrameType
-from typing import Iterator
+from typing import Callable, Iterator
 
 import uvicorn
 
 from biqsolur.errors import InputError
 from biqsolur.explore.engine import Engine
-from biqsolur.explore.model import Explorer
+from biqsolur.explore.model import Explorer, home_of
 from biqsolur.explore.server import make_app
 from biqsolur.study import Study
 
 HERE = "127.0.0.1"
-SECONDS_TO_END = 2          # that answers under way get when the explorer ends
+MOST_WORKERS = 64
 
 
 class Server(uvicorn.Server):
@@ -40,10 +40,10 @@ class Server(uvicorn.Server):
         self.should_exit = True
 
 
-def make_server(explorer: Explorer, token: str) -> Server:
-    """The server of an explorer, which has not begun."""
+def make_server(explorer: Explorer, token: str, opened: Callable[[], None] = lambda: None) -> Server:
+    """The server of an explorer, which has not begun; `opened` is called when the page is asked for."""
     config = uvicorn.Config(
-        make_app(explorer, token), log_level="critical", access_log=False, server_header=False, date_header=False,
+        make_app(explorer, token, opened), log_level="critical", access_log=False, server_header=False, date_header=False,
         lifespan="off", ws="none", timeout_keep_alive=5)
     server = Server(config)
     server.explorer = explorer
@@ -66,7 +66,7 @@ def listen(port: int) -> socket.socket:
 @contextlib.contextmanager
 def door(address: str) -> Iterator[Path]:
     """A file that leads a browser to an address, so that the address with its secret word stands in no command line.
-    Only this user may read it, and it goes at the end."""
+    Only this user may read it, and it goes at its first use, or at the end."""
     handle, name = tempfile.mkstemp(prefix="biqsolur-", suffix=".html")
     with os.fdopen(handle, "w", encoding="utf-8") as file:
         file.write(f'<!doctype html><meta http-equiv="refresh" content="0;url={html.escape(address, quote=True)}">')
@@ -80,13 +80,23 @@ def main(arguments: argparse.Namespace) -> int:
     """Serves the explorer of a study until it is told to end."""
     from biqsolur.program import find_program
     study = Study.read(arguments.study)
-    engine = Engine(Path(arguments.program) if arguments.program else find_program(), arguments.workers)
+    program = Path(arguments.program).absolute() if arguments.program else find_program()
+    engine = Engine(program, workers_wanted(arguments.workers))
     try:
-        study.check(engine.program)
+        engine.check(study.to_text(), home_of(study))
         serve(Explorer(study, Path(arguments.study).name, engine), arguments.port, arguments.browser)
     finally:
         engine.close()
     return 0
+
+
+def workers_wanted(number: int) -> int:
+    """How many workers the program gets: as many as there are processors where nothing is said."""
+    if number == 0:
+        return min(MOST_WORKERS, len(os.sched_getaffinity(0)))
+    if not 1 <= number <= MOST_WORKERS:
+        raise InputError(f"--workers {number}: the program has 1 to {MOST_WORKERS} workers")
+    return number
 
 
 def serve(explorer: Explorer, port: int, browser: bool) -> None:
@@ -94,10 +104,10 @@ def serve(explorer: Explorer, port: int, browser: bool) -> None:
     token = secrets.token_urlsafe(24)
     with listen(port) as listening:
         address = f"http://{HERE}:{listening.getsockname()[1]}/{token}/"
-        server = make_server(explorer, token)
         explorer.open()
         print(f"The explorer of {explorer.name} is at\n    {address}\nfor this machine alone; Ctrl-C ends it.", flush=True)
         with door(address) as file:
+            server = make_server(explorer, token, lambda: file.unlink(missing_ok=True))
             if browser:
                 threading.Thread(target=webbrowser.open, args=(file.as_uri(),), daemon=True).start()
             server.run(sockets=[listening])

@@ -12,6 +12,7 @@ from pathlib import Path
 from typing import Callable
 
 from biqsolur.bundle import Bundle, read
+from biqsolur.command import TUNABLES
 from biqsolur.errors import InputError
 from biqsolur.report import write_report
 from biqsolur.rewind import Rewind, read_rewind
@@ -130,7 +131,7 @@ class Engine:
                 if self.closed:
                     raise Stopped("the explorer ends")
                 process = subprocess.Popen([str(self.program), *words], cwd=home, stdout=out, stderr=said,
-                                           stdin=subprocess.DEVNULL)
+                                           stdin=subprocess.DEVNULL, env={"GLIBC_TUNABLES": TUNABLES, **os.environ})
                 self.running[process.pid] = process
             try:
                 while process.poll() is None:

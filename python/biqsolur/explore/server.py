@@ -157,8 +157,9 @@ def served(explorer: Explorer, work: Callable[[], Any]) -> Callable[[], Response
     return guarded
 
 
-def make_app(explorer: Explorer, token: str) -> ASGIApp:
-    """The server's application; `token` is the secret word with which each address begins."""
+def make_app(explorer: Explorer, token: str, opened: Callable[[], None] = lambda: None) -> ASGIApp:
+    """The server's application; `token` is the secret word with which each address begins, and `opened` is called when
+    the page is asked for."""
     files = page_files()
     kept: dict[str, bytes] = {}
 
@@ -170,6 +171,8 @@ def make_app(explorer: Explorer, token: str) -> ASGIApp:
             return Response(kept[name], media_type=KINDS["js"], headers={"cache-control": "private, max-age=86400"})
         if name not in files:
             return said(404, "there is no such file")
+        if name == "index.html":
+            opened()
         return Response(files[name], media_type=KINDS[name.rsplit(".", 1)[-1]])
 
     async def question(request: Request) -> Response:

@@ -7,6 +7,7 @@ from typing import Any
 
 import numpy
 
+from biqsolur.errors import InputError
 from biqsolur.explore.view import View
 
 MOST_POINTS = 4000          # stretches of one series
@@ -61,6 +62,7 @@ class Timeline:
     def __init__(self, view: View) -> None:
         self.view = view
         self.tops: dict[int, Tops] = {}
+        self.values: dict[int, tuple[numpy.ndarray, numpy.ndarray] | None] = {}
         self.trades: dict[int, tuple[numpy.ndarray, numpy.ndarray, numpy.ndarray]] = {}
 
     def top(self, stock: int) -> Tops:
@@ -96,8 +98,18 @@ class Timeline:
         }
 
     def value(self, stock: int, begin: int, end: int, points: int) -> Table | None:
-        """The value that the stock's traders see (dollars)."""
-        return None
+        """The value that the stock's traders see (dollars); None where it cannot be made, as without the package for it."""
+        if stock not in self.values:
+            try:
+                frame = self.view.branch.value(self.view.symbols[stock])
+                self.values[stock] = (frame["time"].to_numpy(), frame["value"].to_numpy() / 10000)
+            except InputError:
+                self.values[stock] = None
+        kept = self.values[stock]
+        if kept is None:
+            return None
+        times, values = kept
+        return series(times, values, step_rows(times, values, begin, end, points))
 
 
 def volume(times: numpy.ndarray, shares: numpy.ndarray, begin: int, end: int, bars: int) -> Table:
