@@ -26,9 +26,10 @@ HOMES = {
     "Closing": "closing",
     **dict.fromkeys(("dollars", "timedeltas"), "columns"),
     **dict.fromkeys((
-        "BundleError", "CalibrationError", "FactsError", "InputError", "LevelsError", "MissingPackageError", "OuchError",
-        "OutputExistsError", "PlayError", "PolicyError", "PriceError", "ScheduleError", "SeriesError", "StudyError",
-        "StudyNeededError", "StudySyntaxError", "TapeError", "TimeError", "UnknownBranchError", "UnknownSymbolError"), "errors"),
+        "BundleError", "CacheError", "CalibrationError", "FactsError", "InputError", "LevelsError", "MissingPackageError",
+        "OuchError", "OutputExistsError", "PlayError", "PolicyError", "PriceError", "RunError", "ScheduleError", "SeriesError",
+        "StudyError", "StudyNeededError", "StudySyntaxError", "TapeError", "TimeError", "UnknownBranchError",
+        "UnknownSymbolError"), "errors"),
     **dict.fromkeys((
         "AgentParameter", "Edit", "Fee", "Halt", "Inject", "Latency", "Resume", "SeriesOffset", "Silence", "Tick"), "edits"),
     **dict.fromkeys(("causes", "effects"), "causing"),
@@ -39,8 +40,20 @@ HOMES = {
     "to_capture": "capture",
     "to_itch": "itch",
     "to_lobster": "lobster",
-    **dict.fromkeys(("Rewind", "State", "read_rewind"), "rewind"),
-    "read_table": "table",
+    **dict.fromkeys(("Rewind", "State", "read_rewind"), "rewinds"),
+    "read_table": "tables",
+    "find_program": "program",
+    **dict.fromkeys(("audit", "cross", "rewind", "run", "run_bytes", "session", "table"), "running"),
+    **dict.fromkeys(("Cross", "read_cross"), "crosses"),
+    **dict.fromkeys(("Session", "read_session"), "sessions"),
+    **dict.fromkeys(("Close", "Fork", "Replace", "Undo", "Values", "Visit"), "acts"),
+    "Provenance": "provenance",
+    **dict.fromkeys(("agent_names", "edit_words"), "wording"),
+    "CacheWarning": "cache",
+    **dict.fromkeys((
+        "ActRefused", "AuditFailed", "BadBundle", "FileTooLong", "NoSuchBranch", "NoSuchEvent", "NoSuchFile", "NoSuchStock",
+        "OrdersRefused", "OtherProgramError", "OutOfMemory", "ProgramError", "ProgramKilledError", "ProgramMissingError",
+        "ReadFailed", "ScriptRefused", "StudyRefused", "WordsRefused", "WriteFailed"), "statuses"),
 }
 
 # The modules that are used by their own name.

@@ -2,10 +2,11 @@
 
 from __future__ import annotations
 
+import warnings
 from collections.abc import Iterable, Iterator
 from functools import cached_property
 from pathlib import Path
-from typing import Any
+from typing import TYPE_CHECKING, Any
 
 import numpy
 import pandas
@@ -20,8 +21,13 @@ from biqsolur.errors import BundleError, UnknownBranchError
 from biqsolur.frames import Frames, read_frames
 from biqsolur.measures.tape import Tape
 from biqsolur.messages import Sent, Source
-from biqsolur.output import new_folder, plain_name
+from biqsolur.output import new_folder, plain_name, refuse_existing, write_new
+from biqsolur.provenance import Provenance, record_of, record_path
 from biqsolur.top import top_frame
+from biqsolur.wording import names_of_agents, words_of_edits
+
+if TYPE_CHECKING:
+    from biqsolur.study import Study
 
 FRAME_NAMES = ("events", "orders", "replies", "quotes", "feed", "trades", "edits")
 TABLE_START = b"branch,parent,"
@@ -137,11 +143,11 @@ class Branch:
     def edits(self) -> pandas.DataFrame:
         """A row an edit, in order: event (after which it was made), time (ns), branch (a name: an ancestor's edits
         stand here too), index, kind ("tick", "fee", "halt", "resume", "latency", "agent", "silence", "inject",
-        "series"), letter."""
+        "series"), letter; where the study is known also words ("tick of ABM: 5 cents from 0 dollars")."""
         indexes = self._entries_of("d")
         edits = self.bundle.frames.records(indexes, layouts.EDIT)
         names = dict(enumerate(self.bundle.branches))
-        return pandas.DataFrame({
+        frame = pandas.DataFrame({
             "event": columns.small(edits["event"]),
             "time": columns.whole(edits["time"]),
             "branch": numpy.array([names.get(number, str(number)) for number in edits["branch"].tolist()], object),
@@ -149,6 +155,11 @@ class Branch:
             "kind": columns.words(edits["letter"], EDIT_WORDS),
             "letter": columns.letters(edits["letter"], "".join(map(chr, EDIT_WORDS))),
         })
+        study = self.bundle.study
+        if study is not None:
+            words = words_of_edits(study)
+            frame["words"] = numpy.array([words[place] for place in zip(frame["branch"], frame["index"].tolist())], object)
+        return frame
 
     @cached_property
     def closing(self) -> Closing:
@@ -242,9 +253,12 @@ class Bundle:
     Attributes: path, agents (their number, with the exchange), symbols (a list, by number of the stock),
     branches (a dict in the study's order, from name to Branch; an unknown name raises UnknownBranchError),
     tokens (turns numbers of order tokens into texts).
+
+    Where the package ran it, or the record of its run stands beside it, `provenance` and `study` say where it comes from.
     """
 
     def __init__(self, frames: Frames) -> None:
+        self._record: Provenance | None = None
         self.frames = frames
         self.path = frames.path
         self.agents, stocks, parts = bundle_parts(frames)
@@ -257,7 +271,46 @@ class Bundle:
             self.branches[branch.name] = branch
 
     def __repr__(self) -> str:
-        return f"<bundle {self.path!r}: {', '.join(self.branches)}>"
+        known = self._record is not None or record_path(self.path).exists()
+        return f"<bundle {self.path!r}: {', '.join(self.branches)}{'' if known else '; no record of its run'}>"
+
+    @cached_property
+    def provenance(self) -> Provenance | None:
+        """The record of its run; None for a bundle alone. A record beside it that isn't this bundle's is None, and said in a
+        warning."""
+        record = self._record or record_of(self)
+        if isinstance(record, str):
+            warnings.warn(f"{record}; it is left out", stacklevel=3)
+            return None
+        return record
+
+    @cached_property
+    def study(self) -> Study | None:
+        """The study that was run, where that is known; else None."""
+        return None if self.provenance is None else self.provenance.study
+
+    @cached_property
+    def agent_names(self) -> list[str]:
+        """What each agent is called, by its number: "exchange", "maker 1", "noise 2"; without a study "trader 1"."""
+        return names_of_agents(self.study, self.agents)
+
+    def agent_name(self, number: int) -> str:
+        """What an agent is called: its kind and number, such as "maker 1", where the study is known."""
+        return self.agent_names[number] if 0 <= number < self.agents else f"agent {number}"
+
+    def ran_as(self, record: Provenance) -> None:
+        """Takes the record of its run, from who ran it."""
+        self._record = record
+        for name in ("provenance", "study", "agent_names"):
+            self.__dict__.pop(name, None)
+
+    def write(self, path: str | Path) -> None:
+        """Writes the bundle to a file that is not there yet, and the record of its run, where there is one, beside it as
+        NAME.run.json. Raises OutputExistsError."""
+        refuse_existing(record_path(path))
+        write_new(path, self.frames.raw.data)
+        if self.provenance is not None:
+            write_new(record_path(path), self.provenance.to_json().encode())
 
     @cached_property
     def tokens(self) -> Tokens:

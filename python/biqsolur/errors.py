@@ -61,6 +61,14 @@ class OutputExistsError(InputError, FileExistsError):
     """What was to be written is there already. Nothing is ever overwritten."""
 
 
+class RunError(InputError):
+    """What was asked of the program can't be: a number of workers, states to rewind to, orders of a cross, acts of a session."""
+
+
+class CacheError(InputError):
+    """The cache can't be used as it was asked for, and there is no other place for the program's output."""
+
+
 class StudyError(InputError):
     """A study, a change of one, or a value in one, that cannot be: a wrong type, an unknown key, no such entry.
 

@@ -51,8 +51,18 @@ class Frames:
         return records_at(self.raw, self.starts[indexes] + skip, layout)
 
 
-def map_file(path: str | Path) -> numpy.ndarray:
-    """The bytes of a file, mapped into memory where the system can, else read."""
+BYTES_NAME = "(bytes)"        # in place of a path, where bytes were given
+
+
+def name_of(source: str | Path | bytes) -> str:
+    """What a source is called in messages: its path."""
+    return BYTES_NAME if isinstance(source, bytes) else str(source)
+
+
+def map_file(path: str | Path | bytes) -> numpy.ndarray:
+    """The bytes of a file, mapped into memory where the system can, else read; or these bytes themselves."""
+    if isinstance(path, bytes):
+        return numpy.frombuffer(path, numpy.uint8)
     with open(path, "rb") as file:
         try:
             return numpy.frombuffer(mmap.mmap(file.fileno(), 0, access=mmap.ACCESS_READ), numpy.uint8)
@@ -75,8 +85,8 @@ def bytes_at(raw: numpy.ndarray, places: numpy.ndarray, size: int) -> numpy.ndar
     return records_at(raw, places, numpy.dtype((numpy.void, size))).view(numpy.uint8).reshape(len(places), size)
 
 
-def read_frames(path: str | Path) -> Frames:
-    """Maps a file and finds its frames."""
+def read_frames(path: str | Path | bytes) -> Frames:
+    """Maps a file and finds its frames; or finds those of bytes."""
     raw = map_file(path)
     offsets = find_offsets(raw)
     sizes = lengths_at(raw, offsets)
@@ -90,7 +100,7 @@ def read_frames(path: str | Path) -> Frames:
     kinds = numpy.zeros(len(starts), numpy.uint8)
     whole = sizes > 0
     kinds[whole] = raw[starts[whole]]
-    return Frames(str(path), raw, starts, sizes.astype(numpy.uint16), kinds, end)
+    return Frames(name_of(path), raw, starts, sizes.astype(numpy.uint16), kinds, end)
 
 
 def lengths_at(raw: numpy.ndarray, offsets: numpy.ndarray) -> numpy.ndarray:

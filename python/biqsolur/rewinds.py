@@ -2,9 +2,11 @@
 
 from __future__ import annotations
 
+from collections.abc import Iterator
 from dataclasses import dataclass
 from functools import cached_property
 from pathlib import Path
+from typing import TYPE_CHECKING
 
 import numpy
 import pandas
@@ -17,13 +19,18 @@ from biqsolur.columns import Tokens
 from biqsolur.errors import BundleError, InputError
 from biqsolur.frames import Frames, read_frames
 from biqsolur.messages import Source
+from biqsolur.wording import names_of_agents
+
+if TYPE_CHECKING:
+    from biqsolur.study import Study
 
 
 @dataclass
 class State:
     """The state of a branch after an event, with the edits at that event made.
 
-    Attributes: branch (a name), number (of the branch; the root is 0), parent_number (None for the root), event.
+    Attributes: branch (a name), number (of the branch; the root is 0), parent_number (None for the root), event, symbols,
+    agent_names (by number: "exchange", "maker 1"; without a study "trader 1").
     """
 
     branch: str
@@ -34,6 +41,11 @@ class State:
     part: Part
     frames: Frames
     tokens: Tokens
+    agent_names: list[str]
+
+    def agent_name(self, number: int) -> str:
+        """What an agent is called: its kind and number, such as "maker 1", where the study is known."""
+        return self.agent_names[number] if 0 <= number < len(self.agent_names) else f"agent {number}"
 
     @cached_property
     def closing(self) -> Closing:
@@ -85,6 +97,16 @@ class Rewind:
     states: list[State]
     tokens: Tokens
 
+    def __getitem__(self, key: tuple[str, int]) -> State:
+        """The state of (branch, event)."""
+        return self.state(*key)
+
+    def __iter__(self) -> Iterator[State]:
+        return iter(self.states)
+
+    def __len__(self) -> int:
+        return len(self.states)
+
     def state(self, branch: str, event: int) -> State:
         """The state of this branch after this event."""
         for state in self.states:
@@ -94,20 +116,23 @@ class Rewind:
         raise InputError(f"no state {branch}:{event}; there are {known}")
 
 
-def read_rewind(path: str | Path) -> Rewind:
-    """Reads what `rewind` wrote. Raises BundleError where the bytes are none, with the offset and the cause.
+def read_rewind(source: str | Path | bytes, study: Study | None = None) -> Rewind:
+    """Reads what `rewind` wrote, from its file or from these bytes. Raises BundleError where they are none, with the offset
+    and the cause.
 
-    A rewind has no symbols; its stocks are called by their numbers.
+    A rewind has no symbols; its stocks are called by their numbers where the study isn't given.
     """
-    frames = read_frames(path)
+    frames = read_frames(source)
     if len(frames.kinds) and frames.kinds[0] == ord("h"):
         raise BundleError(frames.path, 0, "this is a bundle, which `biqsolur.read` reads")
     tokens = Tokens(frames)
-    states = []
-    for part in rewind_parts(frames):
-        head = frames.records(numpy.array([part.branch]), layouts.BRANCH)[0]
-        number = int(head["branch"])
-        states.append(State(
-            branch_name(frames, part.branch), number, None if number == 0 else int(head["parent"]), int(head["stop"]),
-            [str(stock) for stock in range(part.orders - part.stocks)], part, frames, tokens))
-    return Rewind(frames.path, states, tokens)
+    return Rewind(frames.path, [state_of(frames, part, tokens, study) for part in rewind_parts(frames)], tokens)
+
+
+def state_of(frames: Frames, part: Part, tokens: Tokens, study: Study | None) -> State:
+    """The state of which these are the frames."""
+    head = frames.records(numpy.array([part.branch]), layouts.BRANCH)[0]
+    number, stocks = int(head["branch"]), part.orders - part.stocks
+    symbols = study.symbols if study is not None and len(study.symbols) == stocks else [str(stock) for stock in range(stocks)]
+    return State(branch_name(frames, part.branch), number, None if number == 0 else int(head["parent"]), int(head["stop"]),
+                 symbols, part, frames, tokens, names_of_agents(study, part.waiting - part.agents))

@@ -1,0 +1,246 @@
+"""The cache of bundles: what `biqsolur.run` wrote, found again by study, series file, program and version.
+
+It lies in `$XDG_CACHE_HOME/biqsolur/runs` (`~/.cache/biqsolur/runs` where that is not set). An entry is a bundle with the
+record of its run beside it. Together they have at most `BIQSOLUR_CACHE_BYTES` bytes (2,000,000,000 where nothing is said; 0
+turns the cache off): what was longest not used goes first. A file that is in use stays readable when it goes, since it is
+mapped.
+"""
+
+from __future__ import annotations
+
+import contextlib
+import fcntl
+import hashlib
+import os
+import secrets
+import shutil
+import tempfile
+import time
+import warnings
+import weakref
+from collections.abc import Iterator
+from pathlib import Path
+
+from biqsolur.bundle import Bundle, read
+from biqsolur.errors import BundleError, CacheError
+from biqsolur.provenance import Provenance, record_fault, record_path
+
+LIMIT_NAME = "BIQSOLUR_CACHE_BYTES"
+LIMIT = 2_000_000_000       # bytes
+ENDING = ".bundle"
+PART = ".part"
+warned = False              # whether this process said already that the cache can't be written
+
+
+class CacheWarning(UserWarning):
+    """The cache can't be written; runs go on without it."""
+
+
+def now() -> int:
+    """The time at which an entry is used, in nanoseconds: those of the least go first."""
+    return time.time_ns()
+
+
+def cache_limit() -> int:
+    """How many bytes the cache may have. Raises CacheError where BIQSOLUR_CACHE_BYTES is no number."""
+    text = os.environ.get(LIMIT_NAME, "").strip()
+    if not text:
+        return LIMIT
+    if not text.isascii() or not text.isdigit():
+        raise CacheError(f"{LIMIT_NAME} is {text!r}: give a whole number of bytes, 0 for no cache")
+    return int(text)
+
+
+def cache_folder() -> Path | None:
+    """Where the cache lies, or None where neither XDG_CACHE_HOME nor a home is known."""
+    base = os.environ.get("XDG_CACHE_HOME", "")
+    if os.path.isabs(base):
+        return Path(base) / "biqsolur" / "runs"
+    home = os.path.expanduser("~")
+    return Path(home) / ".cache" / "biqsolur" / "runs" if os.path.isabs(home) else None
+
+
+def key_of(*parts: bytes) -> str:
+    """The key of an entry: a sum over these parts, each with its length before it."""
+    sum_ = hashlib.sha256()
+    for part in parts:
+        sum_.update(len(part).to_bytes(8, "big"))
+        sum_.update(part)
+    return sum_.hexdigest()
+
+
+def entry_path(folder: Path, key: str) -> Path:
+    """Where the bundle of an entry lies; the record of its run lies beside it."""
+    return folder / f"{key}{ENDING}"
+
+
+def kept_bundle(folder: Path, key: str) -> Bundle | None:
+    """The bundle of a key, or None. A damaged entry is taken away."""
+    path = entry_path(folder, key)
+    try:
+        bundle = read(path)
+        fault = record_fault(bundle)
+    except (BundleError, OSError) as error:
+        fault = str(error)
+    if fault is not None:
+        remove_entry(path)
+        return None
+    with contextlib.suppress(OSError):
+        os.utime(path, ns=(now(), now()))
+    return bundle
+
+
+def remove_entry(path: Path) -> None:
+    """Takes an entry away, its record first: without one it is no entry."""
+    for gone in (record_path(path), path):
+        with contextlib.suppress(OSError):
+            gone.unlink()
+
+
+# ---------------------------------------------------------------- a new entry
+
+@contextlib.contextmanager
+def part_file(folder: Path) -> Iterator[tuple[Path, int]]:
+    """A new file that only this run writes, with its descriptor: renamed once it is whole, else nothing of it stays.
+
+    It is locked as long as this process or the program that writes it is there, so that `remove_stale` knows which files
+    nobody writes any more.
+    """
+    while True:
+        path = folder / f"{secrets.token_hex(16)}{PART}"
+        descriptor = os.open(path, os.O_RDWR | os.O_CREAT | os.O_EXCL | os.O_CLOEXEC, 0o600)
+        lock(descriptor)
+        if path.exists():       # else another process took it for a stale one, before it was locked
+            break
+        os.close(descriptor)
+    try:
+        yield path, descriptor
+    finally:
+        os.close(descriptor)
+        path.unlink(missing_ok=True)
+
+
+def lock(descriptor: int) -> bool:
+    """Locks a file where nobody else has it locked; whether that went well. A file system without locks has none."""
+    try:
+        fcntl.flock(descriptor, fcntl.LOCK_EX | fcntl.LOCK_NB)
+    except BlockingIOError:
+        return False
+    except OSError:
+        pass
+    return True
+
+
+def room_for_runs(limit: int) -> Path | None:
+    """The cache's folder, made where it is not there; None where there is to be no cache, or where none can be written."""
+    global warned
+    if limit == 0:
+        return None
+    folder = cache_folder()
+    try:
+        if folder is None:
+            raise OSError("no home is known")
+        folder.mkdir(mode=0o700, parents=True, exist_ok=True)
+        with part_file(folder):
+            return folder
+    except OSError as error:
+        if not warned:
+            warned = True
+            warnings.warn(f"bundles are not kept in the cache: {error}. Set XDG_CACHE_HOME to a folder that may be written, or "
+                          f"{LIMIT_NAME}=0 for no cache", CacheWarning, stacklevel=4)
+        return None
+
+
+def temporary_folder() -> Path:
+    """A folder for runs that are not kept. Raises CacheError where there is none."""
+    try:
+        return Path(tempfile.gettempdir())
+    except OSError as error:
+        raise CacheError(f"there is no folder for the program's output: {error}; set TMPDIR to one that may be written") from None
+
+
+def keep(folder: Path, key: str, part: Path, bundle: Bundle, record: Provenance) -> None:
+    """Makes an entry of a written file, whose bundle was read already. Two that make the same entry write the same bytes."""
+    path = entry_path(folder, key)
+    with part_file(folder) as (beside, descriptor):
+        os.write(descriptor, record.to_json().encode())
+        os.replace(beside, record_path(path))
+    os.utime(part, ns=(now(), now()))
+    os.replace(part, path)
+    bundle.path = bundle.frames.path = str(path)
+
+
+def keep_for_now(part: Path, bundle: Bundle, record: Provenance) -> None:
+    """Gives a written file to its bundle: it is removed with it, at the latest when this process ends."""
+    path = part.with_name(f"biqsolur-{secrets.token_hex(8)}{ENDING}")
+    os.rename(part, path)
+    weakref.finalize(bundle, remove_own, path, os.getpid())
+    bundle.path = bundle.frames.path = str(path)
+    bundle.ran_as(record)
+
+
+def remove_own(path: Path, process: int) -> None:
+    """Removes a file, in the process that made it alone and not in one that was forked off."""
+    if os.getpid() == process:
+        with contextlib.suppress(OSError):
+            path.unlink()
+
+
+# ---------------------------------------------------------------- its size
+
+def entries(folder: Path) -> list[tuple[int, int, Path]]:
+    """(when it was last used, bytes with its record, path of the bundle) of each entry, the longest unused first."""
+    found = []
+    for path in sorted(folder.glob(f"*{ENDING}")) if folder.is_dir() else []:
+        with contextlib.suppress(FileNotFoundError):
+            state = path.stat()
+            beside = record_path(path)
+            found.append((state.st_mtime_ns, state.st_size + (beside.stat().st_size if beside.exists() else 0), path))
+    return sorted(found)
+
+
+def shrink(folder: Path, limit: int) -> None:
+    """Takes entries away, the longest unused first, until all together have at most `limit` bytes."""
+    remove_stale(folder)
+    found = entries(folder)
+    total = sum(size for _, size, _ in found)
+    for _, size, path in found:
+        if total <= limit:
+            return
+        remove_entry(path)
+        total -= size
+
+
+def remove_stale(folder: Path) -> None:
+    """Takes away what killed runs left behind: files that nobody has locked."""
+    for path in folder.glob(f"*{PART}"):
+        with contextlib.suppress(OSError):
+            descriptor = os.open(path, os.O_RDWR | os.O_CLOEXEC)
+            try:
+                if lock(descriptor):
+                    path.unlink(missing_ok=True)
+            finally:
+                os.close(descriptor)
+
+
+def clear(folder: Path) -> tuple[int, int]:
+    """Takes all entries away; gives their number and bytes."""
+    found = entries(folder)
+    shutil.rmtree(folder, ignore_errors=True)
+    return len(found), sum(size for _, size, _ in found)
+
+
+# ---------------------------------------------------------------- the command
+
+def main(action: str) -> int:
+    """The command `cache show` or `cache clear`."""
+    folder = cache_folder()
+    if folder is None:
+        raise CacheError("there is no folder for a cache: neither XDG_CACHE_HOME nor HOME is set to an absolute path")
+    if action == "clear":
+        number, size = clear(folder)
+        print(f"{folder}: {number} bundles, {size:,} bytes removed")
+        return 0
+    found = entries(folder)
+    print(f"{folder}: {len(found)} bundles, {sum(size for _, size, _ in found):,} bytes of at most {cache_limit():,}")
+    return 0

@@ -1,0 +1,511 @@
+"""Running the program: each command as a function, its answer as data frames, and an error of its own for each status.
+
+    bundle = biqsolur.run("examples/tick_size.toml", workers=4)
+    biqsolur.table(study)
+    biqsolur.rewind(study, [("wide", 5000), ("root", 0)])["wide", 5000].closing.orders
+    biqsolur.cross(study, "root", 5000, "ABM", [(3, "B", 500, "50.10")])
+    biqsolur.session(study, [biqsolur.Values("wide"), biqsolur.Undo()])
+    biqsolur.audit(bundle)
+
+A study is a Study, a path, a text of TOML or a dict. The program gets studies, orders and scripts from memory, so nothing is
+written but a bundle, which goes to the cache or to a temporary file, and stands there only once it is whole. An interrupt
+ends the program. All of this may be called from several threads and processes at once.
+"""
+
+from __future__ import annotations
+
+import contextlib
+import os
+import re
+import subprocess
+import time
+from collections.abc import Callable, Iterable, Iterator, Mapping, Sequence
+from dataclasses import dataclass
+from functools import cached_property
+from pathlib import Path
+from typing import TYPE_CHECKING, Any, NamedTuple, Union
+
+from biqsolur.errors import RunError, StudyError
+from biqsolur.program import Program, environment, kit, program_of, version
+from biqsolur.statuses import FORMS, OtherProgramError, ProgramError, StudyRefused, error_of
+
+if TYPE_CHECKING:
+    import pandas
+
+    from biqsolur.acts import Act
+    from biqsolur.bundle import Bundle
+    from biqsolur.crosses import Cross
+    from biqsolur.rewinds import Rewind
+    from biqsolur.sessions import Session
+    from biqsolur.study import Study
+
+AnyStudy = Union["Study", str, "os.PathLike[str]", Mapping[str, Any]]
+AnyProgram = Union[str, "os.PathLike[str]", None]
+
+MOST_WORKERS = 64
+MOST_TARGETS = 64
+MOST_BYTES = 16_777_216         # of a study
+PROGRESS_SECONDS = 0.2          # between two words of progress
+
+
+class Answer(NamedTuple):
+    """What a run of the program ended with: its status (minus a signal's number where one ended it), and what it wrote."""
+
+    status: int
+    stdout: bytes
+    stderr: bytes
+
+
+@dataclass(frozen=True)
+class Counts:
+    """What `check` says of a study: agents with the exchange, stocks, branches with the root, segments."""
+
+    agents: int
+    stocks: int
+    branches: int
+    segments: int
+
+
+@dataclass(frozen=True)
+class Audit:
+    """What `audit` says of a bundle whose closings are those that its feed tells: branches, and displayed orders in all."""
+
+    branches: int
+    orders: int
+
+
+# ---------------------------------------------------------------- the process
+
+def run_bytes(*words: str | os.PathLike[str], program: AnyProgram = None, folder: str | os.PathLike[str] | None = None) -> Answer:
+    """Runs the program with these words as they are, in `folder` (else the working folder), and gives what it wrote.
+
+    No status is an error here. An interrupt ends the program. Raises ProgramMissingError.
+    """
+    return ended(program_of(program), [os.fspath(word) for word in words], folder, subprocess.PIPE)
+
+
+def ended(program: Program, words: list[str], folder: str | os.PathLike[str] | None, output: int,
+          descriptors: Sequence[int] = (), watch: Callable[[], None] | None = None) -> Answer:
+    """Starts the program and waits until it has ended; `watch` is called now and then while it runs.
+
+    output: a descriptor to write to, or subprocess.PIPE. descriptors: those that the program inherits.
+    """
+    process = subprocess.Popen([program.path, *words], stdin=subprocess.DEVNULL, stdout=output, stderr=subprocess.PIPE,
+                               cwd=folder, env=environment(), pass_fds=descriptors)
+    try:
+        while True:
+            try:
+                stdout, stderr = process.communicate(timeout=None if watch is None else PROGRESS_SECONDS)
+                return Answer(process.returncode, stdout or b"", stderr)
+            except subprocess.TimeoutExpired:
+                if watch is not None:
+                    watch()
+    finally:
+        if process.returncode is None:
+            process.kill()
+            process.wait()
+        for pipe in (process.stdout, process.stderr):
+            if pipe is not None:
+                pipe.close()
+
+
+class Words:
+    """The words of a command, of which some are files in memory, under the names that the caller knows them by."""
+
+    def __init__(self, stack: contextlib.ExitStack, *words: str) -> None:
+        self.stack, self.words = stack, list(words)
+        self.descriptors: list[int] = []
+        self.names: dict[str, str] = {}
+
+    def add_file(self, data: bytes, name: str) -> None:
+        """Adds a file with these bytes, which the program reads as it reads any other."""
+        descriptor = os.memfd_create("biqsolur", os.MFD_CLOEXEC)
+        self.stack.callback(os.close, descriptor)
+        view = memoryview(data)
+        while view:
+            view = view[os.write(descriptor, view):]
+        word = f"/proc/self/fd/{descriptor}"
+        self.descriptors.append(descriptor)
+        self.names[word] = name
+        self.words.append(word)
+
+
+# ---------------------------------------------------------------- the study
+
+@dataclass(frozen=True)
+class Given:
+    """A study as the program is to read it.
+
+    data: its bytes. name: its path, or "the study". folder: from where its series file is looked for, None for the working
+    folder. read: whether Python could read it too (the program reads TOML 1.1); else `series` is not known.
+    """
+
+    data: bytes
+    name: str
+    folder: Path | None
+    series: Path | None
+    read: bool
+
+    @cached_property
+    def study(self) -> Study:
+        """The study as an object. Raises StudySyntaxError where Python can't read it."""
+        from biqsolur.study import Study
+        return Study.from_text(self.data.decode("utf-8"), self.folder)
+
+    def known_study(self) -> Study | None:
+        """The same, or None."""
+        with contextlib.suppress(StudyError, UnicodeDecodeError):
+            return self.study
+        return None
+
+    def sentence(self, error: ProgramError) -> str:
+        """The sentence for a refusal of this study."""
+        from biqsolur.study_rules import explain
+        from biqsolur.why import no_toml
+        if not isinstance(error, StudyRefused):
+            return ""
+        if error.rule == 0:
+            return no_toml(self.data)
+        if not self.read:
+            return explain(None, error.rule, error.place)
+        table = self.study.to_dict()
+        if self.series is not None:
+            table["series"] = str(self.series)
+        return explain(table, error.rule, error.place)
+
+
+def given_study(study: AnyStudy) -> Given:
+    """What the program is to read, of a Study, path, text or dict. Raises NoSuchFile or ReadFailed for a path."""
+    from biqsolur.study import Study
+    if isinstance(study, os.PathLike) or isinstance(study, str) and "\n" not in study:
+        return study_of_path(os.fspath(study))
+    if isinstance(study, str):
+        return study_of_data(study.encode(), "the study", None)
+    known = study if isinstance(study, Study) else Study(study)
+    return given_object(known)
+
+
+def given_object(study: Study) -> Given:
+    """What the program is to read of a Study."""
+    return Given(study.to_text().encode(), "the study", study.folder, study.series_path, True)
+
+
+def study_of_path(path: str) -> Given:
+    """What the program is to read of a study's file."""
+    try:
+        with open(path, "rb") as file:
+            data = file.read(MOST_BYTES + 1)
+    except OSError as error:
+        status, line = (3, "no such file") if isinstance(error, FileNotFoundError) else (6, "read failed")
+        raise error_of(status, f"{line}: {path}\n".encode("utf-8", "replace"), [], {}, "") from None
+    return study_of_data(data, path, Path(path))
+
+
+def study_of_data(data: bytes, name: str, path: Path | None) -> Given:
+    """What the program is to read of a study's bytes."""
+    from biqsolur.study import Study, series_folder
+    try:
+        study = Study.from_text(data.decode("utf-8"))
+    except (StudyError, UnicodeDecodeError):
+        return Given(data, name, None, None, False)
+    series = study.to_dict().get("series")
+    folder = series_folder(series, path)
+    return Given(data, name, folder, (folder or Path()) / series if isinstance(series, str) else None, True)
+
+
+def workers_words(workers: int) -> list[str]:
+    """The option of how many workers simulate."""
+    if isinstance(workers, bool) or not isinstance(workers, int) or not 1 <= workers <= MOST_WORKERS:
+        raise RunError(f"workers = {workers!r}: give a whole number from 1 to {MOST_WORKERS}")
+    return ["--workers", str(workers)]
+
+
+# ---------------------------------------------------------------- commands
+
+@contextlib.contextmanager
+def command(name: str, study: AnyStudy, program: AnyProgram, *options: str) -> Iterator[tuple[Call, Words]]:
+    """A command on a study, whose words are completed by the caller."""
+    given = study if isinstance(study, Given) else given_study(study)
+    with contextlib.ExitStack() as stack:
+        words = Words(stack, *options, name, "--")
+        words.add_file(given.data, given.name)
+        yield Call(given, program_of(program), words), words
+
+
+@dataclass
+class Call:
+    """A command on a study, ready to run. subject: the file of which a refusal speaks, where it isn't the study."""
+
+    given: Given
+    program: Program
+    words: Words
+    subject: str | None = None
+    more: Callable[[ProgramError], str] | None = None
+
+    def output(self) -> bytes:
+        """What the program writes. Raises the error of its status."""
+        return self.end(subprocess.PIPE).stdout
+
+    def end(self, output: int, watch: Callable[[], None] | None = None) -> Answer:
+        """Runs it; raises the error of its status."""
+        answer = ended(self.program, self.words.words, self.given.folder, output, [*self.words.descriptors, *of(output)], watch)
+        if answer.status:
+            raise self.error(answer)
+        return answer
+
+    def error(self, answer: Answer) -> ProgramError:
+        """The error of a status."""
+        of_study = answer.status == StudyRefused.STATUS
+        names = self.words.names
+        shown = [names.get(word, word) for word in self.words.words]
+        return error_of(answer.status, answer.stderr, shown, names, str(self.program.path),
+                        self.given.name if of_study else self.subject, self.given.sentence if of_study else self.more)
+
+
+def of(output: int) -> list[int]:
+    """The descriptor of an output that is none of subprocess's own numbers."""
+    return [output] if output >= 0 else []
+
+
+def check(study: AnyStudy, *, program: AnyProgram = None) -> Counts:
+    """Asks whether the program accepts a study; nothing is simulated. Raises StudyRefused with rule, place and sentence."""
+    with command("check", study, program) as (call, _):
+        return Counts(*line_of(call.output(), r"accepted: agents (\d+), stocks (\d+), branches (\d+), segments (\d+)\n", call.program))
+
+
+def line_of(output: bytes, pattern: str, program: Program) -> list[int]:
+    """The numbers of a line that the program writes."""
+    match = re.fullmatch(pattern.encode(), output)
+    if match is None:
+        raise OtherProgramError(f"{program.path} wrote {output[:200]!r}, which no program of this version does")
+    return [int(number) for number in match.groups()]
+
+
+def table(study: AnyStudy, workers: int = 1, *, program: AnyProgram = None) -> pandas.DataFrame:
+    """The comparison table: a row a branch, columns as of `read_table`."""
+    from biqsolur.tables import read_table
+    with command("table", study, program, *workers_words(workers)) as (call, _):
+        return read_table(call.output())
+
+
+def rewind(study: AnyStudy, targets: Iterable[tuple[str, int]], workers: int = 1, *, program: AnyProgram = None) -> Rewind:
+    """The states of branches after events, for 1 to 64 pairs (branch, event) in any order: rewind(...)["wide", 5000].
+
+    Raises NoSuchBranch and NoSuchEvent, and RunError where there are too many pairs or one is none.
+    """
+    from biqsolur.rewinds import read_rewind
+    given = given_study(study)
+    with command("rewind", given, program, *workers_words(workers)) as (call, words):
+        words.words += [target_word(branch, event) for branch, event in pairs_of(targets)]
+        output = call.output()
+    return read_rewind(output, given.known_study())
+
+
+def pairs_of(targets: Iterable[tuple[str, int]]) -> list[tuple[str, int]]:
+    """The pairs of a rewind, each once."""
+    pairs = []
+    for target in targets:
+        if isinstance(target, str) or not isinstance(target, Iterable) or len(pair := tuple(target)) != 2:
+            raise RunError(f"{target!r} is no pair of a branch and an event, as (\"wide\", 5000) is")
+        pairs.append(pair)
+    pairs = list(dict.fromkeys(pairs))
+    if not 1 <= len(pairs) <= MOST_TARGETS:
+        raise RunError(f"there are {len(pairs)} states to rewind to; one rewind has 1 to {MOST_TARGETS}: make several")
+    return pairs
+
+
+def target_word(branch: str, event: int) -> str:
+    """A state as the program's words name it."""
+    from numbers import Integral
+    if not isinstance(event, Integral) or isinstance(event, bool) or not 0 <= event <= 9_999_999:
+        raise RunError(f"{event!r} is no event number: give a whole number from 0 on, 0 for the state before the first event")
+    if not isinstance(branch, str) or "\0" in branch:
+        raise RunError(f"{branch!r} is no branch's name")
+    return f"{branch}:{int(event)}"
+
+
+def cross(study: AnyStudy, branch: str, event: int, symbol: str, orders: object, workers: int = 1, *,
+          program: AnyProgram = None) -> Cross:
+    """At which price a stock would reopen in the state of a branch after an event, if these orders joined its book.
+
+    orders: the path of a file of docs/FORMATS.md#the-file-of-a-cross, its text, a data frame with its columns, or a list of
+    (trader, side, shares, price), (trader, `ouch.Enter`) or `ouch.Enter`. Raises NoSuchBranch, NoSuchEvent, NoSuchStock and
+    OrdersRefused.
+    """
+    from biqsolur.crosses import orders_data, read_cross
+    given, (data, name) = given_study(study), orders_data(orders, symbol)
+    with command("cross", given, program, *workers_words(workers)) as (call, words):
+        words.words += [target_word(branch, event), plain_word(symbol, "symbol")]
+        words.add_file(data, name)
+        call.subject = name
+        output = call.output()
+    return read_cross(output, data, lambda: rewind_of(given, branch, event, workers, program))
+
+
+def rewind_of(given: Given, branch: str, event: int, workers: int, program: AnyProgram) -> Rewind:
+    """The state of a cross."""
+    from biqsolur.rewinds import read_rewind
+    with command("rewind", given, program, *workers_words(workers)) as (call, words):
+        words.words.append(target_word(branch, event))
+        return read_rewind(call.output(), given.known_study())
+
+
+def plain_word(text: object, what: str) -> str:
+    """A text that can be a word of a command."""
+    if not isinstance(text, str) or "\0" in text:
+        raise RunError(f"{text!r} is no {what}")
+    return text
+
+
+def session(study: AnyStudy, script: str | os.PathLike[str] | Iterable[Act], workers: int = 1, *,
+            program: AnyProgram = None) -> Session:
+    """The answers to the acts of a script, over the study's tree of branches: a path, a text of TOML, or a list of acts
+    (`Fork`, `Undo`, `Replace`, `Visit`, `Close`, `Values`). Raises ScriptRefused, ActRefused and NoSuchEvent."""
+    from biqsolur.acts import script_data
+    from biqsolur.sessions import read_session
+    given, (data, name) = given_study(study), script_data(script)
+    with command("session", given, program, *workers_words(workers)) as (call, words):
+        words.add_file(data, name)
+        call.subject = name
+        output = call.output()
+    return read_session(output, data, given.known_study())
+
+
+def audit(bundle: Bundle | str | os.PathLike[str], *, program: AnyProgram = None) -> Audit:
+    """Asks whether each closing of a bundle is what the branch's feed tells. Raises BadBundle and AuditFailed."""
+    which = program_of(program)
+    with contextlib.ExitStack() as stack:
+        words = Words(stack, "audit", "--")
+        add_bundle(words, bundle)
+        answer = ended(which, words.words, None, subprocess.PIPE, words.descriptors)
+        name = words.names.get(words.words[-1], words.words[-1])
+    if answer.status:
+        raise error_of(answer.status, answer.stderr, ["audit", name], words.names, str(which.path), name)
+    return Audit(*line_of(answer.stdout, r"audit ok: branches (\d+), orders (\d+)\n", which))
+
+
+def add_bundle(words: Words, bundle: Bundle | str | os.PathLike[str]) -> None:
+    """Adds a bundle's path; of one whose file is gone, as the cache gave it up, its bytes, which are still mapped."""
+    if isinstance(bundle, (str, os.PathLike)):
+        words.words.append(plain_word(os.fspath(bundle), "path"))
+    elif os.path.exists(bundle.path):
+        words.words.append(bundle.path)
+    else:
+        words.add_file(bundle.frames.raw.data, bundle.path)
+
+
+# ---------------------------------------------------------------- bundles
+
+def run(study: AnyStudy, workers: int = 1, *, program: AnyProgram = None, cache: bool = True,
+        progress: bool | Callable[[int], object] | None = None) -> Bundle:
+    """Runs a study and gives its bundle, with `bundle.provenance` and `bundle.study`.
+
+    workers: 1 to 64 threads, which change no byte. cache: whether the bundle is looked for in the cache and kept there.
+    progress: True for a line on standard error while it runs, or a function that is told every fifth of a second how many
+    bytes of the bundle are written; most come at the end of the simulation. An interrupt ends the program and leaves no file.
+
+    Raises StudyRefused, NoSuchFile (also for a series file), FileTooLong, ReadFailed, WriteFailed, OutOfMemory.
+    """
+    from biqsolur import cache as caches
+    given = given_study(study)
+    options, which = workers_words(workers), program_of(program)
+    limit = caches.cache_limit() if cache and given.read else 0
+    folder = caches.room_for_runs(limit)
+    series = SeriesState(given)
+    key = caches.key_of(given.data, series.sum.encode(), which.sum.encode(), which.found.encode(), version().encode())
+    kept = caches.kept_bundle(folder, key) if folder is not None else None
+    if kept is not None:
+        return kept
+    with command("run", given, program, *options) as (call, _), caches.part_file(folder or caches.temporary_folder()) as place:
+        part, descriptor = place
+        begun, clock = time.time(), time.monotonic()
+        with Progress(progress, descriptor) as watch:
+            call.subject = str(part.parent)
+            call.end(descriptor, watch)
+        bundle = written_bundle(part, which)
+        record = record_of_run(given, series, which, workers, bundle, begun, time.monotonic() - clock)
+        if folder is None or not series.is_unchanged() or len(bundle.frames.raw) > limit:
+            caches.keep_for_now(part, bundle, record)
+        else:
+            caches.keep(folder, key, part, bundle, record)
+            bundle.ran_as(record)
+            caches.shrink(folder, limit)
+    return bundle
+
+
+def written_bundle(part: Path, program: Program) -> Bundle:
+    """The bundle that the program has just written."""
+    from biqsolur.bundle import read
+    from biqsolur.errors import BundleError
+    try:
+        return read(part)
+    except BundleError as error:
+        raise OtherProgramError(f"{program.path} wrote no bundle (at byte {error.offset}: {error.cause}), which no program of "
+                                "this version does") from None
+
+
+def record_of_run(given: Given, series: SeriesState, program: Program, workers: int, bundle: Bundle, begun: float,
+                  seconds: float) -> Any:
+    """The record of a run."""
+    from biqsolur.provenance import Provenance, moment_text, sum_of_bundle
+    return Provenance(
+        given.data.decode("utf-8", "replace"), None if given.folder is None else str(given.folder.absolute()),
+        series.sum or None, version(), kit(), program.sum, program.found, moment_text(begun), round(seconds, 6), workers,
+        len(bundle.frames.raw), sum_of_bundle(bundle))
+
+
+class SeriesState:
+    """A study's series file when the run began: its sum ("" where the study names none, or it can't be read)."""
+
+    def __init__(self, given: Given) -> None:
+        from biqsolur.program import sum_of_file
+        self.path, self.sum = given.series, ""
+        self.state = self.now()
+        if self.path is not None and self.state is not None:
+            with contextlib.suppress(OSError):
+                self.sum = sum_of_file(str(self.path), *self.state)
+
+    def now(self) -> tuple[int, ...] | None:
+        """What tells whether the file was changed."""
+        if self.path is None:
+            return None
+        try:
+            state = os.stat(self.path)
+        except OSError:
+            return None
+        return state.st_mtime_ns, state.st_ctime_ns, state.st_size, state.st_ino, state.st_dev
+
+    def is_unchanged(self) -> bool:
+        """Whether it is as it was, so that the program read what has this sum."""
+        return self.now() == self.state
+
+
+class Progress:
+    """Tells how far a run is: `with Progress(...) as watch` gives what is to be called now and then, or None."""
+
+    def __init__(self, told: bool | Callable[[int], object] | None, descriptor: int) -> None:
+        self.told, self.descriptor, self.begun = told, descriptor, time.monotonic()
+        self.line = ""
+
+    def __enter__(self) -> Callable[[], None] | None:
+        return self.watch if self.told else None
+
+    def __exit__(self, *error: object) -> None:
+        if callable(self.told) and error[0] is None:
+            self.watch()
+        elif self.line:
+            self.write(" " * len(self.line) + "\r")
+
+    def watch(self) -> None:
+        """Tells once."""
+        size = os.fstat(self.descriptor).st_size
+        if callable(self.told):
+            self.told(size)
+        else:
+            self.line = f"abides run: {time.monotonic() - self.begun:.0f} s, {size / 1e6:.1f} MB written"
+            self.write(self.line + "\r")
+
+    def write(self, text: str) -> None:
+        """Writes to standard error."""
+        import sys
+        print(text, end="", file=sys.stderr, flush=True)
