@@ -77,8 +77,9 @@ class Causes:
         if sent == UNKNOWN:
             raise InputError(f"what sent the message of event {event} is told by the program alone: give the study too")
         if sent == EDIT:
-            return [Link(event, INJECTED, int(self.senders.fork[row]))]
-        out = [Link(event, OPENED if sent == OPENING else SENT, sent)]
+            out = [Link(event, INJECTED, int(self.senders.fork[row]))]
+        else:
+            out = [Link(event, OPENED if sent == OPENING else SENT, sent)]
         delivered = head["delivery"] == ord("D")
         if head["body"] == ord("q") and sent > 0:
             out += self._setters(event, sent)
@@ -152,11 +153,11 @@ class Causes:
 
 def counters_of(branch: Branch, study: object) -> Counters | None:
     """What asks the program for counters, where the study is known."""
-    from biqsolur.running import rewind
-    from biqsolur.study import Study
     known = getattr(branch.bundle, "study", None) if study is None else study
     if known is None:
         return None
+    from biqsolur.running import rewind
+    from biqsolur.study import Study
     made = known if isinstance(known, Study) else Study(known)
 
     def ask(events: list[int]) -> list[int]:

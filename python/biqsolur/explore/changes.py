@@ -6,9 +6,12 @@ from typing import Any
 
 from biqsolur.errors import InputError
 from biqsolur.explore.words import clock
+from biqsolur.ouch import Cancel, Enter, Message
+from biqsolur.prices import price
 from biqsolur.study import Study
 
 Table = dict[str, Any]
+KINDS = {str: "a text", int: "a whole number", list: "a list", dict: "a table"}
 
 
 class BadRequest(InputError):
@@ -19,16 +22,35 @@ def wanted(table: Table, name: str, kind: type, default: Any = None) -> Any:
     """A value of what the page sent; BadRequest where it is not there or of another type."""
     value = table.get(name, default)
     if not isinstance(value, kind) or isinstance(value, bool):
-        raise BadRequest(f"{name} is to be {'a text' if kind is str else 'a whole number' if kind is int else 'a list'}")
+        raise BadRequest(f"{name} is to be {KINDS[kind]}")
     return value
 
 
 def edits_in(table: Table) -> list[Table]:
-    """The edits that the page sent: tables, each with a kind."""
+    """The edits that the page sent: tables as a study has them, but that an order may stand in place of its message."""
     edits = wanted(table, "edits", list, [])
     if not all(isinstance(edit, dict) and isinstance(edit.get("kind"), str) for edit in edits):
         raise BadRequest("each edit is a table with a kind")
-    return edits
+    return [with_message(edit) if "order" in edit else edit for edit in edits]
+
+
+def with_message(edit: Table) -> Table:
+    """An edit whose order, a table of texts as the form has them, has become the message of OUCH 4.2."""
+    order = wanted(edit, "order", dict)
+    shares = whole(order, "shares")
+    message: Message = Cancel(wanted(order, "token", str), shares)
+    if order.get("what") != "cancel":
+        message = Enter(wanted(order, "token", str), wanted(order, "side", str), shares, wanted(order, "symbol", str),
+                        price(wanted(order, "price", str)), whole(order, "time_in_force"), display=wanted(order, "display", str))
+    return {name: value for name, value in edit.items() if name != "order"} | {"message": message.hex()}
+
+
+def whole(table: Table, name: str) -> int:
+    """A whole number that the form has as a text."""
+    text = str(table.get(name, "")).replace(",", "").strip()
+    if not (text.isascii() and text.isdigit() and len(text) <= 18):
+        raise BadRequest(f"{name.replace('_', ' ')} is to be a whole number, not {text[:40]!r}")
+    return int(text)
 
 
 def fork(study: Study, table: Table) -> tuple[str, Study]:
