@@ -19,9 +19,8 @@ def parser() -> argparse.ArgumentParser:
     report.add_argument("-o", "--output", metavar="FILE", default="report.html", help="a file that is not there yet")
     report.set_defaults(run=run_report)
 
-    reason = commands.add_parser("why", help="why a study is refused, in a sentence")
-    reason.add_argument("study", metavar="STUDY")
-    reason.add_argument("--program", metavar="PATH", help="the program that is asked, where it is not ./abides of the checkout")
+    reason = commands.add_parser("why", help="what is wrong with a file that was refused, in a sentence")
+    why.add_words(reason)
     reason.set_defaults(run=why.main)
 
     files = commands.add_parser("csv", help="each data frame of each branch as a file of comma-separated values")

@@ -13,6 +13,7 @@ import numpy
 
 from biqsolur import layouts
 from biqsolur.errors import BundleError
+from biqsolur.field_kinds import FEED_FIELDS, OUCH_FIELDS
 from biqsolur.frames import Frames, bytes_at
 
 BLOCK = 1 << 18             # frames whose fields are looked at together, which bounds the memory
@@ -76,14 +77,14 @@ def layouts_of_frames(stocks: int | None) -> Iterator[tuple[str, int, list[tuple
     for count in range(8184) if stocks is None else [stocks]:
         yield "a", 70 + 8 * count, [(3, b"YN")], []
     for letter, layout in layouts.FEED.items():
-        yield letter, layout.itemsize, [], layouts.FEED_FIELDS[letter]
+        yield letter, layout.itemsize, [], FEED_FIELDS[letter]
     for letter, head in [("e", 43), ("w", 22)]:
         for size, (body, message) in layouts.BODIES.items():
             fixed = [(25, b"DP")] if letter == "e" else []
             fixed.append((head - 1, body.encode()))
             if message:
                 fixed.append((head, message.encode()))
-            fields = [(head + offset, length, kind) for offset, length, kind in layouts.OUCH_FIELDS.get(message, [])]
+            fields = [(head + offset, length, kind) for offset, length, kind in OUCH_FIELDS.get(message, [])]
             yield letter, head + size, fixed, fields
 
 

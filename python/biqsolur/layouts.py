@@ -86,26 +86,3 @@ FEED = {
     "S": FEED_SYSTEM, "R": FEED_DIRECTORY, "H": FEED_TRADING, "A": FEED_ADD, "E": FEED_EXECUTED, "X": FEED_CANCEL,
     "D": FEED_DELETE, "P": FEED_TRADE, "Q": FEED_CROSS,
 }
-
-# ---------------------------------------------------------------- fields that are not numbers
-
-# (offset, length, kind) of each field of which not every byte may stand, by letter of the message.
-OUCH_FIELDS = {
-    "O": [(1, 14, "token"), (15, 1, "side"), (20, 8, "text"), (36, 7, "letters"), (47, 2, "letters")],
-    "X": [(1, 14, "token")],
-    "S": [(9, 1, "letters")],
-    "A": [(9, 14, "token"), (23, 1, "side"), (28, 8, "text"), (44, 5, "letters"), (57, 2, "letters"),
-          (63, 1, "letters"), (64, 1, "order state")],
-    "C": [(9, 14, "token"), (27, 1, "letters")],
-    "E": [(9, 14, "token"), (31, 1, "letters")],
-    "J": [(9, 14, "token"), (23, 1, "letters")],
-}
-FEED_FIELDS = {
-    "S": [(11, 1, "letters")],
-    "R": [(11, 8, "text"), (19, 2, "letters"), (25, 9, "letters"), (38, 1, "letters")],
-    "H": [(11, 8, "text"), (19, 1, "trading state"), (20, 5, "letters")],
-    "A": [(19, 1, "side"), (24, 8, "text")],
-    "E": [], "X": [], "D": [],
-    "P": [(19, 1, "side"), (24, 8, "text")],
-    "Q": [(19, 8, "text"), (39, 1, "letters")],
-}

@@ -250,7 +250,7 @@ def test_the_command_passes_on_what_the_program_says(program, tmp_path):
     assert (status, error) == (5, "study refused: rule 26, place 1\n")
     assert out == "agent entry 1 (the second `[[agent]]`): unknown key `sise`; did you mean `size`?\n"
     (tmp_path / "study.toml").unlink()
-    assert ask(program, tmp_path) == (3, "", "no such file: study.toml\n")
+    assert ask(program, tmp_path) == (3, "there is no study.toml\n", "no such file: study.toml\n")
     status, out, error = ask("./nothing", tmp_path)
     assert (status, out) == (1, "") and "cannot be run" in error and "--program" in error
 
