@@ -73,10 +73,7 @@ def program_of(arguments: argparse.Namespace) -> str:
     """The program that is asked."""
     if arguments.program:
         return str(arguments.program)
-    try:
-        from biqsolur.program import find_program
-    except ImportError:
-        return str(Path(__file__).resolve().parent.parent.parent / "abides")
+    from biqsolur.program import find_program
     return str(find_program())
 
 
