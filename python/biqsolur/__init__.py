@@ -57,7 +57,7 @@ HOMES = {
 }
 
 # The modules that are used by their own name.
-MODULES = ("ouch", "values")
+MODULES = ("ouch", "prices", "times", "values")
 
 __all__ = sorted([*HOMES, *MODULES])
 

@@ -35,8 +35,8 @@ def schedule(study: Study, trader: int, orders: Iterable[tuple[object, object]],
     times, without latency. The branches are called NAME-1, NAME-2 and so on; they begin at `parent`, and the last has all
     orders. The study gets version 2.
 
-    The chain is of this study's run: where something else is changed, change it first and make the schedule then.
-    `running` goes to `biqsolur.run` (workers, program). Raises ScheduleError, which says which order is wrong.
+    The chain is of this study's run: where something else is changed, change it first and make the schedule then. An order
+    that is later than the market's end by its limit of events never comes. `running` goes to `biqsolur.run` (workers, program). Raises ScheduleError, which says which order is wrong.
     """
     sends = sorted(sends_of(study, orders), key=itemgetter(0))
     fault = trader_fault(study, trader) or siblings_fault(study, parent)

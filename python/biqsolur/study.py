@@ -23,7 +23,7 @@ from typing import Any
 from biqsolur.edits import Edit, edit_of
 from biqsolur.errors import StudyError, StudySyntaxError
 from biqsolur.fields import Table, plain_table
-from biqsolur.study_changes import changed_table, changed_text, text_with_branches, text_without_branches
+from biqsolur.study_changes import changed_table, changed_text, text_with_agent, text_with_branches, text_without_branches
 from biqsolur.times import clock_text, nanoseconds
 from biqsolur.toml_text import study_text
 
@@ -146,6 +146,20 @@ class Study:
         places, table = changed_table(self._table, path, value)
         text = None if self._text is None else changed_text(self._text, places, table)
         return Study._made(table, text, self.folder)
+
+    def with_agent(self, kind: str, **keys: Any) -> Study:
+        """The study with one more agent entry, behind the others, so that all numbers of traders stay: its traders have the
+        next ones. `keys` are those of an entry in docs/FORMATS.md; where nothing is said, the stock is the first, the group
+        that of the exchange, and the first wakeup is at the open.
+
+            study.with_agent("watcher", every="1s")
+        """
+        table = self._table
+        entry = {"kind": kind, "group": table["exchange"]["group"], "stock": self.symbols[0], "first": table["open"], **keys}
+        made = plain_table("agent", entry, f"agent {len(table['agent'])}")
+        changed = {**table, "agent": [*table["agent"], made]}
+        text = None if self._text is None else text_with_agent(self._text, made, changed)
+        return Study._made(changed, text, self.folder)
 
     def branch(self, name: str, parent: str = "root", after: int | None = None, at: object = None,
                edits: Sequence[Edit | Mapping[str, Any]] = ()) -> Study:

@@ -115,9 +115,31 @@ def text_with_branches(text: str, branches: list[Table], table: Table) -> str | 
     """The text with more branches at its end; None where that isn't possible."""
     if len(table["branch"]) > len(branches) and not BRANCH_HEAD.search(text):
         return None
+    return text_with_sections(text, "branch", branches, table)
+
+
+def text_with_sections(text: str, key: str, entries: list[Table], table: Table) -> str | None:
+    """The text with more tables of an array at its end; None where that isn't possible."""
     end = "\r\n" if "\r\n" in text else "\n"
-    lines = section_lines("branch", branches)
-    return said(text + ("" if text.endswith("\n") else end) + end.join(lines).replace("\r\n", "\n").replace("\n", end) + end, table)
+    lines = "\n".join(section_lines(key, entries)).replace("\n", end)
+    return said(text + ("" if text.endswith("\n") else end) + lines + end, table)
+
+
+def text_with_agent(text: str, entry: Table, table: Table) -> str | None:
+    """The text with one more agent entry behind the others; None where that isn't possible."""
+    if not table.get("branch"):
+        return text_with_sections(text, "agent", [entry], table)
+    try:
+        mark, document = parsed(text)
+        item = tomlkit.table()
+        for key, value in entry.items():
+            item.add(key, tomlkit.value(value_text(value, grouped=GROUPED.search(text) is not None)))
+        item.add(tomlkit.nl())
+        agents: Any = document["agent"]
+        agents.append(item)
+        return said(mark + tomlkit.dumps(document), table)
+    except (TOMLKitError, KeyError, IndexError, TypeError, ValueError):
+        return None
 
 
 def text_without_branches(text: str, numbers: list[int], table: Table) -> str | None:
