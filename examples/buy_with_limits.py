@@ -1,29 +1,25 @@
-"""Buys 10,000 shares in half an hour by limit orders at the bid, and by a schedule of orders that take what is offered."""
+"""Buys 10,000 shares in half an hour: by limit orders at the bid, and by a schedule of orders that take what is offered."""
 from pathlib import Path
 
 import biqsolur
-from biqsolur.ouch import Enter
 
-MARKET = biqsolur.Study.read(Path(__file__).parent / "halt_at.toml").only("root").with_agent("watcher", every="1s")
-BUYER, WANTED, EVERY = len(MARKET.traders), 10_000, biqsolur.times.duration("100s")
-OPEN, CLOSE = (MARKET.to_dict()[key] for key in ("open", "close"))
-TIMES = range(OPEN + EVERY, CLOSE, EVERY)
+MARKET = biqsolur.Study.read(Path(__file__).parent / "halt_at.toml").only("root").with_("events", 50_000)
+MARKET = MARKET.with_agent("watcher", every="5s")
+BUYER, MINUTE = len(MARKET.traders), biqsolur.times.duration("1min")
+TIMES = range(MARKET.to_dict()["open"] + MINUTE, MARKET.to_dict()["close"], MINUTE)
+DUE = [10_000 * number // len(TIMES) for number in range(len(TIMES) + 1)]     # shares to have by each decision
 
 
 def patient(seen):
-    """Keeps to the schedule's pace: waits at the bid for the next part, and takes at the ask what is late."""
-    part = WANTED * seen.decision // len(TIMES)
-    late = max(0, WANTED * (seen.decision - 1) // len(TIMES) - seen.position)
-    orders = [seen.cancel(order) for order in seen.orders] + [seen.buy(part - late - seen.position, seen.book.bid)]
-    return orders + ([seen.buy(late, "51", time_in_force=0)] if late else [])
+    """Waits at the bid for the next part, and takes what was due a minute before; at the last decision takes all."""
+    late = max(0, DUE[seen.decision - 1 if seen.decision < len(TIMES) else -1] - seen.position)
+    orders = [seen.cancel(order) for order in seen.orders] + [seen.buy(late, "51")] * (late > 0)
+    wait = DUE[seen.decision] - seen.position - late
+    return orders + [seen.buy(wait, seen.book.bid)] * (wait > 0)
 
 
-def told(name, study):
-    """Prints what the buyer of a study's last branch got."""
+parts = [(time, biqsolur.ouch.Enter(f"PART{number}", "B", DUE[number + 1] - DUE[number], "ABM", "51"))
+         for number, time in enumerate(TIMES)]
+for name, study in {"limit orders": biqsolur.play(MARKET, BUYER, patient, "1min"), "schedule": MARKET.schedule(BUYER, parts)}.items():
     fills = biqsolur.run(study).branches[study.branches[-1]].replies.query("agent == @BUYER and kind == 'executed'")
     print(f"{name}: {fills.shares.sum()} shares at {(fills.shares * fills.price_dollars).sum() / fills.shares.sum():.4f} dollars")
-
-
-told("limit orders", biqsolur.play(MARKET, BUYER, patient, every=EVERY))
-told("schedule", MARKET.schedule(BUYER, [
-    (time, Enter(f"PART{number}", "B", WANTED // len(TIMES), "ABM", "51")) for number, time in enumerate(TIMES)]))

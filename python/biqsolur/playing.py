@@ -32,14 +32,17 @@ def play(study: Study, trader: int, policy: Policy, every: object = "1s", **sett
     """Plays a policy to the close and gives the study with its orders; its last branch is the run with all of them.
 
     policy: takes an Observation and returns orders (`observation.buy(...)`, `sell`, `cancel`, or `biqsolur.ouch.Enter` and
-    `Cancel`), none of them or None. The settings are those of Game. Raises PlayError, and PolicyError where the policy
-    raises or gives what is no order.
+    `Cancel`), none of them or None. The settings are those of Game. Raises PlayError, also where the market ends before
+    the last decision by its limit of events, and PolicyError where the policy raises or gives what is no order.
     """
     game = Game(study, trader, every, **settings)
     observation = game.observe()
     while observation is not None:
         game.give(asked(policy, observation))
         observation = game.observe()
+    if game.asked < len(game.times):
+        raise PlayError(f"the market ended by its limit of {game.table['events']} events, before decision {game.asked + 1} at "
+                        f"{clock_text(game.times[game.asked])}: raise `events`, or say an earlier `end`")
     return game.study
 
 

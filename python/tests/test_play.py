@@ -261,11 +261,14 @@ def test_a_game_is_a_gym_environment():
 
 
 def test_a_market_that_ends_before():
-    """At its limit of events no decision is left, and a learner is told that it was cut."""
+    """At its limit of events no decision is left: an error, and a learner is told that it was cut."""
     short = MARKET.with_("events", 300)
     recorded = Recorded(lambda observation: None)
-    assert play(short, WATCHER, recorded, every="1s") == short.in_version_2()
+    with pytest.raises(PlayError, match=r"limit of 300 events, before decision \d+ at 9:30:.*`events`.*earlier `end`"):
+        play(short, WATCHER, recorded, every="1s")
     assert 0 < len(recorded.seen) < 11
+    assert play(short, WATCHER, recorded, every="1s", end="9:30:02") == short.in_version_2()
+    recorded.seen = recorded.seen[:-2]
     game = Game(short, WATCHER, "1s")
     game.reset()
     ends = [game.step([])[2:4] for _ in range(len(recorded.seen))]
