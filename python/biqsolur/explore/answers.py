@@ -8,8 +8,9 @@ from typing import Any, Callable
 
 from biqsolur.explore.changes import BadRequest, wanted
 from biqsolur.explore.compare import compared
-from biqsolur.explore.model import Explorer, Run
+from biqsolur.explore.model import Explorer
 from biqsolur.explore.moment import moment, trader_table
+from biqsolur.explore.run import Run
 from biqsolur.explore.taking import session_script
 from biqsolur.explore.view import View
 from biqsolur.explore.words import sentence
@@ -186,13 +187,13 @@ def take(explorer: Explorer, words: Words) -> Download:
     if what == "study":
         return Download(f"{stem}.toml", run.study.to_text().encode(), "application/toml")
     if what == "bundle":
-        return Download(f"{stem}.bundle", Path(run.bundle.path))
+        return Download(f"{stem}.bundle", explorer.engine.bundle_file(run.bundle, stem))
     if what == "report":
-        return Download(f"{stem}.html", explorer.engine.report(run.bundle), "text/html; charset=utf-8")
+        return Download(f"{stem}.html", explorer.engine.report(run.bundle, stem), "text/html; charset=utf-8")
     branch = run.view(words.get("branch", "root")).branch.name
     event = run.view(branch).check(number(words, "event"))
     if what == "session":
-        return Download(f"{stem}.session.toml", session_script(explorer.opened, run.study, branch, event).encode(), "application/toml")
+        return Download(f"{stem}.session.toml", session_script(explorer.history[0][1], run.study, branch, event).encode(), "application/toml")
     if what == "state":
         return Download(f"{stem}.{branch}.{event}.states", run.state_bytes(branch, event))
     raise BadRequest("what can be taken is study, bundle, report, session or state")
@@ -228,7 +229,7 @@ def stop(explorer: Explorer, table: Table) -> Table:
 
 def reopen(explorer: Explorer, table: Table) -> Table:
     """Runs the study again whose first run failed or was stopped."""
-    explorer.reopen()
+    explorer.open()
     return explorer.status()
 
 

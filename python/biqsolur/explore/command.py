@@ -20,8 +20,9 @@ import uvicorn
 
 from biqsolur.errors import InputError
 from biqsolur.explore.engine import Engine
-from biqsolur.explore.model import Explorer, home_of
+from biqsolur.explore.model import Explorer
 from biqsolur.explore.server import make_app
+from biqsolur.program import program_of
 from biqsolur.study import Study
 
 HERE = "127.0.0.1"
@@ -77,16 +78,17 @@ def door(address: str) -> Iterator[Path]:
 
 
 def main(arguments: argparse.Namespace) -> int:
-    """Serves the explorer of a study until it is told to end."""
-    from biqsolur.program import find_program
-    study = Study.read(arguments.study)
-    program = Path(arguments.program).absolute() if arguments.program else find_program()
-    engine = Engine(program, workers_wanted(arguments.workers))
+    """Serves the explorer of a study until it is told to end. A study that cannot be read is told at once; one that is
+    refused is told on the page too, where it can be run again once its file is mended."""
+    path = Path(arguments.study)
+    with open(path, "rb"):
+        pass
+    engine = Engine(program_of(arguments.program).path, workers_wanted(arguments.workers))
+    explorer = Explorer(lambda: Study.read(path), path.name, engine)
     try:
-        engine.check(study.to_text(), home_of(study))
-        serve(Explorer(study, Path(arguments.study).name, engine), arguments.port, arguments.browser)
+        serve(explorer, arguments.port, arguments.browser)
     finally:
-        engine.close()
+        explorer.close()
     return 0
 
 

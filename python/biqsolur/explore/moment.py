@@ -8,7 +8,7 @@ from biqsolur import layouts
 from biqsolur.explore.rules import Table, edits_of, rules_at
 from biqsolur.explore.view import View
 from biqsolur.explore.words import event_table, message_words, money
-from biqsolur.rewind import State
+from biqsolur.rewinds import State
 
 MOST_LEVELS = 40            # of a side that are told; how many there are is told too
 MOST_ORDERS = 200           # of a level that are told one by one

@@ -7,7 +7,7 @@ from collections import OrderedDict
 from typing import Any, Callable
 
 from biqsolur.explore.view import View
-from biqsolur.rewind import Rewind, State
+from biqsolur.rewinds import Rewind, State
 
 MOST_TARGETS = 64           # arguments of one rewind
 BEFORE = 12                 # of the states that are asked for at once, how many lie before the one that is wanted

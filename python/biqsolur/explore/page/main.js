@@ -65,8 +65,10 @@ function showRunning(status) {
   byId("running").hidden = !status.running;
   if (!status.running) return;
   const share = status.share || 0;
-  const rest = share > 0.02 ? `, about ${Math.max(1, Math.round(status.seconds * (1 - share) / share))} more` : "";
-  byId("running-text").textContent = `The program runs: ${status.label}. ${status.seconds.toFixed(0)} seconds so far${rest}.`;
+  const most = status.events ? `, at most ${whole(status.events)} events` : "";
+  const rest = status.seconds > 1 && share > 0 ? `, about ${Math.max(1, Math.round(status.seconds * (1 - share) / share))} more` :
+    `, about ${Math.max(1, Math.round(status.guess))} in all`;
+  byId("running-text").textContent = `The program runs: ${status.label}${most}. ${status.seconds.toFixed(0)} seconds so far${rest}.`;
   byId("running-share").value = share;
 }
 
