@@ -9,6 +9,7 @@ import numpy
 import pandas
 
 from biqsolur.errors import MeasureError
+from biqsolur.measures.agents import study_of
 from biqsolur.measures.registry import Measure, find
 
 if TYPE_CHECKING:
@@ -19,6 +20,8 @@ def compare(bundle: Bundle, wanted: Any, parent: bool = True, **settings: Any) -
     """Each number of each measure of each branch; see `Bundle.compare`."""
     found = [find(each) for each in as_list(wanted)]
     taken_by_none(found, settings)
+    if settings.get("study") is not None:
+        settings["study"] = study_of(next(iter(bundle.branches.values())), settings["study"], "compare")
     rows = []
     for branch in bundle.branches.values():
         other = bundle.branches[branch.parent] if parent and branch.parent is not None else None

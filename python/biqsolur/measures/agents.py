@@ -7,16 +7,15 @@ each side nor the kinds of agents: where they are asked for, the study is given 
 
 from __future__ import annotations
 
-import os
 from collections.abc import Mapping
 from dataclasses import dataclass
-from typing import TYPE_CHECKING, Any
+from typing import TYPE_CHECKING
 
 import numpy
 import pandas
 
 from biqsolur.columns import exact
-from biqsolur.errors import MeasureError
+from biqsolur.errors import MeasureError, StudyNeededError
 from biqsolur.measures.spreads import HORIZON, trade_spreads
 from biqsolur.measures.tape import tape_of
 
@@ -28,22 +27,26 @@ MARKS = ("mid", "last", "value")
 UNKNOWN = "unknown"             # the kind of an agent that no reply has told
 
 
-def study_of(branch: Branch, study: Study | str | os.PathLike[str] | Mapping[str, Any] | None, wanted: str) -> Study:
-    """The study of the branch: the one that is given, or the one that its bundle knows. MeasureError where there is none."""
+def study_of(branch: Branch, study: object, wanted: str) -> Study:
+    """The study of the branch: the one that is given, or the one that its bundle knows. StudyNeededError where there is none,
+    or where it is another one's."""
     from biqsolur.study import Study
 
-    known = study if study is not None else getattr(branch.bundle, "study", None)
+    bundle = branch.bundle
+    known = study if study is not None else getattr(bundle, "study", None)
     if known is None:
-        raise MeasureError(f"{wanted} needs the study, which this bundle does not name: give study=, its path or a Study")
-    return known if isinstance(known, Study) else Study(known)
+        raise StudyNeededError(f"{wanted} needs the study, which {bundle.path} alone does not have: give it as study=, a path or "
+                               "a Study, or make the bundle by biqsolur.run, which keeps the study")
+    made = known if isinstance(known, Study) else Study(known)
+    if made.symbols != bundle.symbols or made.branches != list(bundle.branches) or len(made.traders) + 1 != bundle.agents:
+        raise StudyNeededError(f"{made!r} is not the study of {bundle.path}, which has the stocks {', '.join(bundle.symbols)}, "
+                               f"{bundle.agents - 1} traders and the branches {', '.join(bundle.branches)}")
+    return made
 
 
-def kinds_of(branch: Branch, study: Study) -> dict[int, str]:
-    """The kind of each agent by its number. MeasureError where the study has not as many agents as the bundle."""
-    kinds = {number: kind for number, kind, _ in study.traders}
-    if len(kinds) + 1 != branch.bundle.agents:
-        raise MeasureError(f"this study has {len(kinds)} traders and the bundle {branch.bundle.agents - 1}: give its own study")
-    return kinds | {-1: UNKNOWN}
+def kinds_of(study: Study) -> dict[int, str]:
+    """The kind of each agent by its number."""
+    return {number: kind for number, kind, _ in study.traders} | {-1: UNKNOWN}
 
 
 @dataclass
@@ -89,7 +92,7 @@ def fees_of(branch: Branch, study: Study) -> tuple[numpy.ndarray, numpy.ndarray]
     return added, taken
 
 
-def accounts(branch: Branch, study: Study | str | os.PathLike[str] | Mapping[str, Any] | None = None) -> pandas.DataFrame:
+def accounts(branch: Branch, study: object = None) -> pandas.DataFrame:
     """Each agent's side of each trade: two rows a trade, first of who came, then of who rested. Columns: event, time (ns),
     agent (-1: one whose hidden order traded, and who had not heard of it at the end), stock, shares (bought; below 0 where
     sold), price, cash (what the trade adds to the cash, without fees), position (of the agent in the stock afterwards).
@@ -111,11 +114,11 @@ def accounts(branch: Branch, study: Study | str | os.PathLike[str] | Mapping[str
     return frame
 
 
-def marks_at(branch: Branch, stock: int, time: int, event: int, mark: str) -> int:
-    """Twice the price at which positions of a stock are marked after the events at or before a time (0.0001 dollars)."""
+def doubled_mark(branch: Branch, stock: int, event: int, mark: str, study: Study) -> int:
+    """Twice the price at which positions of a stock are marked after an event (0.0001 dollars)."""
     steps, trades = tape_of(branch).steps[stock], tape_of(branch).trades[stock]
     if mark == "value":
-        return 2 * int(branch.value(branch.symbols[stock], numpy.array([time]))[0])
+        return 2 * int(branch.value_at(branch.symbols[stock], [event], study)[0])
     if mark == "mid":
         known = numpy.flatnonzero(~numpy.isnan(steps.mid[:-1]) & (steps.event <= event))
         if len(known):
@@ -124,7 +127,7 @@ def marks_at(branch: Branch, stock: int, time: int, event: int, mark: str) -> in
     return 2 * int(trades.price[last]) if last >= 0 else 0
 
 
-def profits(branch: Branch, study: Study | str | os.PathLike[str] | Mapping[str, Any] | None = None, *, mark: str = "mid",
+def profits(branch: Branch, study: object = None, *, mark: str = "mid",
             after: int = 0) -> pandas.DataFrame:
     """What each agent has earned behind the event `after`: a row an agent, with agent, kind, cash (what its trades added,
     without fees), fees (paid), marked (what its positions are worth at the end, less what they were at the start) and
@@ -137,19 +140,16 @@ def profits(branch: Branch, study: Study | str | os.PathLike[str] | Mapping[str,
     if mark not in MARKS:
         raise MeasureError(f"mark = {mark!r}: take one of {', '.join(MARKS)}")
     known = study_of(branch, study, "profit")
-    kinds = kinds_of(branch, known)
-    frame = accounts(branch, known)
-    window = tape_of(branch).window(after)
+    frame, kinds = accounts(branch, known), kinds_of(known)
     agents = [*range(1, branch.bundle.agents), *([-1] if (frame.agent == -1).any() else [])]
     late = frame[frame.event > after]
     cash, fees = exact_sums(late.agent, late.cash), exact_sums(late.agent, late.fee)
     marked = dict.fromkeys(agents, 0)
-    last = len(tape_of(branch).event_times)
-    for stock in range(len(branch.symbols)):
-        own = frame[frame.stock == stock]
-        for rows, sign, event, time in [(own[own.event <= after], -1, after, window.start), (own, 1, last, window.end)]:
-            doubled = marks_at(branch, stock, time, event, mark)
-            for agent, position in exact_sums(rows.agent, rows.shares).items():
+    tape_of(branch).window(after)       # which refuses an `after` below 0
+    for sign, event in ((-1, after), (1, len(tape_of(branch).event_times))):
+        for stock, own in frame[frame.event <= event].groupby("stock"):
+            doubled = doubled_mark(branch, stock, event, mark, known)
+            for agent, position in exact_sums(own.agent, own.shares).items():
                 marked[agent] += sign * 50 * doubled * position
     columns = {"cash": [cash.get(agent, 0) for agent in agents], "fees": [fees.get(agent, 0) for agent in agents],
                "marked": [marked[agent] for agent in agents]}
@@ -176,7 +176,7 @@ def by_kind(frame: pandas.DataFrame, kinds: Mapping[int, str], name: str, column
     return numbers
 
 
-def profit(branch: Branch, *, study: Study | str | os.PathLike[str] | Mapping[str, Any] | None = None, mark: str = "mid",
+def profit(branch: Branch, *, study: object = None, mark: str = "mid",
            after: int = 0) -> dict[str, float]:
     """The marked profit of all agents of each kind, after fees (see `profits`), as profit_KIND; profit_exchange has the fees
     of all. They add up to 0, so that profit_exchange is what the agents together have lost.
@@ -186,11 +186,11 @@ def profit(branch: Branch, *, study: Study | str | os.PathLike[str] | Mapping[st
     with the positions and mids at the end and, with ', at the event `after`. In millionths of a dollar.
     """
     frame = profits(branch, study, mark=mark, after=after)
-    kinds = kinds_of(branch, study_of(branch, study, "profit"))
+    kinds = kinds_of(study_of(branch, study, "profit"))
     return by_kind(frame, kinds, "profit", "profit") | {"profit_exchange": float(sum(frame.fees))}
 
 
-def maker_income(branch: Branch, *, study: Study | str | os.PathLike[str] | Mapping[str, Any] | None = None,
+def maker_income(branch: Branch, *, study: object = None,
                  horizon: int | str = HORIZON, after: int = 0) -> dict[str, float]:
     """What resting orders earn on the spread, and what of it they lose to those who know more, by the kind of their agent.
 
@@ -200,7 +200,7 @@ def maker_income(branch: Branch, *, study: Study | str | os.PathLike[str] | Mapp
     + kept. A trade of which the later mid is not known is left out of all three. In millionths of a dollar, without fees.
     Source: Huang and Stoll (1996).
     """
-    kinds = kinds_of(branch, study_of(branch, study, "maker_income"))
+    kinds = kinds_of(study_of(branch, study, "maker_income"))
     frame = trade_spreads(branch, horizon)
     frame["kind"] = branch.trades.resting.map(kinds)
     frame = frame[(frame.event > after) & frame.realised.notna() & frame.impact.notna()]
@@ -210,7 +210,7 @@ def maker_income(branch: Branch, *, study: Study | str | os.PathLike[str] | Mapp
     return numbers
 
 
-def inventory(branch: Branch, *, study: Study | str | os.PathLike[str] | Mapping[str, Any] | None = None,
+def inventory(branch: Branch, *, study: object = None,
               after: int = 0, stock: int | str | None = None) -> dict[str, float]:
     """How much agents hold: for each kind the mean over its agents of the time-weighted mean of the absolute position in the
     stock, as inventory_KIND, and the greatest absolute position of any of them, as inventory_most_KIND. In shares.
@@ -220,7 +220,7 @@ def inventory(branch: Branch, *, study: Study | str | os.PathLike[str] | Mapping
     over the times behind the event `after`.
     """
     tape = tape_of(branch)
-    kinds, window, frame = kinds_of(branch, study_of(branch, study, "inventory")), tape.window(after), accounts(branch)
+    kinds, window, frame = kinds_of(study_of(branch, study, "inventory")), tape.window(after), accounts(branch)
     numbers: dict[str, float] = {}
     for number in tape.stocks(stock):
         held = {kind: [] for kind in dict.fromkeys(kinds.values()) if kind != UNKNOWN}
