@@ -95,7 +95,8 @@ def fees_of(branch: Branch, study: Study) -> tuple[numpy.ndarray, numpy.ndarray]
 def accounts(branch: Branch, study: object = None) -> pandas.DataFrame:
     """Each agent's side of each trade: two rows a trade, first of who came, then of who rested. Columns: event, time (ns),
     agent (-1: one whose hidden order traded, and who had not heard of it at the end), stock, shares (bought; below 0 where
-    sold), price, cash (what the trade adds to the cash, without fees), position (of the agent in the stock afterwards).
+    sold), price, cash (what the trade adds to the cash, without fees), position (of the agent in the stock
+    after the whole trade).
 
     With a study, also fee (what the agent pays; below 0 where it is paid).
     """
@@ -107,7 +108,11 @@ def accounts(branch: Branch, study: object = None) -> pandas.DataFrame:
     frame = pandas.DataFrame({
         "event": columns["event"], "time": columns["time"], "agent": agent, "stock": columns["stock"], "shares": shares,
         "price": columns["price"], "cash": -100 * columns["price"] * shares})
-    frame["position"] = frame.groupby(["agent", "stock"]).shares.cumsum()
+    position = frame.groupby(["agent", "stock"]).shares.cumsum().to_numpy()
+    # Who trades with itself holds between the two rows what it holds behind them.
+    itself = 2 * numpy.flatnonzero(agent[::2] == agent[1::2])
+    position[itself] = position[itself + 1]
+    frame["position"] = position
     if study is not None:
         added, taken = fees_of(branch, study_of(branch, study, "fee"))
         frame["fee"] = numpy.column_stack([taken, added]).ravel()

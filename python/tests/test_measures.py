@@ -1,0 +1,340 @@
+"""Measures against plain loops over random markets of both versions, and the identities that bind them."""
+
+import math
+
+import plain
+import plain_measures
+import pytest
+
+import biqsolur
+from biqsolur import measures
+from biqsolur.errors import InputError, MeasureError, StudyNeededError
+from biqsolur.study import Study
+
+MARKETS = range(40)
+WITH_ORDERS = ("order_fates", "order_lifetime", "cancel_ratio", "fill_probability", "time_to_fill", "queue_at_entry",
+               "reaction_latency")
+OF_AGENTS = ("profit", "maker_income", "inventory")
+
+
+class Measured:
+    """A random market: its study, its bundle, and of the root and the last branch the plain tape."""
+
+    def __init__(self, market):
+        self.entry = market.study
+        self.study = Study(market.study, folder=market.folder)
+        self.bundle = biqsolur.read(market.bundle)
+        told = plain.read_plain(market.bundle.read_bytes())[2]
+        self.tapes = {}
+        for number in {0, len(told) - 1}:
+            branch = list(self.bundle.branches.values())[number]
+            tape = plain_measures.PlainTape(told[number], self.bundle.symbols)
+            self.tapes[branch.name] = (branch, tape, plain_measures.lives(tape))
+        span = market.study["close"] - market.study["open"]
+        self.interval, self.horizon = max(1, span // 40), max(1, span // 60)
+
+    def pairs(self):
+        """(branch, tape, lives, after) for the root from the opening on, and for the last branch from its fork on."""
+        for name, (branch, tape, found) in self.tapes.items():
+            yield branch, tape, found, branch.fork
+
+
+KEPT = {}
+
+
+@pytest.fixture(scope="module")
+def measured(market):
+    """Each market is read once: the last one is kept, as the tests of one market come in a row."""
+    if market.folder not in KEPT:
+        KEPT.clear()
+        KEPT[market.folder] = Measured(market)
+    return KEPT[market.folder]
+
+
+each_market = pytest.mark.parametrize("market", MARKETS, indirect=True)
+
+
+def same(one, two):
+    assert set(one) == set(two)
+    for name, value in one.items():
+        if math.isnan(value) or math.isnan(two[name]):
+            assert math.isnan(value) and math.isnan(two[name]), (name, value, two[name])
+        else:
+            assert value == pytest.approx(two[name], rel=1e-6, abs=1e-9), name
+
+
+def named(branch, stock, numbers):
+    suffix = "" if len(branch.symbols) == 1 else f".{branch.symbols[stock]}"
+    return {f"{name}{suffix}": value for name, value in numbers.items()}
+
+
+@each_market
+def test_measures_are_those_of_plain_loops(measured):
+    for branch, tape, found, after in measured.pairs():
+        for name in set(measures.NAMES) - set(OF_AGENTS):
+            settings = {"after": after, "horizon": measured.horizon, "interval": measured.interval}
+            measure = measures.NAMES[name]
+            own = {key: value for key, value in settings.items() if key in measure.takes}
+            expected = {}
+            for stock in range(len(branch.symbols)):
+                numbers = getattr(plain_measures, name)(tape, stock, **settings, found=found)
+                expected |= named(branch, stock, numbers)
+            same(measure.compute(branch, **own), expected)
+
+
+@each_market
+def test_best_prices_are_those_after_each_event_that_changed_them(measured):
+    for branch, tape, _, _ in measured.pairs():
+        expected = []
+        for stock, moments in enumerate(tape.moments):
+            last = {moment[0]: moment for moment in moments}
+            before = (0, 0, 0, 0)
+            for event, time, _, bids, asks in last.values():
+                now = (*(bids[0] if bids else (0, 0)), *(asks[0] if asks else (0, 0)))
+                if now != before:
+                    expected.append((event, time, stock, *now))
+                before = now
+        found = branch.top()
+        assert list(found.itertuples(index=False, name=None)) == sorted(expected)
+        assert list(found) == ["event", "time", "stock", "bid", "bid_shares", "ask", "ask_shares"]
+
+
+@each_market
+def test_best_prices_are_the_first_level_of_the_book(measured):
+    for branch in measured.bundle.branches.values():
+        book = branch.book(levels=1)
+        book = book[book.event > 0].drop_duplicates(["event", "stock"], keep="last")
+        top = branch.top().set_index(["stock", "event"])
+        for row in book.itertuples():
+            own = top.loc[[row.stock]] if row.stock in top.index.get_level_values(0) else top.iloc[:0]
+            own = own[own.index.get_level_values(1) <= row.event]
+            last = tuple(own.iloc[-1][["bid", "bid_shares", "ask", "ask_shares"]]) if len(own) else (0, 0, 0, 0)
+            assert last == (row.bid_1, row.bid_shares_1, row.ask_1, row.ask_shares_1)
+
+
+@each_market
+def test_effective_is_realised_spread_and_impact_trade_by_trade(measured):
+    for branch, tape, _, _ in measured.pairs():
+        frame = measures.trade_spreads(branch, measured.horizon)
+        assert len(frame) == len(branch.trades) == len(tape.trades)
+        known = frame[frame.realised.notna() & frame.impact.notna()]
+        assert (known.effective == known.realised + known.impact).all()
+        assert frame.index.tolist() == branch.trades.index.tolist() and frame.event.equals(branch.trades.event.astype(int))
+
+
+@each_market
+def test_lives_part_the_orders_and_agree_with_the_closing(measured):
+    for branch, _, found, _ in measured.pairs():
+        frame = measures.lives(branch)
+        assert len(frame) == len(found) == (branch.orders.kind == "enter").sum()
+        for name, key in [("fate", "fate"), ("on_entry", "on_entry"), ("executed", "executed"), ("canceled", "canceled"),
+                          ("open", "open"), ("rested", "rested"), ("first_fill", "first_fill"), ("end", "end"),
+                          ("ahead", "ahead"), ("bid", "bid"), ("ask", "ask"), ("hidden", "hidden")]:
+            assert frame[name].tolist() == [order[key] for order in found], name
+        counts, closing = frame.fate.value_counts(), branch.closing
+        taken = frame[frame.fate.isin(["filled", "canceled", "open"])]
+        assert counts.sum() == len(frame)
+        assert (taken.executed + taken.canceled + taken.open == taken.shares).all()
+        assert counts["ignored"] == closing.counts["ignored_enters"]
+        assert counts["open"] == len(closing.orders) and frame.open.sum() == closing.orders.open.sum()
+        assert len(taken) <= closing.counts["orders"] <= len(taken) + counts["unheard"]
+        known = taken[taken.reference > 0].reference
+        assert known.is_unique and (known <= closing.counts["orders"]).all()
+
+
+@each_market
+def test_who_is_filled_next_has_nobody_before_it(measured):
+    for branch, tape, _, _ in measured.pairs():
+        assert {ahead for _, _, ahead in tape.fills} <= {0}
+        for event, reference, ahead in tape.fills:
+            path = measures.queue_path(branch, reference)
+            fill = path[(path.event == event) & (path.open.diff() < 0)]
+            assert fill.ahead.tolist() == [ahead] == [0]
+            assert path.ahead.is_monotonic_decreasing and path.open.iloc[-1] >= 0
+        frame = measures.lives(branch)
+        for row in frame[frame.ahead >= 0].itertuples():
+            path = measures.queue_path(branch, row.reference)
+            assert (path.event.iloc[0], path.ahead.iloc[0], path.open.iloc[0]) == (row.event, row.ahead, row.rested)
+            assert path.open.iloc[-1] == row.open
+
+
+@each_market
+def test_profits_and_fees_add_up_to_nothing_and_to_the_closing(measured):
+    start = [0] + [entry.get("cash", 0) for entry in measured.entry["agent"] for _ in range(entry.get("count", 1))]
+    for branch, _, _, after in measured.pairs():
+        for since in {0, after}:
+            for mark in ("mid", "last"):
+                frame = measures.profits(branch, measured.study, mark=mark, after=since)
+                assert sum(frame.profit) + sum(frame.fees) == 0
+        whole, closing = measures.profits(branch, measured.study), branch.closing
+        assert sum(whole.fees) == sum(closing.stocks.fees) == branch.trades.fees.sum()
+        if (branch.trades.resting >= 0).all():
+            settled = [cash - first for cash, first in zip(closing.agents.cash[1:], start[1:])]
+            assert settled == [cash - fees for cash, fees in zip(whole.cash, whole.fees)]
+        numbers = measures.NAMES["profit"].compute(branch, study=measured.study)
+        assert set(numbers) >= {f"profit_{entry['kind']}" for entry in measured.entry["agent"]}
+
+
+@each_market
+def test_accounts_end_as_the_closing_has_them(measured):
+    for branch, _, _, _ in measured.pairs():
+        frame = measures.accounts(branch)
+        assert (frame.cash == -100 * frame.price * frame.shares).all() and len(frame) == 2 * len(branch.trades)
+        last = frame[frame.agent >= 0].drop_duplicates(["agent", "stock"], keep="last")
+        for row in last.itertuples():
+            if (branch.trades.resting >= 0).all():
+                assert row.position == branch.closing.agents[f"position_{branch.symbols[row.stock]}"][row.agent]
+
+
+@each_market
+def test_agents_measures_are_those_of_plain_loops(measured):
+    kinds = {number: kind for number, kind, _ in measured.study.traders}
+    for branch, tape, _, after in measured.pairs():
+        income = measures.NAMES["maker_income"].compute(branch, study=measured.study, horizon=measured.horizon, after=after)
+        held = measures.NAMES["inventory"].compute(branch, study=measured.study, after=after)
+        expected = dict.fromkeys((f"{name}_{kind}" for name in ("earned", "lost", "kept") for kind in kinds.values()), 0.0)
+        resting = dict(zip(zip(branch.trades.event, branch.trades.match), branch.trades.resting))
+        matches = iter(resting.values())
+        for trade, agent in zip(tape.trades, matches):
+            effective, realised, impact, shares, _ = plain_measures.spreads(
+                PlainOne(tape, trade), trade[2], 0, measured.horizon)[0]
+            if trade[0] > after and not math.isnan(realised + impact):
+                for name, value in (("earned", effective), ("lost", impact), ("kept", realised)):
+                    key = f"{name}_{kinds.get(agent, 'unknown')}"
+                    expected[key] = expected.get(key, 0.0) + 50 * shares * value
+        same(income, expected)
+        same(held, inventories(branch, tape, kinds, after))
+
+
+class PlainOne:
+    """A tape with one of its trades alone."""
+
+    def __init__(self, tape, trade):
+        self.tape, self.trade = tape, trade
+        self.window, self.before, self.at = tape.window, tape.before, tape.at
+
+    def own_trades(self, stock, after):
+        return [self.trade]
+
+
+def inventories(branch, tape, kinds, after):
+    """Positions summed over each nanosecond of the window, from one trade to the next."""
+    start, end = tape.window(after)
+    numbers = {}
+    for stock in range(len(branch.symbols)):
+        of_kinds = {kind: [] for kind in kinds.values()}
+        for agent, kind in kinds.items():
+            position, time, area, most = 0, start, 0, None
+            for row in branch.trades[branch.trades.stock == stock].itertuples():
+                change = row.shares * ((row.aggressor == agent) - (row.resting == agent)) * (1 if row.side == "B" else -1)
+                if row.event > after:
+                    most = abs(position) if most is None else max(most, abs(position))
+                    area += abs(position) * (row.time - time)
+                    time = row.time
+                position += change
+                most = max(most, abs(position)) if row.event > after else None
+            most = abs(position) if most is None else most
+            area += abs(position) * (end - time)
+            of_kinds[kind].append((area / (end - start) if end > start else float(abs(position)), float(most)))
+        for kind, pairs in of_kinds.items():
+            numbers |= named(branch, stock, {f"inventory_{kind}": sum(mean for mean, _ in pairs) / len(pairs),
+                                             f"inventory_most_{kind}": max(most for _, most in pairs)})
+    return numbers
+
+
+@each_market
+def test_a_comparison_has_each_branch_beside_its_parent_behind_the_fork(measured):
+    wanted = ["effective_spread", {"name": "realised_spread", "horizon": measured.horizon}]
+    frame = measured.bundle.compare(wanted)
+    assert list(frame) == ["branch", "measure", "value", "parent", "difference", "unit"]
+    for name, branch in measured.bundle.branches.items():
+        own = frame[frame.branch == name].set_index("measure")
+        numbers = [measures.find(each).compute(of, after=branch.fork) for each in wanted
+                   for of in (branch, measured.bundle.branches[branch.parent or name])]
+        same(own.value.to_dict(), numbers[0] | numbers[2])
+        if branch.parent is not None:
+            same(own.parent.to_dict(), numbers[1] | numbers[3])
+            same(own.difference.to_dict(), {key: own.value[key] - own.parent[key] for key in own.index})
+        else:
+            assert own.parent.isna().all() and own.difference.isna().all()
+    assert set(frame.unit) <= {"0.0001 dollars", "basis points"}
+
+
+# ---------------------------------------------------------------- naming, settings, and what is refused
+
+@pytest.fixture(scope="module")
+def root(market):
+    return biqsolur.read(market.bundle).branches["root"]
+
+
+one_market = pytest.mark.parametrize("market", [3], indirect=True)
+
+
+@one_market
+def test_measures_are_found_by_each_way_of_naming_them(root, tmp_path):
+    assert measures.find("effectiveSpread") is measures.NAMES["effective_spread"]
+    bound = measures.find({"name": "realized_spread", "horizon": "5ms"})
+    same(bound.compute(root), measures.NAMES["realised_spread"].compute(root, horizon=5_000_000))
+    assert measures.find(len_of_trades).compute(root) == {"len_of_trades": len(root.trades)}
+    (tmp_path / "mine.py").write_text("def both(branch, after=0):\n    return {'trades': len(branch.trades), 'after': after}\n")
+    mine = measures.find("mine.py:both", tmp_path)
+    assert mine.compute(root, after=3, stock=None) == {"trades": len(root.trades), "after": 3}
+    assert mine.unit("trades") == "" and measures.NAMES["profit"].unit("profit_maker") == "0.000001 dollars"
+
+
+def len_of_trades(branch):
+    return len(branch.trades)
+
+
+@one_market
+@pytest.mark.parametrize("wanted, said", [
+    ("no_such", "no measure 'no_such'; there are quoted_spread"), ({"horizon": "1s"}, "has no name"),
+    ({"name": "effective_spread", "horizon": "1s"}, "effective_spread has no setting 'horizon'; it has after, stock"),
+    ("absent.py:profit", "there is no file"), (7, "no measure 7"),
+])
+def test_an_unknown_measure_is_refused(market, wanted, said):
+    with pytest.raises(MeasureError, match=said):
+        measures.find(wanted)
+
+
+@one_market
+@pytest.mark.parametrize("name, settings, said", [
+    ("quoted_spread", {"after": -1}, "take 0 or more"), ("quoted_spread", {"stock": "NONE"}, "no stock 'NONE'"),
+    ("realised_spread", {"horizon": -5}, "horizon = -5"), ("realised_spread", {"horizon": "soon"}, "soon"),
+    ("realised_variance", {"interval": 0}, "interval = 0"), ("displayed_depth", {"levels": 0}, "at least one level"),
+    ("profit", {}, "needs the study"), ("autocorrelation", {"lag": 0}, "take 1 or more"),
+    ("effective_spread", {"colour": 1}, "has no setting 'colour'"),
+])
+def test_a_setting_that_cannot_be_is_refused(root, name, settings, said):
+    with pytest.raises(InputError, match=said):
+        measures.NAMES[name].compute(root, **settings)
+
+
+@one_market
+def test_more_is_refused_in_words(root, market, tmp_path):
+    with pytest.raises(MeasureError, match="none of the measures .* has a setting 'horizon'"):
+        root.bundle.compare("effective_spread", horizon=1)
+    with pytest.raises(MeasureError, match="has no function nothing"):
+        (tmp_path / "mine.py").write_text("other = 1\n")
+        measures.find("mine.py:nothing", tmp_path)
+    with pytest.raises(MeasureError, match="has to answer a number"):
+        measures.find(lambda branch: "much").compute(root)
+    with pytest.raises(MeasureError, match="added no order 987654"):
+        measures.queue_path(root, 987654)
+    with pytest.raises(StudyNeededError, match="is not the study of"):
+        measures.profits(root, Study.read(biqsolur_example("fees.toml")))
+    with pytest.raises(MeasureError, match="take one of mid, last, value"):
+        measures.profits(root, Study(market.study, folder=market.folder), mark="guess")
+
+
+def biqsolur_example(name):
+    from conftest import ROOT
+    return ROOT / "examples" / name
+
+
+@one_market
+def test_what_is_kept_is_given_up(root):
+    assert measures.lives(root) is measures.lives(root)
+    kept = measures.lives(root)
+    root.forget()
+    assert measures.lives(root) is not kept and measures.lives(root).equals(kept)
