@@ -57,7 +57,7 @@ HOMES = {
 }
 
 # The modules that are used by their own name.
-MODULES = ("ouch", "prices", "times", "values")
+MODULES = ("facts", "ouch", "prices", "times", "values")
 
 __all__ = sorted([*HOMES, *MODULES])
 

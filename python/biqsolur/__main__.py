@@ -6,13 +6,14 @@ import argparse
 import sys
 
 import biqsolur
-from biqsolur import missing, why
+from biqsolur import missing, realism_commands, why
 
 
 def parser() -> argparse.ArgumentParser:
     """The words of each command."""
     out = argparse.ArgumentParser(prog="python3 -m biqsolur", description="Reads what the program wrote.")
     commands = out.add_subparsers(dest="command", required=True, metavar="COMMAND")
+    realism_commands.add_commands(commands)
 
     report = commands.add_parser("report", help="one HTML page with the pictures and tables of all branches")
     report.add_argument("bundle", metavar="BUNDLE")
