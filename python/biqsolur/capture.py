@@ -20,7 +20,7 @@ from types import ModuleType
 
 import numpy
 
-from biqsolur import layouts
+from biqsolur import layouts, missing
 from biqsolur.bundle import Branch
 from biqsolur.errors import MissingPackageError
 from biqsolur.output import new_file
@@ -31,8 +31,6 @@ WINDOW = 65_535                 # bytes that each side is ready to take
 UNACKNOWLEDGED = 16_384         # bytes that a side lets come up before it answers without data
 USER, PASSWORD, SESSION = "T{:05d}", "SIMULATED", "BIQSOLUR"
 SYN, FIN, PUSH, ACK = 0x02, 0x01, 0x08, 0x10
-NO_DPKT = ("a capture needs dpkt, a library that makes packets, which this Python ({}) has not: apt-get install python3-dpkt, "
-           "or pip install dpkt")
 
 
 def to_capture(path: str | Path, branch: Branch) -> None:
@@ -50,9 +48,8 @@ def load_dpkt() -> ModuleType:
     """The library that makes packets."""
     try:
         import dpkt
-    except ImportError:
-        import sys
-        raise MissingPackageError(NO_DPKT.format(sys.executable)) from None
+    except ModuleNotFoundError as error:
+        raise MissingPackageError(f"a capture needs dpkt, which makes packets: {missing.advice(error)}") from None
     return dpkt
 
 

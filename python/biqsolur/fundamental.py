@@ -15,14 +15,13 @@ The words are made by `cryptography` (Debian: python3-cryptography), the values 
 from __future__ import annotations
 
 import csv
-import sys
 from collections.abc import Iterable
 from typing import TYPE_CHECKING, Any
 
 import numpy
 import pandas
 
-from biqsolur import columns
+from biqsolur import columns, missing
 from biqsolur.errors import MissingPackageError, StudyNeededError, UnknownSymbolError
 from biqsolur.study import Study
 
@@ -32,8 +31,6 @@ if TYPE_CHECKING:
 LEAST_PRICE, MOST_PRICE = 1, 1_999_999_900
 MILLION = 1_000_000
 FIRST_STREAM = 1 << 33          # of the shocks: stock k draws from stream FIRST_STREAM + k
-NO_CRYPTOGRAPHY = ("the value by a rule needs cryptography, a library that has ChaCha20, which this Python ({}) has not: "
-                   "apt-get install python3-cryptography, or pip install cryptography")
 
 
 def value_frame(branch: Branch, symbol: str, study: object = None) -> pandas.DataFrame:
@@ -150,8 +147,8 @@ def words(key: bytes, stream: int, count: int) -> numpy.ndarray:
     """The first `count` words of 32 bits of a stream of draws. Raises MissingPackageError."""
     try:
         from cryptography.hazmat.primitives.ciphers import Cipher, algorithms
-    except ImportError:
-        raise MissingPackageError(NO_CRYPTOGRAPHY.format(sys.executable)) from None
+    except ModuleNotFoundError as error:
+        raise MissingPackageError(f"a value by a rule needs cryptography, which has ChaCha20: {missing.advice(error)}") from None
     start = bytes(8) + stream.to_bytes(8, "little")         # the counter, then the nonce
     cipher = Cipher(algorithms.ChaCha20(key, start), mode=None)
     return numpy.frombuffer(cipher.encryptor().update(bytes(4 * count)), "<u4")

@@ -10,6 +10,7 @@ EXTRAS = {
     **dict.fromkeys(("scipy", "tqdm", "yaml", "snakemake"), "sweep"),
     **dict.fromkeys(("starlette", "uvicorn"), "explore"),
     "dpkt": "capture",
+    "cryptography": "value",
 }
 DEBIAN = {"snakemake": "snakemake"}
 

@@ -270,3 +270,14 @@ def test_a_study_with_other_offsets(priced):
         return
     with pytest.raises(StudyNeededError, match="don't come to the one with which"):
         branch.value(edit["stock"], study=other)
+
+
+def test_a_bundle_that_the_package_ran_knows_its_study(priced):
+    study, folder, _, bundle = priced
+    ran = biqsolur.run(biqsolur.Study(study, folder))
+    for name, branch in ran.branches.items():
+        for symbol in bundle.symbols:
+            assert branch.value(symbol).equals(bundle.branches[name].value(symbol, study=folder / "study.toml"))
+            events = branch.events.number[:20]
+            assert branch.value_at(symbol, events).tolist() == bundle.branches[name].value_at(
+                symbol, events, study=biqsolur.Study(study, folder)).tolist()
