@@ -46,7 +46,6 @@ HOMES = {
     **dict.fromkeys(("audit", "cross", "rewind", "run", "run_bytes", "session", "table"), "running"),
     **dict.fromkeys(("Cross", "read_cross"), "crosses"),
     **dict.fromkeys(("Session", "read_session"), "sessions"),
-    **dict.fromkeys(("Close", "Fork", "Replace", "Undo", "Values", "Visit"), "acts"),
     "Provenance": "provenance",
     **dict.fromkeys(("agent_names", "edit_words"), "wording"),
     "CacheWarning": "cache",
@@ -57,7 +56,7 @@ HOMES = {
 }
 
 # The modules that are used by their own name.
-MODULES = ("facts", "ouch", "prices", "times", "values")
+MODULES = ("acts", "facts", "ouch", "prices", "times", "values")
 
 __all__ = sorted([*HOMES, *MODULES])
 

@@ -56,6 +56,10 @@ def parser() -> argparse.ArgumentParser:
     explore.add_argument("--program", metavar="PATH", help="the program that is run, where it is not ./abides of the checkout")
     explore.add_argument("--no-browser", dest="browser", action="store_false", help="print the address, and open no browser")
     explore.set_defaults(run=run_explore)
+
+    kept = commands.add_parser("cache", help="the bundles that were run before and are kept: how many, or take them away")
+    kept.add_argument("action", choices=("show", "clear"))
+    kept.set_defaults(run=run_cache)
     return out
 
 
@@ -94,6 +98,12 @@ def run_explore(arguments: argparse.Namespace) -> int:
     """The command `explore`."""
     from biqsolur.explore import command
     return command.main(arguments)
+
+
+def run_cache(arguments: argparse.Namespace) -> int:
+    """The command `cache`."""
+    from biqsolur import cache
+    return cache.main(arguments.action)
 
 
 def main(words: list[str] | None = None) -> int:

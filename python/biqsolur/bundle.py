@@ -164,7 +164,8 @@ class Branch:
     @cached_property
     def closing(self) -> Closing:
         """What stands at the end."""
-        return read_closing(self.bundle.frames, self.part, self.bundle.tokens, self.symbols)
+        names = self.bundle.agent_names if self.bundle.study is not None else None
+        return read_closing(self.bundle.frames, self.part, self.bundle.tokens, self.symbols, names)
 
     def book(self, levels: int = 10) -> pandas.DataFrame:
         """The displayed book after each feed message of a stock, from the feed alone: no hidden order is in it.

@@ -67,13 +67,22 @@ def field_faults(table: numpy.ndarray, fields: list[tuple[int, int, str]]) -> nu
     return bad
 
 
-def layouts_of_frames(stocks: int | None) -> Iterator[tuple[str, int, list[tuple[int, int, bytes]], list]]:
+# Frames of what a cross or a session writes, which no bundle has: size, fields.
+SPECIAL = {
+    "f": (layouts.CROSS_PART.itemsize, [(1, 1, "side")]), "k": (layouts.CROSS_PRICE.itemsize, []),
+    "v": (layouts.VALUE.itemsize, []),
+}
+
+
+def layouts_of_frames(stocks: int | None, special: str = "") -> Iterator[tuple[str, int, list[tuple[int, int, bytes]], list]]:
     """Each kind of frame of fixed size: letter, size, bytes that stand at an offset (offset, those allowed), fields."""
     yield "h", 9, [(1, b"\0"), (2, b"\1")], []
     for letter, size in [("d", 18), ("c", 66), ("s", 44), ("z", 3)]:
         yield letter, size, [], []
     for letter in LIVE_ORDERS:
         yield letter, 44, [], [(25, 1, "side")]
+    for letter in special:
+        yield letter, SPECIAL[letter][0], [], SPECIAL[letter][1]
     for count in range(8184) if stocks is None else [stocks]:
         yield "a", 70 + 8 * count, [(3, b"YN")], []
     for letter, layout in layouts.FEED.items():
@@ -88,25 +97,26 @@ def layouts_of_frames(stocks: int | None) -> Iterator[tuple[str, int, list[tuple
             yield letter, head + size, fixed, fields
 
 
-def first_bad_frame(frames: Frames) -> int:
-    """The index of the first frame that is none of the formats; their number where there is none such."""
+def first_bad_frame(frames: Frames, special: str = "") -> int:
+    """The index of the first frame that is none of the formats, with the special ones of these letters; their number where
+    there is none such."""
     stocks = None
     if len(frames.starts) and frames.kinds[0] == ord("h") and frames.sizes[0] == 9:
         stocks = int(frames.records(numpy.array([0]), layouts.HEADER)["stocks"][0])
     for start in range(0, len(frames.starts), BLOCK):
-        bad = bad_frames(frames, start, min(start + BLOCK, len(frames.starts)), stocks)
+        bad = bad_frames(frames, start, min(start + BLOCK, len(frames.starts)), stocks, special)
         if bad.any():
             return start + int(bad.argmax())
     return len(frames.starts)
 
 
-def bad_frames(frames: Frames, start: int, end: int, stocks: int | None) -> numpy.ndarray:
+def bad_frames(frames: Frames, start: int, end: int, stocks: int | None, special: str = "") -> numpy.ndarray:
     """For each frame from `start` to `end` whether it is none of the formats."""
     kinds = frames.kinds[start:end]
     sizes = frames.sizes[start:end]
     bad = numpy.ones(end - start, bool)
     present = set(numpy.unique(kinds.astype(numpy.uint32) << 16 | sizes).tolist())
-    for letter, size, fixed, fields in layouts_of_frames(stocks):
+    for letter, size, fixed, fields in layouts_of_frames(stocks, special):
         if ord(letter) << 16 | size not in present:
             continue
         rows = numpy.flatnonzero((kinds == ord(letter)) & (sizes == size))
@@ -125,9 +135,9 @@ def bad_frames(frames: Frames, start: int, end: int, stocks: int | None) -> nump
 class Order:
     """Goes through the frames in their order and asks for what may stand there."""
 
-    def __init__(self, frames: Frames) -> None:
+    def __init__(self, frames: Frames, special: str = "") -> None:
         self.frames = frames
-        self.good = first_bad_frame(frames)     # the frames before this one may be looked at
+        self.good = first_bad_frame(frames, special)    # the frames before this one may be looked at
         self.at = 0
 
     def fault(self, index: int) -> BundleError:
@@ -245,15 +255,67 @@ def rewind_parts(frames: Frames) -> list[Part]:
     order = Order(frames)
     parts = []
     while order.run("b"):
-        part = Part(*[order.ask("b")] * 9)
-        part.entries = part.entries_end = order.at
-        order.closing(part)
-        stocks = part.orders - part.stocks
-        odd = frames.sizes[part.agents:part.waiting] != layouts.AGENT.itemsize + 8 * stocks
-        if odd.any():
-            raise order.fault(part.agents + int(odd.argmax()))
-        part.waiting = order.ask("w", order.run("w"))
-        part.end = order.at
-        parts.append(part)
+        parts.append(state_part(order))
     order.finish(len(parts))
     return parts
+
+
+def state_part(order: Order) -> Part:
+    """The frames of a state: `b`, its closing, and the messages that wait."""
+    part = Part(*[order.ask("b")] * 9)
+    part.entries = part.entries_end = order.at
+    order.closing(part)
+    stocks = part.orders - part.stocks
+    odd = order.frames.sizes[part.agents:part.waiting] != layouts.AGENT.itemsize + 8 * stocks
+    if odd.any():
+        raise order.fault(part.agents + int(odd.argmax()))
+    part.waiting = order.ask("w", order.run("w"))
+    part.end = order.at
+    return part
+
+
+@dataclass
+class CrossPart:
+    """The frames of a cross by their indexes. first: the Stock Trading Action that begins it. orders: those that joined.
+    match, price: the Cross Trade and the `k`, one each or none. trading: a frame for each order that trades."""
+
+    first: int
+    orders: numpy.ndarray
+    match: numpy.ndarray
+    trading: numpy.ndarray
+    price: numpy.ndarray
+
+
+def cross_parts(frames: Frames) -> CrossPart:
+    """The frames of a cross; BundleError where it is none."""
+    order = Order(frames, "fk")
+
+    def taken(kind: str, count: int) -> numpy.ndarray:
+        first = order.ask(kind, count)
+        return numpy.arange(first, first + count)
+
+    first = order.ask("H")
+    orders = taken("A", order.run("A"))
+    match = taken("Q", min(1, order.run("Q")))
+    trading = taken("f", order.run("f") if len(match) else 0)
+    order.ask("H")
+    price = taken("k", len(match))
+    order.finish(len(trading))
+    return CrossPart(first, orders, match, trading, price)
+
+
+def session_parts(frames: Frames, probes: int) -> tuple[int, list[Part | numpy.ndarray]]:
+    """How many acts a session had, and its answers: a state or closing, or the indexes of the values of so many probes."""
+    order = Order(frames, "v")
+    answers: list[Part | numpy.ndarray] = []
+    while order.run("bv"):
+        if order.run("b"):
+            answers.append(state_part(order))
+        else:
+            first = order.ask("v", probes)
+            answers.append(numpy.arange(first, first + probes))
+    last = order.ask("z")
+    count = int(frames.records(numpy.array([last]), layouts.END)["count"][0])
+    order.at = last
+    order.finish(count)
+    return count, answers

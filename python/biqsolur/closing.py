@@ -28,7 +28,7 @@ class Closing:
     orders: a row a resting order, by stock and then by arrival: reference, agent, token, side ("B" or "S"),
         intended, open (shares), stock, symbol, price, price_dollars, time_in_force, hidden (bool: the feed and the
         quotes tell nothing of it)
-    agents: a row an agent, the exchange first: agent, silenced, own_time (ns), tokens, draws,
+    agents: a row an agent, the exchange first: agent, where the study is known name ("maker 1"), silenced, own_time (ns), tokens, draws,
         cash (settled; Python integers, millionths of a dollar), own_cash (Python integers), own_position (shares),
         orders (in its own list), quotes (heard), and for each stock position_SYMBOL (settled, shares)
     """
@@ -39,13 +39,13 @@ class Closing:
     agents: pandas.DataFrame
 
 
-def read_closing(frames: Frames, part: Part, tokens: Tokens, symbols: list[str]) -> Closing:
-    """The closing of a branch or state."""
+def read_closing(frames: Frames, part: Part, tokens: Tokens, symbols: list[str], names: list[str] | None = None) -> Closing:
+    """The closing of a branch or state. `names` are those of the agents by number, where the study is known."""
     return Closing(
         read_counts(frames, part),
         stocks_frame(frames, numpy.arange(part.stocks, part.orders), symbols),
         orders_frame(frames, numpy.arange(part.orders, part.agents), tokens, symbols),
-        agents_frame(frames, numpy.arange(part.agents, part.waiting), symbols),
+        agents_frame(frames, numpy.arange(part.agents, part.waiting), symbols, names),
     )
 
 
@@ -95,13 +95,14 @@ def orders_frame(frames: Frames, indexes: numpy.ndarray, tokens: Tokens, symbols
     })
 
 
-def agents_frame(frames: Frames, indexes: numpy.ndarray, symbols: list[str]) -> pandas.DataFrame:
+def agents_frame(frames: Frames, indexes: numpy.ndarray, symbols: list[str], names: list[str] | None) -> pandas.DataFrame:
     """A row an agent."""
     agents = frames.records(indexes, layouts.AGENT)
     places = frames.starts[indexes] + layouts.AGENT.itemsize
     position = numpy.dtype([("position", layouts.I8)])
     return pandas.DataFrame({
         "agent": columns.small(agents["agent"]),
+        **({} if names is None else {"name": names}),
         "silenced": agents["silenced"] == ord("Y"),
         "own_time": columns.whole(agents["own_time"]),
         "tokens": columns.whole(agents["tokens"]),

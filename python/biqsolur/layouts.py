@@ -45,6 +45,13 @@ AGENT = layout(
 WAITING = layout(22, time=(1, U8), message=(9, U8), sender=(17, U2), receiver=(19, U2), body=(21, U1))
 END = layout(3, count=(1, U2))
 
+# Frames of a cross alone, and of a session alone.
+CROSS_PART = layout(14, side=(1, U1), reference=(2, U8), shares=(10, U4))
+CROSS_PRICE = layout(
+    49, price=(1, U4), shares=(5, U8), to_buy=(13, U8), to_sell=(21, U8), cut=(29, U4), to_sell_below_cut=(33, U8),
+    to_buy_above_cut=(41, U8))
+VALUE = layout(17, value_upper=(1, I8), value_lower=(9, U8))
+
 # ---------------------------------------------------------------- bodies of messages: a question, a quote, OUCH 4.2
 
 QUESTION = layout(2, stock=(0, U2))

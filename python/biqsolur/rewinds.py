@@ -30,7 +30,7 @@ class State:
     """The state of a branch after an event, with the edits at that event made.
 
     Attributes: branch (a name), number (of the branch; the root is 0), parent_number (None for the root), event, symbols,
-    agent_names (by number: "exchange", "maker 1"; without a study "trader 1").
+    agent_names (by number: "exchange", "maker 1"; without a study "trader 1"), named (whether a study gave them).
     """
 
     branch: str
@@ -42,6 +42,7 @@ class State:
     frames: Frames
     tokens: Tokens
     agent_names: list[str]
+    named: bool
 
     def agent_name(self, number: int) -> str:
         """What an agent is called: its kind and number, such as "maker 1", where the study is known."""
@@ -50,7 +51,7 @@ class State:
     @cached_property
     def closing(self) -> Closing:
         """What stands then, as at the end of a branch."""
-        return read_closing(self.frames, self.part, self.tokens, self.symbols)
+        return read_closing(self.frames, self.part, self.tokens, self.symbols, self.agent_names if self.named else None)
 
     @cached_property
     def waiting(self) -> pandas.DataFrame:
@@ -135,4 +136,4 @@ def state_of(frames: Frames, part: Part, tokens: Tokens, study: Study | None) ->
     number, stocks = int(head["branch"]), part.orders - part.stocks
     symbols = study.symbols if study is not None and len(study.symbols) == stocks else [str(stock) for stock in range(stocks)]
     return State(branch_name(frames, part.branch), number, None if number == 0 else int(head["parent"]), int(head["stop"]),
-                 symbols, part, frames, tokens, names_of_agents(study, part.waiting - part.agents))
+                 symbols, part, frames, tokens, names_of_agents(study, part.waiting - part.agents), study is not None)

@@ -4,7 +4,7 @@
     biqsolur.table(study)
     biqsolur.rewind(study, [("wide", 5000), ("root", 0)])["wide", 5000].closing.orders
     biqsolur.cross(study, "root", 5000, "ABM", [(3, "B", 500, "50.10")])
-    biqsolur.session(study, [biqsolur.Values("wide"), biqsolur.Undo()])
+    biqsolur.session(study, [acts.Values("wide"), acts.Undo()])
     biqsolur.audit(bundle)
 
 A study is a Study, a path, a text of TOML or a dict. The program gets studies, orders and scripts from memory, so nothing is
@@ -27,7 +27,7 @@ from typing import TYPE_CHECKING, Any, NamedTuple, Union
 
 from biqsolur.errors import RunError, StudyError
 from biqsolur.program import Program, environment, kit, program_of, version
-from biqsolur.statuses import FORMS, OtherProgramError, ProgramError, StudyRefused, error_of
+from biqsolur.statuses import NoSuchBranch, NoSuchEvent, NoSuchStock, OtherProgramError, ProgramError, StudyRefused, error_of
 
 if TYPE_CHECKING:
     import pandas
@@ -192,13 +192,19 @@ def given_object(study: Study) -> Given:
 
 def study_of_path(path: str) -> Given:
     """What the program is to read of a study's file."""
+    return study_of_data(file_data(path), path, Path(path))
+
+
+def file_data(path: str | os.PathLike[str]) -> bytes:
+    """The bytes of a study, script or file of orders, at most one more than it may have. Raises NoSuchFile or ReadFailed, with
+    the line that the program has for it."""
     try:
         with open(path, "rb") as file:
-            data = file.read(MOST_BYTES + 1)
-    except OSError as error:
-        status, line = (3, "no such file") if isinstance(error, FileNotFoundError) else (6, "read failed")
-        raise error_of(status, f"{line}: {path}\n".encode("utf-8", "replace"), [], {}, "") from None
-    return study_of_data(data, path, Path(path))
+            return file.read(MOST_BYTES + 1)
+    except (OSError, ValueError) as error:      # a ValueError where the path has a zero byte
+        status, line = (6, "read failed") if isinstance(error, OSError) and not isinstance(error, FileNotFoundError) \
+            else (3, "no such file")
+        raise error_of(status, f"{line}: {os.fspath(path)}\n".encode("utf-8", "replace"), [], {}, "") from None
 
 
 def study_of_data(data: bytes, name: str, path: Path | None) -> Given:
@@ -223,7 +229,7 @@ def workers_words(workers: int) -> list[str]:
 # ---------------------------------------------------------------- commands
 
 @contextlib.contextmanager
-def command(name: str, study: AnyStudy, program: AnyProgram, *options: str) -> Iterator[tuple[Call, Words]]:
+def command(name: str, study: AnyStudy | Given, program: AnyProgram, *options: str) -> Iterator[tuple[Call, Words]]:
     """A command on a study, whose words are completed by the caller."""
     given = study if isinstance(study, Given) else given_study(study)
     with contextlib.ExitStack() as stack:
@@ -255,11 +261,14 @@ class Call:
 
     def error(self, answer: Answer) -> ProgramError:
         """The error of a status."""
-        of_study = answer.status == StudyRefused.STATUS
+        of_study = answer.status in OF_STUDY
         names = self.words.names
         shown = [names.get(word, word) for word in self.words.words]
         return error_of(answer.status, answer.stderr, shown, names, str(self.program.path),
                         self.given.name if of_study else self.subject, self.given.sentence if of_study else self.more)
+
+
+OF_STUDY = [error.STATUS for error in (StudyRefused, NoSuchBranch, NoSuchEvent, NoSuchStock)]
 
 
 def of(output: int) -> list[int]:
@@ -303,11 +312,11 @@ def rewind(study: AnyStudy, targets: Iterable[tuple[str, int]], workers: int = 1
 
 def pairs_of(targets: Iterable[tuple[str, int]]) -> list[tuple[str, int]]:
     """The pairs of a rewind, each once."""
-    pairs = []
+    pairs: list[tuple[str, int]] = []
     for target in targets:
-        if isinstance(target, str) or not isinstance(target, Iterable) or len(pair := tuple(target)) != 2:
+        if not isinstance(target, (tuple, list)) or len(target) != 2:
             raise RunError(f"{target!r} is no pair of a branch and an event, as (\"wide\", 5000) is")
-        pairs.append(pair)
+        pairs.append((target[0], target[1]))
     pairs = list(dict.fromkeys(pairs))
     if not 1 <= len(pairs) <= MOST_TARGETS:
         raise RunError(f"there are {len(pairs)} states to rewind to; one rewind has 1 to {MOST_TARGETS}: make several")
@@ -360,7 +369,7 @@ def plain_word(text: object, what: str) -> str:
 def session(study: AnyStudy, script: str | os.PathLike[str] | Iterable[Act], workers: int = 1, *,
             program: AnyProgram = None) -> Session:
     """The answers to the acts of a script, over the study's tree of branches: a path, a text of TOML, or a list of acts
-    (`Fork`, `Undo`, `Replace`, `Visit`, `Close`, `Values`). Raises ScriptRefused, ActRefused and NoSuchEvent."""
+    of `biqsolur.acts` (`Fork`, `Undo`, `EditBranch`, `StateAt`, `Close`, `Values`). Raises ScriptRefused, ActRefused and NoSuchEvent."""
     from biqsolur.acts import script_data
     from biqsolur.sessions import read_session
     given, (data, name) = given_study(study), script_data(script)

@@ -1,7 +1,8 @@
 """How the program can end, each as an error of its own: what it said, which file it speaks of, and what to do.
 
 docs/COMMANDS.md has the statuses. An error here has `status`, `line` (the program's own line) and `file` (the path of the
-study, series file, orders, script or bundle of which the line speaks; None where of none).
+study, series file, orders, script or bundle of which the line speaks; "the study", "the orders" or "the script" where that was
+given from memory, None where the line speaks of none).
 """
 
 from __future__ import annotations
@@ -206,7 +207,7 @@ FORMS = {form.error.STATUS: form for form in (
          "the memory did not suffice: take a study with fewer events, branches or workers, or run fewer at once"),
     Form(NoSuchStock, r"no stock: (.*)", "no stock of the study has the symbol {word!r}", ("word",)),
     Form(OrdersRefused, r"orders refused: record (\d+)",
-         "the orders in {file} are refused at record {record}, counted from 0 with the header "
+         "{file}: refused at record {record}, counted from 0 with the header "
          "(docs/FORMATS.md#the-file-of-a-cross){sentence}", ("record",), frozenset({"record"})),
     Form(BadBundle, r"bad bundle: (\d+) at (\d+)", "{file} is no bundle: {fault}", ("reason", "offset"),
          frozenset({"reason", "offset"})),
@@ -214,10 +215,10 @@ FORMS = {form.error.STATUS: form for form in (
          "the closing of branch {branch} of {file} is not what its feed tells: {order} differs", ("branch", "reference"),
          frozenset({"branch", "reference"})),
     Form(ScriptRefused, r"script refused: act (\d+)",
-         "the script {file} is refused: {act_name} (docs/REFUSALS.md#when-a-script-is-refused){sentence}", ("act",),
+         "{file}: refused, {act_name} (docs/REFUSALS.md#when-a-script-is-refused){sentence}", ("act",),
          frozenset({"act"})),
     Form(ActRefused, r"act refused: (\d+)",
-         "act {act} (counted from 0) of the script {file} can't be done in the tree of branches as it then stands "
+         "{file}: act {act}, counted from 0, can't be done in the tree of branches as it then stands "
          "(docs/REFUSALS.md#when-a-script-is-refused){sentence}", ("act",), frozenset({"act"})),
 )}
 
