@@ -10,6 +10,7 @@ from typing import Any
 from biqsolur.bundle import Branch
 from biqsolur.errors import StudyError
 from biqsolur.fields import Table
+from biqsolur.last_branch import run_last
 from biqsolur.study import Study
 from biqsolur.times import clock_text
 
@@ -33,16 +34,21 @@ class Moment:
 
 def moment_of(study: Study, branch: str, time: int, **running: Any) -> Moment:
     """Runs a branch up to a time (ns past midnight). Raises StudyError where the branch has not begun by then."""
-    from biqsolur.running import run
-    bundle = run(study.until(time, branch), **running)
-    entries = {entry["name"]: entry for entry in study.to_dict().get("branch", [])}
-    for name, run_of_branch in bundle.branches.items():
-        stop = entries[name].get("at", 0) if name in entries else 0
-        parent = run_of_branch.parent
-        if stop and parent is not None and bundle.branches[parent].counts["events"] < stop:
-            raise StudyError(f"at {clock_text(time)} the branch {name!r} has not begun: it leaves after {stop} events")
-    last = bundle.branches[branch]
+    prefix = study.until(time, branch)
+    by_events = [entry for entry in prefix.to_dict().get("branch", []) if entry.get("at")]
+    last = begun(prefix, by_events, time, running) if by_events else run_last(prefix, **running).branches[branch]
     return Moment(last, int(last.counts["time"]), str(last.counts["end"]))
+
+
+def begun(prefix: Study, by_events: list[Table], time: int, running: dict[str, Any]) -> Branch:
+    """The last branch of a prefix, where its parents' runs had the events after which it and those on its way leave."""
+    from biqsolur.running import run
+    branches = run(prefix, cache=False, **running).branches
+    for entry in by_events:
+        if int(branches[entry["parent"]].counts["events"]) < entry["at"]:
+            raise StudyError(f"at {clock_text(time)} the branch {entry['name']!r} has not begun: it leaves after "
+                             f"{entry['at']} events")
+    return branches[prefix.branches[-1]]
 
 
 def inject_edits(trader: int, sends: Iterable[tuple[int, str]], state_time: int) -> list[Table]:

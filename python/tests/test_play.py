@@ -3,11 +3,13 @@
 import random
 
 import numpy
+import pandas
 import pytest
 
 import biqsolur
 import studies
 from biqsolur.errors import PlayError, PolicyError
+from biqsolur.last_branch import run_last
 from biqsolur.messages import sent_messages
 from biqsolur.observation import Observation
 from biqsolur.ouch import Accepted, Enter, Executed
@@ -144,6 +146,28 @@ def test_random_markets_and_policies(seed):
     text = Study.from_text(outcome.to_text())
     assert text == outcome
     assert open(run(text).path, "rb").read() == open(run(outcome).path, "rb").read()
+
+
+def test_the_last_branch_alone(market):
+    """Over random studies: the last branch read without the others says what it says among them."""
+    study = Study.read(market.folder / "study.toml", folder=market.folder)
+    [(name, alone)] = run_last(study, program=market.program).branches.items()
+    among = biqsolur.read(market.bundle).branches[study.branches[-1]]
+    assert name == among.name and alone.counts == among.counts
+    for frame in ("events", "replies", "quotes", "trades"):
+        pandas.testing.assert_frame_equal(getattr(alone, frame).drop(columns="token", errors="ignore"),
+                                          getattr(among, frame).drop(columns="token", errors="ignore"))
+    assert [sent.data for sent in alone.messages()] == [sent.data for sent in among.messages()]
+
+
+@pytest.mark.parametrize("wrote", ["", "no bundle", "b"], ids=["nothing", "words", "a letter"])
+def test_a_program_that_writes_no_bundle(wrote, tmp_path):
+    """It is said to be another program."""
+    stub = tmp_path / "program"
+    stub.write_text(f"#!/bin/sh\nprintf '{wrote}'\n")
+    stub.chmod(0o755)
+    with pytest.raises(biqsolur.InputError, match="no bundle"):
+        run_last(MARKET, program=stub)
 
 
 def changed_market(change):
