@@ -19,6 +19,7 @@ import time
 import warnings
 import weakref
 from collections.abc import Iterator
+from dataclasses import dataclass
 from pathlib import Path
 
 from biqsolur.bundle import Bundle, read
@@ -99,25 +100,39 @@ def remove_entry(path: Path) -> None:
 
 # ---------------------------------------------------------------- a new entry
 
+@dataclass
+class Part:
+    """A file that one run writes, and its descriptor. kept: whether it is to stay when the run is over."""
+
+    path: Path
+    descriptor: int
+    kept: bool = False
+
+
 @contextlib.contextmanager
-def part_file(folder: Path) -> Iterator[tuple[Path, int]]:
-    """A new file that only this run writes, with its descriptor: renamed once it is whole, else nothing of it stays.
+def part_file(folder: Path) -> Iterator[Part]:
+    """A new file that only this run writes: renamed once it is whole, or kept under its name, else nothing of it stays.
 
     It is locked as long as this process or the program that writes it is there, so that `remove_stale` knows which files
-    nobody writes any more.
+    nobody uses any more. Raises OSError.
     """
-    while True:
-        path = folder / f"{secrets.token_hex(16)}{PART}"
-        descriptor = os.open(path, os.O_RDWR | os.O_CREAT | os.O_EXCL | os.O_CLOEXEC, 0o600)
-        lock(descriptor)
-        if path.exists():       # else another process took it for a stale one, before it was locked
-            break
-        os.close(descriptor)
+    part = new_part(folder)
     try:
-        yield path, descriptor
+        yield part
     finally:
-        os.close(descriptor)
-        path.unlink(missing_ok=True)
+        if not part.kept:
+            os.close(part.descriptor)
+            part.path.unlink(missing_ok=True)
+
+
+def new_part(folder: Path) -> Part:
+    """A new file, locked."""
+    while True:
+        path = folder / f"biqsolur-{secrets.token_hex(16)}{PART}"
+        descriptor = os.open(path, os.O_RDWR | os.O_CREAT | os.O_EXCL | os.O_CLOEXEC, 0o600)
+        if lock(descriptor) and path.exists():
+            return Part(path, descriptor)
+        os.close(descriptor)    # another process took it for one that nobody uses, before it was locked
 
 
 def lock(descriptor: int) -> bool:
@@ -154,36 +169,39 @@ def room_for_runs(limit: int) -> Path | None:
 def temporary_folder() -> Path:
     """A folder for runs that are not kept. Raises CacheError where there is none."""
     try:
-        return Path(tempfile.gettempdir())
+        folder = Path(tempfile.gettempdir())
+        remove_stale(folder)
+        return folder
     except OSError as error:
         raise CacheError(f"there is no folder for the program's output: {error}; set TMPDIR to one that may be written") from None
 
 
-def keep(folder: Path, key: str, part: Path, bundle: Bundle, record: Provenance) -> None:
+def keep(folder: Path, key: str, part: Part, bundle: Bundle, record: Provenance) -> None:
     """Makes an entry of a written file, whose bundle was read already. Two that make the same entry write the same bytes."""
     path = entry_path(folder, key)
-    with part_file(folder) as (beside, descriptor):
-        os.write(descriptor, record.to_json().encode())
-        os.replace(beside, record_path(path))
-    os.utime(part, ns=(now(), now()))
-    os.replace(part, path)
-    bundle.path = bundle.frames.path = str(path)
-
-
-def keep_for_now(part: Path, bundle: Bundle, record: Provenance) -> None:
-    """Gives a written file to its bundle: it is removed with it, at the latest when this process ends."""
-    path = part.with_name(f"biqsolur-{secrets.token_hex(8)}{ENDING}")
-    os.rename(part, path)
-    weakref.finalize(bundle, remove_own, path, os.getpid())
+    with part_file(folder) as beside:
+        with open(beside.descriptor, "wb", closefd=False) as file:
+            file.write(record.to_json().encode())
+        os.replace(beside.path, record_path(path))
+    os.utime(part.path, ns=(now(), now()))
+    os.replace(part.path, path)
     bundle.path = bundle.frames.path = str(path)
     bundle.ran_as(record)
 
 
-def remove_own(path: Path, process: int) -> None:
+def keep_for_now(part: Part, bundle: Bundle, record: Provenance) -> None:
+    """Leaves a written file to its bundle: it is removed with it, at the latest when this process ends."""
+    part.kept = True
+    weakref.finalize(bundle, remove_own, part, os.getpid())
+    bundle.ran_as(record)
+
+
+def remove_own(part: Part, process: int) -> None:
     """Removes a file, in the process that made it alone and not in one that was forked off."""
-    if os.getpid() == process:
-        with contextlib.suppress(OSError):
-            path.unlink()
+    with contextlib.suppress(OSError):
+        os.close(part.descriptor)
+        if os.getpid() == process:
+            part.path.unlink()
 
 
 # ---------------------------------------------------------------- its size
@@ -212,8 +230,8 @@ def shrink(folder: Path, limit: int) -> None:
 
 
 def remove_stale(folder: Path) -> None:
-    """Takes away what killed runs left behind: files that nobody has locked."""
-    for path in folder.glob(f"*{PART}"):
+    """Takes away what killed runs left behind in a folder: files that nobody has locked."""
+    for path in folder.glob(f"biqsolur-*{PART}"):
         with contextlib.suppress(OSError):
             descriptor = os.open(path, os.O_RDWR | os.O_CLOEXEC)
             try:

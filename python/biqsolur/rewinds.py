@@ -3,7 +3,7 @@
 from __future__ import annotations
 
 from collections.abc import Iterator
-from dataclasses import dataclass
+from dataclasses import dataclass, field
 from functools import cached_property
 from pathlib import Path
 from typing import TYPE_CHECKING
@@ -25,7 +25,7 @@ if TYPE_CHECKING:
     from biqsolur.study import Study
 
 
-@dataclass
+@dataclass(repr=False)
 class State:
     """The state of a branch after an event, with the edits at that event made.
 
@@ -43,6 +43,9 @@ class State:
     tokens: Tokens
     agent_names: list[str]
     named: bool
+
+    def __repr__(self) -> str:
+        return f"<state of {self.branch!r} after event {self.event}>"
 
     def agent_name(self, number: int) -> str:
         """What an agent is called: its kind and number, such as "maker 1", where the study is known."""
@@ -92,11 +95,19 @@ class State:
 
 @dataclass
 class Rewind:
-    """What `rewind` wrote: `states`, in the order of its arguments. `tokens` turns numbers of tokens into texts."""
+    """What `rewind` wrote: `states`, in the order of its arguments. `tokens` turns numbers of tokens into texts.
+
+    `rewind["wide", 5000]` is the state of the branch "wide" after event 5000."""
 
     path: str
     states: list[State]
     tokens: Tokens
+    frames: Frames = field(repr=False)
+
+    @property
+    def data(self) -> bytes:
+        """The bytes that the program wrote."""
+        return self.frames.raw.tobytes()
 
     def __getitem__(self, key: tuple[str, int]) -> State:
         """The state of (branch, event)."""
@@ -127,7 +138,7 @@ def read_rewind(source: str | Path | bytes, study: Study | None = None) -> Rewin
     if len(frames.kinds) and frames.kinds[0] == ord("h"):
         raise BundleError(frames.path, 0, "this is a bundle, which `biqsolur.read` reads")
     tokens = Tokens(frames)
-    return Rewind(frames.path, [state_of(frames, part, tokens, study) for part in rewind_parts(frames)], tokens)
+    return Rewind(frames.path, [state_of(frames, part, tokens, study) for part in rewind_parts(frames)], tokens, frames)
 
 
 def state_of(frames: Frames, part: Part, tokens: Tokens, study: Study | None) -> State:

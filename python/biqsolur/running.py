@@ -27,7 +27,9 @@ from typing import TYPE_CHECKING, Any, NamedTuple, Union
 
 from biqsolur.errors import RunError, StudyError
 from biqsolur.program import Program, environment, kit, program_of, version
-from biqsolur.statuses import NoSuchBranch, NoSuchEvent, NoSuchStock, OtherProgramError, ProgramError, StudyRefused, error_of
+from biqsolur.statuses import (
+    ActRefused, Context, NoSuchBranch, NoSuchEvent, NoSuchStock, OrdersRefused, OtherProgramError, ProgramError,
+    ProgramMissingError, ScriptRefused, StudyRefused, WriteFailed, error_of)
 
 if TYPE_CHECKING:
     import pandas
@@ -90,8 +92,7 @@ def ended(program: Program, words: list[str], folder: str | os.PathLike[str] | N
 
     output: a descriptor to write to, or subprocess.PIPE. descriptors: those that the program inherits.
     """
-    process = subprocess.Popen([program.path, *words], stdin=subprocess.DEVNULL, stdout=output, stderr=subprocess.PIPE,
-                               cwd=folder, env=environment(), pass_fds=descriptors)
+    process = started(program, words, folder, output, descriptors)
     try:
         while True:
             try:
@@ -107,6 +108,21 @@ def ended(program: Program, words: list[str], folder: str | os.PathLike[str] | N
         for pipe in (process.stdout, process.stderr):
             if pipe is not None:
                 pipe.close()
+
+
+def started(program: Program, words: list[str], folder: str | os.PathLike[str] | None, output: int,
+            descriptors: Sequence[int]) -> subprocess.Popen[bytes]:
+    """The program, started in a folder. Raises RunError and ProgramMissingError."""
+    try:
+        return subprocess.Popen([program.path, *words], stdin=subprocess.DEVNULL, stdout=output, stderr=subprocess.PIPE,
+                                cwd=folder, env=environment(), pass_fds=descriptors)
+    except ValueError:
+        raise RunError(f"the words {words!r} have a zero byte, which no word of a command can have") from None
+    except OSError as error:
+        if folder is not None and not os.path.isdir(folder):
+            raise RunError(f"the folder {os.fspath(folder)}, from which the study's series file is looked for, is not there: "
+                           "make the study anew, or give it another folder") from None
+        raise ProgramMissingError(f"{program.path} can't be started: {error.strerror}") from None
 
 
 class Words:
@@ -158,20 +174,26 @@ class Given:
             return self.study
         return None
 
-    def sentence(self, error: ProgramError) -> str:
-        """The sentence for a refusal of this study."""
-        from biqsolur.study_rules import explain
-        from biqsolur.why import no_toml
-        if not isinstance(error, StudyRefused):
-            return ""
-        if error.rule == 0:
-            return no_toml(self.data)
-        if not self.read:
-            return explain(None, error.rule, error.place)
-        table = self.study.to_dict()
+    def table(self) -> dict[str, Any] | None:
+        """The study's table, with a path of its series file that holds from here; None where Python can't read it."""
+        study = self.known_study()
+        if study is None:
+            return None
+        table = study.to_dict()
         if self.series is not None:
             table["series"] = str(self.series)
-        return explain(table, error.rule, error.place)
+        return table
+
+    def sentence(self, error: ProgramError) -> str:
+        """What is wrong with the study, or what it has of that which was asked for."""
+        from biqsolur.study_rules import explain
+        from biqsolur.toml_faults import no_toml
+        if isinstance(error, StudyRefused):
+            return no_toml(self.data) if error.rule == 0 else explain(self.table(), error.rule, error.place)
+        study = self.known_study()
+        if study is not None and isinstance(error, NoSuchBranch):
+            return f"there are {', '.join(study.branches)}"
+        return f"there are {', '.join(study.symbols)}" if study is not None and isinstance(error, NoSuchStock) else ""
 
 
 def given_study(study: AnyStudy) -> Given:
@@ -204,12 +226,14 @@ def file_data(path: str | os.PathLike[str]) -> bytes:
     except (OSError, ValueError) as error:      # a ValueError where the path has a zero byte
         status, line = (6, "read failed") if isinstance(error, OSError) and not isinstance(error, FileNotFoundError) \
             else (3, "no such file")
-        raise error_of(status, f"{line}: {os.fspath(path)}\n".encode("utf-8", "replace"), [], {}, "") from None
+        raise error_of(status, os.fsencode(f"{line}: {os.fspath(path)}\n"), Context([])) from None
 
 
 def study_of_data(data: bytes, name: str, path: Path | None) -> Given:
     """What the program is to read of a study's bytes."""
     from biqsolur.study import Study, series_folder
+    if len(data) > MOST_BYTES:
+        return Given(data, name, None, None, False)
     try:
         study = Study.from_text(data.decode("utf-8"))
     except (StudyError, UnicodeDecodeError):
@@ -240,7 +264,8 @@ def command(name: str, study: AnyStudy | Given, program: AnyProgram, *options: s
 
 @dataclass
 class Call:
-    """A command on a study, ready to run. subject: the file of which a refusal speaks, where it isn't the study."""
+    """A command on a study, ready to run. subject: the file of which a refusal speaks, where it isn't the study. more: says
+    what is wrong with that file."""
 
     given: Given
     program: Program
@@ -261,11 +286,15 @@ class Call:
 
     def error(self, answer: Answer) -> ProgramError:
         """The error of a status."""
-        of_study = answer.status in OF_STUDY
         names = self.words.names
+        subject = self.given.name if answer.status in OF_STUDY or self.subject is None else self.subject
         shown = [names.get(word, word) for word in self.words.words]
-        return error_of(answer.status, answer.stderr, shown, names, str(self.program.path),
-                        self.given.name if of_study else self.subject, self.given.sentence if of_study else self.more)
+        return error_of(answer.status, answer.stderr,
+                        Context(shown, str(self.program.path), names, subject, self.given.folder, self.sentence))
+
+    def sentence(self, error: ProgramError) -> str:
+        """What is known of an error beyond its line."""
+        return (self.more(error) if self.more is not None else "") or self.given.sentence(error)
 
 
 OF_STUDY = [error.STATUS for error in (StudyRefused, NoSuchBranch, NoSuchEvent, NoSuchStock)]
@@ -346,9 +375,25 @@ def cross(study: AnyStudy, branch: str, event: int, symbol: str, orders: object,
     with command("cross", given, program, *workers_words(workers)) as (call, words):
         words.words += [target_word(branch, event), plain_word(symbol, "symbol")]
         words.add_file(data, name)
-        call.subject = name
+        call.subject, call.more = name, lambda error: orders_fault(error, data, given)
         output = call.output()
     return read_cross(output, data, lambda: rewind_of(given, branch, event, workers, program))
+
+
+def orders_fault(error: ProgramError, data: bytes, given: Given) -> str:
+    """What is wrong with a file of orders."""
+    from biqsolur.order_rules import explain_orders
+    return explain_orders(data, error.record, given.table()) if isinstance(error, OrdersRefused) else ""
+
+
+def script_fault(error: ProgramError, data: bytes, given: Given) -> str:
+    """What is wrong with a script."""
+    from biqsolur.script_rules import explain_no_event, explain_script
+    if isinstance(error, (ScriptRefused, ActRefused)):
+        return explain_script(data, error.status, error.act, given.table())
+    if isinstance(error, NoSuchEvent) and (match := re.fullmatch(r"act (\d+)", error.word)):
+        return explain_no_event(data, int(match[1]), error.last)
+    return ""
 
 
 def rewind_of(given: Given, branch: str, event: int, workers: int, program: AnyProgram) -> Rewind:
@@ -375,7 +420,7 @@ def session(study: AnyStudy, script: str | os.PathLike[str] | Iterable[Act], wor
     given, (data, name) = given_study(study), script_data(script)
     with command("session", given, program, *workers_words(workers)) as (call, words):
         words.add_file(data, name)
-        call.subject = name
+        call.subject, call.more = name, lambda error: script_fault(error, data, given)
         output = call.output()
     return read_session(output, data, given.known_study())
 
@@ -389,7 +434,7 @@ def audit(bundle: Bundle | str | os.PathLike[str], *, program: AnyProgram = None
         answer = ended(which, words.words, None, subprocess.PIPE, words.descriptors)
         name = words.names.get(words.words[-1], words.words[-1])
     if answer.status:
-        raise error_of(answer.status, answer.stderr, ["audit", name], words.names, str(which.path), name)
+        raise error_of(answer.status, answer.stderr, Context(["audit", name], str(which.path), words.names, name))
     return Audit(*line_of(answer.stdout, r"audit ok: branches (\d+), orders (\d+)\n", which))
 
 
@@ -425,21 +470,25 @@ def run(study: AnyStudy, workers: int = 1, *, program: AnyProgram = None, cache:
     kept = caches.kept_bundle(folder, key) if folder is not None else None
     if kept is not None:
         return kept
-    with command("run", given, program, *options) as (call, _), caches.part_file(folder or caches.temporary_folder()) as place:
-        part, descriptor = place
+    with command("run", given, program, *options) as (call, _), caches.part_file(folder or caches.temporary_folder()) as part:
         begun, clock = time.time(), time.monotonic()
-        with Progress(progress, descriptor) as watch:
-            call.subject = str(part.parent)
-            call.end(descriptor, watch)
-        bundle = written_bundle(part, which)
+        with Progress(progress, part.descriptor) as watch:
+            call.subject, call.more = str(part.path), lambda error: write_sentence(error, part.path)
+            call.end(part.descriptor, watch)
+        bundle = written_bundle(part.path, which)
         record = record_of_run(given, series, which, workers, bundle, begun, time.monotonic() - clock)
         if folder is None or not series.is_unchanged() or len(bundle.frames.raw) > limit:
             caches.keep_for_now(part, bundle, record)
         else:
             caches.keep(folder, key, part, bundle, record)
-            bundle.ran_as(record)
             caches.shrink(folder, limit)
     return bundle
+
+
+def write_sentence(error: ProgramError, part: Path) -> str:
+    """Why a bundle could not be written."""
+    from biqsolur.file_faults import write_fault
+    return write_fault(str(part)) if isinstance(error, WriteFailed) else ""
 
 
 def written_bundle(part: Path, program: Program) -> Bundle:

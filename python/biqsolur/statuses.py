@@ -9,8 +9,9 @@ from __future__ import annotations
 
 import re
 import signal
-from collections.abc import Callable
+from collections.abc import Callable, Mapping
 from dataclasses import dataclass, field
+from pathlib import Path
 from typing import ClassVar
 
 from biqsolur.errors import InputError
@@ -28,9 +29,10 @@ class OtherProgramError(InputError):
 
 
 class ProgramError(InputError):
-    """The program did not write what it was asked for."""
+    """The program did not write what it was asked for. `sentence` says more than its line, where something is known, else ""."""
 
     STATUS: ClassVar[int] = -1
+    sentence: str = ""
 
     def __init__(self, text: str, status: int, line: str, file: str | None = None) -> None:
         super().__init__(text)
@@ -82,7 +84,6 @@ class StudyRefused(ProgramError):
     STATUS = 5
     rule: int
     place: int
-    sentence: str
 
 
 class ReadFailed(ProgramError):
@@ -176,80 +177,106 @@ class Form:
     """The line of a status: its pattern, and what the error says in its place.
 
     `names` are the attributes that the groups of the pattern become, numbers where they are digits; `text` may name them.
+    `explained` is the text where a sentence is known.
     """
 
     error: type[ProgramError]
     pattern: str
     text: str
     names: tuple[str, ...] = ()
-    numbers: frozenset[str] = field(default_factory=frozenset)
+    explained: str = ""
 
 
 FORMS = {form.error.STATUS: form for form in (
     Form(WordsRefused, r"usage: .*",
          "the program does not know these words: {words}. Where they are right for this version (docs/COMMANDS.md), the "
-         "program at {program} is of another one; unset BIQSOLUR_PROGRAM"),
-    Form(NoSuchFile, r"no such file: (.*)", "there is no file {file}", ("file",)),
+         "program at {program} is of another one: unset BIQSOLUR_PROGRAM"),
+    Form(NoSuchFile, r"no such file: (.*)", "there is no file {file}", ("file",), "no such file: {sentence}"),
     Form(FileTooLong, r"file too long: (.*)",
          "{file} is too long: a study, series file, file of orders or script has at most 16,777,216 bytes, a bundle "
          "1,073,741,824", ("file",)),
     Form(StudyRefused, r"study refused: rule (\d+), place (\d+)",
-         "{file} is refused by rule {rule}, place {place} (docs/REFUSALS.md): {sentence}",
-         ("rule", "place"), frozenset({"rule", "place"})),
-    Form(ReadFailed, r"read failed: (.*)",
-         "{file} can't be read: it is a folder, a loop of links, or one without leave to read it", ("file",)),
-    Form(WriteFailed, r"write failed", "the output could not be written: no room is left, or its reader is gone"),
-    Form(NoSuchBranch, r"no branch: (.*)", "the study has no branch as {word!r} names it", ("word",)),
+         "{file} is refused by rule {rule}, place {place} (docs/REFUSALS.md)", ("rule", "place"),
+         "{file} is refused by rule {rule}, place {place} (docs/REFUSALS.md): {sentence}"),
+    Form(ReadFailed, r"read failed: (.*)", "{file} could not be read", ("file",), "a file can't be read: {sentence}"),
+    Form(WriteFailed, r"write failed", "the output could not be written: no room is left, or its reader is gone", (),
+         "the output could not be written: {sentence}"),
+    Form(NoSuchBranch, r"no branch: (.*)", "the study has no branch as {word!r} names it", ("word",),
+         "the study has no branch as {word!r} names it; {sentence}"),
     Form(NoSuchEvent, r"no event: (.*), last event (\d+)",
-         "there is no event as {word!r} names it: the last event of that branch is {last}", ("word", "last"),
-         frozenset({"last"})),
+         "there is no event as {word!r} names it: the last event of that branch is {last}", ("word", "last"), "{sentence}"),
     Form(OutOfMemory, r"out of memory",
          "the memory did not suffice: take a study with fewer events, branches or workers, or run fewer at once"),
-    Form(NoSuchStock, r"no stock: (.*)", "no stock of the study has the symbol {word!r}", ("word",)),
+    Form(NoSuchStock, r"no stock: (.*)", "no stock of the study has the symbol {word!r}", ("word",),
+         "no stock of the study has the symbol {word!r}; {sentence}"),
     Form(OrdersRefused, r"orders refused: record (\d+)",
-         "{file}: refused at record {record}, counted from 0 with the header "
-         "(docs/FORMATS.md#the-file-of-a-cross){sentence}", ("record",), frozenset({"record"})),
-    Form(BadBundle, r"bad bundle: (\d+) at (\d+)", "{file} is no bundle: {fault}", ("reason", "offset"),
-         frozenset({"reason", "offset"})),
+         "{file}: refused at record {record}, counted from 0 with the header (docs/FORMATS.md#the-file-of-a-cross)", ("record",),
+         "{file}: {sentence} (docs/FORMATS.md#the-file-of-a-cross)"),
+    Form(BadBundle, r"bad bundle: (\d+) at (\d+)",
+         "{file} is no bundle: {fault}. `python3 -m biqsolur why FILE` says more", ("reason", "offset")),
     Form(AuditFailed, r"audit failed: branch (\d+), reference (\d+)",
-         "the closing of branch {branch} of {file} is not what its feed tells: {order} differs", ("branch", "reference"),
-         frozenset({"branch", "reference"})),
+         "the closing of branch {branch} of {file} is not what its feed tells: {order} differs. `python3 -m biqsolur why FILE` "
+         "says more", ("branch", "reference")),
     Form(ScriptRefused, r"script refused: act (\d+)",
-         "{file}: refused, {act_name} (docs/REFUSALS.md#when-a-script-is-refused){sentence}", ("act",),
-         frozenset({"act"})),
+         "{file}: refused, {act_name} (docs/REFUSALS.md#when-a-script-is-refused)", ("act",),
+         "{file}: {sentence} (docs/REFUSALS.md#when-a-script-is-refused)"),
     Form(ActRefused, r"act refused: (\d+)",
          "{file}: act {act}, counted from 0, can't be done in the tree of branches as it then stands "
-         "(docs/REFUSALS.md#when-a-script-is-refused){sentence}", ("act",), frozenset({"act"})),
+         "(docs/REFUSALS.md#when-a-script-is-refused)", ("act",),
+         "{file}: {sentence} (docs/REFUSALS.md#when-a-script-is-refused)"),
 )}
+NUMBERS = {"rule", "place", "last", "record", "reason", "offset", "branch", "reference", "act"}
 
 
-def error_of(status: int, stderr: bytes, words: list[str], names: dict[str, str], program: str, subject: str | None = None,
-             sentence: Callable[[ProgramError], str] | None = None) -> ProgramError:
-    """The error for a status that is not 0.
+@dataclass(frozen=True)
+class Context:
+    """What is known of a run that failed.
 
-    stderr: what the program said. words: what it was given. names: for each path that it was given in place of another, that
-    other one. subject: the file that the statuses 5, 12, 13, 14, 15 and 16 speak of. sentence: says more of such an error,
-    where something is known.
+    words: what the program was given. program: its path. names: for each path that it was given in place of another, that
+    other one. subject: the file of which a refusal speaks. folder: from where it looked for files, None for the working folder.
+    sentence: says more of an error, where something is known.
     """
-    line = stderr.decode("utf-8", "replace").removesuffix("\n")
+
+    words: list[str]
+    program: str = ""
+    names: Mapping[str, str] = field(default_factory=dict)
+    subject: str | None = None
+    folder: Path | None = None
+    sentence: Callable[[ProgramError], str] | None = None
+
+    def file(self, name: str) -> str:
+        """The path that a line names, as the caller knows it."""
+        if name in self.names:
+            return self.names[name]
+        return name if self.folder is None else str(self.folder / name)
+
+
+def error_of(status: int, stderr: bytes, context: Context) -> ProgramError:
+    """The error for a status that is not 0, from what the program said."""
+    line = stderr.decode("utf-8", "surrogateescape").removesuffix("\n")
     form = FORMS.get(status)
     match = re.fullmatch(form.pattern, line, re.DOTALL) if form is not None else None
     if form is None or match is None:
-        return ended_otherwise(status, line, words, program)
+        return ended_otherwise(status, line, context)
     found: dict[str, str | int] = {
-        name: int(text) if name in form.numbers else text for name, text in zip(form.names, match.groups())}
-    file = found.pop("file", None)
-    file = subject if file is None else names.get(str(file), str(file))
-    error = form.error("", status, line, None if file is None else str(file))
-    for name, value in found.items():
-        setattr(error, name, value)
-    more = sentence(error) if sentence is not None else ""
-    if isinstance(error, StudyRefused):
-        error.sentence = more
-    error.args = (form.text.format(
-        **found, file=file, words=" ".join(words), program=program, **details(error),
-        sentence=more if isinstance(error, StudyRefused) else f": {more}" if more else ""),)
+        name: int(text) if name in NUMBERS else text for name, text in zip(form.names, match.groups())}
+    named = found.pop("file", None)
+    file = context.subject if named is None else context.file(str(named))
+    error = form.error("", status, line, file)
+    error.__dict__.update(found)
+    error.sentence = sentence_of(error, context)
+    text = form.explained if error.sentence and form.explained else form.text
+    error.args = (text.format(**found, file=file, words=" ".join(context.words), program=context.program,
+                              sentence=error.sentence, **details(error)),)
     return error
+
+
+def sentence_of(error: ProgramError, context: Context) -> str:
+    """What is known of an error beyond its line."""
+    if isinstance(error, (NoSuchFile, ReadFailed)) and error.file is not None:
+        from biqsolur.file_faults import read_fault
+        return read_fault(error.file) or ""
+    return context.sentence(error) if context.sentence is not None else ""
 
 
 def details(error: ProgramError) -> dict[str, str]:
@@ -265,7 +292,7 @@ def details(error: ProgramError) -> dict[str, str]:
     return {}
 
 
-def ended_otherwise(status: int, line: str, words: list[str], program: str) -> ProgramError:
+def ended_otherwise(status: int, line: str, context: Context) -> ProgramError:
     """The error for an end that the program itself never comes to."""
     said = f", and said {line[:300]!r}" if line else ""
     if status < 0:
@@ -274,8 +301,8 @@ def ended_otherwise(status: int, line: str, words: list[str], program: str) -> P
         except ValueError:
             name = f"signal {-status}"
         why = " (where nobody ended it, the system was out of memory)" if -status == signal.SIGKILL else ""
-        text = f"the program was ended by {name}{why} while it did {words[0]!r}{said}; nothing of its output was kept"
+        text = f"the program was ended by {name}{why} while it did {' '.join(context.words)!r}{said}; nothing of its output was kept"
     else:
-        text = (f"{program} ended with status {status}{said}, which no program of this version does; name another one in "
+        text = (f"{context.program} ended with status {status}{said}, which no program of this version does; name another one in "
                 "BIQSOLUR_PROGRAM, or unset it")
     return ProgramKilledError(text, status, line)
