@@ -30,8 +30,8 @@ class Edit:
     RENAMED: ClassVar[dict[str, str]] = {}      # names of attributes that are other ones in a study
 
     def __post_init__(self) -> None:
-        table = {self.RENAMED.get(field.name, field.name): getattr(self, field.name) for field in fields(self)}  # type: ignore
-        for field in fields(self):  # type: ignore[arg-type]
+        table = {self.RENAMED.get(field.name, field.name): getattr(self, field.name) for field in fields(self)}
+        for field in fields(self):
             key = self.RENAMED.get(field.name, field.name)
             try:
                 value = plain_value("edit", key, table[key], table)
@@ -42,7 +42,7 @@ class Edit:
     def to_dict(self) -> dict[str, Any]:
         """The edit as a table of a study."""
         values = {self.RENAMED.get(field.name, field.name): thawed(getattr(self, field.name))
-                  for field in fields(self)}  # type: ignore[arg-type]
+                  for field in fields(self)}
         return {"kind": self.KIND, **values}
 
 
@@ -148,8 +148,8 @@ class Inject(Edit):
 
 @dataclass(frozen=True)
 class SeriesOffset(Edit):
-    """Adds to a stock's value from then on. offset: a difference of prices, which may be negative; it replaces none
-    before but is added to it."""
+    """Adds to a stock's value from then on. offset: a difference of prices, which may be negative; it comes on top of those
+    of edits before."""
 
     KIND: ClassVar[str] = "series"
     stock: str
@@ -176,7 +176,7 @@ def edit_of(table: Mapping[str, Any]) -> Edit:
     kind = KINDS.get(str(table.get("kind")))
     if kind is None:
         raise StudyError(f"kind: {table.get('kind')!r} is no kind of edit; there are {', '.join(KINDS)}")
-    names = {kind.RENAMED.get(field.name, field.name): field.name for field in fields(kind)}  # type: ignore[arg-type]
+    names = {kind.RENAMED.get(field.name, field.name): field.name for field in fields(kind)}
     given = {key: value for key, value in table.items() if key != "kind"}
     if given.keys() != names.keys():
         raise StudyError(f"an edit of the kind {kind.KIND} has the keys {', '.join(names)}, and not {', '.join(given)}")

@@ -18,14 +18,12 @@ from biqsolur.times import duration, nanoseconds
 Table = dict[str, Any]
 
 
-def whole(value: object) -> int:
+def whole(value: Any) -> int:
     """A count or a place: a whole number, never a floating-point one, also where that is whole."""
     if isinstance(value, Integral) and not isinstance(value, bool):
         return int(value)
-    if isinstance(value, (float, Decimal)):
-        raise StudyError(f"{value!r} is no whole number of the type int, which this key takes; write {format(value, '.0f')}"
-                         if value == value and abs(value) < 1e18 and value == int(value) else
-                         f"{value!r} is no whole number, which this key takes")
+    if isinstance(value, (float, Decimal)) and value == value and abs(value) < 10**18 and value == int(value):
+        raise StudyError(f"{value!r} is no whole number of the type int, which this key takes; write {int(value)}")
     raise StudyError(f"{value!r} is of the type {type(value).__name__}; this key takes a whole number")
 
 
@@ -47,11 +45,11 @@ def draw_key(value: object) -> str:
     return text(value)
 
 
-def listed(value: object, item: Callable[[object], Any]) -> list[Any]:
+def listed(value: Any, item: Callable[[object], Any]) -> list[Any]:
     """A list, with each of its items made plain; an array of numpy is one too."""
     if isinstance(value, (str, bytes, Mapping)) or not isinstance(value, Sequence) and not hasattr(value, "tolist"):
         raise StudyError(f"{value!r} is of the type {type(value).__name__}; this key takes a list")
-    return [item(each) for each in value]   # type: ignore[union-attr]
+    return [item(each) for each in value]
 
 
 def bands(value: object) -> list[list[int]]:

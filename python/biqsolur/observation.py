@@ -5,6 +5,7 @@ from __future__ import annotations
 from collections.abc import Iterator, Mapping
 from dataclasses import dataclass, field, replace
 from types import MappingProxyType
+from typing import Any
 
 import numpy
 
@@ -129,7 +130,7 @@ class Observation:
         return Enter(**{"token": next(self.tokens), "side": side, "shares": shares, "symbol": self.symbol, "price": price,
                         **more})    # type: ignore[arg-type]
 
-    def as_vector(self) -> numpy.ndarray:
+    def as_vector(self) -> numpy.ndarray[Any, numpy.dtype[numpy.float64]]:
         """The observation as floating-point numbers, of the shape (13,), named by `VECTOR`."""
         book = self.book
         told = (0.0,) * 7 if book is None else (
@@ -155,7 +156,7 @@ def own_messages(branch: Branch, trader: int) -> list[Sent]:
     return list(messages.sent_messages(branch._source, own_events(branch, trader)))
 
 
-def own_events(branch: Branch, trader: int) -> numpy.ndarray:
+def own_events(branch: Branch, trader: int) -> numpy.ndarray[Any, numpy.dtype[numpy.int64]]:
     """The indexes of the events that delivered what a trader sent, or what was sent to it."""
     indexes = branch._event_frames(put_back=False)
     head = branch.bundle.frames.records(indexes, layouts.EVENT)

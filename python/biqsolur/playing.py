@@ -14,7 +14,8 @@ the policy, and gives the same bytes to whoever runs it. A decision costs a run 
 from __future__ import annotations
 
 import traceback
-from collections.abc import Callable, Iterable, Iterator
+from collections.abc import Callable, Iterable, Iterator, Mapping
+from os import PathLike
 from typing import Any
 
 from biqsolur.chains import EDITS_OF_A_BRANCH, MOST_BRANCHES, inject_edits, moment_of, room_fault, siblings_fault, trader_fault
@@ -25,15 +26,17 @@ from biqsolur.ouch import Cancel, Enter, Order
 from biqsolur.study import Study
 from biqsolur.times import clock_text, duration, nanoseconds
 
+AnyStudy = Study | str | PathLike[str] | Mapping[str, Any]
 Policy = Callable[[Observation], Iterable[Order] | None]
 
 
-def play(study: Study, trader: int, policy: Policy, every: object = "1s", **settings: Any) -> Study:
+def play(study: AnyStudy, trader: int, policy: Policy, every: object = "1s", **settings: Any) -> Study:
     """Plays a policy to the close and gives the study with its orders; its last branch is the run with all of them.
 
     policy: takes an Observation and returns orders (`observation.buy(...)`, `sell`, `cancel`, or `biqsolur.ouch.Enter` and
     `Cancel`), none of them or None. The settings are those of Game. Raises PlayError, also where the market ends before
-    the last decision by its limit of events, and PolicyError where the policy raises or gives what is no order.
+    the last decision by its limit of events, PolicyError where the policy raises or gives what is no order, and
+    StudyRefused.
     """
     game = Game(study, trader, every, **settings)
     observation = game.observe()
@@ -70,9 +73,11 @@ class Game:
     NAME-1, NAME-2, ... The study gets version 2. `running` goes to `biqsolur.run` (workers, program).
     """
 
-    def __init__(self, study: Study, trader: int, every: object = "1s", *, start: object = None, end: object = None,
+    def __init__(self, study: AnyStudy, trader: int, every: object = "1s", *, start: object = None, end: object = None,
                  delay: object = None, branch: str = "root", most: int | None = None, name: str = "play",
                  **running: Any) -> None:
+        study = study if isinstance(study, Study) else Study(study)
+        study.check(running.get("program"))
         self.base, self.trader, self.name, self.running = study.only(branch).in_version_2(), trader, name, running
         fault = trader_fault(study, trader) or siblings_fault(self.base, branch)
         if fault is not None:
@@ -111,7 +116,7 @@ class Game:
     @property
     def branch(self) -> str:
         """The branch that has all orders given so far."""
-        return self.branches[-1]["name"] if self.branches else self.first_branch
+        return str(self.branches[-1]["name"]) if self.branches else self.first_branch
 
     # ------------------------------------------------------------ decision by decision
 

@@ -10,8 +10,9 @@ time. So each order comes to the exchange at its own nanosecond, and up to the f
 
 from __future__ import annotations
 
-from collections.abc import Iterable
+from collections.abc import Iterable, Mapping
 from operator import itemgetter
+from os import PathLike
 from typing import Any
 
 from biqsolur.chains import EDITS_OF_A_BRANCH, MOST_BRANCHES, inject_edits, moment_of, room_fault, siblings_fault, trader_fault
@@ -25,7 +26,7 @@ MOST_ORDERS = EDITS_OF_A_BRANCH * MOST_BRANCHES
 ENTER_START, TOKEN_END = "4f", 2 * 15   # in digits: an Enter's first byte; its token follows
 
 
-def schedule(study: Study, trader: int, orders: Iterable[tuple[object, object]], *, parent: str = "root",
+def schedule(study: Study | str | PathLike[str] | Mapping[str, Any], trader: int, orders: Iterable[tuple[object, object]], *, parent: str = "root",
              name: str = "schedule", **running: Any) -> Study:
     """The study with a chain of branches that sends these orders in the name of a trader (a number from 1).
 
@@ -36,8 +37,11 @@ def schedule(study: Study, trader: int, orders: Iterable[tuple[object, object]],
     orders. The study gets version 2.
 
     The chain is of this study's run: where something else is changed, change it first and make the schedule then. An order
-    that is later than the market's end by its limit of events never comes. `running` goes to `biqsolur.run` (workers, program). Raises ScheduleError, which says which order is wrong.
+    that is later than the market's end by its limit of events never comes. `running` goes to `biqsolur.run` (workers, program). Raises ScheduleError, which says which order is wrong, and
+    StudyRefused.
     """
+    study = study if isinstance(study, Study) else Study(study)
+    study.check(running.get("program"))
     sends = sorted(sends_of(study, orders), key=itemgetter(0))
     fault = trader_fault(study, trader) or siblings_fault(study, parent)
     if fault is not None:
@@ -55,7 +59,8 @@ def schedule(study: Study, trader: int, orders: Iterable[tuple[object, object]],
 
 def sends_of(study: Study, orders: Iterable[tuple[object, object]]) -> list[tuple[int, str]]:
     """(time in nanoseconds, message in digits) of each order, all checked."""
-    table, sends, tokens = study.to_dict(), [], {}
+    table, tokens = study.to_dict(), dict[str, int]()
+    sends: list[tuple[int, str]] = []
     for number, pair in enumerate(orders):
         place = f"order {number} (counted from 0)"
         try:

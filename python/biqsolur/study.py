@@ -27,6 +27,7 @@ from biqsolur.study_changes import changed_table, changed_text, text_with_agent,
 from biqsolur.times import clock_text, nanoseconds
 from biqsolur.toml_text import study_text
 
+MOST_TRADERS = 511
 HIDDEN_OFFSET = 2 * 40      # of the display in the digits of an Enter
 
 
@@ -98,7 +99,7 @@ class Study:
         `with_series_found()` where the file is to be run from anywhere.
         """
         from biqsolur.output import write_new
-        write_new(path, self.to_text().encode())
+        write_new(Path(path), self.to_text().encode())
 
     @property
     def series_path(self) -> Path | None:
@@ -116,17 +117,17 @@ class Study:
     @property
     def branches(self) -> list[str]:
         """The names of the branches, in order; "root" first."""
-        return ["root", *(branch["name"] for branch in self._table.get("branch", []))]
+        return ["root", *(str(branch.get("name", "")) for branch in self._tables("branch"))]
 
     @property
     def symbols(self) -> list[str]:
         """The stocks' symbols, by number of the stock from 0."""
-        return [stock["symbol"] for stock in self._table.get("stock", [])]
+        return [str(stock.get("symbol", "")) for stock in self._tables("stock")]
 
     @cached_property
     def traders(self) -> list[tuple[int, str, str]]:
         """(number from 1, kind, name) of each trader; a name is kind and number, such as "maker 1"."""
-        kinds = [entry["kind"] for entry in self._table.get("agent", []) for _ in range(entry.get("count", 1))]
+        kinds = [str(entry.get("kind", "")) for entry in self._tables("agent") for _ in range(count_of(entry))]
         return [(number, kind, f"{kind} {number}") for number, kind in enumerate(kinds, 1)]
 
     def edits(self, branch: str) -> list[Edit]:
@@ -154,10 +155,12 @@ class Study:
 
             study.with_agent("watcher", every="1s")
         """
-        table = self._table
-        entry = {"kind": kind, "group": table["exchange"]["group"], "stock": self.symbols[0], "first": table["open"], **keys}
-        made = plain_table("agent", entry, f"agent {len(table['agent'])}")
-        changed = {**table, "agent": [*table["agent"], made]}
+        exchange, agents = self._table.get("exchange"), self._tables("agent")
+        usual = {"kind": kind, "group": exchange.get("group") if isinstance(exchange, Mapping) else None,
+                 "stock": next(iter(self.symbols), None), "first": self._table.get("open")}
+        entry = {key: value for key, value in {**usual, **keys}.items() if value is not None}
+        made = plain_table("agent", entry, f"agent {len(agents)}")
+        changed = {**self._table, "agent": [*agents, made]}
         text = None if self._text is None else text_with_agent(self._text, made, changed)
         return Study._made(changed, text, self.folder)
 
@@ -175,8 +178,8 @@ class Study:
         if name in self.branches:
             raise StudyError(f"there is a branch {name!r} already; a branch has a name of its own")
         self._known(parent)
-        stop = {"at": after} if at is None else {"when": at}
-        more = {"edit": list(edits)} if edits else {}
+        stop: Table = {"at": after} if at is None else {"when": at}
+        more: Table = {"edit": list(edits)} if edits else {}
         table = plain_table("branch", {"name": name, "parent": parent, **stop, **more}, f"branch {name!r}")
         study = self if at is None else self.in_version_2()
         return study._with_branches([table])
@@ -184,7 +187,7 @@ class Study:
     def without_branch(self, name: str) -> Study:
         """The study without a branch that no other has as its parent. Raises StudyError else."""
         self._branch(name)
-        children = [branch["name"] for branch in self._table["branch"] if branch["parent"] == name]
+        children = [branch.get("name", "") for branch in self._tables("branch") if branch.get("parent") == name]
         if children:
             raise StudyError(f"the branch {name!r} has branches of its own, to be taken away first: {', '.join(children)}")
         return self._with_only({*self.branches} - {name})
@@ -192,10 +195,11 @@ class Study:
     def only(self, branch: str) -> Study:
         """The study with this branch and those on the way to it alone; of "root", with no branch."""
         self._known(branch)
-        line = {branch}
-        while branch != "root":
-            branch = self._branch(branch)["parent"]
+        line = {"root"}
+        while branch not in line:
             line.add(branch)
+            branch = self._branch(branch).get("parent", "")
+            self._known(branch)
         return self._with_only(line)
 
     def until(self, time: object, branch: str = "root") -> Study:
@@ -205,6 +209,8 @@ class Study:
         outside the hours, or before a time at which the branch or one on the way to it leaves its parent.
         """
         table, moment = self.only(branch).to_dict(), nanoseconds(time)
+        if type(table.get("open")) is not int or type(table.get("close")) is not int:
+            raise StudyError("the study has no hours: `open` and `close` are whole numbers of nanoseconds past midnight")
         if not table["open"] <= moment <= table["close"]:
             raise StudyError(f"{clock_text(moment)} is outside the hours, {clock_text(table['open'])} to "
                              f"{clock_text(table['close'])}")
@@ -214,7 +220,7 @@ class Study:
                                  f"{clock_text(entry['when'])}")
         table["close"] = moment
         if "change" in table:
-            table["change"] = [change for change in table["change"] if change["time"] <= moment]
+            table["change"] = [change for change in table["change"] if change.get("time", 0) <= moment]
         return Study._made(table, None, self.folder)
 
     def in_version_2(self) -> Study:
@@ -222,9 +228,9 @@ class Study:
         for injected hidden orders, which version 1 rejects: such a study isn't changed, StudyError."""
         if self._table.get("version") != 1:
             return self
-        for branch in self._table.get("branch", []):
+        for branch in self._tables("branch"):
             if any(is_hidden_order(edit) for edit in branch.get("edit", [])):
-                raise StudyError(f"the branch {branch['name']!r} injects a hidden order (display N), which version 1 rejects "
+                raise StudyError(f"the branch {branch.get('name')!r} injects a hidden order (display N), which version 1 rejects "
                                  "and version 2 takes: say which is meant by with_(\"version\", 2) first, or leave it out")
         return self.with_("version", 2)
 
@@ -235,11 +241,11 @@ class Study:
 
     def _with_only(self, names: set[str]) -> Study:
         """The study with its branches of these names alone."""
-        entries = self._table.get("branch", [])
-        gone = [number for number, branch in enumerate(entries) if branch["name"] not in names]
+        entries = self._tables("branch")
+        gone = [number for number, branch in enumerate(entries) if branch.get("name") not in names]
         if not gone:
             return self
-        table = {**self._table, "branch": [branch for branch in entries if branch["name"] in names]}
+        table = {**self._table, "branch": [branch for branch in entries if branch.get("name") in names]}
         if not table["branch"]:
             del table["branch"]
         text = None if self._text is None else text_without_branches(self._text, gone, table)
@@ -247,7 +253,7 @@ class Study:
 
     def _with_branches(self, branches: list[Table]) -> Study:
         """The study with more branches, which are plain tables, behind the others."""
-        table = {**self._table, "branch": [*self._table.get("branch", []), *branches]}
+        table = {**self._table, "branch": [*self._tables("branch"), *branches]}
         text = None if self._text is None else text_with_branches(self._text, branches, table)
         return Study._made(table, text, self.folder)
 
@@ -256,7 +262,14 @@ class Study:
         self._known(name)
         if name == "root":
             raise StudyError("the root is the market itself, and no branch that has edits or could be taken away")
-        return next(branch for branch in self._table["branch"] if branch["name"] == name)
+        return next(branch for branch in self._tables("branch") if branch.get("name") == name)
+
+    def _tables(self, key: str) -> list[Table]:
+        """The tables of an array, none where the study has none. Raises StudyError where it has something else there."""
+        tables = self._table.get(key, [])
+        if isinstance(tables, list) and all(isinstance(table, dict) for table in tables):
+            return tables
+        raise StudyError(f"`{key}` is to be an array of tables, as [[{key}]] makes them, and is {tables!r}")
 
     def _known(self, name: str) -> None:
         if name not in self.branches:
@@ -273,13 +286,14 @@ class Study:
     # ------------------------------------------------------------ comparing
 
     def __eq__(self, other: object) -> bool:
-        return self._canonical == other._canonical if isinstance(other, Study) else NotImplemented
+        return bool(self._canonical == other._canonical) if isinstance(other, Study) else NotImplemented
 
     def __hash__(self) -> int:
         return hash(self._canonical)
 
     @cached_property
     def _canonical(self) -> str:
+        """What two equal studies have in common."""
         return json.dumps(self._table, sort_keys=True, default=repr)
 
     def __repr__(self) -> str:
@@ -294,7 +308,7 @@ def text_of_file(path: Path) -> str:
     try:
         return data.decode("utf-8")
     except UnicodeDecodeError:
-        from biqsolur.why import no_toml
+        from biqsolur.toml_faults import no_toml
         raise StudySyntaxError(f"{path}: {no_toml(data)}") from None
 
 
@@ -303,7 +317,7 @@ def table_of(text: str, path: Path | None = None) -> Table:
     try:
         return tomllib.loads(text.removeprefix("\ufeff"))
     except (ValueError, RecursionError):
-        from biqsolur.why import no_toml
+        from biqsolur.toml_faults import no_toml
         place = "" if path is None else f"{path}: "
         raise StudySyntaxError(f"{place}{no_toml(text.encode())}") from None
 
@@ -318,6 +332,12 @@ def series_folder(name: object, path: Path | None) -> Path | None:
         beside = path.absolute().parent
         return beside if (beside / name).exists() else here
     return here
+
+
+def count_of(entry: Mapping[str, Any]) -> int:
+    """How many traders an agent entry makes; what is no number makes none, and more than there may be count as too many."""
+    count = entry.get("count", 1)
+    return min(count, MOST_TRADERS + 1) if type(count) is int else 0
 
 
 def is_hidden_order(edit: Mapping[str, Any]) -> bool:

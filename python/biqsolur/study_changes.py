@@ -24,7 +24,7 @@ BRANCH_HEAD = re.compile(r"^[ \t]*\[\[[ \t]*branch[ \t]*\]\]", re.MULTILINE)
 
 def changed_table(study: Table, path: str | Sequence[str | int], value: object) -> tuple[Places, Table]:
     """Where a path leads, as keys and numbers, and the study with the value there. Raises StudyError, with the path."""
-    parts = path.split(".") if isinstance(path, str) else list(path)
+    parts: list[str | int] = [*path.split(".")] if isinstance(path, str) else list(path)
     shown = path if isinstance(path, str) else ".".join(map(str, parts))
     if not parts:
         raise StudyError("the path is empty; it names a value, as in \"agent.0.every\"")
@@ -38,6 +38,8 @@ def changed_table(study: Table, path: str | Sequence[str | int], value: object) 
 
 def set_value(table: Table, kind: str, parts: Sequence[str | int], value: object) -> Places:
     """Sets a value below a table of this kind, and gives the places on the way to it."""
+    if not isinstance(table, dict):
+        raise StudyError(f"there is no table there, but {table!r}")
     key = str(parts[0])
     key = PLURALS.get(key, key) if key not in FIELDS[kind] else key
     if key not in FIELDS[kind]:
@@ -68,7 +70,8 @@ def entry_number(entries: Any, kind: str, part: str | int) -> int:
     if isinstance(part, int) or part.isdecimal():
         found = [int(part)] if 0 <= int(part) < len(entries) else []
     else:
-        found = [number for number, entry in enumerate(entries) if entry.get(NAMES_OF_ENTRIES.get(kind, "kind")) == part]
+        name = NAMES_OF_ENTRIES.get(kind, "kind")
+        found = [number for number, entry in enumerate(entries) if isinstance(entry, dict) and entry.get(name) == part]
     if len(found) != 1:
         raise StudyError(f"{len(found) or 'no'} entries are {part!r}; they have the numbers from 0 to {len(entries) - 1}")
     return found[0]

@@ -78,7 +78,7 @@ def whole_nanoseconds(value: object, wanted: str) -> int:
     if isinstance(value, Integral) and not isinstance(value, bool):
         return int(value)
     if isinstance(value, timedelta):    # pandas' Timedelta is one too, with nanoseconds of its own
-        microseconds = (value.days * 86_400 + value.seconds) * 1_000_000 + value.microseconds
+        microseconds = int((value.days * 86_400 + value.seconds) * 1_000_000 + value.microseconds)
         return microseconds * 1_000 + int(getattr(value, "nanoseconds", 0))
     if isinstance(value, float):
         raise TimeError(f"{value!r} is a floating-point number; {wanted}")

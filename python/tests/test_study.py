@@ -364,9 +364,9 @@ def table_with(place, value):
     (("stock", 0, "take"), 0.003, PriceError, "floating-point"),
     (("stock", 0, "take"), True, PriceError, "no amount of money"),
     (("stock", 0, "pull"), 10.0, StudyError, "stock 0: pull: 10.0 is no whole number of the type int.*write 10$"),
-    (("stock", 0, "pull"), 10.5, StudyError, "10.5 is no whole number"),
+    (("stock", 0, "pull"), 10.5, StudyError, "pull: 10.5 is of the type float; this key takes a whole number"),
     (("events",), 1e4, StudyError, "events: 10000.0 is no whole number of the type int"),
-    (("events",), float("nan"), StudyError, "nan is no whole number"),
+    (("events",), float("nan"), StudyError, "events: nan is of the type float"),
     (("events",), "20000", StudyError, "events: '20000' is of the type str"),
     (("events",), None, StudyError, "NoneType"),
     (("open",), 34200.0, TimeError, "open: 34200.0 is a floating-point"),
@@ -474,3 +474,44 @@ def test_names_of_the_package():
     for name in ("Study", "Tick", "Fee", "Halt", "Resume", "Latency", "AgentParameter", "Silence", "Inject", "SeriesOffset",
                  "play", "Game", "Observation", "StudyError", "PolicyError"):
         assert getattr(biqsolur, name).__name__ == name
+
+
+@pytest.mark.parametrize("text", ["version = 1\n", "branch = 5\n", "agent = [1]\n", "[[branch]]\nat = 3\n", "[[agent]]\ncount = 'x'\n",
+                                  "[[branch]]\nname = 'a'\nparent = 'a'\nat = 1\n", "open = 'x'\nclose = 1.5\n", "[exchange]\n"])
+def test_a_study_that_is_none_is_never_an_error_without_a_name(text, tmp_path):
+    """Whatever a text of TOML says, each question is answered or ends with StudyError, and the program refuses the study."""
+    study = Study.from_text(text)
+    for ask in (lambda: study.branches, lambda: study.symbols, lambda: study.traders, lambda: repr(study), lambda: hash(study),
+                lambda: study.only("a"), lambda: study.until(5), lambda: study.until("9:30", "a"), lambda: study.without_branch("a"),
+                lambda: study.branch("b", after=1).branch("c", at="9:31"), lambda: study.with_agent("watcher"), lambda: study.edits("a"),
+                lambda: study.with_("agent.0.every", 5), lambda: study.with_("events", 5), lambda: study.with_series_found()):
+        try:
+            ask()
+        except StudyError as error:
+            assert str(error)
+    assert study.to_text() == text
+    for ask in (study.check, lambda: study.schedule(1, [("9:31", Cancel("A"))]), lambda: biqsolur.play(study, 1, lambda seen: None)):
+        with pytest.raises(biqsolur.StudyRefused) as caught:
+            ask()
+        assert (caught.value.rule, caught.value.sentence != "") == (1, True)
+
+
+def test_check_says_rule_place_and_sentence(study):
+    """As the program refuses it, with the sentence of `why`; an accepted study says nothing."""
+    assert study.check() is None
+    with pytest.raises(biqsolur.StudyRefused, match="`half` is -1, and is to be 0 to 1,000,000,000") as caught:
+        study.with_("agent.maker.half", -1).check()
+    assert (caught.value.rule, caught.value.place) == (29, 0) and "agent entry 0" in caught.value.sentence
+
+
+def test_a_trader_more(study):
+    """It stands behind the others, with what it usually has; comments stay, and so do the numbers of the others."""
+    for base in (study, study.only("root"), Study(study.to_dict())):
+        more = base.with_agent("watcher", every="1s")
+        assert more.to_dict()["agent"][-1] == {"kind": "watcher", "group": 0, "stock": "ABM", "first": 34_200_000_000_000, "every": 10**9}
+        assert more.traders[:-1] == base.traders and more.traders[-1] == (33, "watcher", "watcher 33")
+        assert more.to_dict() == {**base.to_dict(), "agent": more.to_dict()["agent"]}
+        assert tomllib.loads(more.to_text()) == more.to_dict() and ("# Question" in more.to_text()) == ("# Question" in base.to_text())
+        more.check()
+    with pytest.raises(StudyError, match="agent 2: evry: no such key"):
+        study.with_agent("watcher", evry="1s")
