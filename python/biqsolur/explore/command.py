@@ -107,8 +107,8 @@ def serve(explorer: Explorer, port: int, browser: bool) -> None:
     with listen(port) as listening:
         address = f"http://{HERE}:{listening.getsockname()[1]}/{token}/"
         explorer.open()
-        print(f"The explorer of {explorer.name} is at\n    {address}\nfor this machine alone; Ctrl-C ends it.", flush=True)
         with door(address) as file:
+            print(f"The explorer of {explorer.name} is at\n    {address}\nfor this machine alone; Ctrl-C ends it.", flush=True)
             server = make_server(explorer, token, lambda: file.unlink(missing_ok=True))
             if browser:
                 threading.Thread(target=webbrowser.open, args=(file.as_uri(),), daemon=True).start()

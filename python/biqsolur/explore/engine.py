@@ -41,7 +41,8 @@ class Engine:
 
     def check(self, study: Study) -> None:
         """Asks the program whether it accepts a study. Raises StudyRefused where it does not."""
-        running.check(study, program=self.program)
+        with running.command("check", study, self.program) as (call, _):
+            call.end(subprocess.PIPE, self._stopper())
 
     def run(self, study: Study, progress: Progress = lambda size: None) -> Bundle:
         """The bundle of a study; `progress` is told now and then how many bytes of it are written."""

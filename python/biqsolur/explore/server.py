@@ -58,10 +58,7 @@ class Guard:
         if refusal is not None:
             await refusal(scope, receive, with_headers(send))
             return
-        try:
-            await self.app(scope, limited(receive), with_headers(send))
-        except TooLong:
-            await said(413, f"a body has at most {MOST_BODY:,} bytes")(scope, receive, with_headers(send))
+        await self.app(scope, limited(receive), with_headers(send))
 
     def refusal(self, scope: Scope) -> Response | None:
         """What is answered to a request that is not served, or None."""
@@ -121,9 +118,10 @@ def answer(content: Any, status: int = 200) -> Response:
 
 
 def fault(error: Exception, explorer: Explorer) -> Response:
-    """An error of the package as an answer: its sentence, its rule and place where it has them."""
+    """An error of the package as an answer: its sentence, of a refusal without where it was found; its rule and place where
+    it has them."""
     status = next(status for kind, status in STATUSES if isinstance(error, kind))
-    more = {name: getattr(error, name) for name in ("rule", "place", "status") if isinstance(getattr(error, name, None), int)}
+    more = {name: getattr(error, name) for name in ("rule", "place") if isinstance(getattr(error, name, None), int)}
     return said(status, str(error), kind=type(error).__name__, tag=explorer.tag, **more)
 
 
@@ -197,6 +195,9 @@ def make_app(explorer: Explorer, token: str, opened: Callable[[], None] = lambda
     async def nothing(request: Request, error: Exception) -> Response:
         return said(getattr(error, "status_code", 404), "there is nothing here")
 
+    async def too_long(request: Request, error: Exception) -> Response:
+        return said(413, f"a body has at most {MOST_BODY:,} bytes")
+
     async def failed(request: Request, error: Exception) -> Response:
         return said(500, f"the explorer failed: {type(error).__name__}")
 
@@ -205,5 +206,6 @@ def make_app(explorer: Explorer, token: str, opened: Callable[[], None] = lambda
         Route("/{token}/api/{name}", question, methods=["GET"]),
         Route("/{token}/api/{name}", action, methods=["POST"]),
     ]
-    app = Starlette(routes=routes, exception_handlers={404: nothing, 405: nothing, Exception: failed})
+    app = Starlette(routes=routes, exception_handlers={404: nothing, 405: nothing, TooLong: too_long, Exception: failed})
+    app.router.redirect_slashes = False
     return Guard(app, token)
