@@ -106,8 +106,6 @@ def kind_of(path: str) -> str:
         return "unread"
     with open(path, "rb") as file:
         head = file.read(HEAD)
-    if head[:3] == b"\0\x09h":
-        return "bundle"
     if b"\0" in head:
         return "other" if frame_letter(head) in OUTPUTS else "bundle"
     first = head.lstrip(b"\xef\xbb\xbf\r\n").split(b"\n", 1)[0].strip()

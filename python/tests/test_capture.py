@@ -100,6 +100,7 @@ def test_a_plain_reader_finds_the_messages(captured):
         if data:
             assert int.from_bytes(data[:2], "big") == len(data) - 2
         if data[2:3] in (b"U", b"S"):
+            assert (data[2:3] == b"U") == to_exchange
             entry = next(sent)
             assert (time, trader, to_exchange, data[3:]) == (entry.time, entry.trader, entry.is_order, entry.data)
     assert next(sent, None) is None and times == sorted(times)
@@ -165,6 +166,11 @@ def test_much_that_is_unanswered_is_acknowledged():
         flights = 0 if packet.to_exchange else flights + len(packet.data)
         assert flights < capture.WINDOW
     assert sum(not packet.data for packet in packets) == 3 + 3_000 * 69 // capture.UNACKNOWLEDGED
+
+
+def test_each_agent_has_an_address_of_its_own():
+    assert capture.address(0) == bytes([10, 0, 0, 1]) and capture.address(300) == bytes([10, 1, 1, 44])
+    assert len({capture.address(agent) for agent in range(512)}) == 512
 
 
 def test_the_command_and_what_it_refuses(bundle, tmp_path, capsys, monkeypatch):

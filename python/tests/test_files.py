@@ -12,6 +12,7 @@ import pytest
 from conftest import ROOT
 
 import biqsolur
+from biqsolur import output
 
 LEVELS = 3
 
@@ -242,3 +243,18 @@ def test_rewind_to_the_last_event_is_the_closing(market, bundle, tmp_path):
         pandas.testing.assert_frame_equal(state.closing.orders[numbers], branch.closing.orders[numbers])
         numbers = ["stock", "last", "matched", "fees", "offset", "live"]
         pandas.testing.assert_frame_equal(state.closing.stocks[numbers], branch.closing.stocks[numbers])
+
+
+def test_a_file_that_comes_up_while_another_is_written(tmp_path, monkeypatch):
+    """Nothing is overwritten, and nothing stays beside it; so too where the file system has no hard links."""
+    path = tmp_path / "file"
+    with pytest.raises(biqsolur.OutputExistsError, match="is there already"), output.new_file(path) as file:
+        file.write(b"mine")
+        path.write_text("theirs")
+    assert path.read_text() == "theirs" and list(tmp_path.iterdir()) == [path]
+
+    def no_link(*_):
+        raise PermissionError(1, "Operation not permitted")
+    monkeypatch.setattr("os.link", no_link)
+    output.write_new(tmp_path / "other", b"whole")
+    assert (tmp_path / "other").read_bytes() == b"whole" and len(list(tmp_path.iterdir())) == 2

@@ -231,6 +231,8 @@ def test_shocks_at_the_ends_of_their_range():
     assert fundamental.centred(ends, 10**9).tolist() == [centred(drawn, 10**9) for drawn in ends.tolist()]
     assert fundamental.centred(ends, 0).tolist() == [0, 0, 0]
     assert fundamental.rule_values({"start": 5, "mean": 1, "pull": 0, "shock": 10**9}, ends).tolist() == [5, 1, 10**9 + 1, 10**9 + 1]
+    assert fundamental.rule_values({"start": TOP - 5, "mean": 1, "pull": 0, "shock": 10}, ends).tolist() == [TOP - 5, TOP - 15, TOP - 5, TOP - 5]
+    assert fundamental.rule_values({"start": TOP, "mean": TOP, "pull": 0, "shock": 10}, ends[1:]).tolist() == [TOP, TOP, TOP]
 
 
 def test_what_is_asked_for_wrongly(priced, tmp_path, monkeypatch):

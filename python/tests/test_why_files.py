@@ -11,7 +11,7 @@ import studies
 
 from biqsolur import bundle_walk, file_faults, order_rules, script_rules
 from biqsolur.__main__ import main
-from biqsolur.audit_faults import explain_audit
+from biqsolur.audit_faults import Told, explain_audit
 from biqsolur.bundle_walk import explain_bytes
 from test_why import STUDY, TIMED, VALUES
 
@@ -227,18 +227,31 @@ def test_right_scripts(why):
 
 # ---------------------------------------------------------------- bundles
 
-@pytest.fixture(scope="module")
-def written(program, tmp_path_factory):
-    """The bytes of the bundle of a small study with branches, and its frames' offsets."""
-    folder = tmp_path_factory.mktemp("bundle")
-    study, series = studies.make_study(41)
-    (folder / "study.toml").write_text(studies.toml({**study, "events": max(200, max(
-        [branch.get("at", 0) for branch in study["branch"]], default=0))}))
+def ran(program, folder, study, series=None):
+    """The bundle of a study."""
+    (folder / "study.toml").write_text(study)
     if series is not None:
-        (folder / study["series"]).write_text(series)
+        (folder / series[0]).write_text(series[1])
     answer = subprocess.run([program, "run", "study.toml"], cwd=folder, capture_output=True)
     assert (answer.returncode, answer.stderr) == (0, b"")
     return answer.stdout
+
+
+@pytest.fixture(scope="module")
+def written(program, tmp_path_factory):
+    """The bytes of the bundle of a small random study with branches."""
+    study, series = studies.make_study(41)
+    return ran(program, tmp_path_factory.mktemp("bundle"), studies.toml(study), series and (study["series"], series))
+
+
+@pytest.fixture(scope="module")
+def halting(program, tmp_path_factory):
+    """The bytes of a bundle with dated halts and resumptions, and a branch that halts and resumes; one time is both's."""
+    study = STUDY.replace('kind = "fee"\nadd = 0\ntake = 10', 'kind = "halt"').replace(
+        "[[agent]]", '[[change]]\ntime = 1300\nstock = "ABM"\nkind = "resume"\n\n[[change]]\ntime = 1300\nstock = "XYZ"\n'
+        'kind = "halt"\n\n[[agent]]', 1).replace(
+        '{ kind = "silence", agent = 3 }', '{ kind = "halt", stock = "ABM" }, { kind = "resume", stock = "ABM" }')
+    return ran(program, tmp_path_factory.mktemp("halting"), study, ("values.csv", VALUES))
 
 
 def audited(program, folder, data):
@@ -269,13 +282,24 @@ def test_a_bundle_that_is_cut(why, written):
         assert said in sentence and "run or copy it again" in sentence
 
 
-def test_changed_bundles_are_explained_where_the_program_refuses_them(program, tmp_path, written):
-    """A byte is changed, frames are left out, doubled or swapped: the sentence is of the program's place, and no general one."""
-    generator = random.Random("bundle")
+def first_fault(data):
+    """(2 or 3, offset) of the first frame that the walk doesn't take, or None; a frame that is cut is none."""
+    walk = bundle_walk.Walk()
+    for frame in bundle_walk.frames(data):
+        if bundle_walk.frame_faults(frame, walk.stocks):
+            return 2, frame.offset
+        if walk.fault(frame):
+            return 3, frame.offset
+        walk.take(frame)
+    return None
+
+
+def damaged(written, generator):
+    """Bundles of which a byte is changed, or a frame is left out or doubled elsewhere; and each frame behind each trading
+    action."""
     frames = list(bundle_walk.frames(written))
     ends = {frame.offset: frame.offset + 2 + len(frame.payload) for frame in frames}
-    rare = [frame.offset for frame in frames if frame.letter in "hbSRcsadz"]
-    refused = 0
+    rare = [frame.offset for frame in frames if frame.letter in "hbSRcsadzH"]
     for number in range(60):
         data = bytearray(written)
         at, other = generator.choice(rare), generator.choice(frames).offset
@@ -285,14 +309,30 @@ def test_changed_bundles_are_explained_where_the_program_refuses_them(program, t
             del data[at:ends[at]]
         else:
             data[at:at] = written[other:ends[other]]
-        status, numbers = audited(program, tmp_path, bytes(data))
-        if status == 13:
-            refused += 1
-            sentence = explain_bytes(bytes(data), *numbers)
-            place = len(data) - numbers[1] if numbers[0] == 1 else numbers[1]
-            assert sentence.startswith(f"at byte {place:,}: ") and sentence.isprintable()
-            assert "none of a bundle's frames" not in sentence
-    assert refused > 25
+        yield bytes(data)
+    one_of_each = {frame.letter: frame.offset for frame in frames}
+    for frame in [frame for frame in frames if frame.letter == "H"][:16]:
+        for other in one_of_each.values():
+            yield written[:ends[frame.offset]] + written[other:ends[other]] + written[ends[frame.offset]:]
+
+
+@pytest.mark.parametrize("which", ["written", "halting"])
+def test_damaged_bundles_are_explained_where_the_program_refuses_them(program, tmp_path, request, which):
+    """The walk stops where the program does; the sentence is of that place, and no general one."""
+    bundle, refused = request.getfixturevalue(which), 0
+    for data in damaged(bundle, random.Random("bundle")):
+        status, numbers = audited(program, tmp_path, data)
+        if status != 13:
+            assert first_fault(data) is None
+            continue
+        refused += 1
+        if numbers[0] != 1:
+            assert first_fault(data) == tuple(numbers)
+        sentence = explain_bytes(data, *numbers)
+        place = len(data) - numbers[1] if numbers[0] == 1 else numbers[1]
+        assert sentence.startswith(f"at byte {place:,}: ") and sentence.isprintable()
+        assert "none of a bundle's frames" not in sentence
+    assert refused > 40
 
 
 def test_what_stood_there_and_what_may(why, written):
@@ -324,6 +364,34 @@ def test_an_order_in_an_event_with_a_wrong_byte(program, tmp_path, written):
         assert said in explain_bytes(bytes(data), *numbers)
 
 
+def event_before(data, offset):
+    """The number of the last event or edit before an offset, 0 at an opening."""
+    number = 0
+    for frame in bundle_walk.frames(data[:offset]):
+        number = 0 if frame.letter == "b" else frame.number(1, 4) if frame.letter in "ed" else number
+    return number
+
+
+def fed(letter, reference, shares=0, price=0, locate=1, side=b"B"):
+    """A message of the feed as a frame."""
+    body = {"A": side + shares.to_bytes(4, "big") + b"ABM     " + price.to_bytes(4, "big"), "D": b"",
+            "E": shares.to_bytes(4, "big") + bytes(8), "X": shares.to_bytes(4, "big")}[letter]
+    return bundle_walk.Frame(0, letter.encode() + locate.to_bytes(2, "big") + bytes(8) + reference.to_bytes(8, "big") + body)
+
+
+def test_the_feed_is_applied_as_the_audit_does():
+    told = Told(["T", "T"])
+    assert told.take(fed("A", 5, 10, 100_000)) is None
+    assert told.take(fed("A", 5, 10, 100_000)) == "its reference is not above 5, that of an order before"
+    assert told.take(fed("E", 5, 11)) == "it takes 11 shares, and 10 are open"
+    assert told.take(fed("X", 5, 4)) is None and told.orders[5].open == 6
+    assert told.take(fed("X", 5, 7)) == "it cancels 7 shares, and 6 are open"
+    assert told.take(fed("X", 5, 1, locate=2)) == "it speaks of stock 1, and the order is of stock 0"
+    assert told.take(fed("E", 5, 6)) is None and told.orders == {}
+    assert told.take(fed("D", 5)) == "no displayed order has this reference then"
+    assert told.take(fed("A", 6, 1, locate=3)) == "its locate is 3, and is to be 1 to 2"
+
+
 def test_a_closing_that_the_feed_does_not_tell(program, tmp_path, written):
     """Messages of the feed and orders of the closing are changed: branch and reference are the program's, the sentence says what."""
     generator = random.Random("audit")
@@ -343,6 +411,8 @@ def test_a_closing_that_the_feed_does_not_tell(program, tmp_path, written):
                 sentence = explain_audit(bytes(data), *numbers)
                 assert sentence.startswith(f"branch {numbers[0]}, \"") and sentence.isprintable()
                 assert "what differs is" not in sentence and (numbers[1] == 0 or f"{numbers[1]:,}" in sentence)
+                if "can't be applied" in sentence:
+                    assert f" behind event {event_before(data, frame.offset):,}, " in sentence
                 said.add(next(words for words in ("can't be applied", "in the closing, and", "in the state") if words in sentence))
     assert len(said) >= 2
 
