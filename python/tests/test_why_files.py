@@ -472,34 +472,42 @@ def test_a_series_file_that_is_not_there(why, folder):
     assert why("study.toml") == (6, "values.csv is a folder, and is to be a file", "read failed: values.csv")
 
 
-@pytest.mark.skipif(os.geteuid() == 0 and not os.path.exists("/usr/bin/setpriv"), reason="as root, setpriv is not there to "
-                                                                                         "take leave away")
+AS_NOBODY = """
+import os, sys
+sys.path.insert(0, sys.argv[1])
+from biqsolur.file_faults import read_fault, write_fault
+if os.geteuid() == 0:
+    try:
+        os.setgroups([])
+        os.setresgid(65534, 65534, 65534)
+        os.setresuid(65534, 65534, 65534)
+    except OSError:
+        print("root can't become another user here")
+        sys.exit()
+for path in ("closed/study.toml", "secret.toml"):
+    print(read_fault(path))
+for path in ("secret.toml", "new.bundle"):
+    print(write_fault(path))
+"""
+
+
 def test_files_without_leave(folder):
-    """Who may not read or write is told so, and who may; root may all, so the question is asked as nobody there."""
-    (folder / "closed").mkdir(mode=0o700)
+    """Who may not read or write is told so, and who may. Root may all, so it is asked as nobody there."""
+    (folder / "closed").mkdir()
     (folder / "closed/study.toml").write_text(STUDY)
     (folder / "secret.toml").write_text(STUDY)
-    (folder / "closed").chmod(0 if os.geteuid() else 0o700)
-    (folder / "secret.toml").chmod(0 if os.geteuid() else 0o600)
-    as_nobody = ["setpriv", "--reuid", "65534", "--regid", "65534", "--clear-groups"] if os.geteuid() == 0 else []
+    (folder / "closed").chmod(0o700 if os.geteuid() == 0 else 0)
+    (folder / "secret.toml").chmod(0o600 if os.geteuid() == 0 else 0)
     folder.chmod(0o555)
-    code = ("import sys; sys.path.insert(0, sys.argv[1]); from biqsolur.file_faults import path_fault, read_fault, write_fault\n"
-            "for path in ('closed/study.toml', 'secret.toml'): print(read_fault(path))\n"
-            "for path in ('secret.toml', 'new.bundle'): print(write_fault(path))")
     package = os.path.dirname(os.path.dirname(file_faults.__file__))
-    above = [part for part in folder.parents if not os.stat(part).st_mode & 0o001] if as_nobody else []
-    for part in above:
-        part.chmod(part.stat().st_mode | 0o011)
     try:
-        answer = subprocess.run([*as_nobody, sys.executable, "-c", code, package], capture_output=True, text=True, cwd=folder)
+        answer = subprocess.run([sys.executable, "-c", AS_NOBODY, package], capture_output=True, text=True, cwd=folder)
     finally:
-        for part in above:
-            part.chmod(part.stat().st_mode & ~0o011)
         folder.chmod(0o755)
         (folder / "closed").chmod(0o755)
-    if as_nobody and "No module named" in answer.stderr:
-        pytest.skip("another user can't read this checkout")
     lines = answer.stdout.splitlines()
+    if len(lines) == 1:
+        pytest.skip(lines[0])
     assert len(lines) == 4, answer.stderr
     assert lines[0].startswith("no leave to go into the folder closed: it is d") and ", and this is user " in lines[0]
     assert lines[1].startswith("no leave to read secret.toml: it is -")
