@@ -7,7 +7,9 @@ strategy asks for nothing but the last one, once for each decision; to find the 
 from __future__ import annotations
 
 import mmap
+import tempfile
 from os import PathLike
+from pathlib import Path
 
 from biqsolur.bundle import Bundle
 from biqsolur.frames import read_frames
@@ -21,17 +23,17 @@ NO_PARENT = b"\xff\xff"
 def run_last(study: Study, workers: int = 1, *, program: str | PathLike[str] | None = None) -> Bundle:
     """Runs a study and gives a bundle of its last branch alone, under its name, as if it were a root. Nothing is kept in
     the cache. Raises what `biqsolur.run` raises."""
-    from biqsolur.cache import part_file, temporary_folder
     from biqsolur.running import command, workers_words, written_bundle
-    with command("run", study, program, *workers_words(workers)) as (call, _), part_file(temporary_folder()) as (part, file):
-        call.subject = str(part.parent)
-        call.end(file)
+    with command("run", study, program, *workers_words(workers)) as (call, _), \
+            tempfile.NamedTemporaryFile(prefix="biqsolur-", suffix=".bundle") as file:
+        call.subject = file.name
+        call.end(file.fileno())
         try:
-            with mmap.mmap(file, 0, access=mmap.ACCESS_READ) as data:
+            with mmap.mmap(file.fileno(), 0, access=mmap.ACCESS_READ) as data:
                 alone = branch_alone(data, study.branches[-1].encode(), len(study.branches) - 1)
             return Bundle(read_frames(alone))
         except ValueError:              # no bundle, or an empty file
-            return written_bundle(part, call.program)   # which says what is wrong with the whole
+            return written_bundle(Path(file.name), call.program)    # which says what is wrong with the whole
 
 
 def branch_alone(data: mmap.mmap, name: bytes, number: int) -> bytes:

@@ -15,6 +15,7 @@ from __future__ import annotations
 
 import traceback
 from collections.abc import Callable, Iterable, Iterator, Mapping
+from itertools import count
 from os import PathLike
 from typing import Any
 
@@ -22,7 +23,7 @@ from biqsolur.chains import EDITS_OF_A_BRANCH, MOST_BRANCHES, inject_edits, mome
 from biqsolur.errors import PlayError, PolicyError, StudyError
 from biqsolur.fields import Table
 from biqsolur.observation import Given, Ledger, Observation, last_quote, own_messages
-from biqsolur.ouch import Cancel, Enter, Order
+from biqsolur.ouch import Cancel, Enter, Order, decode
 from biqsolur.study import Study
 from biqsolur.times import clock_text, duration, nanoseconds
 
@@ -88,6 +89,10 @@ class Game:
         self.times = decision_times(self.table, every, start, end, self.delay)
         self.most = self._most(most)
         self.first_branch = branch
+        taken = next((known for known in self.base.branches if known.startswith(f"{name}-")), None)
+        if taken is not None:
+            raise PlayError(f"the study has the branch {taken!r} already; give the branches another `name` than {name!r}")
+        self.used_before = tokens_sent(self.table, trader)
         self._begin()
 
     def _most(self, most: int | None) -> int:
@@ -145,7 +150,7 @@ class Game:
         self.observation = Observation(
             decision, time, self.table["open"], self.table["close"], self.trader, self.entry["stock"],
             last_quote(moment.branch, self.trader), ledger.orders, ledger.account,
-            tuple(heard for heard in ledger.replies if heard.time > before), tokens_of(decision))
+            tuple(heard for heard in ledger.replies if heard.time > before), tokens_of(decision, self.used_before))
         return self.observation
 
     def give(self, orders: Iterable[Order]) -> None:
@@ -155,7 +160,7 @@ class Game:
         if observation is None or self.over:
             raise PlayError("no decision is open: look first by observe() or reset(), and begin anew where the game is over")
         orders = list(orders)
-        used = {one.order.token for one in self.given if isinstance(one.order, Enter)}
+        used = self.used_before | {one.order.token for one in self.given if isinstance(one.order, Enter)}
         for order in orders:
             fault = order_fault(order, used)
             if fault is not None:
@@ -249,12 +254,16 @@ def decision_times(table: Table, every: object, start: object, end: object, dela
     return range(first, last + 1, step)
 
 
-def tokens_of(decision: int) -> Iterator[str]:
-    """The tokens of a decision's orders, one after another: P, the decision, N, the order."""
-    number = 0
-    while True:
-        number += 1
-        yield f"P{decision}N{number}"
+def tokens_sent(table: Table, trader: int) -> set[str]:
+    """The tokens of the orders that edits send in a trader's name."""
+    edits = [edit for branch in table.get("branch", []) for edit in branch.get("edit", [])]
+    messages = [bytes.fromhex(edit["message"]) for edit in edits if (edit["kind"], edit.get("agent")) == ("inject", trader)]
+    return {decode(message).token for message in messages if message[:1] == Enter.TYPE.encode()}   # type: ignore[attr-defined]
+
+
+def tokens_of(decision: int, used: set[str]) -> Iterator[str]:
+    """The tokens of a decision's orders, one after another: P, the decision, N, the order. Used ones are left out."""
+    return (token for token in (f"P{decision}N{number}" for number in count(1)) if token not in used)
 
 
 def order_fault(order: object, used: set[str]) -> str | None:

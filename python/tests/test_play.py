@@ -348,3 +348,38 @@ def test_games_that_cannot_be(do, words):
     """Each is refused before a policy is asked in vain, and says what would do."""
     with pytest.raises(biqsolur.StudyError if "none" in words else PlayError, match=words):
         do()
+
+
+def test_a_strategy_behind_another():
+    """Played on the branch that a first strategy ended with, it goes on with that one's account; no token comes twice."""
+    first = play(MARKET, WATCHER, buyer, every="3s", end="9:30:06")
+    assert first.branches == ["root", "play-1", "play-2"]
+    with pytest.raises(PlayError, match="the branch 'play-1' already; give the branches another `name`"):
+        play(first, WATCHER, buyer, branch="play-2")
+    recorded = Recorded(buyer)
+    second = play(first, WATCHER, recorded, every="2s", start="9:30:07", branch="play-2", name="more")
+    assert second.branches[:4] == ["root", "play-1", "play-2", "more-1"]
+    branch, _ = replayed(second, WATCHER)
+    tokens = [order.token for _, order in recorded.given if isinstance(order, Enter)]
+    sent = [sent.message.token for sent in branch.messages() if sent.trader == WATCHER and sent.data[:1] == b"O"]
+    assert len(set(sent)) == len(sent) and sent[2:] == tokens and sent[:2] == ["P1N1", "P2N1"] and "P1N2" in tokens
+    assert branch.counts["ignored_enters"] == 0
+    check_observations(branch, recorded.seen)
+
+
+def test_the_most_decisions_with_orders():
+    """255 branches, and at the next order a clear error; decisions without orders cost none."""
+    quiet = Study.read(ROOT / "examples" / "empty.toml")
+    table = quiet.to_dict()
+    table.update(open=0, close=400 * SECOND, events=15_000)
+    table["stock"][0]["every"] = SECOND
+    table["agent"] = [{"kind": "watcher", "group": 0, "stock": "ABM", "first": 0, "every": 100 * SECOND}]
+    asked = []
+
+    def policy(observation):
+        asked.append(observation.decision)
+        return [observation.buy(1, 100)] if observation.decision > 3 else []
+
+    with pytest.raises(PlayError, match="decision 259, 0:04:19: its orders make more than 255 branches"):
+        play(Study(table), 1, policy)
+    assert len(asked) == 259
