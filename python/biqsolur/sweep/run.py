@@ -19,6 +19,7 @@ from pathlib import Path
 from typing import Any
 
 from biqsolur.errors import SweepError
+from biqsolur.program import environment
 from biqsolur.sweep.plan import SERIES, Plan, cell, numbers, write_series, write_whole
 
 TABLE_COLUMNS = ["branch", "parent", "stop", "events", "end", "first_difference", "volume", "spread_sum", "range", "fees"]
@@ -53,6 +54,7 @@ class Job:
     keys: range
     folder: Path
     texts: dict[int, tuple[str, str]] = field(default_factory=dict)
+    environment: dict[str, str] = field(default_factory=environment)
 
     @property
     def study(self) -> Path:
@@ -74,7 +76,8 @@ class Job:
         working = self.folder if self.plan.series is not None else self.plan.working
         try:
             run = subprocess.run([self.plan.program, command, "--", str(self.study)], stdout=output,
-                                 stderr=subprocess.PIPE, cwd=working, encoding="utf-8", errors="replace")
+                                 stderr=subprocess.PIPE, cwd=working, env=self.environment, encoding="utf-8",
+                                 errors="replace")
         except OSError as fault:
             raise SweepError(f"the program can't be run: {self.plan.program}: {fault.strerror}") from None
         if run.returncode not in (0, REFUSED):
