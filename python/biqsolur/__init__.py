@@ -33,6 +33,7 @@ HOMES = {
     **dict.fromkeys((
         "AgentParameter", "Edit", "Fee", "Halt", "Inject", "Latency", "Resume", "SeriesOffset", "Silence", "Tick"), "edits"),
     **dict.fromkeys(("causes", "effects"), "causing"),
+    **dict.fromkeys(("figure", "write_figure"), "figures"),
     "map": "mapping",
     "Study": "study",
     **dict.fromkeys(("Game", "play"), "playing"),

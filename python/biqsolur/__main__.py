@@ -6,7 +6,7 @@ import argparse
 import sys
 
 import biqsolur
-from biqsolur import missing, realism_commands, why
+from biqsolur import figure_words, missing, realism_commands, why
 
 
 def parser() -> argparse.ArgumentParser:
@@ -19,6 +19,10 @@ def parser() -> argparse.ArgumentParser:
     report.add_argument("bundle", metavar="BUNDLE")
     report.add_argument("-o", "--output", metavar="FILE", default="report.html", help="a file that is not there yet")
     report.set_defaults(run=run_report)
+
+    figure = commands.add_parser("figure", help="a picture of one measure over time for a paper, as SVG, PDF or PNG")
+    figure_words.add_words(figure)
+    figure.set_defaults(run=figure_words.main)
 
     reason = commands.add_parser("why", help="what is wrong with a file that was refused, in a sentence")
     why.add_words(reason)
