@@ -8,7 +8,7 @@ from __future__ import annotations
 
 import io
 import os
-from collections.abc import Sequence
+from collections.abc import Container, Sequence
 from dataclasses import dataclass
 from pathlib import Path
 from typing import Any
@@ -24,13 +24,14 @@ from biqsolur.times import nanoseconds
 
 SECOND = 1_000_000_000
 FORMATS = (".svg", ".pdf", ".png")
-CELLS = 400             # of time, that a long series is thinned to: each keeps its extremes
+CELLS = 200             # of time, that a long series is thinned to: each keeps its extremes
 WIDTH, HEIGHT = 7.0, 3.4        # inches
 ROOT_STYLE = {"color": "#8b949e", "linewidth": 2.6}
 COLOURS = ["#0072b2", "#d55e00", "#009e73", "#cc79a7", "#e69f00", "#56b4e9", "#7a5195"]
 DASHES = ["solid", "dashed", "dotted", "dashdot"]
 STEPS = [1, 2, 5, 10, 15, 20, 30, 60, 120, 300, 600, 900, 1200, 1800, 3600, 7200, 14400]      # seconds between two ticks
-SETTINGS = {"svg.hashsalt": "biqsolur", "svg.fonttype": "none", "pdf.fonttype": 42, "font.family": "DejaVu Sans", "font.size": 9,
+SETTINGS = {"svg.hashsalt": "biqsolur", "svg.fonttype": "none", "pdf.fonttype": 42, "font.family": "sans-serif",
+            "font.sans-serif": ["DejaVu Sans"], "font.size": 9,
             "axes.spines.top": False, "axes.spines.right": False, "axes.edgecolor": "#8b949e", "axes.grid": True,
             "grid.color": "#e6e9ed", "path.simplify": False}
 
@@ -70,8 +71,8 @@ def figure(source: Bundle | str | os.PathLike[str], measure: str = "mid", branch
     """A matplotlib Figure of one measure of a bundle's branches over time.
 
     source: a Bundle, or a path: of a bundle, or of a study (TOML), which is then run. measure: one of PICTURES. branches: names,
-    all where nothing is said; each is drawn from where it leaves its parent, but from the opening where its parent is not in
-    the picture. stock: a symbol, the first where nothing is said. begin, end: times of day. study: what the bundle is of, where
+    all where nothing is said; each is drawn from where it leaves the nearest branch in the picture that it comes from, else from
+    the opening. stock: a symbol, the first where nothing is said. begin, end: times of day. study: what the bundle is of, where
     no record stands beside it; then the caption names it, and a picture of the mid price has the fundamental value.
 
     FigureError where there is no such measure or stock, or nothing is between begin and end; UnknownBranchError.
@@ -127,7 +128,8 @@ def span_of(series: dict[str, StockSeries], begin: object, end: object) -> tuple
 def line_of(branch: Branch, own: StockSeries, measure: str, drawn_too: dict[str, StockSeries], span: tuple[int, int]) -> Line:
     """The line of a branch."""
     times, values = column(own, measure)
-    begin = max(span[0], fork_time(branch, own) if branch.parent in drawn_too else span[0])
+    leaving = leaving_time(branch, own, drawn_too)
+    begin = span[0] if leaving is None else max(span[0], leaving)
     return cut(branch.name, times, values, (begin, min(span[1], own.end)))
 
 
@@ -153,16 +155,22 @@ def cut(name: str, times: numpy.ndarray, values: numpy.ndarray, span: tuple[int,
     return Line(name, times, values)
 
 
-def fork_time(branch: Branch, own: StockSeries) -> int:
-    """When a branch leaves its parent: the time of the last event that they share."""
-    times = branch.events.time.to_numpy()
-    shared = min(branch.fork, len(times))
-    return int(times[shared - 1]) if shared else own.begin
+def leaving_time(branch: Branch, own: StockSeries, drawn_too: Container[str]) -> int | None:
+    """When a branch leaves the nearest drawn one of those that it comes from: the time (ns) of the last event that they
+    share. None where none of them is drawn."""
+    shared = len(branch.events)
+    while branch.parent is not None:
+        shared = min(shared, branch.fork)
+        branch, events = branch.bundle.branches[branch.parent], branch.events
+        if branch.name in drawn_too:
+            return int(events.time.iat[shared - 1]) if shared else own.begin
+    return None
 
 
 def forks_of(branches: list[Branch], series: dict[str, StockSeries]) -> list[int]:
-    """The times at which drawn branches leave drawn parents."""
-    return sorted({fork_time(branch, series[branch.name]) for branch in branches if branch.parent in series})
+    """The times at which drawn branches leave drawn ones."""
+    found = {leaving_time(branch, series[branch.name], series) for branch in branches}
+    return sorted(time for time in found if time is not None)
 
 
 def value_lines(branches: list[Branch], symbol: str, study: Study, span: tuple[int, int]) -> list[Line]:
