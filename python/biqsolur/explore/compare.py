@@ -10,6 +10,7 @@ from biqsolur.bundle import Branch
 from biqsolur.errors import InputError
 from biqsolur.explore.view import View
 from biqsolur.explore.words import sentence
+from biqsolur.measures.registry import PRICE
 
 Table = dict[str, Any]
 
@@ -45,6 +46,14 @@ def numbers(branch: Branch, after: int) -> dict[str, float | None]:
         except InputError:
             continue
         for number, value in found.items():
-            unit = measure.unit(number)
-            out[f"{number}, {unit}" if unit else number] = value if math.isfinite(value) else None
+            label, scale = labelled(number, measure.unit(number))
+            out[label] = value / scale if math.isfinite(value) else None
     return out
+
+
+def labelled(number: str, unit: str) -> tuple[str, int]:
+    """What a measure's number is called on the page, and by what it is divided: prices are shown in dollars."""
+    name, scale = number.replace("_", " "), 1
+    if unit.startswith(PRICE):
+        unit, scale = unit.replace(PRICE, "dollars", 1), 10_000
+    return f"{name}, {unit}" if unit else name, scale

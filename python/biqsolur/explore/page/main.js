@@ -88,6 +88,7 @@ async function reopen() {
 
 async function send(kind, table, errorPlace) {
   if (errorPlace) byId(errorPlace).textContent = "";
+  page.changing = true;
   try {
     const before = page.study.branches.map(branch => branch.name);
     const status = await act("change", { ...table, tag: page.study.tag, kind });
@@ -100,6 +101,8 @@ async function send(kind, table, errorPlace) {
     const place = errorPlace && byId(errorPlace);
     if (place && error instanceof Refusal && error.table.kind !== "Stale") place.textContent = error.message;
     else failed(error);
+  } finally {
+    page.changing = false;
   }
 }
 
@@ -113,11 +116,16 @@ async function goFork(branch) {
 }
 
 async function changeVersion(by) {
+  page.changing = true;
   try {
     await act("step", { tag: page.study.tag, by });
     await follow();
     await openStudy();
-  } catch (error) { failed(error); }
+  } catch (error) {
+    failed(error);
+  } finally {
+    page.changing = false;
+  }
 }
 
 // ------------------------------------------------------------ opening
@@ -458,5 +466,24 @@ async function copyLink() {
   }
 }
 
+// Now and then: whether the explorer is still there, and whether another tab changed the study.
+const HEARTBEAT = 3000;
+let ended = false;
+
+async function heartbeat() {
+  if (ended || !page.study || document.hidden) return;
+  try {
+    const status = await ask("status");
+    if (status.ready && !status.running && status.tag !== page.study.tag && !page.changing) {
+      tell("The study was changed in another tab: this is how it stands now.");
+      await openStudy();
+    }
+  } catch (error) {
+    ended = error instanceof Gone;
+    failed(error);
+  }
+}
+
 listen();
 start().catch(failed);
+setInterval(heartbeat, HEARTBEAT);

@@ -71,7 +71,7 @@ export function ladder(state, stock, title, choose, chosen) {
   return el("div", { class: "scroll", tabindex: 0, role: "region", "aria-label": `Book of ${title}` },
     el("table", { class: "ladder" },
       el("caption", {}, title),
-      el("thead", {}, el("tr", {}, ["bid shares", "price", "ask shares", "orders, the first to trade first"].map(text =>
+      el("thead", {}, el("tr", {}, ["bid shares", "price", "ask shares", "orders (agent:shares) in the order in which they trade"].map(text =>
         el("th", { scope: "col" }, text)))),
       el("tbody", {}, more(book.ask_levels), asks.length ? asks : none("no ask"), last, bids.length ? bids : none("no bid"),
         more(book.bid_levels))));
