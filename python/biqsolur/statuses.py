@@ -12,7 +12,7 @@ import signal
 from collections.abc import Callable, Mapping
 from dataclasses import dataclass, field
 from pathlib import Path
-from typing import ClassVar
+from typing import Any, ClassVar
 
 from biqsolur.errors import InputError
 
@@ -45,13 +45,12 @@ class ProgramError(InputError):
 
     def __reduce__(self) -> tuple[Callable[..., ProgramError], tuple[object, ...]]:
         """How an error goes from one process to another."""
-        return remade, (type(self), self.args, dict(self.__dict__))
+        return remade, (type(self), str(self), dict(self.__dict__))
 
 
-def remade(kind: type[ProgramError], words: tuple[object, ...], values: dict[str, object]) -> ProgramError:
+def remade(kind: type[ProgramError], text: str, values: dict[str, Any]) -> ProgramError:
     """An error as it was in another process."""
-    error = kind.__new__(kind, *words)
-    error.args = words
+    error = kind(text, values["status"], values["line"], values["file"])
     error.__dict__.update(values)
     return error
 
