@@ -25,6 +25,7 @@ from pathlib import Path
 from biqsolur.bundle import Bundle, read
 from biqsolur.errors import BundleError, CacheError
 from biqsolur.provenance import Provenance, record_fault, record_path
+from biqsolur.wording import counted
 
 LIMIT_NAME = "BIQSOLUR_CACHE_BYTES"
 LIMIT = 2_000_000_000       # bytes
@@ -257,8 +258,9 @@ def main(action: str) -> int:
         raise CacheError("there is no folder for a cache: neither XDG_CACHE_HOME nor HOME is set to an absolute path")
     if action == "clear":
         number, size = clear(folder)
-        print(f"{folder}: {number} bundles, {size:,} bytes removed")
+        print(f"{folder}: {counted(number, 'bundle')}, {size:,} bytes removed")
         return 0
     found = entries(folder)
-    print(f"{folder}: {len(found)} bundles, {sum(size for _, size, _ in found):,} bytes of at most {cache_limit():,}")
+    size = sum(size for _, size, _ in found)
+    print(f"{folder}: {counted(len(found), 'bundle')}, {size:,} bytes of at most {cache_limit():,}")
     return 0
