@@ -19,7 +19,8 @@ from itertools import count
 from os import PathLike
 from typing import Any
 
-from biqsolur.chains import EDITS_OF_A_BRANCH, MOST_BRANCHES, inject_edits, moment_of, room_fault, siblings_fault, trader_fault
+from biqsolur.chains import (EDITS_OF_A_BRANCH, MOST_BRANCHES, MOST_EVENTS, inject_edits, moment_of, room_fault, siblings_fault,
+                             trader_fault)
 from biqsolur.errors import PlayError, PolicyError, StudyError
 from biqsolur.fields import Table
 from biqsolur.observation import Given, Ledger, Observation, last_quote, own_messages
@@ -70,7 +71,8 @@ class Game:
     nothing is said; end: no decision later than it, or the close. delay: from a decision until its orders come to the
     exchange; where nothing is said, the trader's delay and the base latency of its group to the exchange's, without
     jitter. branch: which one is played; only it and those on the way to it are kept. most: how many branches the
-    decisions may take: one for each with orders, two where it gives more than 16, and so on. name: the branches are
+    decisions may take, one for each with orders, two where it gives more than 16, and so on; where nothing is said, as many
+    as the study has room for, which is to be one for each decision time or 255. name: the branches are
     NAME-1, NAME-2, ... The study gets version 2. `running` goes to `biqsolur.run` (workers, program).
     """
 
@@ -84,6 +86,7 @@ class Game:
         if fault is not None:
             raise PlayError(fault)
         self.table = self.base.to_dict()
+        self.plain = Study._made(self.table, None, self.base.folder)    # without a text, which would be written anew each time
         self.entry = entry_of(self.table, trader)
         self.delay = way_to_exchange(self.table, self.entry, trader) if delay is None else duration(delay)
         self.times = decision_times(self.table, every, start, end, self.delay)
@@ -96,13 +99,16 @@ class Game:
         self._begin()
 
     def _most(self, most: int | None) -> int:
-        """How many branches may be made; PlayError where the study has no room for them."""
-        room = MOST_BRANCHES - len(self.table.get("branch", []))
-        most = min(len(self.times), room) if most is None else most
-        fault = room_fault(self.base, most)
+        """How many branches may be made; PlayError where the study has no room for one at each decision, or for `most`."""
+        before = len(self.table.get("branch", []))
+        room = MOST_BRANCHES - before
+        if most is not None and (type(most) is not int or most < 0):
+            raise PlayError(f"most: {most!r} is no number of branches")
+        wanted = min(len(self.times), room) if most is None else most
+        fault = room_fault(self.base, wanted)
         if fault is not None:
-            raise PlayError(f"with up to {most} decisions that give orders: {fault}. Or say how many there are by `most`")
-        return most
+            raise PlayError(f"with up to {wanted} decisions that give orders: {fault}. Or say how many there are by `most`")
+        return min(room, MOST_EVENTS // self.table["events"] - 1 - before) if most is None else most
 
     def _begin(self) -> None:
         """Back to before the first decision."""
@@ -139,7 +145,7 @@ class Game:
     def _look(self, time: int, decision: int) -> Observation | None:
         """What the trader knows at a time."""
         try:
-            moment = moment_of(self.study, self.branch, time, **self.running)
+            moment = moment_of(self.plain._with_branches(self.branches), self.branch, time, **self.running)
         except StudyError as error:
             raise PlayError(f"decision {decision}: {error}; say a later `start`") from None
         if moment.end in ("EventLimit", "QueueFull"):

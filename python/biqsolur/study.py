@@ -195,11 +195,14 @@ class Study:
     def only(self, branch: str) -> Study:
         """The study with this branch and those on the way to it alone; of "root", with no branch."""
         self._known(branch)
+        self._known(branch)
+        parents = {str(entry.get("name", "")): str(entry.get("parent", "")) for entry in self._tables("branch")}
         line = {"root"}
         while branch not in line:
             line.add(branch)
-            branch = self._branch(branch).get("parent", "")
-            self._known(branch)
+            if branch not in parents:
+                raise StudyError(f"there is no branch {branch!r}, which another one has as its parent")
+            branch = parents[branch]
         return self._with_only(line)
 
     def until(self, time: object, branch: str = "root") -> Study:

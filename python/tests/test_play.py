@@ -339,6 +339,7 @@ def test_bad_answers_of_a_policy(answer, words):
     (lambda: play(MARKET, WATCHER, buyer, every="20s"), "first decision would be at 9:30:20; the hours are 9:30:00 to 9:30:12"),
     (lambda: play(MARKET, WATCHER, buyer, start="9:29"), "first decision would be at 9:29:00"),
     (lambda: play(MARKET, WATCHER, buyer, every="10ms"), "with up to 255 decisions.*`events` may be at most 15625.*by `most`"),
+    (lambda: play(MARKET, WATCHER, buyer, most=0.5), "most: 0.5 is no number of branches"),
     (lambda: play(MARKET, WATCHER, buyer, every="2s", most=2), r"decision 3, 9:30:06: its orders make more than 2 branches"),
     (lambda: play(MARKET.branch("a", after=400), WATCHER, buyer, branch="a"), "decision 1: at 9:30:01 the branch 'a' has not begun.*later `start`"),
     (lambda: play(MARKET.branch("a", at="9:30:09"), WATCHER, buyer, branch="a"), "decision 1: at 9:30:01 the branch 'a' has not begun"),
@@ -374,12 +375,16 @@ def test_the_most_decisions_with_orders():
     table.update(open=0, close=400 * SECOND, events=15_000)
     table["stock"][0]["every"] = SECOND
     table["agent"] = [{"kind": "watcher", "group": 0, "stock": "ABM", "first": 0, "every": 100 * SECOND}]
-    asked = []
 
-    def policy(observation):
-        asked.append(observation.decision)
-        return [observation.buy(1, 100)] if observation.decision > 3 else []
+    def policy(count):
+        return lambda seen: [seen.buy(1, 100) for _ in range(16 * count)] if seen.decision > 3 else None
 
-    with pytest.raises(PlayError, match="decision 259, 0:04:19: its orders make more than 255 branches"):
-        play(Study(table), 1, policy)
-    assert len(asked) == 259
+    with pytest.raises(PlayError, match="decision 9, 0:00:09: its orders make more than 255 branches"):
+        play(Study(table), 1, policy(51))
+    game = Game(Study(table), 1)
+    game.reset()
+    game.give([])
+    assert game.branches == [] and game.most == 255
+    whole = play(Study(table), 1, policy(51), end="0:00:08")
+    assert len(whole.branches) == 256 and len(whole.edits("play-255")) == 16
+    whole.check()
