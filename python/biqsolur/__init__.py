@@ -26,8 +26,9 @@ HOMES = {
     "Closing": "closing",
     **dict.fromkeys(("dollars", "timedeltas"), "columns"),
     **dict.fromkeys((
-        "BundleError", "CacheError", "CalibrationError", "FactsError", "InputError", "LevelsError", "MissingPackageError",
-        "OuchError", "OutputExistsError", "PlayError", "PolicyError", "PriceError", "RunError", "ScheduleError", "SeriesError",
+        "BundleError", "CacheError", "CalibrationError", "FactsError", "InputError", "LevelsError", "MeasureError",
+        "MissingPackageError", "OuchError", "OutputExistsError", "PlayError", "PolicyError", "PriceError", "RunError",
+        "ScheduleError", "SeriesError",
         "StudyError", "StudyNeededError", "StudySyntaxError", "TapeError", "TimeError", "UnknownBranchError",
         "UnknownSymbolError"), "errors"),
     **dict.fromkeys((
@@ -57,7 +58,7 @@ HOMES = {
 }
 
 # The modules that are used by their own name.
-MODULES = ("acts", "facts", "ouch", "prices", "times", "values")
+MODULES = ("acts", "facts", "measures", "ouch", "prices", "times", "values")
 
 __all__ = sorted([*HOMES, *MODULES])
 
