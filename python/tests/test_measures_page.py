@@ -1,0 +1,108 @@
+"""docs/MEASURES.md: each number on it comes out, by the package and by hand."""
+
+import doctest
+import math
+import re
+
+import pandas
+import pytest
+from conftest import ROOT
+
+import biqsolur
+from biqsolur import measures
+
+PAGE = ROOT / "docs" / "MEASURES.md"
+STUDY = ROOT / "examples" / "worked_market.toml"
+SETTINGS = {"horizon": "2s", "study": STUDY}
+HAND = {"log": math.log, "sqrt": math.sqrt, "__builtins__": {}}
+
+
+def tables():
+    """The tables of the page, by their headings: a list of rows each, of the texts of their cells."""
+    found = {}
+    for line in PAGE.read_text().splitlines():
+        cells = [cell.strip().replace("\\|", "|") for cell in re.split(r"(?<!\\)\|", line)[1:-1]]
+        if line.startswith("|") and not set("".join(cells)) <= {"-"}:
+            if last is None:
+                last = found.setdefault(tuple(cells), [])
+            else:
+                last.append(cells)
+        elif not line.startswith("|"):
+            last = None
+    return found
+
+
+@pytest.fixture(scope="module")
+def worked(program, tmp_path_factory):
+    """Branch `worked` of the worked market."""
+    import subprocess
+    path = tmp_path_factory.mktemp("worked") / "worked.bundle"
+    path.write_bytes(subprocess.run([program, "run", STUDY], capture_output=True, check=True).stdout)
+    return biqsolur.read(path).branches["worked"]
+
+
+@pytest.fixture(scope="module")
+def numbers(worked):
+    """All numbers of all measures, by their names."""
+    found = {}
+    for measure in measures.NAMES.values():
+        found |= measure.compute(worked, **{name: value for name, value in SETTINGS.items() if name in measure.takes})
+    return found
+
+
+def test_each_number_is_that_of_the_page_and_that_by_hand(numbers):
+    rows = {row[0].strip("`"): row for row in tables()["Number", "Formula", "By hand", "Value"]}
+    assert set(rows) == set(numbers)
+    for name, (_, formula, by_hand, value) in rows.items():
+        assert formula
+        assert numbers[name] == pytest.approx(eval(by_hand.strip("`"), HAND), rel=1e-9), name
+        digits = len(value.split("e")[0].partition(".")[2])
+        assert value in {f"{numbers[name]:.{digits}f}", f"{numbers[name]:.{digits}e}"}, name
+
+
+def test_best_prices_are_those_of_the_page(worked):
+    [told] = [rows for head, rows in tables().items() if head[0] == "9:30:"]
+    top = worked.top()
+    for seconds, _, _, _, bid, ask in told:
+        own = top[top.time <= 34_200_000_000_000 + int(seconds) * 10**9].iloc[-1]
+        for text, price, shares in ((bid, own.bid, own.bid_shares), (ask, own.ask, own.ask_shares)):
+            expected = f"{price / 10_000:.2f} × {shares}" if shares else ""
+            assert text == expected, seconds
+    assert len(told) == len(worked.orders) + 1
+
+
+def test_profits_are_those_of_the_page(worked):
+    told = tables()["Agent", "Cash", "Fees", "Marked", "Profit"]
+    found = measures.profits(worked, STUDY)
+    assert [list(map(int, row)) for row in told] == found[["agent", "cash", "fees", "marked", "profit"]].values.tolist()
+
+
+def test_fates_are_those_of_the_page(worked):
+    names = [worked.bundle.tokens.text(token) for token in measures.lives(worked).token]
+    fates = dict(zip(zip(names, measures.lives(worked).event), measures.lives(worked).fate))
+    rows = {row[0].strip("`"): row[1] for row in tables()["Number", "Formula", "By hand", "Value"]}
+    for fate in ("filled", "canceled", "open"):
+        told = set(re.findall(r"[A-Z]{3,}", rows[f"orders_{fate}"]))
+        assert told == {name for (name, _), of in fates.items() if of == fate}
+
+
+def test_sessions_come_out(program, monkeypatch):
+    monkeypatch.chdir(ROOT)
+    monkeypatch.setenv("BIQSOLUR_PROGRAM", str(program))
+    with pandas.option_context("display.width", 80):
+        result = doctest.testfile(str(PAGE), module_relative=False)
+    assert result.attempted >= 6 and result.failed == 0
+
+
+def test_the_measures_value_is_that_of_the_study(worked):
+    """Marked at its value of ten dollars a position is worth 1,000,000 millionths a share more than at no price."""
+    found = measures.profits(worked, STUDY, mark="value")
+    assert found.marked.tolist() == [100 * 10**7, 50 * 10**7, -50 * 10**7, -100 * 10**7]
+    assert sum(found.profit) + sum(found.fees) == 0
+
+
+def test_each_measure_names_its_units_and_what_it_is(numbers):
+    for measure in measures.NAMES.values():
+        assert measure.about.endswith(".") or len(measure.about) > 40
+    for number in numbers:
+        assert any(measure.unit(number) for measure in measures.NAMES.values()), number
