@@ -17,6 +17,7 @@ def parser() -> argparse.ArgumentParser:
 
     report = commands.add_parser("report", help="one HTML page with the pictures and tables of all branches")
     report.add_argument("bundle", metavar="BUNDLE")
+    report.add_argument("--study", metavar="STUDY", help="the bundle's study, where no record of it stands beside the bundle")
     report.add_argument("-o", "--output", metavar="FILE", default="report.html", help="a file that is not there yet")
     report.set_defaults(run=run_report)
 

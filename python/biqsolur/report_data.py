@@ -9,9 +9,12 @@ import pandas
 
 from biqsolur.bundle import Branch, Bundle
 from biqsolur.report_series import LEVELS, StockSeries, from_fork, stock_series, thin
+from biqsolur.report_study import Spreads, Told, spreads_of, told_of
+from biqsolur.study import Study
 
 NUMBERS = 1_500_000  # about so many numbers at most are in the pictures of a page
 OF_CELL = 200        # about so many numbers one cell of one stock and branch has at most, in all series together
+MARKS = 60_000       # trades at most that a page has as marks, of all branches and stocks together
 CELLS = (40, 400)    # the fewest and the most cells of time that a series is thinned to
 
 
@@ -32,7 +35,8 @@ class BranchData:
     shared: how many events it shares with its parent. fork: the time (ns) of the last of them. end: the time of its
     end. stocks: the series of each. difference: None where nothing differs, and for the root. cash: of each agent,
     settled, millionths of a dollar. positions: of each stock, of each agent, settled, shares. edits: its own, with
-    event, time and kind.
+    event, time, kind and words. trades: of each stock. spreads, parents_spreads: of each stock, of the trades behind the fork,
+    here and in the parent (none for the root). told: what the study tells, None where it isn't known.
     """
 
     name: str
@@ -49,6 +53,10 @@ class BranchData:
     positions: list[list[int]]
     edits: pandas.DataFrame
     fees: int
+    trades: list[pandas.DataFrame]
+    spreads: list[Spreads]
+    parents_spreads: list[Spreads]
+    told: Told | None
 
 
 def event_row(branch: Branch, number: int):
@@ -129,14 +137,16 @@ def fork_time(branch: Branch, begin: int) -> int:
     return int(events.time.iat[place]) if place >= 0 else begin
 
 
-def branch_data(bundle: Bundle, branch: Branch) -> BranchData:
+def branch_data(bundle: Bundle, branch: Branch, study: Study | None = None) -> BranchData:
     """Everything that the report says of a branch. The data frames are given up again."""
     closing, feed = branch.closing, branch.feed
     begin = int(feed.time.iat[0]) if len(feed) else closing.counts["time"]
     end = closing.counts["time"]
-    book, trades, edits = branch.book(LEVELS), branch.trades, branch.edits
+    book, trades = branch.book(LEVELS), branch.trades
     agents = closing.agents[closing.agents.agent > 0]
     fees = branch.events.fee
+    told = told_of(branch, study)
+    parent = None if branch.parent is None else bundle.branches[branch.parent]
     return BranchData(
         name=branch.name, parent=branch.parent, shared=branch.fork, fork=fork_time(branch, begin), end=end,
         counts=closing.counts,
@@ -144,14 +154,29 @@ def branch_data(bundle: Bundle, branch: Branch) -> BranchData:
         closing_stocks=closing.stocks, difference=find_difference(bundle, branch),
         agents=[int(agent) for agent in agents.agent], cash=[int(cash) for cash in agents.cash],
         positions=[[int(shares) for shares in agents[f"position_{symbol}"]] for symbol in bundle.symbols],
-        edits=edits[edits.branch == branch.name], fees=sum(int(fee) for fee in fees[fees != 0]))
+        edits=own_edits(branch, told), fees=sum(int(fee) for fee in fees[fees != 0]),
+        trades=[marks(trades[trades.stock == stock], branch.fork) for stock in range(len(bundle.symbols))],
+        spreads=spreads_of(branch, branch.fork), parents_spreads=[] if parent is None else spreads_of(parent, branch.fork),
+        told=told)
 
 
-def bundle_data(bundle: Bundle) -> list[BranchData]:
+def own_edits(branch: Branch, told: Told | None) -> pandas.DataFrame:
+    """The edits of the branch itself, with what they are in words, or their kinds where the study isn't known."""
+    edits = branch.edits
+    words = list(edits.kind) if told is None else told.edits
+    return edits.assign(words=words)[edits.branch == branch.name]
+
+
+def marks(trades: pandas.DataFrame, fork: int) -> pandas.DataFrame:
+    """The trades of one stock behind a fork: time (ns), price, shares, side."""
+    return trades.loc[trades.event > fork, ["time", "price", "shares", "side"]].reset_index(drop=True)
+
+
+def bundle_data(bundle: Bundle, study: Study | None = None) -> list[BranchData]:
     """The data of all branches, in the study's order."""
     result = []
     for branch in bundle.branches.values():
-        result.append(branch_data(bundle, branch))
+        result.append(branch_data(bundle, branch, study))
         parents = {other.parent for other in bundle.branches.values()}
         if branch.name not in parents:
             branch.forget()
@@ -188,20 +213,52 @@ def picture(series: StockSeries, fork: int, cells: int) -> dict:
     return result
 
 
-def page_data(bundle: Bundle, branches: list[BranchData]) -> dict:
-    """The data of the page's pictures: whole numbers alone."""
+def value_step(data: BranchData, parent: BranchData | None, stock: int, begin: int, cells: int) -> list | None:
+    """The fundamental value of one stock in a branch from a time on, thinned; an empty list where it is that of the parent,
+    and None where the study isn't known."""
+    if data.told is None:
+        return None
+    times, values = data.told.values[stock]
+    if parent is not None and parent.told is not None and all(
+            map(numpy.array_equal, parent.told.values[stock], (times, values))):
+        return []
+    kept = from_fork(times, begin)
+    times, values = numpy.maximum(times[kept], begin), values[kept]
+    shown = times <= max(data.end, begin)
+    times, values = times[shown], values[shown]
+    rows = thin(times, values.astype(float), [values], cells, (begin, max(data.end, begin)))
+    return [steps(times[rows]), values[rows].tolist()]
+
+
+def trade_marks(trades: pandas.DataFrame, most: int) -> list | None:
+    """Trades as the page's script reads them: times, prices, shares and sides; None where they are too many for the page."""
+    if len(trades) > most:
+        return None
+    return [steps(trades.time.to_numpy()), trades.price.tolist(), trades.shares.tolist(), "".join(trades.side)]
+
+
+def begin_of(data: BranchData, series: StockSeries) -> int:
+    """From when on a branch's series are in the page."""
+    return series.begin if data.parent is None else data.fork
+
+
+def page_data(bundle: Bundle, branches: list[BranchData], names: list[str] | None = None) -> dict:
+    """The data of the page's pictures: whole numbers alone, but for the agents' names."""
     pairs = max(1, len(branches) * len(bundle.symbols))
     cells = min(CELLS[1], max(CELLS[0], NUMBERS // (pairs * OF_CELL)))
-    roots = {data.name: data.parent is None for data in branches}
     begin = min((series.begin for data in branches for series in data.stocks), default=0)
+    by_name: dict[str | None, BranchData] = {data.name: data for data in branches}
     return {
         "symbols": bundle.symbols, "levels": LEVELS, "begin": begin, "end": max(data.end for data in branches),
         "branches": [{
             "name": data.name, "parent": data.parent, "fork": data.fork, "end": data.end,
             "difference": data.difference and {"event": data.difference.event, "time": data.difference.time},
             "cash": [round(cash / 10_000) / 100 for cash in data.cash], "positions": data.positions,
-            "stocks": [picture(series, series.begin if roots[data.name] else data.fork, cells)
-                       for series in data.stocks],
+            "stocks": [{**picture(series, begin_of(data, series), cells),
+                        "value": value_step(data, by_name.get(data.parent), stock, begin_of(data, series), cells),
+                        "trades": trade_marks(data.trades[stock], MARKS // pairs)}
+                       for stock, series in enumerate(data.stocks)],
         } for data in branches],
         "agents": branches[0].agents if branches else [],
+        "names": bundle.agent_names if names is None else names,
     }

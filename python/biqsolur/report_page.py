@@ -13,6 +13,9 @@ from biqsolur import report_tables as tables
 from biqsolur.bundle import Bundle
 from biqsolur.errors import InputError
 from biqsolur.report_data import BranchData, bundle_data, page_data, time_text
+from biqsolur.report_study import study_of_bundle
+from biqsolur.study import Study
+from biqsolur.wording import agent_names
 
 POLICY = ("default-src 'none'; script-src 'unsafe-inline'; style-src 'unsafe-inline'; img-src data: blob:; "
           "base-uri 'none'; form-action 'none'")
@@ -20,7 +23,9 @@ POLICY = ("default-src 'none'; script-src 'unsafe-inline'; style-src 'unsafe-inl
 FIGURES = [
     ("mid", "Mid price", "Half of best bid and best ask of the displayed book. No hidden order is in this picture, nor in "
      "the next two. A line breaks off where a side of the book is empty. A branch is drawn from where it leaves its parent. "
-     "▲ is the first event that differs from the parent."),
+     "▲ is the first event that differs from the parent. A branch none of whose events differs is dotted, so that its parent is "
+     "seen. Dashed in black is the fundamental value, where the study is known. Where at most 400 trades are in sight they are "
+     "marked: a triangle up where the order that came bought."),
     ("spread", "Spread", "Best ask less best bid."),
     ("depth", "Depth by level", "Shares displayed at the best five prices of each side, the best one nearest to zero: "
      "asks above, bids below. The first branch is filled; of the second one level 1 and all five together are lines."),
@@ -65,17 +70,31 @@ def stock_section(branches: list[BranchData], stock: int, symbol: str) -> str:
     instants = tables.instants_of(branches)
     depths = "".join(tables.depth_table(data, number, stock, instants) for number, data in enumerate(branches))
     return (f'<section class="stock" data-stock="{stock}"><h3>{html.escape(symbol)}</h3>'
-            + tables.against_parent_table(branches, stock) + tables.over_time_table(branches, stock, symbol)
+            + tables.against_parent_table(branches, stock) + tables.spreads_table(branches, stock)
+            + tables.over_time_table(branches, stock, symbol)
             + f"<details><summary>{html.escape(symbol)}: depth by level over time</summary>{depths}</details>"
             + "</section>")
 
 
-def page_text(bundle: Bundle) -> str:
-    """The whole page."""
-    branches = bundle_data(bundle)
+def origin_text(bundle: Bundle, study: Study | None) -> str:
+    """Where the bundle comes from: the record of its run, or that there is none."""
+    record = bundle.provenance
+    key = "" if study is None else f"Key {study.to_dict()['key']}. "
+    if record is not None:
+        return key + "; ".join(f"{name}: {text}" for name, text in record.lines()) + "."
+    return key + ("No record of its run stands beside the bundle." if study is not None else
+                  "No record of its run stands beside the bundle, so agents are numbers and edits are kinds: give the study by "
+                  "--study.")
+
+
+def page_text(bundle: Bundle, study: Study | None = None) -> str:
+    """The whole page. `study`: of the bundle, where no record of it stands beside it."""
+    known = study_of_bundle(bundle, study)
+    branches = bundle_data(bundle, known)
     if not branches:
         raise InputError(f"{bundle.path}: there is no branch, so nothing to report")
-    data = page_data(bundle, branches)
+    names = agent_names(known) if known is not None else None
+    data = page_data(bundle, branches, names)
     script, version = plotly_script()
     name = PurePath(bundle.path).name
     stocks = ", ".join(bundle.symbols)
@@ -88,9 +107,10 @@ def page_text(bundle: Bundle) -> str:
     body = own_file("page.html")
     parts = {
         "POLICY": html.escape(POLICY, quote=True), "TITLE": html.escape(name), "STYLE": own_file("page.css"),
-        "SAID": html.escape(said), "FIGURES": figures, "BRANCHES": tables.branches_table(branches),
-        "DIFFERENCES": tables.differences_table(branches), "EDITS": tables.edits_table(branches),
-        "STOCKS": sections, "AGENTS": tables.agents_table(branches, bundle.symbols), "DATA": data_script(data),
+        "SAID": html.escape(said), "ORIGIN": html.escape(origin_text(bundle, known)), "FIGURES": figures,
+        "BRANCHES": tables.branches_table(branches), "DIFFERENCES": tables.differences_table(branches),
+        "EDITS": tables.edits_table(branches), "KINDS": tables.kinds_table(branches),
+        "STOCKS": sections, "AGENTS": tables.agents_table(branches, bundle.symbols, names), "DATA": data_script(data),
         "VERSION": html.escape(version), "PLOTLY": packed(script), "SCRIPT": own_file("page.js"),
     }
     pieces = body.split("@@")

@@ -9,6 +9,7 @@ import numpy
 
 from biqsolur.report_data import BranchData, money_text, price_text, time_text
 from biqsolur.report_series import LEVELS, StockSeries
+from biqsolur.report_study import HORIZON
 
 INSTANTS = 13       # rows of a table over time
 AGENTS = 1000       # rows of the table of agents at most
@@ -66,7 +67,7 @@ def branches_table(branches: list[BranchData]) -> str:
         difference = data.difference
         cells = [row_head(data.name), cell(data.parent or "–"),
                  cell(f"{data.shared:,}" if data.parent else "–", "number"),
-                 cell(", ".join(data.edits.kind) or "–"),
+                 cell("; ".join(data.edits.words) or "–", "words" if data.told else ""),
                  cell(f"{data.counts['events']:,}", "number"), cell(time_text(data.end), "number"),
                  cell(ENDS.get(data.counts["end"], data.counts["end"]), "short"),
                  cell(f"{difference.event:,}" if difference else "none" if data.parent else "–", "number"),
@@ -102,7 +103,7 @@ def differences_table(branches: list[BranchData]) -> str:
 
 def edits_table(branches: list[BranchData]) -> str:
     """The edits of all branches."""
-    rows = [f'<tr class="of-{number}">{row_head(data.name)}{cell(edit.kind)}'
+    rows = [f'<tr class="of-{number}">{row_head(data.name)}{cell(edit.words)}'
             f'{cell(f"{edit.event:,}", "number")}{cell(time_text(edit.time), "number")}</tr>'
             for number, data in enumerate(branches) for edit in data.edits.itertuples()]
     heads = ["Branch", "Edit", "Made after event", "At"]
@@ -135,6 +136,48 @@ def against_parent_table(branches: list[BranchData], stock: int) -> str:
     return table("Each branch beside its parent, from where it left it to the end",
                  [first, head_cells(["branch", "parent"] * 3, range(6))], rows,
                  "The mean is over the time in which both sides of the displayed book have an order.")
+
+
+def spreads_table(branches: list[BranchData], stock: int) -> str:
+    """What trading at once cost behind the fork, and what was left of it to whoever stood in the book."""
+    rows = []
+    for number, data in enumerate(branches):
+        own = data.spreads[stock]
+        texts = []
+        for column in ("effective", "realised"):
+            texts.append(mean_text(getattr(own, column)))
+            texts.append(mean_text(getattr(data.parents_spreads[stock], column)) if data.parents_spreads else "–")
+        rows.append(f'<tr class="of-{number}">{row_head(data.name)}{cell(data.parent or "–")}'
+                    + "".join(cell(text, "number") for text in texts) + "</tr>")
+    groups = ("Effective spread, cents", f"Realised spread after {HORIZON}, cents")
+    first = (tall_head("Branch") + tall_head("Parent")
+             + "".join(cell(name, tag="th", more=' colspan="2" scope="colgroup"') for name in groups))
+    note = ("Means over the trades behind the event after which the branch left its parent, of both. The effective spread is "
+            "twice the distance of a trade's price from the mid before it, the realised one from the mid five seconds later: "
+            "what is left to whoever stood in the book.")
+    return table("Effective and realised spreads", [first, head_cells(["branch", "parent"] * 2, range(4))], rows, note)
+
+
+def kinds_table(branches: list[BranchData]) -> str:
+    """What traders of each kind have earned since the opening, in each branch; nothing where the study isn't known."""
+    if any(data.told is None for data in branches):
+        return ""
+    names = ["cash from trades", "fees paid", "profit at the mid", "profit at the value"]
+    first, second = branch_heads(branches, names)
+    rows = []
+    kinds = list(dict.fromkeys(row.kind for data in branches for row in data.told.earned))
+    for kind in kinds:
+        found = [next((row for row in data.told.earned if row.kind == kind), None) for data in branches]
+        row = row_head(kind) + cell(next(one.count for one in found if one), "number")
+        for number, one in enumerate(found):
+            amounts = (one.cash, one.fees, one.at_mid, one.at_value) if one else ()
+            texts = [money_text(amount) for amount in amounts] or ["–"] * len(names)
+            row += "".join(cell(text, f"number of-{number}" + ("" if place else " group")) for place, text in enumerate(texts))
+        rows.append(row)
+    note = ("Dollars since the opening. A profit is the cash from trades less the fees, with all positions marked at the end "
+            "to the last mid that was there, or to the fundamental value. What the venue took in fees is what all profits at "
+            "one mark add up to, below zero.")
+    return table("Profit by kind of trader", [tall_head("Kind") + tall_head("Agents") + first, second], rows, note)
 
 
 def instants_of(branches: list[BranchData]) -> numpy.ndarray:
@@ -212,14 +255,14 @@ def depth_table(data: BranchData, number: int, stock: int, instants: numpy.ndarr
     return f'<div class="of-{number}">{made}</div>'
 
 
-def agents_table(branches: list[BranchData], symbols: list[str]) -> str:
-    """Each agent's cash and positions at the end of each branch."""
+def agents_table(branches: list[BranchData], symbols: list[str], names_of: list[str] | None = None) -> str:
+    """Each agent's cash and positions at the end of each branch. `names_of`: what agents are called, by number."""
     names = ["cash, dollars", *[f"{symbol}, shares" for symbol in symbols]]
     first, second = branch_heads(branches, names)
     agents = branches[0].agents
     rows = []
     for place, agent in enumerate(agents[:AGENTS]):
-        row = row_head(agent)
+        row = row_head(names_of[agent] if names_of else agent)
         for number, data in enumerate(branches):
             row += cell(money_text(data.cash[place]), f"number of-{number} group")
             row += "".join(cell(f"{held[place]:,}".replace("-", "−"), f"number of-{number}")

@@ -22,20 +22,26 @@ ROOT = PACKAGE.parent
 sys.path.insert(0, str(PACKAGE))
 
 import biqsolur  # noqa: E402
-from biqsolur import report, report_data, report_page, report_series  # noqa: E402
+from biqsolur import measures, report, report_data, report_page, report_series, wording  # noqa: E402
+from biqsolur.__main__ import main  # noqa: E402
+from biqsolur.program import find_program  # noqa: E402
 
 BROWSER = next(filter(None, map(shutil.which, ("chromium", "chromium-browser", "google-chrome"))), None)
-needs_browser = pytest.mark.skipif(BROWSER is None, reason="no browser: Debian's chromium")
+NO_BROWSER = pytest.mark.skipif(BROWSER is None, reason="no browser: Debian's chromium")
+
+
+def needs_browser(test):
+    """Marks a test of a page in a real browser."""
+    return pytest.mark.browser(NO_BROWSER(test))
+
+
 
 PLOTS = ["mid", "spread", "depth", "volume", "fees", "cash", "position"]
 
 
 def program():
-    """The program, or the test is skipped. A build is never started from here."""
-    for place in (os.environ.get("BIQSOLUR_PROGRAM"), ROOT / "crates/abides_main/out/abides_main"):
-        if place and os.access(place, os.X_OK):
-            return str(place)
-    pytest.skip("no program: set BIQSOLUR_PROGRAM or build one")
+    """The program."""
+    return str(find_program())
 
 
 @pytest.fixture(scope="module")
@@ -403,3 +409,125 @@ def test_the_page_prints(made):
     paper = made[0] / "halt.pdf"
     browse(str(made[0] / "halt.html"), 1400, f"--print-to-pdf={paper}")
     assert paper.read_bytes().startswith(b"%PDF")
+
+
+# ---- with a study
+
+@pytest.fixture(scope="module")
+def known(tmp_path_factory):
+    """The page of a small market with its study: a branch whose edits move the value and a trader, one of it that changes
+    nothing, and a control; and its bundle."""
+    folder = tmp_path_factory.mktemp("known")
+    study = biqsolur.Study(ROOT / "examples" / "tick_size.toml").with_("events", 4000).with_("branch.wide.at", 1500)
+    study = study.with_("branch.same.at", 1500).branch("moved", parent="wide", after=2500, edits=[
+        biqsolur.SeriesOffset("ABM", 700), biqsolur.Silence(2)])
+    study.write(folder / "study.toml")
+    bundle = biqsolur.run(study)
+    (folder / "study.bundle").write_bytes(Path(bundle.path).read_bytes())
+    report.write_report(folder / "study.bundle", folder / "study.html", folder / "study.toml")
+    return folder, bundle
+
+
+def test_edits_are_in_words_and_agents_have_names(known):
+    tables = tables_of((known[0] / "study.html").read_text()).tables
+    assert [row[:2] for row in tables["Edits"][1:]] == [
+        ["wide", "tick of ABM: 5 cents from 0 dollars"], ["moved", wording.edit_words(known[1].study, "moved", 0)],
+        ["moved", wording.edit_words(known[1].study, "moved", 1)]]
+    assert "maker 2" in tables["Edits"][3][1]
+    names = [row[0] for row in tables["Each agent at the end: settled cash and positions"][2:]]
+    assert names == known[1].agent_names[1:] and names[:3] == ["maker 1", "maker 2", "noise 3"]
+
+
+def dollars(text):
+    """Money in millionths of a dollar."""
+    return round(float(text.replace(",", "").replace("−", "-")) * 1e6)
+
+
+def test_profit_by_kind_is_that_of_the_measures(known):
+    """And with the venue's fees it adds up to nothing."""
+    rows = tables_of((known[0] / "study.html").read_text()).tables["Profit by kind of trader"][2:]
+    assert [row[:2] for row in rows] == [["maker", "2"], ["noise", "30"]]
+    for number, branch in enumerate(known[1].branches.values()):
+        for place, mark in ((2, "mid"), (3, "value")):
+            profits = measures.NAMES["profit"].compute(branch, mark=mark)
+            found = {row[0]: dollars(row[2 + 4 * number + place]) for row in rows}
+            assert found == {kind: profits[f"profit_{kind}"] for kind in ("maker", "noise")} and profits["profit_maker"] != 0
+            assert sum(found.values()) + sum(dollars(row[3 + 4 * number]) for row in rows) == 0
+        assert sum(dollars(row[3 + 4 * number]) for row in rows) == branch.trades.fees.sum()
+
+
+def test_spreads_are_those_of_the_measures(known):
+    """Behind the fork, of the branch and of its parent."""
+    rows = tables_of((known[0] / "study.html").read_text()).tables["Effective and realised spreads"][2:]
+    branches = known[1].branches
+    for row, branch in zip(rows, branches.values(), strict=True):
+        for place, name in ((2, "effective_spread"), (4, "realised_spread")):
+            for more, holder in ((0, branch), (1, branches[branch.parent] if branch.parent else None)):
+                if holder is None:
+                    assert row[place + more] == "–"
+                else:
+                    value = measures.NAMES[name].compute(holder, after=branch.fork)[name]
+                    assert row[place + more] == (f"{value / 100:.3f}" if value == value else "–")
+    assert len({row[2] for row in rows}) > 1
+
+
+def test_values_and_marks_are_those_of_the_frames(known):
+    """A value stands where it is another one than the parent's; marks are the trades behind the fork."""
+    bundle, study = known[1], known[1].study
+    page = report_data.page_data(bundle, report_data.bundle_data(bundle, study))
+    for data, branch in zip(page["branches"], bundle.branches.values(), strict=True):
+        (series,) = data["stocks"]
+        frame, trades = branch.value("ABM", study), branch.trades[branch.trades.event > branch.fork]
+        times, prices, shares, sides = series["trades"]
+        assert (numpy.cumsum(times) == trades.time).all() and prices == trades.price.tolist() and len(trades) > 20
+        assert shares == trades.shares.tolist() and sides == "".join(trades.side)
+        if branch.name in ("wide", "same"):
+            assert series["value"] == []
+            continue
+        begin = data["fork"] if branch.parent else frame.time.iat[0]
+        times = numpy.cumsum(series["value"][0])
+        places = numpy.searchsorted(frame.time, times, side="right") - 1
+        assert series["value"][1] == frame.value.to_numpy()[places].tolist() and times[0] == begin and len(times) > 5
+    assert report_data.trade_marks(bundle.branches["root"].trades, 5) is None
+
+
+def test_a_bundle_alone_says_so(known, tmp_path):
+    """Its agents are numbers and its edits kinds; with a record beside it the page is as with the study, and says whence."""
+    for name in ("alone.bundle", "recorded.bundle"):
+        (tmp_path / name).write_bytes((known[0] / "study.bundle").read_bytes())
+    known[1].write(tmp_path / "written.bundle")
+    for name in ("alone", "written"):
+        report.write_report(tmp_path / f"{name}.bundle", tmp_path / f"{name}.html")
+    alone, written = ((tmp_path / f"{name}.html").read_text() for name in ("alone", "written"))
+    assert "No record of its run stands beside the bundle, so agents are numbers" in alone
+    assert tables_of(alone).tables["Edits"][1][1] == "tick" and "Profit by kind of trader" not in tables_of(alone).tables
+    assert "No record" not in written and f"version: {known[1].provenance.version}" in written
+    assert tables_of(written).tables == tables_of((known[0] / "study.html").read_text()).tables
+
+
+def test_another_study_is_refused(known, tmp_path, capsys):
+    study = ROOT / "examples" / "halt_at.toml"
+    assert main(["report", str(known[0] / "study.bundle"), "--study", str(study), "-o", str(tmp_path / "none.html")]) == 1
+    assert "is not the study of" in capsys.readouterr().err and not (tmp_path / "none.html").exists()
+
+
+@needs_browser
+def test_controls_values_and_marks_are_drawn(known):
+    """A control is dotted and hides no line; trades are marked once few are in sight; the value stands once and where it moves."""
+    script = """
+        const names = () => byId("plot-mid").data.map((trace) => trace.name).filter((name) => name);
+        const dash = (name) => byId("plot-spread").data.find((trace) => trace.name === name).line.dash;
+        const whole = names();
+        byId("from").value = "09:30:30";
+        byId("to").value = "09:30:31";
+        byId("to").dispatchEvent(new Event("change"));
+        const near = names().filter((name) => name.startsWith("trades"));
+        const marked = byId("plot-mid").data.find((trace) => trace.name === "trades of root").x.length;
+        byId("branch-1").click();
+        return [whole, near.includes("trades of root"), marked, dash("same"), dash("root"), byId("some").textContent];"""
+    trades = known[1].branches["root"].trades
+    inside = ((trades.time >= 34_230 * 10**9) & (trades.time <= 34_231 * 10**9)).sum()
+    assert answer(known, "marked.html", script, "study.html") == [
+        ["root", "wide", "same", "moved", "value", "value in moved"], True, inside, "1px,7px", "solid",
+        "3 of 4 branches are shown, in the pictures and in the tables; the boxes above show the others."]
+    assert 0 < inside

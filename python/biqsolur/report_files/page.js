@@ -6,6 +6,7 @@
 const data = JSON.parse(document.getElementById("data").textContent);
 const byId = (name) => document.getElementById(name);
 const branches = data.branches;
+const isControl = (number) => branches[number].parent !== null && !branches[number].difference;
 const numberOf = new Map(branches.map((branch, number) => [branch.name, number]));
 const safe = (text) => text.replace(/&/g, "&amp;").replace(/</g, "&lt;").replace(/>/g, "&gt;");
 
@@ -17,6 +18,7 @@ const symbols = ["circle", "diamond", "square", "triangle-up", "cross", "x", "st
 function styleOf(number) {
     if (number === 0) return { color: "#8b949e", width: 3.5, dash: "solid" };
     const place = number - 1;
+    if (isControl(number)) return { color: colours[place % colours.length], width: 2.2, dash: "1px,7px" };     // its parent is seen
     return { color: colours[place % colours.length], width: 1.8, dash: dashes[Math.floor(place / colours.length) % dashes.length] };
 }
 
@@ -105,6 +107,20 @@ function drawn() {
     return branches.map((_, number) => number).filter((number) => on[number]);
 }
 
+// The fundamental value of a branch, from its fork on its own and before it that of its parent; whose it is throughout, where
+// it has none of its own, is in `of`.
+function valueSeries(number, stock) {
+    const branch = branches[number], own = branch.stocks[stock].value;
+    if (!own) return null;
+    if (!own.length) return valueSeries(numberOf.get(branch.parent), stock);
+    const series = { of: number, times: timesOf(own[0]), values: own[1] };
+    if (branch.parent === null) return series;
+    const before = valueSeries(numberOf.get(branch.parent), stock);
+    const count = before.times.findIndex((time) => time >= branch.fork);
+    const kept = count < 0 ? before.times.length : count;
+    return { of: number, times: before.times.slice(0, kept).concat(series.times), values: before.values.slice(0, kept).concat(series.values) };
+}
+
 // ---- figures
 
 const units = {
@@ -131,6 +147,51 @@ function layoutOf(height, title, more = {}) {
         hovermode: "closest", showlegend: true, legend: { orientation: "h", x: 0, y: 1.02, yanchor: "bottom", font: { size: 12 }, traceorder: "normal" },
         xaxis: timeAxis(), yaxis: { ...grid, title: { text: title, standoff: 14 }, tickformat: more.format || "" },
         yaxis2: { overlaying: "y", range: [0, 1], visible: false, fixedrange: true }, shapes: [], ...more.layout };
+}
+
+// The value of each drawn branch in which it is another one than in those before it.
+function valueTraces(numbers) {
+    const seen = new Set(), traces = [];
+    for (const number of numbers) {
+        const series = valueSeries(number, stockNow());
+        if (!series || !series.times.length) continue;
+        if (seen.has(series.of)) continue;
+        seen.add(series.of);
+        const end = branches[number].end;
+        const name = traces.length ? `value in ${safe(branches[number].name)}` : "value";
+        traces.push({ x: series.times.concat([end]).map(toAxis), y: series.values.concat(series.values.slice(-1)).map((value) => value / 10000),
+            name, mode: "lines", type: "scatter", line: { color: "#1b1f24", width: 1, dash: "4px,3px", shape: "hv" },
+            hovertemplate: `${name}<br>${hoverTime}<br>%{y:.4f} dollars<extra></extra>` });
+    }
+    return traces;
+}
+
+// Trades that are in sight, where they are few enough to be told apart.
+const markLimit = 400;
+const tradesOf = (number) => {
+    const key = ["trades", number, stockNow()].join();
+    if (!memory.has(key)) {
+        const made = branches[number].stocks[stockNow()].trades;
+        memory.set(key, made && { times: timesOf(made[0]), prices: made[1], shares: made[2], sides: made[3] });
+    }
+    return memory.get(key);
+};
+
+function tradeTraces(numbers) {
+    const found = numbers.map((number) => {
+        const trades = tradesOf(number), places = [];
+        if (trades) trades.times.forEach((time, place) => { if (time >= shown.from && time <= shown.to) places.push(place); });
+        return { number, trades, places };
+    });
+    const count = found.reduce((sum, { places }) => sum + places.length, 0);
+    if (!count || count > markLimit) return [];
+    return found.filter(({ places }) => places.length).map(({ number, trades, places }) => ({
+        x: places.map((place) => toAxis(trades.times[place])), y: places.map((place) => trades.prices[place] / 10000),
+        customdata: places.map((place) => `${trades.sides[place] === "B" ? "buys" : "sells"} ${trades.shares[place]} shares`),
+        name: `trades of ${safe(branches[number].name)}`, mode: "markers", type: "scatter", showlegend: false,
+        marker: { color: styleOf(number).color, size: 8, line: { color: "#ffffff", width: 0.7 },
+            symbol: places.map((place) => trades.sides[place] === "B" ? "triangle-up" : "triangle-down") },
+        hovertemplate: `${safe(branches[number].name)}: who came %{customdata}<br>${hoverTime}<br>%{y:.4f} dollars<extra></extra>` }));
 }
 
 const hoverTime = isFine ? "%{x:,} ns" : "%{x|%H:%M:%S.%6f}";
@@ -184,7 +245,8 @@ function drawLines(name) {
     layout.shapes = shapes;
     if (name === "mid") layout.annotations = noteOf(numbers);
     if (name === "spread") layout.yaxis.rangemode = "tozero";
-    draw(name, traces.concat(marks), layout);
+    const more = name === "mid" ? valueTraces(numbers).concat(tradeTraces(numbers)) : [];
+    draw(name, traces.concat(more, marks), layout);
 }
 
 const bidShades = ["#08519c", "#3182bd", "#6baed6", "#9ecae1", "#c6dbef"];
@@ -248,11 +310,11 @@ function drawAgents(name) {
     const traces = numbers.map((number, which) => {
         const values = isCash ? branches[number].cash : branches[number].positions[stock];
         return { x: places.map((place) => data.agents[place] + (which - (numbers.length - 1) / 2) * dodge),
-            y: places.map((place) => values[place]), customdata: places.map((place) => data.agents[place]),
+            y: places.map((place) => values[place]), customdata: places.map((place) => data.names[data.agents[place]]),
             name: safe(branches[number].name), mode: "markers", type: "scatter", meta: number, showlegend: numbers.length <= legendLimit,
             marker: { color: styleOf(number).color, symbol: symbols[number % symbols.length], size: places.length > 200 ? 5 : 8,
                 line: { color: "#ffffff", width: 0.5 } },
-            hovertemplate: `${safe(branches[number].name)}, agent %{customdata}<br>` +
+            hovertemplate: `${safe(branches[number].name)}, %{customdata}<br>` +
                 (isCash ? "%{y:,.2f} dollars" : "%{y:,} shares") + "<extra></extra>" };
     });
     const layout = layoutOf(340, isCash ? "Cash, dollars" : `${safe(data.symbols[stock])}, shares`);
@@ -294,7 +356,8 @@ function show(from, to) {
     byId("from").value = shortTime(shown.from);
     byId("to").value = shortTime(shown.to);
     isLinking = true;
-    const changes = plots.map((name) => Plotly.relayout(byId(`plot-${name}`), { "xaxis.range": [toAxis(shown.from), toAxis(shown.to)] }));
+    drawLines("mid");                                                   // its trades are marked where they are few
+    const changes = plots.filter((name) => name !== "mid").map((name) => Plotly.relayout(byId(`plot-${name}`), { "xaxis.range": [toAxis(shown.from), toAxis(shown.to)] }));
     Promise.all(changes).then(() => { isLinking = false; });
 }
 
@@ -305,6 +368,8 @@ function drawAll() {
     drawAgents("position");
     const seen = new Set(drawn());
     byId("hidden-branches").textContent = branches.map((_, number) => seen.has(number) ? "" : `.of-${number} { display: none; }`).join("\n");
+    byId("some").textContent = seen.size === branches.length ? "" :
+        `${seen.size} of ${branches.length} branches are shown, in the pictures and in the tables; the boxes above show the others.`;
     for (const section of document.querySelectorAll("section.stock")) section.hidden = Number(section.dataset.stock) !== stockNow();
 }
 

@@ -195,6 +195,6 @@ def write_page(plan: Plan, point: int, key: int, output: str | Path) -> None:
             return
         from biqsolur.report import write_report
         page = Path(folder) / "page.html"
-        write_report(bundle, page)
+        write_report(bundle, page, study=job.study)
         shutil.copyfile(page, f"{path}.new")
         os.replace(f"{path}.new", path)
