@@ -9,7 +9,6 @@ import hashlib
 import lzma
 import os
 import re
-import select
 import shlex
 import shutil
 import signal
@@ -23,7 +22,7 @@ from pathlib import Path
 import pytest
 from conftest import ROOT
 
-LONGEST = 120
+LONGEST = 20
 RUNS = "abides: running the release made from these sources, as its record says (./prove proves and builds it here)\n"
 WORDS_OF_HELP = ("run STUDY", "table STUDY", "check STUDY", "rewind STUDY B:E", "cross STUDY B:E SYMBOL FILE",
                  "session STUDY SCRIPT", "audit BUNDLE", "big NUMBER", "explore STUDY", "--workers N", "--places N")
@@ -48,6 +47,18 @@ mkdir -p crates/abides_main/out
 cp crates/abides_main/src/main.rt crates/abides_main/out/abides_main
 chmod +x crates/abides_main/out/abides_main
 echo "rt: abides_main proved"
+"""
+
+
+# A program that notes which of its three streams are open.
+SEES = """#!/bin/sh
+[ $# -gt 0 ] || exit 2
+open=
+for each in 0 1 2; do
+    [ ! -e "/proc/$$/fd/$each" ] || open=$open$each
+done
+echo "$open" >"$SEEN"
+exit 7
 """
 
 
@@ -219,7 +230,7 @@ def test_program_prints_the_path_alone(checkout: Checkout) -> None:
 
 def test_program_builds_nothing(checkout: Checkout) -> None:
     """Where there is none it says so, status 1."""
-    shutil.rmtree(checkout.home / "release" / "..", ignore_errors=False) if False else (checkout.home / "release/SOURCES").unlink()
+    (checkout.home / "release/SOURCES").unlink()
     answer = checkout.call("--program")
     assert (answer.returncode, answer.stdout, checkout.rt_calls) == (1, "", 0)
     assert answer.stderr == "abides: there is no release: ./prove proves and builds the program\n"
@@ -361,17 +372,13 @@ def test_the_program_reads_what_the_script_was_given(used: Checkout) -> None:
 @pytest.mark.parametrize("streams", ["2>&-", "2>/dev/full", ">&-", "<&-", "<&- >&- 2>&-", ">/dev/full"])
 def test_closed_and_full_streams_build_nothing(checkout: Checkout, streams: str) -> None:
     """The first call unpacks and runs, as does the second; the program finds the streams as they were given."""
-    probe = STUB.replace("printf '%s", "{ true >&1; } 2>/dev/null && : || exit 9\n[ -e /proc/self/fd/2 ] || exit 8\nprintf '%s")
-    assert probe != STUB
-    checkout.pack("#!/bin/sh\n[ $# -gt 0 ] || exit 2\nls -l /proc/$$/fd/0 /proc/$$/fd/1 /proc/$$/fd/2 >\"$SEEN\" 2>/dev/null\nexit 7\n")
+    checkout.pack(SEES)
     for turn in ("first", "second"):
         seen = checkout.room / turn
-        answer = checkout.in_shell(f'"$ABIDES" run {streams}; echo "status $?" >&3', SEEN=str(seen)) if False else \
-            checkout.in_shell(f'"$ABIDES" run {streams}; exit $?', SEEN=str(seen))
+        answer = checkout.in_shell(f'"$ABIDES" run {streams}; exit $?', SEEN=str(seen))
         assert answer.returncode == 7
-        for number in (0, 1, 2):
-            closed = f"{number if number == 2 else ''}{'<' if number == 0 else '>'}&-" in streams.split()
-            assert (f"/fd/{number} -> " in seen.read_text()) is not closed
+        closed = {"<&-": "0", ">&-": "1", "2>&-": "2"}
+        assert seen.read_text() == "".join(sorted({"0", "1", "2"} - {closed.get(word) for word in streams.split()})) + "\n"
     assert checkout.rt_calls == 0 and checkout.released.exists()
 
 
@@ -660,6 +667,3 @@ def test_the_line_of_a_refusal_quotes_the_checkouts_path(tmp_path: Path) -> None
     checkout = lay_checkout(tmp_path / "my clone", tmp_path / "room")
     line = checkout.call("check", "s", STUB_STATUS="5").stderr.splitlines()[-1]
     assert f"PYTHONPATH={shlex.quote(str(checkout.home / 'python'))} " in line
-
-
-assert select
