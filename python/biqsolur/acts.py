@@ -1,7 +1,8 @@
 """The acts of a session: what it does to the tree of branches, and what it asks of it.
 
     from biqsolur import acts
-    biqsolur.session(study, [acts.Fork("one", after=5000, edits=[biqsolur.Silence(2)]), acts.Values("one"), acts.Undo()])
+    fork = acts.Fork("one", after=5000, edits=[biqsolur.Silence(2)])
+    biqsolur.session(study, [fork, acts.Values("one"), acts.Undo()])
 """
 
 from __future__ import annotations

@@ -158,7 +158,8 @@ class Branch:
         study = self.bundle.study
         if study is not None:
             words = words_of_edits(study)
-            frame["words"] = numpy.array([words[place] for place in zip(frame["branch"], frame["index"].tolist())], object)
+            places = zip(frame["branch"], frame["index"].tolist())
+            frame["words"] = numpy.array([words[place] for place in places], object)
         return frame
 
     @cached_property

@@ -1,9 +1,9 @@
 """The cache of bundles: what `biqsolur.run` wrote, found again by study, series file, program and version.
 
-It lies in `$XDG_CACHE_HOME/biqsolur/runs` (`~/.cache/biqsolur/runs` where that is not set). An entry is a bundle with the
-record of its run beside it. Together they have at most `BIQSOLUR_CACHE_BYTES` bytes (2,000,000,000 where nothing is said; 0
-turns the cache off): what was longest not used goes first. A file that is in use stays readable when it goes, since it is
-mapped.
+It lies in `$XDG_CACHE_HOME/biqsolur/runs` (`~/.cache/biqsolur/runs` where that is not set). An entry is a bundle with
+the record of its run beside it. Together they have at most `BIQSOLUR_CACHE_BYTES` bytes (2,000,000,000 where nothing is
+said; 0 turns the cache off): what was longest not used goes first. A file that is in use stays readable when it goes,
+since it is mapped.
 """
 
 from __future__ import annotations
@@ -114,8 +114,8 @@ class Part:
 def part_file(folder: Path) -> Iterator[Part]:
     """A new file that only this run writes: renamed once it is whole, or kept under its name, else nothing of it stays.
 
-    It is locked as long as this process or the program that writes it is there, so that `remove_stale` knows which files
-    nobody uses any more. Raises OSError.
+    It is locked as long as this process or the program that writes it is there, so that `remove_stale` knows which
+    files nobody uses any more. Raises OSError.
     """
     part = new_part(folder)
     try:
@@ -148,7 +148,8 @@ def lock(descriptor: int) -> bool:
 
 
 def room_for_runs(limit: int) -> Path | None:
-    """The cache's folder, made where it is not there; None where there is to be no cache, or where none can be written."""
+    """The cache's folder, made where it is not there; None where there is to be no cache, or where none can be
+    written."""
     global warned
     if limit == 0:
         return None
@@ -162,8 +163,8 @@ def room_for_runs(limit: int) -> Path | None:
     except OSError as error:
         if not warned:
             warned = True
-            warnings.warn(f"bundles are not kept in the cache: {error}. Set XDG_CACHE_HOME to a folder that may be written, or "
-                          f"{LIMIT_NAME}=0 for no cache", CacheWarning, stacklevel=4)
+            warnings.warn(f"bundles are not kept in the cache: {error}. Set XDG_CACHE_HOME to a folder that may be "
+                          f"written, or {LIMIT_NAME}=0 for no cache", CacheWarning, stacklevel=4)
         return None
 
 
@@ -174,11 +175,13 @@ def temporary_folder() -> Path:
         remove_stale(folder)
         return folder
     except OSError as error:
-        raise CacheError(f"there is no folder for the program's output: {error}; set TMPDIR to one that may be written") from None
+        raise CacheError(f"there is no folder for the program's output: {error}; set TMPDIR to one that may be "
+                         "written") from None
 
 
 def keep(folder: Path, key: str, part: Part, bundle: Bundle, record: Provenance) -> None:
-    """Makes an entry of a written file, whose bundle was read already. Two that make the same entry write the same bytes."""
+    """Makes an entry of a written file, whose bundle was read already. Two that make the same entry write the same
+    bytes."""
     path = entry_path(folder, key)
     with part_file(folder) as beside:
         with open(beside.descriptor, "wb", closefd=False) as file:

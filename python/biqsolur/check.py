@@ -74,7 +74,8 @@ SPECIAL = {
 }
 
 
-def layouts_of_frames(stocks: int | None, special: str = "") -> Iterator[tuple[str, int, list[tuple[int, int, bytes]], list]]:
+def layouts_of_frames(stocks: int | None,
+                      special: str = "") -> Iterator[tuple[str, int, list[tuple[int, int, bytes]], list]]:
     """Each kind of frame of fixed size: letter, size, bytes that stand at an offset (offset, those allowed), fields."""
     yield "h", 9, [(1, b"\0"), (2, b"\1")], []
     for letter, size in [("d", 18), ("c", 66), ("s", 44), ("z", 3)]:
@@ -98,8 +99,8 @@ def layouts_of_frames(stocks: int | None, special: str = "") -> Iterator[tuple[s
 
 
 def first_bad_frame(frames: Frames, special: str = "") -> int:
-    """The index of the first frame that is none of the formats, with the special ones of these letters; their number where
-    there is none such."""
+    """The index of the first frame that is none of the formats, with the special ones of these letters; their number
+    where there is none such."""
     stocks = None
     if len(frames.starts) and frames.kinds[0] == ord("h") and frames.sizes[0] == 9:
         stocks = int(frames.records(numpy.array([0]), layouts.HEADER)["stocks"][0])
@@ -276,8 +277,8 @@ def state_part(order: Order) -> Part:
 
 @dataclass
 class CrossPart:
-    """The frames of a cross by their indexes. first: the Stock Trading Action that begins it. orders: those that joined.
-    match, price: the Cross Trade and the `k`, one each or none. trading: a frame for each order that trades."""
+    """The frames of a cross by their indexes. first: the Stock Trading Action that begins it. orders: those that
+    joined. match, price: the Cross Trade and the `k`, one each or none. trading: a frame for each order that trades."""
 
     first: int
     orders: numpy.ndarray
@@ -305,7 +306,8 @@ def cross_parts(frames: Frames) -> CrossPart:
 
 
 def session_parts(frames: Frames, probes: int) -> tuple[int, list[Part | numpy.ndarray]]:
-    """How many acts a session had, and its answers: a state or closing, or the indexes of the values of so many probes."""
+    """How many acts a session had, and its answers: a state or closing, or the indexes of the values of so many
+    probes."""
     order = Order(frames, "v")
     answers: list[Part | numpy.ndarray] = []
     while order.run("bv"):

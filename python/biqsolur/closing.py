@@ -28,7 +28,8 @@ class Closing:
     orders: a row a resting order, by stock and then by arrival: reference, agent, token, side ("B" or "S"),
         intended, open (shares), stock, symbol, price, price_dollars, time_in_force, hidden (bool: the feed and the
         quotes tell nothing of it)
-    agents: a row an agent, the exchange first: agent, where the study is known name ("maker 1"), silenced, own_time (ns), tokens, draws,
+    agents: a row an agent, the exchange first: agent, where the study is known name ("maker 1"), silenced,
+        own_time (ns), tokens, draws,
         cash (settled; Python integers, millionths of a dollar), own_cash (Python integers), own_position (shares),
         orders (in its own list), quotes (heard), and for each stock position_SYMBOL (settled, shares)
     """
@@ -39,7 +40,8 @@ class Closing:
     agents: pandas.DataFrame
 
 
-def read_closing(frames: Frames, part: Part, tokens: Tokens, symbols: list[str], names: list[str] | None = None) -> Closing:
+def read_closing(frames: Frames, part: Part, tokens: Tokens, symbols: list[str],
+                 names: list[str] | None = None) -> Closing:
     """The closing of a branch or state. `names` are those of the agents by number, where the study is known."""
     return Closing(
         read_counts(frames, part),
@@ -95,7 +97,8 @@ def orders_frame(frames: Frames, indexes: numpy.ndarray, tokens: Tokens, symbols
     })
 
 
-def agents_frame(frames: Frames, indexes: numpy.ndarray, symbols: list[str], names: list[str] | None) -> pandas.DataFrame:
+def agents_frame(frames: Frames, indexes: numpy.ndarray, symbols: list[str],
+                 names: list[str] | None) -> pandas.DataFrame:
     """A row an agent."""
     agents = frames.records(indexes, layouts.AGENT)
     places = frames.starts[indexes] + layouts.AGENT.itemsize

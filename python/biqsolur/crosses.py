@@ -32,13 +32,13 @@ MOST_ORDERS = 16_384
 class Cross:
     """What a cross answers.
 
-    path. time: of the state (ns). stock: its number; symbol. price: at which it would reopen, with four implied decimals; 0
-    where no shares execute at any price, and then the numbers below are 0 too. shares: that execute. to_buy, to_sell: shares
-    to buy at the price or above, and to sell at it or below. cut: the greatest price up to which no more shares are to be
-    sold than execute; to_sell_below_cut: shares to sell up to it; to_buy_above_cut: shares to buy beyond it. Both are at most
-    `shares`, so no price executes more. match: the number of the cross's match.
-    orders: the orders that joined, a row each: reference, agent (-1 where the file of orders isn't known), side, shares,
-    price, price_dollars. data: the answer's bytes.
+    path. time: of the state (ns). stock: its number; symbol. price: at which it would reopen, with four implied
+    decimals; 0 where no shares execute at any price, and then the numbers below are 0 too. shares: that execute.
+    to_buy, to_sell: shares to buy at the price or above, and to sell at it or below. cut: the greatest price up to
+    which no more shares are to be sold than execute; to_sell_below_cut: shares to sell up to it; to_buy_above_cut:
+    shares to buy beyond it. Both are at most `shares`, so no price executes more. match: the number of the cross's
+    match. orders: the orders that joined, a row each: reference, agent (-1 where the file of orders isn't known), side,
+    shares, price, price_dollars. data: the answer's bytes.
     """
 
     path: str
@@ -69,18 +69,20 @@ class Cross:
 
     @cached_property
     def state(self) -> State | None:
-        """The state in which the cross would be, from one more run of the program; None where the cross was read of a file."""
+        """The state in which the cross would be, from one more run of the program; None where the cross was read of a
+        file."""
         return None if self.rewound is None else self.rewound().states[0]
 
     @cached_property
     def parts(self) -> pandas.DataFrame:
         """The orders that would trade, those to buy first, and in the order in which they are filled: side, reference,
-        shares (that trade), joined (bool: it came with the cross, else it rests), agent, name ("maker 1"; "" where the state
-        isn't known), open (shares before the cross), price, price_dollars, hidden (bool).
+        shares (that trade), joined (bool: it came with the cross, else it rests), agent, name ("maker 1"; "" where the
+        state isn't known), open (shares before the cross), price, price_dollars, hidden (bool).
 
-        Of orders that rest agent, open and price are -1, 0 and 0, and `hidden` is False, where the cross was read of a file:
-        they are told by the state that `rewind` gives."""
-        known = {int(row.reference): (True, row.agent, row.shares, row.price, False) for row in self.orders.itertuples()}
+        Of orders that rest agent, open and price are -1, 0 and 0, and `hidden` is False, where the cross was read of a
+        file: they are told by the state that `rewind` gives."""
+        known = {int(row.reference): (True, row.agent, row.shares, row.price, False)
+                 for row in self.orders.itertuples()}
         resting = self.state.closing.orders.itertuples() if self.state is not None else ()
         for row in resting:
             known.setdefault(int(row.reference), (False, row.agent, row.open, row.price, row.hidden))
@@ -88,7 +90,8 @@ class Cross:
         joined, agent, open_, limits, hidden = zip(*found) if found else ((), (), (), (), ())
         prices = numpy.array(limits, numpy.int64)
         return self.trading.assign(
-            joined=numpy.array(joined, bool), agent=numpy.array(agent, numpy.int32), name=[self.agent_name(n) for n in agent],
+            joined=numpy.array(joined, bool), agent=numpy.array(agent, numpy.int32),
+            name=[self.agent_name(number) for number in agent],
             open=numpy.array(open_, numpy.int64), price=prices, price_dollars=columns.dollars(prices),
             hidden=numpy.array(hidden, bool))
 
@@ -97,10 +100,12 @@ class Cross:
         return self.state.agent_name(number) if self.state is not None and number >= 0 else ""
 
 
-def read_cross(source: str | Path | bytes, orders: bytes | None = None, rewound: Callable[[], Rewind] | None = None) -> Cross:
+def read_cross(source: str | Path | bytes, orders: bytes | None = None,
+               rewound: Callable[[], Rewind] | None = None) -> Cross:
     """Reads what `cross` wrote, from its file or from these bytes. Raises BundleError where they are none.
 
-    orders: the bytes of the file of orders, which tell whose each is. rewound: gives the state, where one has the study.
+    orders: the bytes of the file of orders, which tell whose each is. rewound: gives the state, where one has the
+    study.
     """
     frames = read_frames(source)
     part = cross_parts(frames)
@@ -125,7 +130,8 @@ def joined_frame(frames: Frames, indexes: numpy.ndarray, agents: numpy.ndarray) 
     orders = frames.records(indexes, layouts.FEED_ADD)
     limit = columns.whole(orders["price"])
     return pandas.DataFrame({
-        "reference": columns.whole(orders["reference"]), "agent": agents, "side": columns.words(orders["side"], columns.SIDES),
+        "reference": columns.whole(orders["reference"]), "agent": agents,
+        "side": columns.words(orders["side"], columns.SIDES),
         "shares": columns.whole(orders["shares"]), "price": limit, "price_dollars": columns.dollars(limit)})
 
 
@@ -149,7 +155,8 @@ def agents_of(orders: bytes | None, count: int) -> numpy.ndarray:
 # ---------------------------------------------------------------- the file of orders
 
 def orders_data(orders: object, symbol: str) -> tuple[bytes, str]:
-    """The bytes of a file of orders and what it is called: of a path, a text, a data frame, or a list. Raises RunError."""
+    """The bytes of a file of orders and what it is called: of a path, a text, a data frame, or a list. Raises
+    RunError."""
     from biqsolur.running import file_data
     if isinstance(orders, str) and (orders == HEADER_LINE or "\n" in orders):
         return orders.encode(), "the orders"
@@ -189,5 +196,5 @@ def split_order(order: Any, number: int) -> tuple[Any, Any]:
         from biqsolur.ouch import Enter
         if len(order) == 4 or isinstance(order[1], Enter):
             return order[0], order[1] if len(order) == 2 else order[1:]
-    raise RunError(f"order {number} (counted from 0) is {order!r}; give (trader, side, shares, price), (trader, Enter), or an "
-                   "ouch.Enter")
+    raise RunError(f"order {number} (counted from 0) is {order!r}; give (trader, side, shares, price), (trader, Enter), "
+                   "or an ouch.Enter")

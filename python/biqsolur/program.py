@@ -17,8 +17,8 @@ NAMED_BY = "BIQSOLUR_PROGRAM"
 WHEEL_PROGRAM = PACKAGE / "bin" / "abides"
 USAGE = "usage: abides COMMAND STUDY [MORE...] [--workers N] [--places N]"
 
-# How the C library gets memory for the program, as `./abides` says it: in huge pages and large pieces, which makes long runs
-# faster. What the caller says in GLIBC_TUNABLES stands.
+# How the C library gets memory for the program, as `./abides` says it: in huge pages and large pieces, which makes long
+# runs faster. What the caller says in GLIBC_TUNABLES stands.
 TUNABLES = "glibc.malloc.hugetlb=1:glibc.malloc.mmap_threshold=131072:glibc.malloc.top_pad=1048576"
 
 
@@ -41,8 +41,8 @@ class Program:
 
 
 def find_program() -> Path:
-    """The path of the program: the one that BIQSOLUR_PROGRAM names, else the one that `./abides` of the checkout would run,
-    else the one that came with the installed package. Raises ProgramMissingError or OtherProgramError."""
+    """The path of the program: the one that BIQSOLUR_PROGRAM names, else the one that `./abides` of the checkout would
+    run, else the one that came with the installed package. Raises ProgramMissingError or OtherProgramError."""
     return program_of(None).path
 
 
@@ -72,7 +72,8 @@ def real_program(path: Path, who: str) -> Path:
 
 @functools.lru_cache(maxsize=64)
 def check_version(path: str, *state: int) -> None:
-    """Asks a named program, with no words, for the line that this version has. `state` is when it was changed, and the like."""
+    """Asks a named program, with no words, for the line that this version has. `state` is when it was changed, and the
+    like."""
     try:
         answer = subprocess.run([path], stdin=subprocess.DEVNULL, stdout=subprocess.DEVNULL, stderr=subprocess.PIPE)
     except OSError as error:
@@ -92,16 +93,17 @@ def own_program() -> Program:
         return Program(program_of_checkout(CHECKOUT, None), "checkout")
     if WHEEL_PROGRAM.is_file() and os.access(WHEEL_PROGRAM, os.X_OK):
         return Program(WHEEL_PROGRAM, "wheel")
-    raise ProgramMissingError(f"this installation has no program: there is no {WHEEL_PROGRAM}. Install the package from a "
-                              f"checkout of the repository (pip install ./python), or name a program in {NAMED_BY}")
+    raise ProgramMissingError(f"this installation has no program: there is no {WHEEL_PROGRAM}. Install the package from "
+                              f"a checkout of the repository (pip install ./python), or name a program in {NAMED_BY}")
 
 
 @functools.lru_cache(maxsize=64)
 def program_of_checkout(folder: Path, named: str | None) -> Path:
     """What `./abides` of a checkout would run. `named` is what BIQSOLUR_PROGRAM says, which the script heeds."""
-    environment = {name: value for name, value in os.environ.items() if name != NAMED_BY}
+    unnamed = {name: value for name, value in os.environ.items() if name != NAMED_BY}
     try:
-        answer = subprocess.run([folder / "abides", "--program"], stdin=subprocess.DEVNULL, capture_output=True, env=environment)
+        answer = subprocess.run([folder / "abides", "--program"], stdin=subprocess.DEVNULL, capture_output=True,
+                                env=unnamed)
     except OSError as error:
         raise ProgramMissingError(f"{folder / 'abides'} can't be started: {error.strerror}") from None
     path = Path(os.fsdecode(answer.stdout.removesuffix(b"\n")))
@@ -126,7 +128,8 @@ def version() -> str:
 
 @functools.lru_cache(maxsize=1)
 def kit() -> str | None:
-    """The line of the kit by which the released program was proved and built, or None where this installation has none."""
+    """The line of the kit by which the released program was proved and built, or None where this installation has
+    none."""
     for path in (CHECKOUT / "release" / "KIT", PACKAGE / "bin" / "KIT"):
         if path.is_file():
             return path.read_text().strip()

@@ -1,7 +1,7 @@
 """Where a bundle comes from: the record that stands beside one which the package ran, in the file NAME.run.json.
 
-A record has the study's text, the sums of its series file, the program and the bundle (SHA-256), the package's version, the
-kit that proved the program, and when the run was. The bundle itself has none of these.
+A record has the study's text, the sums of its series file, the program and the bundle (SHA-256), the package's version,
+the kit that proved the program, and when the run was. The bundle itself has none of these.
 """
 
 from __future__ import annotations
@@ -14,6 +14,7 @@ from pathlib import Path
 from typing import TYPE_CHECKING, Any
 
 from biqsolur.errors import StudyError
+from biqsolur.wording import counted
 
 if TYPE_CHECKING:
     from biqsolur.bundle import Bundle
@@ -33,10 +34,10 @@ class Provenance:
     """The record of a run.
 
     study_text: the study as the program read it. folder: from where its series file was looked for (None where it names
-    none). series_sum: of that file. version: of the package. kit: the line of the kit that proved the released program, None
-    where that is not known. program_sum: of the program. program_found: "checkout", "wheel" or "named". time: when the run
-    began (ISO 8601, UTC). seconds: how long it took. workers: how many simulated. bundle_bytes, bundle_sum: of the bundle.
-    Sums are SHA-256, in hexadecimal digits.
+    none). series_sum: of that file. version: of the package. kit: the line of the kit that proved the released program,
+    None where that is not known. program_sum: of the program. program_found: "checkout", "wheel" or "named". time: when
+    the run began (ISO 8601, UTC). seconds: how long it took. workers: how many simulated. bundle_bytes, bundle_sum: of
+    the bundle. Sums are SHA-256, in hexadecimal digits.
     """
 
     study_text: str
@@ -69,7 +70,7 @@ class Provenance:
     def lines(self) -> list[tuple[str, str]]:
         """The record but for the study, as pairs of words, for pages and tables."""
         return [
-            ("run", f"{self.time}, {self.seconds:.3g} s, {self.workers} {'worker' if self.workers == 1 else 'workers'}"),
+            ("run", f"{self.time}, {self.seconds:.3g} s, {counted(self.workers, 'worker')}"),
             ("version", self.version), ("kit", self.kit or "not known"), ("program", self.program),
             ("sum of the program", self.program_sum), ("sum of the bundle", self.bundle_sum)]
 

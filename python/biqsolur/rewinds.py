@@ -29,8 +29,9 @@ if TYPE_CHECKING:
 class State:
     """The state of a branch after an event, with the edits at that event made.
 
-    Attributes: branch (a name), number (of the branch; the root is 0), parent_number (None for the root), event, symbols,
-    agent_names (by number: "exchange", "maker 1"; without a study "trader 1"), named (whether a study gave them).
+    Attributes: branch (a name), number (of the branch; the root is 0), parent_number (None for the root), event,
+    symbols, agent_names (by number: "exchange", "maker 1"; without a study "trader 1"), named (whether a study gave
+    them).
     """
 
     branch: str
@@ -129,8 +130,8 @@ class Rewind:
 
 
 def read_rewind(source: str | Path | bytes, study: Study | None = None) -> Rewind:
-    """Reads what `rewind` wrote, from its file or from these bytes. Raises BundleError where they are none, with the offset
-    and the cause.
+    """Reads what `rewind` wrote, from its file or from these bytes. Raises BundleError where they are none, with the
+    offset and the cause.
 
     A rewind has no symbols; its stocks are called by their numbers where the study isn't given.
     """
@@ -145,6 +146,7 @@ def state_of(frames: Frames, part: Part, tokens: Tokens, study: Study | None) ->
     """The state of which these are the frames."""
     head = frames.records(numpy.array([part.branch]), layouts.BRANCH)[0]
     number, stocks = int(head["branch"]), part.orders - part.stocks
-    symbols = study.symbols if study is not None and len(study.symbols) == stocks else [str(stock) for stock in range(stocks)]
-    return State(branch_name(frames, part.branch), number, None if number == 0 else int(head["parent"]), int(head["stop"]),
-                 symbols, part, frames, tokens, names_of_agents(study, part.waiting - part.agents), study is not None)
+    known = study is not None and len(study.symbols) == stocks
+    symbols = study.symbols if study is not None and known else [str(stock) for stock in range(stocks)]
+    parent = None if number == 0 else int(head["parent"])
+    return State(branch_name(frames, part.branch), number, parent, int(head["stop"]), symbols, part, frames, tokens, names_of_agents(study, part.waiting - part.agents), study is not None)

@@ -7,9 +7,9 @@
     biqsolur.session(study, [acts.Values("wide"), acts.Undo()])
     biqsolur.audit(bundle)
 
-A study is a Study, a path, a text of TOML or a dict. The program gets studies, orders and scripts from memory, so nothing is
-written but a bundle, which goes to the cache or to a temporary file, and stands there only once it is whole. An interrupt
-ends the program. All of this may be called from several threads and processes at once.
+A study is a Study, a path, a text of TOML or a dict. The program gets studies, orders and scripts from memory, so
+nothing is written but a bundle, which goes to the cache or to a temporary file, and stands there only once it is whole.
+An interrupt ends the program. All of this may be called from several threads and processes at once.
 """
 
 from __future__ import annotations
@@ -48,10 +48,13 @@ MOST_WORKERS = 64
 MOST_TARGETS = 64
 MOST_BYTES = 16_777_216         # of a study
 PROGRESS_SECONDS = 0.2          # between two words of progress
+ACCEPTED = r"accepted: agents (\d+), stocks (\d+), branches (\d+), segments (\d+)\n"
+AUDITED = r"audit ok: branches (\d+), orders (\d+)\n"
 
 
 class Answer(NamedTuple):
-    """What a run of the program ended with: its status (minus a signal's number where one ended it), and what it wrote."""
+    """What a run of the program ended with: its status (minus a signal's number where one ended it), and what it
+    wrote."""
 
     status: int
     stdout: bytes
@@ -70,7 +73,8 @@ class Counts:
 
 @dataclass(frozen=True)
 class Audit:
-    """What `audit` says of a bundle whose closings are those that its feed tells: branches, and displayed orders in all."""
+    """What `audit` says of a bundle whose closings are those that its feed tells: branches, and displayed orders in
+    all."""
 
     branches: int
     orders: int
@@ -78,7 +82,8 @@ class Audit:
 
 # ---------------------------------------------------------------- the process
 
-def run_bytes(*words: str | os.PathLike[str], program: AnyProgram = None, folder: str | os.PathLike[str] | None = None) -> Answer:
+def run_bytes(*words: str | os.PathLike[str], program: AnyProgram = None,
+              folder: str | os.PathLike[str] | None = None) -> Answer:
     """Runs the program with these words as they are, in `folder` (else the working folder), and gives what it wrote.
 
     No status is an error here. An interrupt ends the program. Raises ProgramMissingError.
@@ -120,8 +125,8 @@ def started(program: Program, words: list[str], folder: str | os.PathLike[str] |
         raise RunError(f"the words {words!r} have a zero byte, which no word of a command can have") from None
     except OSError as error:
         if folder is not None and not os.path.isdir(folder):
-            raise RunError(f"the folder {os.fspath(folder)}, from which the study's series file is looked for, is not there: "
-                           "make the study anew, or give it another folder") from None
+            raise RunError(f"the folder {os.fspath(folder)}, from which the study's series file is looked for, is not "
+                           "there: make the study anew, or give it another folder") from None
         raise ProgramMissingError(f"{program.path} can't be started: {error.strerror}") from None
 
 
@@ -152,8 +157,8 @@ class Words:
 class Given:
     """A study as the program is to read it.
 
-    data: its bytes. name: its path, or "the study". folder: from where its series file is looked for, None for the working
-    folder. read: whether Python could read it too (the program reads TOML 1.1); else `series` is not known.
+    data: its bytes. name: its path, or "the study". folder: from where its series file is looked for, None for the
+    working folder. read: whether Python could read it too (the program reads TOML 1.1); else `series` is not known.
     """
 
     data: bytes
@@ -218,8 +223,8 @@ def study_of_path(path: str) -> Given:
 
 
 def file_data(path: str | os.PathLike[str]) -> bytes:
-    """The bytes of a study, script or file of orders, at most one more than it may have. Raises NoSuchFile or ReadFailed, with
-    the line that the program has for it."""
+    """The bytes of a study, script or file of orders, at most one more than it may have. Raises NoSuchFile or
+    ReadFailed, with the line that the program has for it."""
     try:
         with open(path, "rb") as file:
             return file.read(MOST_BYTES + 1)
@@ -264,8 +269,8 @@ def command(name: str, study: AnyStudy | Given, program: AnyProgram, *options: s
 
 @dataclass
 class Call:
-    """A command on a study, ready to run. subject: the file of which a refusal speaks, where it isn't the study. more: says
-    what is wrong with that file."""
+    """A command on a study, ready to run. subject: the file of which a refusal speaks, where it isn't the study. more:
+    says what is wrong with that file."""
 
     given: Given
     program: Program
@@ -279,7 +284,8 @@ class Call:
 
     def end(self, output: int, watch: Callable[[], None] | None = None) -> Answer:
         """Runs it; raises the error of its status."""
-        answer = ended(self.program, self.words.words, self.given.folder, output, [*self.words.descriptors, *of(output)], watch)
+        descriptors = [*self.words.descriptors, *of(output)]
+        answer = ended(self.program, self.words.words, self.given.folder, output, descriptors, watch)
         if answer.status:
             raise self.error(answer)
         return answer
@@ -306,9 +312,10 @@ def of(output: int) -> list[int]:
 
 
 def check(study: AnyStudy, *, program: AnyProgram = None) -> Counts:
-    """Asks whether the program accepts a study; nothing is simulated. Raises StudyRefused with rule, place and sentence."""
+    """Asks whether the program accepts a study; nothing is simulated. Raises StudyRefused with rule, place and
+    sentence."""
     with command("check", study, program) as (call, _):
-        return Counts(*line_of(call.output(), r"accepted: agents (\d+), stocks (\d+), branches (\d+), segments (\d+)\n", call.program))
+        return Counts(*line_of(call.output(), ACCEPTED, call.program))
 
 
 def line_of(output: bytes, pattern: str, program: Program) -> list[int]:
@@ -326,7 +333,8 @@ def table(study: AnyStudy, workers: int = 1, *, program: AnyProgram = None) -> p
         return read_table(call.output())
 
 
-def rewind(study: AnyStudy, targets: Iterable[tuple[str, int]], workers: int = 1, *, program: AnyProgram = None) -> Rewind:
+def rewind(study: AnyStudy, targets: Iterable[tuple[str, int]], workers: int = 1, *,
+           program: AnyProgram = None) -> Rewind:
     """The states of branches after events, for 1 to 64 pairs (branch, event) in any order: rewind(...)["wide", 5000].
 
     Raises NoSuchBranch and NoSuchEvent, and RunError where there are too many pairs or one is none.
@@ -356,7 +364,8 @@ def target_word(branch: str, event: int) -> str:
     """A state as the program's words name it."""
     from numbers import Integral
     if not isinstance(event, Integral) or isinstance(event, bool) or not 0 <= event <= 9_999_999:
-        raise RunError(f"{event!r} is no event number: give a whole number from 0 on, 0 for the state before the first event")
+        raise RunError(f"{event!r} is no event number: give a whole number from 0 on, 0 for the state before the first "
+                       "event")
     if not isinstance(branch, str) or "\0" in branch:
         raise RunError(f"{branch!r} is no branch's name")
     return f"{branch}:{int(event)}"
@@ -366,9 +375,9 @@ def cross(study: AnyStudy, branch: str, event: int, symbol: str, orders: object,
           program: AnyProgram = None) -> Cross:
     """At which price a stock would reopen in the state of a branch after an event, if these orders joined its book.
 
-    orders: the path of a file of docs/FORMATS.md#the-file-of-a-cross, its text, a data frame with its columns, or a list of
-    (trader, side, shares, price), (trader, `ouch.Enter`) or `ouch.Enter`. Raises NoSuchBranch, NoSuchEvent, NoSuchStock and
-    OrdersRefused.
+    orders: the path of a file of docs/FORMATS.md#the-file-of-a-cross, its text, a data frame with its columns, or a
+    list of (trader, side, shares, price), (trader, `ouch.Enter`) or `ouch.Enter`. Raises NoSuchBranch, NoSuchEvent,
+    NoSuchStock and OrdersRefused.
     """
     from biqsolur.crosses import orders_data, read_cross
     given, (data, name) = given_study(study), orders_data(orders, symbol)
@@ -414,7 +423,8 @@ def plain_word(text: object, what: str) -> str:
 def session(study: AnyStudy, script: str | os.PathLike[str] | Iterable[Act], workers: int = 1, *,
             program: AnyProgram = None) -> Session:
     """The answers to the acts of a script, over the study's tree of branches: a path, a text of TOML, or a list of acts
-    of `biqsolur.acts` (`Fork`, `Undo`, `EditBranch`, `StateAt`, `Close`, `Values`). Raises ScriptRefused, ActRefused and NoSuchEvent."""
+    of `biqsolur.acts` (`Fork`, `Undo`, `EditBranch`, `StateAt`, `Close`, `Values`). Raises ScriptRefused, ActRefused
+    and NoSuchEvent."""
     from biqsolur.acts import script_data
     from biqsolur.sessions import read_session
     given, (data, name) = given_study(study), script_data(script)
@@ -435,7 +445,7 @@ def audit(bundle: Bundle | str | os.PathLike[str], *, program: AnyProgram = None
         name = words.names.get(words.words[-1], words.words[-1])
     if answer.status:
         raise error_of(answer.status, answer.stderr, Context(["audit", name], str(which.path), words.names, name))
-    return Audit(*line_of(answer.stdout, r"audit ok: branches (\d+), orders (\d+)\n", which))
+    return Audit(*line_of(answer.stdout, AUDITED, which))
 
 
 def add_bundle(words: Words, bundle: Bundle | str | os.PathLike[str]) -> None:
@@ -455,8 +465,9 @@ def run(study: AnyStudy, workers: int = 1, *, program: AnyProgram = None, cache:
     """Runs a study and gives its bundle, with `bundle.provenance` and `bundle.study`.
 
     workers: 1 to 64 threads, which change no byte. cache: whether the bundle is looked for in the cache and kept there.
-    progress: True for a line on standard error while it runs, or a function that is told every fifth of a second how many
-    bytes of the bundle are written; most come at the end of the simulation. An interrupt ends the program and leaves no file.
+    progress: True for a line on standard error while it runs, or a function that is told every fifth of a second how
+    many bytes of the bundle are written; most come at the end of the simulation. An interrupt ends the program and
+    leaves no file.
 
     Raises StudyRefused, NoSuchFile (also for a series file), FileTooLong, ReadFailed, WriteFailed, OutOfMemory.
     """
@@ -470,7 +481,8 @@ def run(study: AnyStudy, workers: int = 1, *, program: AnyProgram = None, cache:
     kept = caches.kept_bundle(folder, key) if folder is not None else None
     if kept is not None:
         return kept
-    with command("run", given, program, *options) as (call, _), caches.part_file(folder or caches.temporary_folder()) as part:
+    place = folder or caches.temporary_folder()
+    with command("run", given, program, *options) as (call, _), caches.part_file(place) as part:
         begun, clock = time.time(), time.monotonic()
         with Progress(progress, part.descriptor) as watch:
             call.subject, call.more = str(part.path), lambda error: write_sentence(error, part.path)
@@ -498,8 +510,8 @@ def written_bundle(part: Path, program: Program) -> Bundle:
     try:
         return read(part)
     except BundleError as error:
-        raise OtherProgramError(f"{program.path} wrote no bundle (at byte {error.offset}: {error.cause}), which no program of "
-                                "this version does") from None
+        raise OtherProgramError(f"{program.path} wrote no bundle (at byte {error.offset}: {error.cause}), which no "
+                                "program of this version does") from None
 
 
 def record_of_run(given: Given, series: SeriesState, program: Program, workers: int, bundle: Bundle, begun: float,
@@ -508,8 +520,8 @@ def record_of_run(given: Given, series: SeriesState, program: Program, workers: 
     from biqsolur.provenance import Provenance, moment_text, sum_of_bundle
     return Provenance(
         given.data.decode("utf-8", "replace"), None if given.folder is None else str(given.folder.absolute()),
-        series.sum or None, version(), kit(), program.sum, program.found, moment_text(begun), round(seconds, 6), workers,
-        len(bundle.frames.raw), sum_of_bundle(bundle))
+        series.sum or None, version(), kit(), program.sum, program.found, moment_text(begun), round(seconds, 6),
+        workers, len(bundle.frames.raw), sum_of_bundle(bundle))
 
 
 class SeriesState:

@@ -31,11 +31,12 @@ UNITS = {"volume": ("shares", 0), "spread_sum": ("dollars", 4), "range": ("dolla
 class Reply:
     """What an act was answered.
 
-    act: its number, from 0; -1 where the script isn't known. kind: the act's ("fork", "undo", "edit", "rewind", "close",
-    "values"); without the script "state" for one of the two that tell a state. branch: the name of the branch that the answer
-    speaks of ("" without the script of a `values`). words: the act, and its values, in words. state: of a `rewind` or a
-    `close`, else None; of a `close` its event is the branch's stop. values: of a `values` the numbers by name, as in a table
-    (volume in shares, spread_sum and range in 0.0001 dollars, fees in millionths of a dollar), else None.
+    act: its number, from 0; -1 where the script isn't known. kind: the act's ("fork", "undo", "edit", "rewind",
+    "close", "values"); without the script "state" for one of the two that tell a state. branch: the name of the branch
+    that the answer speaks of ("" without the script of a `values`). words: the act, and its values, in words. state: of
+    a `rewind` or a `close`, else None; of a `close` its event is the branch's stop. values: of a `values` the numbers
+    by name, as in a table (volume in shares, spread_sum and range in 0.0001 dollars, fees in millionths of a dollar),
+    else None.
     """
 
     act: int
@@ -49,14 +50,15 @@ class Reply:
     def closing(self) -> Closing:
         """What stands in the state, or at the end of the branch."""
         if self.state is None:
-            raise InputError(f"{self.words}: this act was answered with no closing; those of the kinds rewind and close are")
+            raise InputError(f"{self.words}: this act was answered with no closing; those of the kinds rewind and close "
+                             "are")
         return self.state.closing
 
 
 @dataclass
 class Session:
-    """What a session wrote. acts: how many acts it had. replies: one for each act, in order; without the script one for each
-    act that was answered. `session[3]` is the reply to act 3, counted from 0. data: the answer's bytes."""
+    """What a session wrote. acts: how many acts it had. replies: one for each act, in order; without the script one for
+    each act that was answered. `session[3]` is the reply to act 3, counted from 0. data: the answer's bytes."""
 
     path: str
     acts: int
@@ -67,8 +69,9 @@ class Session:
         for reply in self.replies:
             if reply.act == act:
                 return reply
+        unknown = any(reply.act < 0 for reply in self.replies)
         raise InputError(f"no act {act!r}; there are {self.acts}, counted from 0" + (
-            "" if self.replies and self.replies[0].act == 0 else ", and which replies are whose is known with the script alone"))
+            ", and which replies are whose is known with the script alone" if unknown else ""))
 
     @cached_property
     def values(self) -> pandas.DataFrame:
@@ -77,7 +80,8 @@ class Session:
         return pandas.DataFrame({
             "act": [reply.act for reply in rows],
             "branch": [reply.branch for reply in rows],
-            **{name: columns.exact([reply.values[name] for reply in rows if reply.values is not None]) for name in PROBES}})
+            **{name: columns.exact([reply.values[name] for reply in rows if reply.values is not None])
+               for name in PROBES}})
 
 
 def read_session(source: str | Path | bytes, script: bytes | None = None, study: Study | None = None) -> Session:
@@ -127,5 +131,6 @@ def replies_of_acts(frames: Frames, acts: list[dict[str, Any]], answers: list[Re
         more = f": {answer.words}" if kind == "values" else ""
         replies.append(Reply(number, kind, str(act["name"]), words + more, answer.state, answer.values))
     if next(waiting, None) is not None:
-        raise BundleError(frames.path, 0, "these are no answers to this script: there are more answers than it asks for")
+        raise BundleError(frames.path, 0, "these are no answers to this script: there are more answers than it asks "
+                                          "for")
     return replies

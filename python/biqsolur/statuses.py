@@ -1,8 +1,8 @@
 """How the program can end, each as an error of its own: what it said, which file it speaks of, and what to do.
 
-docs/COMMANDS.md has the statuses. An error here has `status`, `line` (the program's own line) and `file` (the path of the
-study, series file, orders, script or bundle of which the line speaks; "the study", "the orders" or "the script" where that was
-given from memory, None where the line speaks of none).
+docs/COMMANDS.md has the statuses. An error here has `status`, `line` (the program's own line) and `file` (the path of
+the study, series file, orders, script or bundle of which the line speaks; "the study", "the orders" or "the script"
+where that was given from memory, None where the line speaks of none).
 """
 
 from __future__ import annotations
@@ -29,7 +29,8 @@ class OtherProgramError(InputError):
 
 
 class ProgramError(InputError):
-    """The program did not write what it was asked for. `sentence` says more than its line, where something is known, else ""."""
+    """The program did not write what it was asked for. `sentence` says more than its line, where something is known,
+    else ""."""
 
     STATUS: ClassVar[int] = -1
     sentence: str = ""
@@ -56,11 +57,13 @@ def remade(kind: type[ProgramError], text: str, values: dict[str, Any]) -> Progr
 
 
 class ProgramKilledError(ProgramError):
-    """The program was ended by a signal, or with a status that it never gives; `status` is then minus the signal's number."""
+    """The program was ended by a signal, or with a status that it never gives; `status` is then minus the signal's
+    number."""
 
 
 class WordsRefused(ProgramError):
-    """Status 2: a number of workers or places outside its range, or a program of another version, which lacks a command."""
+    """Status 2: a number of workers or places outside its range, or a program of another version, which lacks a
+    command."""
 
     STATUS = 2
 
@@ -133,8 +136,8 @@ class OrdersRefused(ProgramError):
 
 
 class BadBundle(ProgramError):
-    """Status 13: the bytes are no bundle. `reason` is 1 (cut), 2 (bad frame) or 3 (bad order); `offset` in bytes, of reason 1
-    the bytes left."""
+    """Status 13: the bytes are no bundle. `reason` is 1 (cut), 2 (bad frame) or 3 (bad order); `offset` in bytes, of
+    reason 1 the bytes left."""
 
     STATUS = 13
     reason: int
@@ -142,8 +145,8 @@ class BadBundle(ProgramError):
 
 
 class AuditFailed(ProgramError):
-    """Status 14: a closing is not what the branch's feed tells. `branch` is its number; `reference` that of the first order
-    that differs, 0 where only a trading state or the order of the list does."""
+    """Status 14: a closing is not what the branch's feed tells. `branch` is its number; `reference` that of the first
+    order that differs, 0 where only a trading state or the order of the list does."""
 
     STATUS = 14
     branch: int
@@ -151,7 +154,8 @@ class AuditFailed(ProgramError):
 
 
 class ScriptRefused(ProgramError):
-    """Status 15: the script of a session says no acts. `act` is the first bad one, from 0; 64 where the whole is none."""
+    """Status 15: the script of a session says no acts. `act` is the first bad one, from 0; 64 where the whole is
+    none."""
 
     STATUS = 15
     act: int
@@ -175,8 +179,8 @@ BUNDLE_FAULTS = {
 class Form:
     """The line of a status: its pattern, and what the error says in its place.
 
-    `names` are the attributes that the groups of the pattern become, numbers where they are digits; `text` may name them.
-    `explained` is the text where a sentence is known.
+    `names` are the attributes that the groups of the pattern become, numbers where they are digits; `text` may name
+    them. `explained` is the text where a sentence is known.
     """
 
     error: type[ProgramError]
@@ -188,8 +192,8 @@ class Form:
 
 FORMS = {form.error.STATUS: form for form in (
     Form(WordsRefused, r"usage: .*",
-         "the program does not know these words: {words}. Where they are right for this version (docs/COMMANDS.md), the "
-         "program at {program} is of another one: unset BIQSOLUR_PROGRAM"),
+         "the program does not know these words: {words}. Where they are right for this version (docs/COMMANDS.md), "
+         "the program at {program} is of another one: unset BIQSOLUR_PROGRAM"),
     Form(NoSuchFile, r"no such file: (.*)", "there is no file {file}", ("file",), "no such file: {sentence}"),
     Form(FileTooLong, r"file too long: (.*)",
          "{file} is too long: a study, series file, file of orders or script has at most 16,777,216 bytes, a bundle "
@@ -203,19 +207,21 @@ FORMS = {form.error.STATUS: form for form in (
     Form(NoSuchBranch, r"no branch: (.*)", "the study has no branch as {word!r} names it", ("word",),
          "the study has no branch as {word!r} names it; {sentence}"),
     Form(NoSuchEvent, r"no event: (.*), last event (\d+)",
-         "there is no event as {word!r} names it: the last event of that branch is {last}", ("word", "last"), "{sentence}"),
+         "there is no event as {word!r} names it: the last event of that branch is {last}", ("word", "last"),
+         "{sentence}"),
     Form(OutOfMemory, r"out of memory",
          "the memory did not suffice: take a study with fewer events, branches or workers, or run fewer at once"),
     Form(NoSuchStock, r"no stock: (.*)", "no stock of the study has the symbol {word!r}", ("word",),
          "no stock of the study has the symbol {word!r}; {sentence}"),
     Form(OrdersRefused, r"orders refused: record (\d+)",
-         "{file}: refused at record {record}, counted from 0 with the header (docs/FORMATS.md#the-file-of-a-cross)", ("record",),
+         "{file}: refused at record {record}, counted from 0 with the header (docs/FORMATS.md#the-file-of-a-cross)",
+         ("record",),
          "{file}: {sentence} (docs/FORMATS.md#the-file-of-a-cross)"),
     Form(BadBundle, r"bad bundle: (\d+) at (\d+)",
          "{file} is no bundle: {fault}. `python3 -m biqsolur why FILE` says more", ("reason", "offset")),
     Form(AuditFailed, r"audit failed: branch (\d+), reference (\d+)",
-         "the closing of branch {branch} of {file} is not what its feed tells: {order} differs. `python3 -m biqsolur why FILE` "
-         "says more", ("branch", "reference")),
+         "the closing of branch {branch} of {file} is not what its feed tells: {order} differs. `python3 -m biqsolur why "
+         "FILE` says more", ("branch", "reference")),
     Form(ScriptRefused, r"script refused: act (\d+)",
          "{file}: refused, {act_name} (docs/REFUSALS.md#when-a-script-is-refused)", ("act",),
          "{file}: {sentence} (docs/REFUSALS.md#when-a-script-is-refused)"),
@@ -231,9 +237,9 @@ NUMBERS = {"rule", "place", "last", "record", "reason", "offset", "branch", "ref
 class Context:
     """What is known of a run that failed.
 
-    words: what the program was given. program: its path. names: for each path that it was given in place of another, that
-    other one. subject: the file of which a refusal speaks. folder: from where it looked for files, None for the working folder.
-    sentence: says more of an error, where something is known.
+    words: what the program was given. program: its path. names: for each path that it was given in place of another,
+    that other one. subject: the file of which a refusal speaks. folder: from where it looked for files, None for the
+    working folder. sentence: says more of an error, where something is known.
     """
 
     words: list[str]
@@ -300,8 +306,9 @@ def ended_otherwise(status: int, line: str, context: Context) -> ProgramError:
         except ValueError:
             name = f"signal {-status}"
         why = " (where nobody ended it, the system was out of memory)" if -status == signal.SIGKILL else ""
-        text = f"the program was ended by {name}{why} while it did {' '.join(context.words)!r}{said}; nothing of its output was kept"
+        text = (f"the program was ended by {name}{why} while it did {' '.join(context.words)!r}{said}; nothing of its "
+                "output was kept")
     else:
-        text = (f"{context.program} ended with status {status}{said}, which no program of this version does; name another one in "
-                "BIQSOLUR_PROGRAM, or unset it")
+        text = (f"{context.program} ended with status {status}{said}, which no program of this version does; name "
+                "another one in BIQSOLUR_PROGRAM, or unset it")
     return ProgramKilledError(text, status, line)

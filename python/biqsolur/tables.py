@@ -17,9 +17,9 @@ TEXTS = ("branch", "parent", "end")
 
 
 def read_table(source: str | Path | bytes) -> pandas.DataFrame:
-    """Reads a table from its file, or from the bytes that were written. A row a branch: branch, parent ("" for the root), stop, events, end, first_difference, and the columns of the
-    probes (volume in shares, spread_sum and range in 0.0001 dollars, fees in millionths of a dollar). Numbers are exact:
-    64-bit ones, or Python's where one is longer."""
+    """Reads a table from its file, or from the bytes that were written. A row a branch: branch, parent ("" for the
+    root), stop, events, end, first_difference, and the columns of the probes (volume in shares, spread_sum and range in
+    0.0001 dollars, fees in millionths of a dollar). Numbers are exact: 64-bit ones, or Python's where one is longer."""
     path = name_of(source)
     data = source if isinstance(source, bytes) else Path(source).read_bytes()
     rows = list(csv.reader(io.StringIO(data.decode("utf-8", "replace"), newline="")))

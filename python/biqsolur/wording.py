@@ -23,7 +23,8 @@ def agent_names(study: Study) -> list[str]:
 
 
 def names_of_agents(study: Study | None, count: int) -> list[str]:
-    """The same for `count` agents; "trader 1" and so on without a study, or where the study has another number of them."""
+    """The same for `count` agents; "trader 1" and so on without a study, or where the study has another number of
+    them."""
     if study is not None:
         names = agent_names(study)
         if len(names) == count:
@@ -61,7 +62,8 @@ def tick_words(edit: Mapping[str, Any], agents: list[str]) -> str:
 
 def fee_words(edit: Mapping[str, Any], agents: list[str]) -> str:
     """fees of ABM: -0.002 dollars a share to add, 0.003 to take"""
-    return f"fees of {edit['stock']}: {decimal(edit['add'], 6)} dollars a share to add, {decimal(edit['take'], 6)} to take"
+    add, take = decimal(edit["add"], 6), decimal(edit["take"], 6)
+    return f"fees of {edit['stock']}: {add} dollars a share to add, {take} to take"
 
 
 def latency_words(edit: Mapping[str, Any], agents: list[str]) -> str:
