@@ -123,11 +123,11 @@ def plain_field(key: str, value: object) -> Any:
 def script_data(script: str | os.PathLike[str] | Iterable[Act | Mapping[str, Any]]) -> tuple[bytes, str]:
     """The bytes of a script and what it is called: of a path, a text (with a line break), or acts."""
     from biqsolur.running import file_data
-    if isinstance(script, os.PathLike) or isinstance(script, str) and "\n" not in script:
-        return file_data(Path(script)), os.fspath(script)
-    if isinstance(script, str):
+    if isinstance(script, str) and "\n" in script:
         return script.encode(), "the script"
-    if isinstance(script, (os.PathLike, bytes, Mapping, Act)) or not isinstance(script, Iterable):
+    if isinstance(script, (str, os.PathLike)):
+        return file_data(Path(script)), os.fspath(script)
+    if isinstance(script, (bytes, Mapping, Act)) or not isinstance(script, Iterable):
         raise RunError(f"{script!r} is no script: give a path, a text of TOML, or a list of acts (biqsolur.acts)")
     return script_text(script).encode(), "the script"
 

@@ -2,6 +2,7 @@
 
 from __future__ import annotations
 
+import os
 import warnings
 from collections.abc import Iterable, Iterator
 from functools import cached_property
@@ -273,7 +274,7 @@ class Bundle:
             self.branches[branch.name] = branch
 
     def __repr__(self) -> str:
-        known = self._record is not None or record_path(self.path).exists()
+        known = self._record is not None or os.path.exists(record_path(self.path))
         return f"<bundle {self.path!r}: {', '.join(self.branches)}{'' if known else '; no record of its run'}>"
 
     @cached_property

@@ -13,7 +13,6 @@ import fcntl
 import hashlib
 import os
 import secrets
-import shutil
 import tempfile
 import time
 import warnings
@@ -24,6 +23,7 @@ from pathlib import Path
 
 from biqsolur.bundle import Bundle, read
 from biqsolur.errors import BundleError, CacheError
+from biqsolur.provenance import ENDING as RECORD_ENDING
 from biqsolur.provenance import Provenance, record_fault, record_path
 from biqsolur.wording import counted
 
@@ -121,9 +121,7 @@ def part_file(folder: Path) -> Iterator[Part]:
     try:
         yield part
     finally:
-        if not part.kept:
-            os.close(part.descriptor)
-            part.path.unlink(missing_ok=True)
+        finish(part)
 
 
 def new_part(folder: Path) -> Part:
@@ -147,25 +145,42 @@ def lock(descriptor: int) -> bool:
     return True
 
 
-def room_for_runs(limit: int) -> Path | None:
-    """The cache's folder, made where it is not there; None where there is to be no cache, or where none can be
-    written."""
-    global warned
-    if limit == 0:
-        return None
-    folder = cache_folder()
+@contextlib.contextmanager
+def part_for(limit: int) -> Iterator[tuple[Part, Path | None]]:
+    """A new file in the cache, and the cache's folder; or in a folder for temporary files, and None: where the cache may
+    have no bytes, or can't be written, which is said once in a process."""
+    folder = cache_folder() if limit else None
     try:
-        if folder is None:
+        if folder is not None:
+            folder.mkdir(mode=0o700, parents=True, exist_ok=True)
+            part = new_part(folder)
+        elif limit:
             raise OSError("no home is known")
-        folder.mkdir(mode=0o700, parents=True, exist_ok=True)
-        with part_file(folder):
-            return folder
     except OSError as error:
-        if not warned:
-            warned = True
-            warnings.warn(f"bundles are not kept in the cache: {error}. Set XDG_CACHE_HOME to a folder that may be "
-                          f"written, or {LIMIT_NAME}=0 for no cache", CacheWarning, stacklevel=4)
-        return None
+        folder = None
+        warn(error)
+    with contextlib.ExitStack() as stack:
+        if folder is None:
+            part = stack.enter_context(part_file(temporary_folder()))
+        else:
+            stack.callback(finish, part)
+        yield part, folder
+
+
+def finish(part: Part) -> None:
+    """Takes a file away, unless it was kept."""
+    if not part.kept:
+        os.close(part.descriptor)
+        part.path.unlink(missing_ok=True)
+
+
+def warn(error: OSError) -> None:
+    """Says, once in a process, that the cache can't be written."""
+    global warned
+    if not warned:
+        warned = True
+        warnings.warn(f"bundles are not kept in the cache: {error}. Set XDG_CACHE_HOME to a folder that may be "
+                      f"written, or {LIMIT_NAME}=0 for no cache", CacheWarning, stacklevel=6)
 
 
 def temporary_folder() -> Path:
@@ -179,9 +194,23 @@ def temporary_folder() -> Path:
                          "written") from None
 
 
-def keep(folder: Path, key: str, part: Part, bundle: Bundle, record: Provenance) -> None:
-    """Makes an entry of a written file, whose bundle was read already. Two that make the same entry write the same
-    bytes."""
+def keep(folder: Path | None, key: str, part: Part, bundle: Bundle, record: Provenance, limit: int) -> None:
+    """Makes an entry of a written file, whose bundle was read already, and keeps the cache within its limit; without a
+    folder, or where that fails, the file is the bundle's alone. Two that make one entry write the same bytes."""
+    try:
+        if folder is None:
+            keep_for_now(part, bundle, record)
+            return
+        make_entry(folder, key, part, bundle, record)
+        shrink(folder, limit)
+    except OSError as error:
+        warn(error)
+        if part.path.exists():
+            keep_for_now(part, bundle, record)
+
+
+def make_entry(folder: Path, key: str, part: Part, bundle: Bundle, record: Provenance) -> None:
+    """Makes an entry of a written file: its record first, as a bundle without one is no entry."""
     path = entry_path(folder, key)
     with part_file(folder) as beside:
         with open(beside.descriptor, "wb", closefd=False) as file:
@@ -246,9 +275,14 @@ def remove_stale(folder: Path) -> None:
 
 
 def clear(folder: Path) -> tuple[int, int]:
-    """Takes all entries away; gives their number and bytes."""
+    """Takes all entries away, and what killed runs left; gives the number of entries and their bytes."""
     found = entries(folder)
-    shutil.rmtree(folder, ignore_errors=True)
+    for _, _, path in found:
+        remove_entry(path)
+    remove_stale(folder)
+    for path in folder.glob(f"*{RECORD_ENDING}"):       # of a run that was killed before its bundle had its name
+        with contextlib.suppress(OSError):
+            path.unlink()
     return len(found), sum(size for _, size, _ in found)
 
 

@@ -8,6 +8,7 @@ from __future__ import annotations
 
 import hashlib
 import json
+import os
 from dataclasses import asdict, dataclass
 from datetime import datetime, timezone
 from pathlib import Path
@@ -119,10 +120,10 @@ def sum_of_bundle(bundle: Bundle) -> str:
 def record_of(bundle: Bundle) -> Provenance | str | None:
     """The record that stands beside a bundle; None where there is none, and where one isn't this bundle's, why."""
     path = record_path(bundle.path)
+    if not os.path.exists(path):
+        return None
     try:
         record = Provenance.from_json(path.read_text(encoding="utf-8"))
-    except FileNotFoundError:
-        return None
     except (OSError, ValueError, RecursionError) as error:
         return f"{path}: {error}"
     if record.bundle_bytes != len(bundle.frames.raw) or record.bundle_sum != sum_of_bundle(bundle):

@@ -20,7 +20,7 @@ import re
 import subprocess
 import time
 from collections.abc import Callable, Iterable, Iterator, Mapping, Sequence
-from dataclasses import dataclass
+from dataclasses import dataclass, replace
 from functools import cached_property
 from pathlib import Path
 from typing import TYPE_CHECKING, Any, NamedTuple, Union
@@ -37,6 +37,7 @@ if TYPE_CHECKING:
     from biqsolur.acts import Act
     from biqsolur.bundle import Bundle
     from biqsolur.crosses import Cross
+    from biqsolur.provenance import Provenance
     from biqsolur.rewinds import Rewind
     from biqsolur.sessions import Session
     from biqsolur.study import Study
@@ -475,25 +476,23 @@ def run(study: AnyStudy, workers: int = 1, *, program: AnyProgram = None, cache:
     given = given_study(study)
     options, which = workers_words(workers), program_of(program)
     limit = caches.cache_limit() if cache and given.read else 0
-    folder = caches.room_for_runs(limit)
-    series = SeriesState(given)
-    key = caches.key_of(given.data, series.sum.encode(), which.sum.encode(), which.found.encode(), version().encode())
+    folder = caches.cache_folder() if limit else None
+    series = sum_of_series(given)
+    key = caches.key_of(given.data, series.encode(), which.sum.encode(), which.found.encode(), version().encode())
     kept = caches.kept_bundle(folder, key) if folder is not None else None
-    if kept is not None:
+    if kept is not None and kept.provenance is not None:
+        kept.ran_as(replace(kept.provenance, folder=folder_text(given)))
         return kept
-    place = folder or caches.temporary_folder()
-    with command("run", given, program, *options) as (call, _), caches.part_file(place) as part:
+    with command("run", given, program, *options) as (call, _), caches.part_for(limit) as (part, folder):
         begun, clock = time.time(), time.monotonic()
         with Progress(progress, part.descriptor) as watch:
             call.subject, call.more = str(part.path), lambda error: write_sentence(error, part.path)
             call.end(part.descriptor, watch)
         bundle = written_bundle(part.path, which)
         record = record_of_run(given, series, which, workers, bundle, begun, time.monotonic() - clock)
-        if folder is None or not series.is_unchanged() or len(bundle.frames.raw) > limit:
-            caches.keep_for_now(part, bundle, record)
-        else:
-            caches.keep(folder, key, part, bundle, record)
-            caches.shrink(folder, limit)
+        if sum_of_series(given) != series or len(bundle.frames.raw) > limit:
+            folder = None       # what the program read isn't known, or it is too much for the cache
+        caches.keep(folder, key, part, bundle, record, limit)
     return bundle
 
 
@@ -514,40 +513,30 @@ def written_bundle(part: Path, program: Program) -> Bundle:
                                 "program of this version does") from None
 
 
-def record_of_run(given: Given, series: SeriesState, program: Program, workers: int, bundle: Bundle, begun: float,
-                  seconds: float) -> Any:
+def record_of_run(given: Given, series: str, program: Program, workers: int, bundle: Bundle, begun: float,
+                  seconds: float) -> Provenance:
     """The record of a run."""
     from biqsolur.provenance import Provenance, moment_text, sum_of_bundle
     return Provenance(
-        given.data.decode("utf-8", "replace"), None if given.folder is None else str(given.folder.absolute()),
-        series.sum or None, version(), kit(), program.sum, program.found, moment_text(begun), round(seconds, 6),
-        workers, len(bundle.frames.raw), sum_of_bundle(bundle))
+        given.data.decode("utf-8", "replace"), folder_text(given), series or None, version(), kit(), program.sum,
+        program.found, moment_text(begun), round(seconds, 6), workers, len(bundle.frames.raw), sum_of_bundle(bundle))
 
 
-class SeriesState:
-    """A study's series file when the run began: its sum ("" where the study names none, or it can't be read)."""
+def folder_text(given: Given) -> str | None:
+    """From where the series file of a study is looked for, as a record has it."""
+    return None if given.folder is None else str(given.folder.absolute())
 
-    def __init__(self, given: Given) -> None:
-        from biqsolur.program import sum_of_file
-        self.path, self.sum = given.series, ""
-        self.state = self.now()
-        if self.path is not None and self.state is not None:
-            with contextlib.suppress(OSError):
-                self.sum = sum_of_file(str(self.path), *self.state)
 
-    def now(self) -> tuple[int, ...] | None:
-        """What tells whether the file was changed."""
-        if self.path is None:
-            return None
-        try:
-            state = os.stat(self.path)
-        except OSError:
-            return None
-        return state.st_mtime_ns, state.st_ctime_ns, state.st_size, state.st_ino, state.st_dev
-
-    def is_unchanged(self) -> bool:
-        """Whether it is as it was, so that the program read what has this sum."""
-        return self.now() == self.state
+def sum_of_series(given: Given) -> str:
+    """SHA-256 of a study's series file; "" where the study names none, or it can't be read."""
+    import hashlib
+    if given.series is None or not given.series.is_file():
+        return ""
+    try:
+        with open(given.series, "rb") as file:
+            return hashlib.sha256(file.read(MOST_BYTES + 1)).hexdigest()
+    except OSError:
+        return ""
 
 
 class Progress:

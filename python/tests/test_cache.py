@@ -135,12 +135,14 @@ def test_another_series_file_makes_another_entry(counted, tmp_path):
     series.write_text("symbol,time,value\nXYZ,1000,100000\nXYZ,5000,110000\n")
     first = biqsolur.run(study, program=program)
     assert bytes_of(biqsolur.run(study, program=program)) == bytes_of(first) and runs() == 1
-    series.write_text("symbol,time,value\nXYZ,1000,100000\nXYZ,5000,90000\n")
+    series.write_text("symbol,time,value\nXYZ,1000,100000\nXYZ,5000,120000\n")
     changed = biqsolur.run(study, program=program)
     assert runs() == 2 and bytes_of(changed) != bytes_of(first)
     assert first.provenance.series_sum != changed.provenance.series_sum
     shutil.copytree(tmp_path / "rows", tmp_path / "moved")
-    assert bytes_of(biqsolur.run(tmp_path / "moved" / "rows.toml", program=program)) == bytes_of(changed)
+    moved = biqsolur.run(tmp_path / "moved" / "rows.toml", program=program)
+    assert runs() == 2 and bytes_of(moved) == bytes_of(changed)
+    assert moved.study.series_path == tmp_path / "moved" / "values.csv" and changed.study.series_path == series
 
 
 def test_a_series_file_that_changes_during_the_run_is_not_kept(tmp_path, program, folder):
@@ -222,6 +224,20 @@ def test_a_cache_that_cannot_be_written(monkeypatch, tmp_path):
         again = biqsolur.run(study_of(1))
     assert bytes_of(bundle) == bytes_of(again)
     assert Path(bundle.path).exists() and bundle.path != again.path
+
+
+def test_a_record_that_cannot_be_written(monkeypatch, folder):
+    def full(*words):
+        raise OSError("no room")
+
+    monkeypatch.setattr(caches, "make_entry", full)
+    with pytest.warns(biqsolur.CacheWarning, match="no room"):
+        bundle = biqsolur.run(study_of(1))
+    assert len(bundle.branches["root"].events) == 500 and bundle.study == study_of(1)
+    assert files_of(folder) == [Path(bundle.path).name]
+    del bundle
+    gc.collect()
+    assert files_of(folder) == []
 
 
 def test_where_the_cache_lies(monkeypatch, tmp_path):
@@ -332,6 +348,9 @@ def test_the_command(capsys, folder):
     size = sum(path.stat().st_size for path in folder.iterdir())
     assert main(["cache", "show"]) == 0
     assert capsys.readouterr().out == f"{folder}: 1 bundle, {size:,} bytes of at most 2,000,000,000\n"
-    assert main(["cache", "clear"]) == 0
+    (folder / ("0" * 64 + ".bundle.run.json")).write_text("of a killed run")
+    with caches.part_file(folder) as part:
+        assert main(["cache", "clear"]) == 0
+        assert files_of(folder) == [part.path.name]     # somebody writes it
     assert capsys.readouterr().out == f"{folder}: 1 bundle, {size:,} bytes removed\n"
     assert files_of(folder) == [] and len(bundle.branches["root"].events) == 500

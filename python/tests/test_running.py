@@ -394,15 +394,14 @@ def test_a_program_that_fails(tmp_path, own_cache, lines, error, said):
     assert files_of(own_cache) == []
 
 
-def test_a_disk_that_is_full(monkeypatch, own_cache):
+def test_a_disk_that_is_full(monkeypatch):
     @contextlib.contextmanager
-    def full(folder):
+    def full(limit):
         descriptor = os.open("/dev/full", os.O_WRONLY)
-        yield caches.Part(Path("/dev/full"), descriptor)
+        yield caches.Part(Path("/dev/full"), descriptor), None
         os.close(descriptor)
 
-    monkeypatch.setattr(caches, "room_for_runs", lambda limit: own_cache)
-    monkeypatch.setattr(caches, "part_file", full)
+    monkeypatch.setattr(caches, "part_for", full)
     with pytest.raises(biqsolur.WriteFailed, match="always full"):
         biqsolur.run(TICK)
 
