@@ -62,16 +62,20 @@ class Runs:
 
 
 class Evaluator:
-    """Knows the moments of points: from the journal, or by running them, which the journal then has."""
+    """Knows the moments of points: from the journal, or by running them, which the journal then has.
+
+    `asked` has what was asked for, in order: the same after an interrupt, when the journal knows points beyond it.
+    """
 
     def __init__(self, calibration: Calibration, journal: Journal, processes: int | None = None,
                  program: str | os.PathLike[str] | None = None, progress: bool | None = None) -> None:
         from tqdm import tqdm
         self.calibration, self.journal = calibration, journal
+        self.asked: dict[Values, Moments] = {}
         self.processes = processes or os.cpu_count() or 1
         self.program = program_path(program)
         self.bar = tqdm(unit="point", disable=None if progress is None else not progress,
-                        total=(calibration.generations + 1) * calibration.population * len(calibration.parameters))
+                        total=(calibration.generations + 1) * calibration.population * len(calibration.parameters) + 2)
 
     def moments(self, points: list[Values]) -> list[Moments]:
         """The moments of each point under each key."""
@@ -80,7 +84,9 @@ class Evaluator:
         for start in range(0, len(missing), size):      # an interrupt loses at most the points under way
             self._run(missing[start:start + size], keys)
         self.bar.update(len(points))
-        return [self.journal.known[point] for point in points]
+        found = [self.journal.known[point] for point in points]
+        self.asked.update(zip(points, found))
+        return found
 
     def _run(self, points: list[Values], keys: tuple[str, ...]) -> None:
         items = [json.dumps([point, key]) for point in points for key in keys]

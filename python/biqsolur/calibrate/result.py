@@ -132,14 +132,15 @@ def calibrate(calibration: Calibration, processes: int | None = None, *, program
 
 def found(calibration: Calibration, evaluator: Evaluator, objective: Objective) -> Calibrated:
     """The best point, with that which the surface holds for the best among them, and the profiles."""
-    count, known = len(calibration.parameters), evaluator.journal.known
-    surface = surface_of(calibration, known, objective)
+    count = len(calibration.parameters)
+    surface = surface_of(calibration, evaluator.asked, objective)
     profiles: tuple[Profile, ...] = ()
     if surface is not None:
         evaluator.moments([values_at(calibration, least(surface, objective, {}, count)[1])])
         profiles = tuple(profile_of(calibration, surface, objective, number) for number in range(count))
-    values = min(known, key=lambda point: (objective.distance(known[point]), point))
-    distance = objective.distance(known[values])
+    asked = evaluator.asked
+    values = min(asked, key=lambda point: (objective.distance(asked[point]), point))
+    distance = objective.distance(asked[values])
     if not math.isfinite(distance):
         raise CalibrationError("no point has all moments under each key: begin with other ranges")
-    return Calibrated(calibration, values, distance, known[values], profiles, len(known))
+    return Calibrated(calibration, values, distance, asked[values], profiles, len(asked))
