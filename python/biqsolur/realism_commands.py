@@ -18,7 +18,8 @@ def add_commands(commands: Commands) -> None:
 def add_facts(commands: Commands) -> None:
     """The words of `facts`."""
     words = commands.add_parser("facts", help="twelve stylised facts of a market, held against what the literature reports")
-    words.add_argument("market", metavar="STUDY|BUNDLE", nargs="?", help="a study, which runs under many keys, or a bundle")
+    words.add_argument("market", metavar="STUDY|BUNDLE|JSON", nargs="?",
+                       help="a study, which runs under many keys, a bundle, or what --json wrote")
     words.add_argument("--lobster", metavar=("MESSAGE", "ORDERBOOK"), nargs=2, action="append", default=[],
                        help="LOBSTER's two files of a day, in place of a market; may be given for each of several days")
     words.add_argument("--keys", metavar="KEYS", default="30", help="30 (the keys 1 to 30), 101-130, or 3,5,8")

@@ -367,6 +367,17 @@ def test_json_is_read_back_and_gives_ranges(measured, tmp_path):
     assert list(frame.number) == list(facts.NUMBERS) and (frame.tapes == 2).all() and frame.low.isna().all()
 
 
+def test_the_command_tells_stored_facts_again(measured, tmp_path, capsys):
+    (tmp_path / "facts.json").write_text(measured.to_json())
+    again = facts.Facts.from_dict(facts.read_facts(tmp_path / "facts.json"))
+    assert again.to_json() == measured.to_json()
+    assert main(["facts", str(tmp_path / "facts.json")]) == 0 and capsys.readouterr().out == measured.text()
+    assert main(["facts", str(tmp_path / "facts.json"), "--ranges", str(tmp_path / "facts.json")]) == 0
+    assert "12 of 12 facts met" in capsys.readouterr().out
+    assert main(["facts", str(tmp_path / "facts.json"), "--page", str(tmp_path / "p.html")]) == 1
+    assert "no curves" in capsys.readouterr().err and not (tmp_path / "p.html").exists()
+
+
 @pytest.mark.parametrize("text", ["", "[]", "{}", '{"facts": [{"numbers": [{"name": "spread"}]}]}', '{"facts": 5}', "\xff"])
 def test_a_file_that_has_no_facts(tmp_path, text):
     (tmp_path / "facts.json").write_text(text, "latin1")

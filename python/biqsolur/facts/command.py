@@ -4,11 +4,12 @@ from __future__ import annotations
 
 import argparse
 import sys
+from dataclasses import replace
 from pathlib import Path
 
 import biqsolur
 from biqsolur.errors import FactsError
-from biqsolur.facts import Facts, of_branch, of_lobster, of_study, ranges_of, write_page
+from biqsolur.facts import Facts, of_branch, of_lobster, of_study, ranges_of, read_facts, write_page
 from biqsolur.output import write_new
 
 BUNDLE_START = b"\0\x09h"           # the length of a bundle's header and its letter
@@ -36,8 +37,12 @@ def measured(words: argparse.Namespace) -> Facts:
     if words.lobster:
         return of_lobster(words.lobster, ranges)
     with open(words.market, "rb") as file:
-        is_bundle = file.read(len(BUNDLE_START)) == BUNDLE_START
-    if is_bundle:
+        start = file.read(len(BUNDLE_START))
+    if start[:1] == b"{":
+        if words.page:
+            raise FactsError(f"{words.market}: the numbers of facts have no curves to draw: give --page where they are measured")
+        return replace(Facts.from_dict(read_facts(words.market)), **({"ranges": ranges} if ranges else {}))
+    if start == BUNDLE_START:
         return of_branch(biqsolur.read(words.market).branches[words.branch], words.symbol, ranges)
     return of_study(words.market, keys_of_words(words.keys), branch=words.branch, symbol=words.symbol,
                     processes=words.processes, program=words.program, ranges=ranges)

@@ -125,6 +125,14 @@ class Facts:
                 "estimate": known(made.median), "interval": None if made.interval is None else [*map(known, made.interval)],
                 "met": made.met, "values": [*map(known, made.values)]}
 
+    @classmethod
+    def from_dict(cls, table: Mapping[str, Any]) -> Facts:
+        """The facts that `to_dict` gave, without curves."""
+        found = {number["name"]: number for fact in table["facts"] for number in fact["numbers"]}
+        numbers = {name: tuple(math.nan if value is None else value for value in found[name]["values"]) for name in NUMBERS}
+        ranges = {name: tuple(found[name]["range"]) for name in NUMBERS}
+        return cls(table["of"], tuple(table["tapes"]), numbers, ranges=ranges)
+
     def to_json(self) -> str:
         """The same as a text, the same for the same facts."""
         return json.dumps(self.to_dict(), indent=1, allow_nan=False) + "\n"
