@@ -26,11 +26,10 @@ HOMES = {
     "Closing": "closing",
     **dict.fromkeys(("dollars", "timedeltas"), "columns"),
     **dict.fromkeys((
-        "BundleError", "CacheError", "CalibrationError", "FactsError", "InputError", "LevelsError", "MeasureError",
-        "MissingPackageError", "OuchError", "OutputExistsError", "PlayError", "PolicyError", "PriceError", "RunError",
-        "ScheduleError", "SeriesError",
-        "StudyError", "StudyNeededError", "StudySyntaxError", "TapeError", "TimeError", "UnknownBranchError",
-        "UnknownSymbolError"), "errors"),
+        "BundleError", "CacheError", "CalibrationError", "FactsError", "FigureError", "InputError", "KeysError", "LevelsError",
+        "MapError", "MeasureError", "MissingPackageError", "OuchError", "OutputExistsError", "PlayError", "PolicyError",
+        "PriceError", "RunError", "ScheduleError", "SeriesError", "StudyError", "StudyNeededError", "StudySyntaxError",
+        "SweepError", "TapeError", "TimeError", "UnknownBranchError", "UnknownSymbolError"), "errors"),
     **dict.fromkeys((
         "AgentParameter", "Edit", "Fee", "Halt", "Inject", "Latency", "Resume", "SeriesOffset", "Silence", "Tick"), "edits"),
     **dict.fromkeys(("causes", "effects"), "causing"),

@@ -130,8 +130,12 @@ def test_the_first_figure_takes_fifteen_lines():
 
 
 def test_names_and_links_are_there():
-    """Each name of the package that the page writes is one, and each file that it links to."""
+    """Each name of the package that the page writes is one, and each file that it links to; each error has its name there."""
     import biqsolur
+    from biqsolur import errors
+    for name, found in vars(errors).items():
+        if isinstance(found, type) and issubclass(found, errors.InputError):
+            assert getattr(biqsolur, name) is found
     for name in set(re.findall(r"\bbiqsolur\.(\w+)", PAGE)):
         assert hasattr(biqsolur, name), name
     for name in re.findall(r"`(\w+Error|\w+Refused)`", PAGE):
