@@ -3,8 +3,8 @@
 from __future__ import annotations
 
 from biqsolur.rule_words import (
-    AGENT, AGENT_MAY, AGENTS, DAY_END, EVERY, NUMBER, Table, group_fault, is_number, key_faults, kind_fault, range_fault,
-    range_faults, shown, stock_fault)
+    AGENT, AGENT_MAY, AGENTS, DAY_END, EVERY, NUMBER, Table, group_fault, is_number, key_faults, kind_fault,
+    range_fault, range_faults, shown, stock_fault)
 
 
 def count_faults(study: Table, place: int) -> list[str]:
@@ -30,7 +30,8 @@ def agent_faults(study: Table, rule: int, place: int) -> list[str]:
             return wrong
         own = AGENTS.get(kind, ())
         faults = key_faults(agent, {**AGENT, **dict.fromkeys(own, NUMBER)}, AGENT_MAY)
-        others = {key: [name for name, keys in AGENTS.items() if key in keys] for keys in AGENTS.values() for key in keys}
+        others = {key: [name for name, keys in AGENTS.items() if key in keys]
+                  for keys in AGENTS.values() for key in keys}
         return [f"`{key}` is a key of {', '.join(others[key])}, and of no {kind}" for key in agent
                 if key in others and key not in own and kind in AGENTS] + faults
     if rule == 27:
@@ -40,8 +41,8 @@ def agent_faults(study: Table, rule: int, place: int) -> list[str]:
         faults += range_fault("every", agent["every"], EVERY) + range_faults(agent, ("spread", "delay", "wobble"))
         last = agent["first"] + (agent.get("count", 1) - 1) * agent.get("spread", 0)
         if last > DAY_END:
-            faults.append(f"its last trader would first wake at `first` + (`count` - 1) * `spread` = {last:,}, and is to do so "
-                          f"at {DAY_END:,} at most")
+            faults.append(f"its last trader would first wake at `first` + (`count` - 1) * `spread` = {last:,}, and is "
+                          f"to do so at {DAY_END:,} at most")
         return faults
     if rule == 28:
         return stock_fault(agent["stock"], study)

@@ -87,10 +87,14 @@ def explain_audit(data: bytes, branch: int, reference: int) -> str:
         elif frame.letter in FEED:
             fault = told.take(frame)
             if fault is not None:
-                number = "" if frame.letter == "H" else f" of order {frame.number(11, 8):,}"
-                return f"{where}the {NAMES[frame.letter]}{number} at byte {frame.offset:,}, behind event {event:,}, can't be " \
-                       f"applied: {fault}"
+                return f"{where}{message_name(frame)}, behind event {event:,}, can't be applied: {fault}"
     return where + (closing_fault(told, own, reference) or f"what differs is the order {reference:,}")
+
+
+def message_name(frame: Frame) -> str:
+    """What a message of the feed is called, and where it stands."""
+    number = "" if frame.letter == "H" else f" of order {frame.number(11, 8):,}"
+    return f"the {NAMES[frame.letter]}{number} at byte {frame.offset:,}"
 
 
 def branch_frames(data: bytes, branch: int) -> tuple[str, list[Frame]]:
@@ -113,13 +117,13 @@ def closing_fault(told: Told, own: list[Frame], reference: int) -> str | None:
         return f"order {reference:,} has {closing or 'no place'} in the closing, and {feed or 'no place'} by the feed"
     for frame in own:
         if frame.letter == "s" and chr(frame.payload[3]) != told.states[frame.number(1, 2)]:
-            return (f"stock {frame.number(1, 2)} (the {ordinal(frame.number(1, 2))}) is in the state {chr(frame.payload[3])!r} in the "
-                    f"closing, and in {told.states[frame.number(1, 2)]!r} by the feed")
+            return (f"stock {frame.number(1, 2)} (the {ordinal(frame.number(1, 2))}) is in the state "
+                    f"{chr(frame.payload[3])!r} in the closing, and in {told.states[frame.number(1, 2)]!r} by the feed")
     by_feed = sorted(told.orders, key=lambda order: told.orders[order].stock)
     for place, pair in enumerate(zip(closed, by_feed)):
         if pair[0] != pair[1]:
-            return (f"the closing lists the same orders in another order: its {ordinal(place)} is order {pair[0]:,}, and by stock and "
-                    f"arrival it is order {pair[1]:,}")
+            return (f"the closing lists the same orders in another order: its {ordinal(place)} is order {pair[0]:,}, "
+                    f"and by stock and arrival it is order {pair[1]:,}")
     return None
 
 
@@ -127,4 +131,5 @@ def closing_orders(own: list[Frame]) -> Iterator[tuple[int, Resting]]:
     """(reference, order) of each displayed order of a closing."""
     for frame in own:
         if frame.letter == "l":
-            yield frame.number(1, 8), Resting(frame.number(34, 2), chr(frame.payload[25]), frame.number(30, 4), frame.number(36, 4))
+            side = chr(frame.payload[25])
+            yield frame.number(1, 8), Resting(frame.number(34, 2), side, frame.number(30, 4), frame.number(36, 4))

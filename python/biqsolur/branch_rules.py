@@ -62,11 +62,12 @@ def stop_faults(study: Table, place: int) -> list[str]:
     faults = []
     if not least <= branch[key] <= most:
         faults.append(f"`{key}` is {branch[key]:,}, and is to be {least:,} to {most:,}: from {start} to {end}")
-    other = next((other for other in branches[:place] if other["parent"] == branch["parent"] and key not in other), None)
+    siblings = (other for other in branches[:place] if other["parent"] == branch["parent"])
+    other = next((sibling for sibling in siblings if key not in sibling), None)
     if other is not None:
         faults.append(f"it has `{key}`, and the branch {shown(other['name'])} above, of the same parent "
-                      f"{shown(branch['parent'])}, has `{'at' if key == 'when' else 'when'}`: all branches of one parent "
-                      "are to have the same of the two")
+                      f"{shown(branch['parent'])}, has `{'at' if key == 'when' else 'when'}`: all branches of one "
+                      "parent are to have the same of the two")
     return faults
 
 
@@ -82,7 +83,7 @@ def edit_faults(study: Table, rule: int, place: int) -> list[str]:
 def edit_key_faults(edit: Table) -> list[str]:
     """What is wrong with the keys of an edit."""
     wrong = kind_fault(edit["kind"], EDITS) if "kind" in edit else []
-    return wrong or key_faults(edit, {"kind": TEXT, **EDITS.get(edit.get("kind"), {})})
+    return wrong or key_faults(edit, {"kind": TEXT, **EDITS.get(edit.get("kind", ""), {})})
 
 
 def traders_of(study: Table) -> list[str]:
@@ -95,7 +96,8 @@ def trader_fault(edit: Table, study: Table) -> list[str]:
     count = len(traders_of(study))
     if 1 <= edit["agent"] <= count:
         return []
-    return [f"`agent` is {edit['agent']}, and is to be the number of a trader, 1 to {count} (each of an entry's `count` is one)"]
+    return [f"`agent` is {edit['agent']}, and is to be the number of a trader, 1 to {count} (each of an entry's "
+            "`count` is one)"]
 
 
 def parameter_faults(edit: Table, study: Table) -> list[str]:
@@ -120,8 +122,8 @@ def message_faults(text: str) -> list[str]:
     orders: dict[str, type[ouch.Message]] = {"O": ouch.Enter, "X": ouch.Cancel}
     kind = orders.get(message[:1].decode("latin1"))
     if kind is None:
-        return [f"`message` begins with {text[:2] or 'nothing'}, and is to begin with 4f (Enter Order, 49 bytes) or 58 (Cancel "
-                "Order, 19 bytes)"]
+        return [f"`message` begins with {text[:2] or 'nothing'}, and is to begin with 4f (Enter Order, 49 bytes) or 58 "
+                "(Cancel Order, 19 bytes)"]
     if len(message) != kind.SIZE:
         article = "an" if kind.NAME[0] in "AEIOU" else "a"
         return [f"`message` has {len(message)} bytes, and {article} {kind.NAME} ({text[:2]}) is to have {kind.SIZE}"]
@@ -149,7 +151,10 @@ def edit_own_faults(edit: Table) -> list[str]:
 
 def edit_value_faults(edit: Table, study: Table) -> list[str]:
     """Rule 35 for one edit."""
-    spoken_of = {"latency": lambda: [*group_fault("from", edit["from"], study), *group_fault("to", edit["to"], study)],
-                 "agent": lambda: parameter_faults(edit, study)}
-    names = spoken_of.get(edit["kind"], lambda: trader_fault(edit, study) if "agent" in edit else stock_fault(edit["stock"], study))
-    return [*names(), *edit_own_faults(edit)]
+    if edit["kind"] == "latency":
+        faults = [*group_fault("from", edit["from"], study), *group_fault("to", edit["to"], study)]
+    elif edit["kind"] == "agent":
+        faults = parameter_faults(edit, study)
+    else:
+        faults = trader_fault(edit, study) if "agent" in edit else stock_fault(edit["stock"], study)
+    return [*faults, *edit_own_faults(edit)]

@@ -21,10 +21,12 @@ NAMES = {
     "w": "waiting message, which a rewind or a session has", "v": "value, which a session has",
     "f": "order that trades, which a cross has", "k": "price, which a cross has", "Q": "Cross Trade, which a cross has",
 }
-SIZES = {"h": 9, "d": 18, "c": 66, "s": 44, "l": 44, "n": 44, "z": 3, "S": 12, "R": 39, "H": 25, "A": 36, "E": 31, "X": 23,
-         "D": 19, "P": 44, "Q": 40}
+SIZES = {"h": 9, "d": 18, "c": 66, "s": 44, "l": 44, "n": 44, "z": 3, "S": 12, "R": 39, "H": 25, "A": 36, "E": 31,
+         "X": 23, "D": 19, "P": 44, "Q": 40}
 HEAD = 43                       # bytes of an event before its body
 LEAST_AGENT, LEAST_BRANCH, MOST_BRANCH = 70, 11, 42
+# (offset, length, those that may stand there) of the bytes of a frame that are no numbers.
+FIXED = {"h": (1, 2, [b"\0\1"]), "l": (25, 1, [b"B", b"S"]), "n": (25, 1, [b"B", b"S"]), "a": (3, 1, [b"Y", b"N"])}
 # The body of an event by its size: the letter of its kind, and of OUCH the letter of the message.
 BODIES = {0: ("w", ""), 2: ("a", ""), 31: ("q", ""), **{
     kind.SIZE: ("i" if issubclass(kind, ouch.Order) else "o", letter) for letter, kind in ouch.MESSAGES.items()}}
@@ -80,16 +82,18 @@ def frame_faults(frame: Frame, stocks: int) -> list[str]:
         return [f"{frame_name(letter)} has {size} bytes, and is to have {fault}"]
     if letter in FEED_FIELDS:
         return field_faults(frame.payload, FEED_FIELDS[letter])
-    fixed = {"h": (1, 2, [b"\0\1"]), "l": (25, 1, [b"B", b"S"]), "n": (25, 1, [b"B", b"S"]), "a": (3, 1, [b"Y", b"N"])}
-    return fixed_faults(frame.payload, *fixed[letter]) if letter in fixed else []
+    if letter not in FIXED:
+        return []
+    offset, length, allowed = FIXED[letter]
+    return fixed_faults(frame.payload, offset, length, allowed)
 
 
 def size_fault(letter: str, size: int, stocks: int, frame: Frame) -> str | None:
     """How many bytes a frame of a letter is to have, where it has others."""
     if letter == "b":
         named = frame.number(9, 1) + 10
-        return None if LEAST_BRANCH <= size <= MOST_BRANCH and size == named else f"10 and those of a name of 1 to 32 (byte 9 " \
-            f"says {frame.number(9, 1)})"
+        right = LEAST_BRANCH <= size <= MOST_BRANCH and size == named
+        return None if right else f"10 and those of a name of 1 to 32 (byte 9 says {frame.number(9, 1)})"
     wanted = LEAST_AGENT + 8 * stocks if letter == "a" else SIZES[letter]
     return None if size == wanted else str(wanted)
 
@@ -97,8 +101,8 @@ def size_fault(letter: str, size: int, stocks: int, frame: Frame) -> str | None:
 def fixed_faults(payload: bytes, offset: int, length: int, allowed: list[bytes]) -> list[str]:
     """That other bytes stand at an offset than may."""
     part = payload[offset:offset + length]
-    return [] if part in allowed else [f"{part.hex()} at byte {offset}, where {' or '.join(item.hex() for item in allowed)} "
-                                       "is to stand"]
+    return [] if part in allowed else [f"{part.hex()} at byte {offset}, where "
+                                       f"{' or '.join(item.hex() for item in allowed)} is to stand"]
 
 
 def event_faults(frame: Frame) -> list[str]:
@@ -136,7 +140,8 @@ class Walk:
         if letter in "bsa" and frame.number(1, 2) != self.next:
             return f"{frame_name(letter)} has the number {frame.number(1, 2)}, and is to have {self.next}"
         if letter == "z" and frame.number(1, 2) != self.branches:
-            return f"{frame_name('z')} has the number {frame.number(1, 2)}, and is to have that of the branches, {self.branches}"
+            return (f"{frame_name('z')} has the number {frame.number(1, 2)}, and is to have that of the branches, "
+                    f"{self.branches}")
         return None
 
     def wanted(self) -> str:
@@ -199,8 +204,8 @@ def is_edits_own(edit: Frame, action: Frame) -> bool:
 
 
 def explain_bytes(data: bytes, reason: int, offset: int) -> str:
-    """What stands where a file is no bundle, and what may: `reason` 1 is a frame that is cut, with `offset` bytes left from its
-    length on, 2 a frame that is none, and 3 one that may not stand there."""
+    """What stands where a file is no bundle, and what may: `reason` 1 is a frame that is cut, with `offset` bytes left
+    from its length on, 2 a frame that is none, and 3 one that may not stand there."""
     walk, place = Walk(), len(data) - offset if reason == 1 else offset
     for frame in frames(data):
         if frame.offset == place:

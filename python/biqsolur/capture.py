@@ -1,12 +1,13 @@
 """A branch's orders and replies as a network capture, which Wireshark and tshark dissect.
 
-The file is a pcap with times in nanoseconds. Each trader has one TCP connection to the exchange, over Ethernet and IPv4, and
-speaks Nasdaq's SoupBinTCP 3.00 on it: it logs in, sends its orders as unsequenced packets and gets the replies as sequenced
-ones, all of them messages of OUCH 4.2. At the close the exchange ends the session and both sides close the connection.
+The file is a pcap with times in nanoseconds. Each trader has one TCP connection to the exchange, over Ethernet and
+IPv4, and speaks Nasdaq's SoupBinTCP 3.00 on it: it logs in, sends its orders as unsequenced packets and gets the
+replies as sequenced ones, all of them messages of OUCH 4.2. At the close the exchange ends the session and both sides
+close the connection.
 
-A packet has the time at which its receiver took the message, as the bundle has it; the day is 1 January 1970, so that the
-time of day that Wireshark shows (in UTC) is the market's. The handshakes have the time of the opening. What was still under
-way at the end is not there, and neither are heartbeats, retransmissions and what a real network adds.
+A packet has the time at which its receiver took the message, as the bundle has it; the day is 1 January 1970, so that
+the time of day that Wireshark shows (in UTC) is the market's. The handshakes have the time of the opening. What was
+still under way at the end is not there, and neither are heartbeats, retransmissions and what a real network adds.
 
 The headers and their checksums are made by `dpkt` (Debian: python3-dpkt).
 """
@@ -57,8 +58,8 @@ def load_dpkt() -> ModuleType:
 
 @dataclass
 class Packet:
-    """A TCP segment of the connection of a trader: its time (ns past midnight), which way it goes, its flags, the sequence
-    number of its first byte, the one that it acknowledges, and its data."""
+    """A TCP segment of the connection of a trader: its time (ns past midnight), which way it goes, its flags, the
+    sequence number of its first byte, the one that it acknowledges, and its data."""
 
     time: int
     trader: int
@@ -143,8 +144,8 @@ def frame_bytes(dpkt: ModuleType, packet: Packet) -> bytes:
     (source, source_port), (target, target_port) = (trader, (address(0), PORT)) if packet.to_exchange else (
         (address(0), PORT), trader)
     acknowledged = packet.acknowledged if packet.flags & ACK else 0
-    segment = dpkt.tcp.TCP(sport=source_port, dport=target_port, seq=packet.sequence, ack=acknowledged, flags=packet.flags,
-                           win=WINDOW, data=packet.data)
+    segment = dpkt.tcp.TCP(sport=source_port, dport=target_port, seq=packet.sequence, ack=acknowledged,
+                           flags=packet.flags, win=WINDOW, data=packet.data)
     datagram = dpkt.ip.IP(src=source, dst=target, p=dpkt.ip.IP_PROTO_TCP, ttl=64, df=1, data=segment)
     datagram.len = len(datagram)
     return bytes(dpkt.ethernet.Ethernet(src=b"\x02\0" + source, dst=b"\x02\0" + target, data=datagram))

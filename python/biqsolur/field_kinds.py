@@ -1,12 +1,12 @@
-"""Which fields of the messages of OUCH 4.2 and TotalView-ITCH 5.0 are no numbers, and what may stand in them: the layouts of
-docs/FORMATS.md. This needs no numpy."""
+"""Which fields of the messages of OUCH 4.2 and TotalView-ITCH 5.0 are no numbers, and what may stand in them: the
+layouts of docs/FORMATS.md. This needs no numpy."""
 
 from __future__ import annotations
 
 import re
 
 # (offset, length, kind) of each field of which not every byte may stand, by letter of the message.
-OUCH_FIELDS = {
+OUCH_FIELDS: dict[str, list[tuple[int, int, str]]] = {
     "O": [(1, 14, "token"), (15, 1, "side"), (20, 8, "text"), (36, 7, "letters"), (47, 2, "letters")],
     "X": [(1, 14, "token")],
     "S": [(9, 1, "letters")],
@@ -16,7 +16,7 @@ OUCH_FIELDS = {
     "E": [(9, 14, "token"), (31, 1, "letters")],
     "J": [(9, 14, "token"), (23, 1, "letters")],
 }
-FEED_FIELDS = {
+FEED_FIELDS: dict[str, list[tuple[int, int, str]]] = {
     "S": [(11, 1, "letters")],
     "R": [(11, 8, "text"), (19, 2, "letters"), (25, 9, "letters"), (38, 1, "letters")],
     "H": [(11, 8, "text"), (19, 1, "trading state"), (20, 5, "letters")],
@@ -39,7 +39,7 @@ ASKED = {
 
 
 def field_faults(message: bytes, fields: list[tuple[int, int, str]], base: int = 0) -> list[str]:
-    """Which of these fields (offset, length, kind) of a message have bytes that may not stand there; offsets are told from
-    `base` on."""
+    """Which of these fields (offset, length, kind) of a message have bytes that may not stand there; offsets are told
+    from `base` on."""
     return [f"{message[offset:offset + length].hex()} at byte {base + offset}, where {ASKED[kind]} are to stand"
             for offset, length, kind in fields if not RIGHT[kind].fullmatch(message[offset:offset + length])]

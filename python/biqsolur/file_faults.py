@@ -46,7 +46,8 @@ def read_fault(path: str, most: int | None = None) -> str | None:
 
 
 def path_fault(path: str) -> str | None:
-    """Why the way to a file can't be gone: a name that is too long, a folder that isn't there, no leave, a loop of links."""
+    """Why the way to a file can't be gone: a name that is too long, a folder that isn't there, no leave, a loop of
+    links."""
     if path == "":
         return "the name is empty"
     parts = Path(path).parts
@@ -74,7 +75,8 @@ def missing_words(path: Path, error: OSError) -> str:
 
 def system_words(path: str, error: OSError) -> str:
     """What the system says."""
-    words = {errno.ELOOP: "its links lead in a circle", errno.ENAMETOOLONG: f"the name is too long: {len(path)} characters",
+    words = {errno.ELOOP: "its links lead in a circle", errno.ENAMETOOLONG: f"the name is too long: {len(path)} "
+                                                                            "characters",
              errno.EIO: "the disk can't be read there (input/output error)"}
     return f"{path[:200]}: {words.get(error.errno or 0, error.strerror or str(error))}"
 
@@ -105,10 +107,10 @@ def user_name(number: int) -> str:
 
 # ---------------------------------------------------------------- writing
 
-NOTHING_NOW = ("nothing stands in the way now. What failed then isn't to be seen any more: a pipe whose reader ended before "
-               "(`| head`), a disk that was full, a quota")
-PIPE = ("standard output took no more: where it was a pipe, its reader ended before (`| head` does); send the output to a file. "
-        "Where it was a file, name it: why --write FILE")
+NOTHING_NOW = ("nothing stands in the way now. What failed then isn't to be seen any more: a pipe whose reader ended "
+               "before (`| head`), a disk that was full, a quota")
+PIPE = ("standard output took no more: where it was a pipe, its reader ended before (`| head` does); send the output "
+        "to a file. Where it was a file, name it: why --write FILE")
 
 
 def write_fault(path: str | None) -> str:
@@ -158,7 +160,8 @@ def room_fault(path: str, folder: str) -> str | None:
     if system.f_flag & os.ST_RDONLY:
         return f"the file system of {path} can only be read"
     if system.f_blocks and not system.f_bavail:
-        return f"the disk is full: the file system of {path} has no room left of {system.f_blocks * system.f_frsize:,} bytes"
+        size = system.f_blocks * system.f_frsize
+        return f"the disk is full: the file system of {path} has no room left of {size:,} bytes"
     if system.f_files and not system.f_favail:
         return f"the file system of {path} can take no more files ({system.f_files:,} are there)"
     most = resource.getrlimit(resource.RLIMIT_FSIZE)[0]

@@ -4,10 +4,10 @@
     branch.value_at("ABM", branch.quotes.event)         # the value that held at each of these events
 
 A bundle doesn't have the value; it follows from the study (docs/RULES.md, "The value series"). By a rule it starts at
-`start` and goes, at each step of `every` nanoseconds, `pull` millionths of its distance toward `mean`, rounded down, and takes
-a shock that a draw picks: word j of ChaCha20 (RFC 8439's block function, with a counter and a nonce of 64 bits) under the
-study's key, with the nonce 2^33 and the stock's number. By rows it is the last row's that is not later. Edits give it an
-offset. All of this is exact: whole numbers with four implied decimals, from 1 to 1,999,999,900.
+`start` and goes, at each step of `every` nanoseconds, `pull` millionths of its distance toward `mean`, rounded down,
+and takes a shock that a draw picks: word j of ChaCha20 (RFC 8439's block function, with a counter and a nonce of 64
+bits) under the study's key, with the nonce 2^33 and the stock's number. By rows it is the last row's that is not later.
+Edits give it an offset. All of this is exact: whole numbers with four implied decimals, from 1 to 1,999,999,900.
 
 The words are made by `cryptography` (Debian: python3-cryptography), the values from them step by step.
 """
@@ -58,7 +58,8 @@ def values_at(branch: Branch, symbol: str, events: Iterable[int], study: object 
     numbers = numpy.asarray(list(events), numpy.int64)
     wrong = numbers[(numbers < 1) | (numbers > len(branch.events))]
     if len(wrong):
-        raise IndexError(f"there is no event {wrong[0]} in {branch!r}, which has the events 1 to {len(branch.events):,}")
+        raise IndexError(f"there is no event {wrong[0]} in {branch!r}, which has the events 1 to "
+                         f"{len(branch.events):,}")
     edits = offset_edits(branch, made, symbol)
     offsets = numpy.cumsum([0, *(offset for _, _, offset in edits)])
     before = numpy.array([event for event, _, _ in edits], numpy.int64)
@@ -74,17 +75,20 @@ def with_offset(series: numpy.ndarray, offset: numpy.ndarray) -> numpy.ndarray:
 # ---------------------------------------------------------------- the study
 
 def study_of(branch: Branch, study: object = None) -> Study:
-    """The study of a branch's bundle: the given one, else what stands beside the bundle. Raises StudyNeededError where there
-    is none, or where it isn't the bundle's."""
+    """The study of a branch's bundle: the given one, else what stands beside the bundle. Raises StudyNeededError where
+    there is none, or where it isn't the bundle's."""
     bundle = branch.bundle
-    known = getattr(bundle, "study", None) if study is None else study
+    known: Any = bundle.study if study is None else study
     if known is None:
-        raise StudyNeededError(f"the value of a stock follows from the study, which {bundle.path} alone doesn't have: give it, "
-                               "value(symbol, study=\"study.toml\"), or make the bundle by biqsolur.run, which keeps the study")
+        raise StudyNeededError(f"the value of a stock follows from the study, which {bundle.path} alone doesn't have: "
+                               "give it, value(symbol, study=\"study.toml\"), or make the bundle by biqsolur.run, "
+                               "which keeps the study")
     made = known if isinstance(known, Study) else Study(known)
-    if made.symbols != bundle.symbols or made.branches != list(bundle.branches) or len(made.traders) + 1 != bundle.agents:
-        raise StudyNeededError(f"{made!r} is not the study of {bundle.path}, which has the stocks {', '.join(bundle.symbols)}, "
-                               f"{bundle.agents - 1} traders and the branches {', '.join(bundle.branches)}")
+    said = (made.symbols, made.branches, len(made.traders) + 1)
+    if said != (bundle.symbols, list(bundle.branches), bundle.agents):
+        raise StudyNeededError(f"{made!r} is not the study of {bundle.path}, which has the stocks "
+                               f"{', '.join(bundle.symbols)}, {bundle.agents - 1} traders and the branches "
+                               f"{', '.join(bundle.branches)}")
     return made
 
 
@@ -98,22 +102,22 @@ def offset_edits(branch: Branch, study: Study, symbol: str) -> list[tuple[int, i
     for event, time, name, index in zip(made.event.tolist(), made.time.tolist(), made.branch, made["index"].tolist()):
         edit = tables[name][index] if index < len(tables[name]) else {}
         if edit.get("kind") != "series":
-            raise StudyNeededError(f"edit {index} of the branch {name!r} is one of a stock's value in {branch.bundle.path}, and "
-                                   "not in the study: it is another one's")
+            raise StudyNeededError(f"edit {index} of the branch {name!r} is one of a stock's value in "
+                                   f"{branch.bundle.path}, and not in the study: it is another one's")
         if edit["stock"] == symbol:
             out.append((event, time, edit["offset"]))
     closing = branch.closing.stocks
     if sum(offset for _, _, offset in out) != closing.offset[closing.symbol == symbol].item():
-        raise StudyNeededError(f"the offsets of {symbol} in the study don't come to the one with which {branch!r} closes: the "
-                               "study is another one's")
+        raise StudyNeededError(f"the offsets of {symbol} in the study don't come to the one with which {branch!r} "
+                               "closes: the study is another one's")
     return out
 
 
 # ---------------------------------------------------------------- the series
 
 def series_of(study: Study, symbol: str) -> tuple[numpy.ndarray, numpy.ndarray]:
-    """The value of a stock without edits: from which time on (ns, rising) it is which, both of one length, the first time
-    the open. Raises UnknownSymbolError."""
+    """The value of a stock without edits: from which time on (ns, rising) it is which, both of one length, the first
+    time the open. Raises UnknownSymbolError."""
     if symbol not in study.symbols:
         raise UnknownSymbolError(symbol, study.symbols)
     table = study.to_dict()
@@ -148,7 +152,8 @@ def words(key: bytes, stream: int, count: int) -> numpy.ndarray:
     try:
         from cryptography.hazmat.primitives.ciphers import Cipher, algorithms
     except ModuleNotFoundError as error:
-        raise MissingPackageError(f"a value by a rule needs cryptography, which has ChaCha20: {missing.advice(error)}") from None
+        raise MissingPackageError("a value by a rule needs cryptography, which has ChaCha20: "
+                                  f"{missing.advice(error)}") from None
     start = bytes(8) + stream.to_bytes(8, "little")         # the counter, then the nonce
     cipher = Cipher(algorithms.ChaCha20(key, start), mode=None)
     return numpy.frombuffer(cipher.encryptor().update(bytes(4 * count)), "<u4")
@@ -158,12 +163,14 @@ def read_rows(study: Study, symbol: str) -> tuple[numpy.ndarray, numpy.ndarray]:
     """Times and values of a stock's rows in the series file. Raises StudyNeededError where it can't be read as one."""
     path = study.series_path
     try:
-        with open(path, newline="", encoding="utf-8-sig") as file:
+        with open(path or "", newline="", encoding="utf-8-sig") as file:
             records = [record for record in csv.reader(file) if record][1:]
         rows = [(int(time), int(value)) for name, time, value in records if name == symbol]
     except (OSError, TypeError, ValueError, csv.Error) as error:
-        raise StudyNeededError(f"the value of {symbol} stands in the series file {path}, which can't be read: {error}") from None
-    return (numpy.array([time for time, _ in rows], numpy.int64), numpy.array([value for _, value in rows], numpy.int64))
+        raise StudyNeededError(f"the value of {symbol} stands in the series file {path}, which can't be read: "
+                               f"{error}") from None
+    times, values = zip(*rows) if rows else ((), ())
+    return numpy.array(times, numpy.int64), numpy.array(values, numpy.int64)
 
 
 def from_open(times: numpy.ndarray, values: numpy.ndarray, opened: int) -> tuple[numpy.ndarray, numpy.ndarray]:

@@ -49,7 +49,8 @@ def square_faults(study: Table) -> list[str]:
     for key in ("base", "jitter"):
         rows = study["latency"][key]
         sizes = sorted({len(row) for row in rows})
-        shapes.append(f"`{key}` has {len(rows)} rows" + (f" of {' and '.join(map(str, sizes))} numbers" if rows else ""))
+        shapes.append(f"`{key}` has {len(rows)} rows" + (f" of {' and '.join(map(str, sizes))} "
+                                                         "numbers" if rows else ""))
     return [f"{shapes[0]}, {shapes[1]}, and both are to be square and of one size, from 1 to 32"]
 
 
@@ -62,8 +63,8 @@ def cell_faults(study: Table, place: int) -> list[str]:
 
 def symbol_faults(symbol: str) -> list[str]:
     """Rule 12."""
-    return [f"`symbol` is {shown(symbol)} of {len(symbol.encode())} bytes, and is to have 1 to 8 visible ASCII characters "
-            "and no space"]
+    return [f"`symbol` is {shown(symbol)} of {len(symbol.encode())} bytes, and is to have 1 to 8 visible ASCII "
+            "characters and no space"]
 
 
 def stock_faults(study: Table, rule: int, place: int) -> list[str]:
@@ -72,7 +73,8 @@ def stock_faults(study: Table, rule: int, place: int) -> list[str]:
     if rule == 11:
         series = stock.get("series", "")
         if "series" in stock and series not in ("rule", "rows"):
-            return [f"`series` is {shown(series)}, and is to be \"rule\" or \"rows\"" + did_you_mean(series, ["rule", "rows"])]
+            return [f"`series` is {shown(series)}, and is to be \"rule\" or "
+                    "\"rows\"" + did_you_mean(series, ["rule", "rows"])]
         if series == "":
             return ["the key `series` is missing: \"rule\" or \"rows\""]
         return key_faults(stock, {**STOCK, **STOCK_RULE} if series == "rule" else STOCK)
@@ -90,8 +92,8 @@ def stock_faults(study: Table, rule: int, place: int) -> list[str]:
             faults.append(f"`every` is {every:,}, and is to be at least 1")
         elif is_number(every) and (study["close"] - study["open"]) // every > 65_535:
             least = (study["close"] - study["open"]) // 65_536 + 1
-            faults.append(f"`every` is {every:,}, and is to be at least {least:,}: from `open` to `close` there are at most "
-                          "65,535 steps")
+            faults.append(f"`every` is {every:,}, and is to be at least {least:,}: from `open` to `close` there are at "
+                          "most 65,535 steps")
         return faults
     if rule == 20:
         return [f"the series file {shown(study.get('series'))} has no row of {shown(stock['symbol'])} at `open` = "
@@ -103,7 +105,8 @@ def series_key_faults(study: Table) -> list[str]:
     """Rule 18."""
     rows = [stock["symbol"] for stock in study["stock"] if stock["series"] == "rows"]
     if rows:
-        return [f"the key `series`, the path of the series file, is missing: the stock {rows[0]} has `series = \"rows\"`"]
+        return [f"the key `series`, the path of the series file, is missing: the stock {rows[0]} has `series = "
+                "\"rows\"`"]
     return [f"`series` is {shown(study['series'])}, and is not to be there: no stock has `series = \"rows\"`"]
 
 
@@ -155,8 +158,8 @@ def change_faults(study: Table, rule: int, place: int) -> list[str]:
         return key_faults(change, CHANGE)
     if rule == 22:
         before = changes[place - 1]["time"] if place else study["open"]
-        return [f"`time` is {change['time']:,}, and is to be {max(before, study['open']):,} to {study['close']:,}: from `open` "
-                "to `close`, and not before the change above"]
+        return [f"`time` is {change['time']:,}, and is to be {max(before, study['open']):,} to {study['close']:,}: "
+                "from `open` to `close`, and not before the change above"]
     if rule == 23:
         return stock_fault(change["stock"], study)
     return band_faults(change["bands"]) if change["kind"] == "tick" else range_faults(change, ("add", "take"))

@@ -45,7 +45,8 @@ def explain_orders(data: bytes, record: int, study: Table | None = None) -> str:
 
 
 def first_bad_record(data: bytes, study: Table | None = None) -> int | None:
-    """The number of the first record in which a fault is seen, or None; without the study no trader is known to be missing."""
+    """The number of the first record in which a fault is seen, or None; without the study no trader is known to be
+    missing."""
     records = order_records(data)
     traders = len(traders_of(study)) if study else None
     bad = (number for number, (_, fields) in enumerate(records) if record_faults(fields, number, traders))
@@ -55,12 +56,13 @@ def first_bad_record(data: bytes, study: Table | None = None) -> int | None:
 def record_faults(fields: list[str], record: int, traders: int | None) -> list[str]:
     """What is wrong with a record of this number, in a study of so many traders (None: not known)."""
     if record == 0:
-        return [] if fields == HEADER else ["the first record is to be `agent,side,shares,price`, in small letters and without "
-                                            "spaces"]
+        return [] if fields == HEADER else ["the first record is to be `agent,side,shares,price`, in small letters and "
+                                            "without spaces"]
     if record > MOST_ORDERS:
         return [f"there are more than {MOST_ORDERS:,} orders, which are the most"]
     if len(fields) != len(HEADER):
-        return [f"it has {len(fields)} field{'' if len(fields) == 1 else 's'}, and is to have four: agent, side, shares, price"]
+        return [f"it has {len(fields)} field{'' if len(fields) == 1 else 's'}, and is to have four: agent, side, "
+                "shares, price"]
     agent, side, shares, price = fields
     return [*agent_faults(agent, traders), *side_faults(side),
             *number_faults("shares", shares, MOST_SHARES_DIGITS, 999_999), *price_faults(price)]
@@ -72,9 +74,10 @@ def agent_faults(text: str, traders: int | None) -> list[str]:
     whose = "" if traders is None else f" of the study, which has {traders}"
     if is_number(text, MOST_AGENT_DIGITS) and 1 <= int(text) <= most:
         return []
-    exchange = "; 0 is the exchange, which sends no orders" if is_number(text, MOST_AGENT_DIGITS) and int(text) == 0 else ""
-    return [f"`agent` is {shown(text)}, and is to be the number of a trader{whose}: 1 to {most} in 1 to {MOST_AGENT_DIGITS} "
-            f"digits{exchange}"]
+    zero = is_number(text, MOST_AGENT_DIGITS) and int(text) == 0
+    exchange = "; 0 is the exchange, which sends no orders" if zero else ""
+    return [f"`agent` is {shown(text)}, and is to be the number of a trader{whose}: 1 to {most} in 1 to "
+            f"{MOST_AGENT_DIGITS} digits{exchange}"]
 
 
 def side_faults(text: str) -> list[str]:

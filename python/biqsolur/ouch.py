@@ -9,8 +9,8 @@ unsigned, the most significant byte first, texts are padded with spaces on the r
 no two values have the same bytes, and bytes that are none of these messages are refused with the offset of the first
 bad field. Nothing here needs numpy.
 
-Units: a price has four implied decimals (100000 is ten dollars), shares are shares, a time is nanoseconds past midnight.
-"""
+Units: a price has four implied decimals (100000 is ten dollars), shares are shares, a time is nanoseconds past
+midnight. """
 
 from __future__ import annotations
 
@@ -39,7 +39,8 @@ PATTERNS = {
 }
 ASKED = {
     "token": "letters and digits", "text": "visible ASCII characters without a space",
-    "letters": "ASCII characters from a space to ~, the last no space", "letter": "one ASCII character from a space to ~",
+    "letters": "ASCII characters from a space to ~, the last no space", "letter": "one ASCII character from a space to "
+                                                                                  "~",
     "side": '"B" (buy) or "S" (sell)', "state": '"L" (live) or "D" (dead)', "byte": "one character of a byte",
 }
 
@@ -139,8 +140,8 @@ class Message:
 
     @classmethod
     def from_bytes(cls, data: bytes) -> Message:
-        """The message of these bytes. Raises OuchError with the offset of what is wrong: 0 where the type is another one,
-        the length of the bytes where they are too short or too long, else the first bad field's offset."""
+        """The message of these bytes. Raises OuchError with the offset of what is wrong: 0 where the type is another
+        one, the length of the bytes where they are too short or too long, else the first bad field's offset."""
         data = bytes(data)
         if data[:1] != cls.TYPE.encode():
             raise OuchError(f"{cls.NAME}: the first byte is {data[:1]!r}, and is to be {cls.TYPE!r}", 0)
@@ -174,8 +175,10 @@ class Enter(Order):
     TYPE: ClassVar[str] = "O"
     NAME: ClassVar[str] = "Enter Order"
     FIELDS: ClassVar[tuple[Field, ...]] = _layout(
-        ("token", "Order Token", 14, "token"), ("side", "Buy/Sell Indicator", 1, "side"), ("shares", "Shares", 4, "number"),
-        ("symbol", "Stock", 8, "text"), ("price", "Price", 4, "number"), ("time_in_force", "Time in Force", 4, "number"),
+        ("token", "Order Token", 14, "token"), ("side", "Buy/Sell "
+                                                        "Indicator", 1, "side"), ("shares", "Shares", 4, "number"),
+        ("symbol", "Stock", 8, "text"), ("price", "Price", 4, "number"), ("time_in_force", "Time in "
+                                                                                           "Force", 4, "number"),
         ("firm", "Firm", 4, "letters"), ("display", "Display", 1, "letter"), ("capacity", "Capacity", 1, "letter"),
         ("sweep", "Intermarket Sweep Eligibility", 1, "letter"), ("minimum", "Minimum Quantity", 4, "number"),
         ("cross", "Cross Type", 1, "letter"), ("customer", "Customer Type", 1, "letter"))
@@ -203,7 +206,8 @@ class Enter(Order):
 
 @dataclass(frozen=True)
 class Cancel(Order):
-    """Cancel Order: lowers an order of one's own to `shares` in all, those already executed among them; 0 takes it away."""
+    """Cancel Order: lowers an order of one's own to `shares` in all, those already executed among them; 0 takes it
+    away."""
 
     TYPE: ClassVar[str] = "X"
     NAME: ClassVar[str] = "Cancel Order"
@@ -222,7 +226,8 @@ class SystemEvent(Reply):
 
     TYPE: ClassVar[str] = "S"
     NAME: ClassVar[str] = "System Event"
-    FIELDS: ClassVar[tuple[Field, ...]] = _layout(("handled", "Timestamp", 8, "number"), ("code", "Event Code", 1, "letter"))
+    FIELDS: ClassVar[tuple[Field, ...]] = _layout(
+        ("handled", "Timestamp", 8, "number"), ("code", "Event Code", 1, "letter"))
 
     handled: int
     code: str
@@ -232,16 +237,16 @@ class SystemEvent(Reply):
 class Accepted(Reply):
     """Order Accepted: repeats the order, with its reference (of a market's orders the first is 1).
 
-    handled: the exchange's time, ns past midnight. state: "L" live, "D" dead. weight: how the order stood to the best bid and
-    offer; this exchange leaves it a space.
-    """
+    handled: the exchange's time, ns past midnight. state: "L" live, "D" dead. weight: how the order stood to the best
+    bid and offer; this exchange leaves it a space. """
 
     TYPE: ClassVar[str] = "A"
     NAME: ClassVar[str] = "Order Accepted"
     FIELDS: ClassVar[tuple[Field, ...]] = _layout(
         ("handled", "Timestamp", 8, "number"), ("token", "Order Token", 14, "token"),
         ("side", "Buy/Sell Indicator", 1, "side"), ("shares", "Shares", 4, "number"), ("symbol", "Stock", 8, "text"),
-        ("price", "Price", 4, "number"), ("time_in_force", "Time in Force", 4, "number"), ("firm", "Firm", 4, "letters"),
+        ("price", "Price", 4, "number"), ("time_in_force", "Time in "
+                                                           "Force", 4, "number"), ("firm", "Firm", 4, "letters"),
         ("display", "Display", 1, "letter"), ("reference", "Order Reference Number", 8, "number"),
         ("capacity", "Capacity", 1, "letter"), ("sweep", "Intermarket Sweep Eligibility", 1, "letter"),
         ("minimum", "Minimum Quantity", 4, "number"), ("cross", "Cross Type", 1, "letter"),
@@ -304,8 +309,8 @@ class Canceled(Reply):
 
 @dataclass(frozen=True)
 class Rejected(Reply):
-    """Order Rejected. reason: "H" the stock is halted, "S" no such stock, "X" the price is out of range or off the tick,
-    "O" another. handled: the exchange's time, ns past midnight."""
+    """Order Rejected. reason: "H" the stock is halted, "S" no such stock, "X" the price is out of range or off the
+    tick, "O" another. handled: the exchange's time, ns past midnight."""
 
     TYPE: ClassVar[str] = "J"
     NAME: ClassVar[str] = "Order Rejected"
@@ -319,8 +324,8 @@ class Rejected(Reply):
 
 # ---------------------------------------------------------------- bytes
 
-MESSAGES: dict[str, type[Message]] = {
-    kind.TYPE: kind for kind in (Enter, Cancel, SystemEvent, Accepted, Executed, Canceled, Rejected)}
+KINDS: tuple[type[Message], ...] = (Enter, Cancel, SystemEvent, Accepted, Executed, Canceled, Rejected)
+MESSAGES: dict[str, type[Message]] = {kind.TYPE: kind for kind in KINDS}
 
 
 def decode(data: bytes) -> Message:

@@ -36,7 +36,8 @@ TOP_MAY = ("stride", "series", "change", "branch")
 STOCK = {"symbol": TEXT, "bands": PAIRS, "add": NUMBER, "take": NUMBER, "series": TEXT}
 STOCK_RULE = {"start": NUMBER, "mean": NUMBER, "pull": NUMBER, "shock": NUMBER, "every": NUMBER}
 CHANGE = {"time": NUMBER, "stock": TEXT, "kind": TEXT}
-CHANGES = {"tick": {"bands": PAIRS}, "fee": {"add": NUMBER, "take": NUMBER}, "halt": {}, "resume": {}}
+CHANGES: dict[str, dict[str, str]] = {
+    "tick": {"bands": PAIRS}, "fee": {"add": NUMBER, "take": NUMBER}, "halt": {}, "resume": {}}
 AGENT = {"kind": TEXT, "group": NUMBER, "stock": TEXT, "first": NUMBER, "every": NUMBER}
 AGENT_MAY = {"wobble": NUMBER, "delay": NUMBER, "cash": NUMBER, "count": NUMBER, "spread": NUMBER}
 AGENTS = {

@@ -11,8 +11,8 @@ import tomllib
 
 from biqsolur.branch_rules import edit_key_faults, edit_own_faults, edit_value_faults
 from biqsolur.rule_words import (
-    MOST_EVENTS, NUMBER, TABLES, TEXT, Table, did_you_mean, is_number, is_of_type, key_faults, kind_fault, ordinal, shown,
-    shown_key)
+    MOST_EVENTS, NUMBER, TABLES, TEXT, Table, did_you_mean, is_number, is_of_type, key_faults, kind_fault, ordinal,
+    shown, shown_key)
 from biqsolur.toml_faults import no_toml
 
 WHOLE = 64                  # the act that stands for the whole script
@@ -25,21 +25,23 @@ ACTS: dict[str, dict[str, str]] = {
 }
 ACTS_MAY = {"fork": {"edit": TABLES}}
 ASKED = {
-    15: "each act has a known kind, the keys of its kind, of their types, and no other; `at` and `event` are 0 to 9,999,999, "
-        "names have 1 to 32 bytes, and edits keep the rules of a branch's edits",
-    16: "the branches that it names are in the tree as it then stands; a fork's name is new, and its `at` neither below its "
-        "parent's nor above `events`; the root is neither undone nor edited",
+    15: "each act has a known kind, the keys of its kind, of their types, and no other; `at` and `event` are 0 to "
+        "9,999,999, names have 1 to 32 bytes, and edits keep the rules of a branch's edits",
+    16: "the branches that it names are in the tree as it then stands; a fork's name is new, and its `at` neither "
+        "below its parent's nor above `events`; the root is neither undone nor edited",
 }
 
 
 def explain_script(data: bytes, status: int, act: int, study: Table | None = None) -> str:
-    """What is wrong with an act of a script (64: with the whole), in a sentence; where nothing is seen there, what is asked."""
+    """What is wrong with an act of a script (64: with the whole), in a sentence; where nothing is seen there, what is
+    asked."""
     script = script_of(data)
     if script is None:
         return f"the script: {no_toml(data)}"
     if act == WHOLE:
-        return "the script: " + "; ".join(whole_faults(script, study) or ["this is asked: the one key `act`, an array of 1 to 64 "
-                                                                          "tables, and a study whose branches leave at events"])
+        return "the script: " + "; ".join(whole_faults(script, study) or ["this is asked: the one key `act`, an array "
+                                                                          "of 1 to 64 tables, and a study whose "
+                                                                          "branches leave at events"])
     acts = acts_of(script)
     if act >= len(acts):
         return f"act {act}: this is asked: {ASKED[status]}"
@@ -67,8 +69,8 @@ def explain_no_event(data: bytes, act: int, last: int) -> str:
     acts = acts_of(script_of(data) or {})
     if act >= len(acts):
         return f"act {act}: its branch's last event is {last:,}"
-    return (f"{act_name(acts[act], act)}: `event` is {shown(acts[act].get('event'))}, and is to be 0 to {last:,}, the last event of "
-            f"the branch {shown(acts[act].get('name'))} in the tree as it then stands")
+    return (f"{act_name(acts[act], act)}: `event` is {shown(acts[act].get('event'))}, and is to be 0 to {last:,}, the "
+            f"last event of the branch {shown(acts[act].get('name'))} in the tree as it then stands")
 
 
 def script_of(data: bytes) -> Table | None:
@@ -82,7 +84,7 @@ def script_of(data: bytes) -> Table | None:
 def acts_of(script: Table) -> list[Table]:
     """The acts of a script that are tables."""
     acts = script.get("act")
-    return acts if is_of_type(acts, TABLES) else []
+    return acts if isinstance(acts, list) and is_of_type(acts, TABLES) else []
 
 
 def act_name(act: Table, number: int) -> str:
@@ -107,8 +109,8 @@ def whole_faults(script: Table, study: Table | None) -> list[str]:
         faults.append(f"there are {len(acts)} acts, and are to be 1 to {MOST_ACTS}")
     timed = [branch["name"] for branch in (study or {}).get("branch", []) if "when" in branch]
     if timed:
-        faults.append(f"the study's branch {shown(timed[0])} leaves at a time (`when`), and in a session all branches are to leave "
-                      "after a number of events (`at`)")
+        faults.append(f"the study's branch {shown(timed[0])} leaves at a time (`when`), and in a session all branches "
+                      "are to leave after a number of events (`at`)")
     return faults
 
 
@@ -150,7 +152,10 @@ def edit_list_faults(edits: list[Table], study: Table | None) -> list[str]:
     """What is wrong with the edits of an act: the first fault, as in a branch."""
     if len(edits) > MOST_EDITS:
         return [f"there are {len(edits)} edits, and are to be at most {MOST_EDITS}"]
-    for look in (edit_key_faults, edit_own_faults if study is None else lambda edit: edit_value_faults(edit, study)):
+
+    def value_faults(edit: Table) -> list[str]:
+        return edit_own_faults(edit) if study is None else edit_value_faults(edit, study)
+    for look in (edit_key_faults, value_faults):
         for place, edit in enumerate(edits):
             faults = look(edit)
             if faults:
@@ -202,8 +207,8 @@ def fork_faults(act: Table, tree: list[tuple[str, int]], events: int, before: li
     if len(tree) + 1 > MOST_BRANCHES:
         faults.append(f"there would be {len(tree) + 1} branches with the root, and are to be at most {MOST_BRANCHES}")
     if (len(tree) + 1) * events > MOST_EVENTS:
-        faults.append(f"{len(tree) + 1} branches with the root times `events`, {events:,}, is {(len(tree) + 1) * events:,}, and is "
-                      f"to be at most {MOST_EVENTS:,}")
+        faults.append(f"{len(tree) + 1} branches with the root times `events`, {events:,}, is "
+                      f"{(len(tree) + 1) * events:,}, and is to be at most {MOST_EVENTS:,}")
     return faults
 
 

@@ -36,8 +36,8 @@ ASKED = {
     17: f"`pull` is 0 to {MILLION:,}, `shock` 0 to {BILLION:,}, `every` at least 1, with at most 65,535 steps from "
         "`open` to `close`",
     18: "the top key `series` is there exactly where a stock has `series = \"rows\"`",
-    19: f"the series file begins `symbol,time,value`, and each row has the symbol of a stock with rows, a time of at most "
-        f"{DAY_END:,} that rises for each symbol, and a value of 1 to {MOST_PRICE:,}",
+    19: f"the series file begins `symbol,time,value`, and each row has the symbol of a stock with rows, a time of at "
+        f"most {DAY_END:,} that rises for each symbol, and a value of 1 to {MOST_PRICE:,}",
     20: "each stock with `rows` has a row at `open` or before it",
     21: "there are at most 1,024 changes, each with its keys and no other, of kind tick, fee, halt or resume",
     22: "`time` is from `open` to `close`, and not before that of the change above",
@@ -49,12 +49,12 @@ ASKED = {
         f"{HOUR:,}, `wobble` 0 to {MOST_JITTER:,}, and the last trader first wakes at {DAY_END:,} at most",
     28: "`stock` is the symbol of a stock",
     29: "the keys of an agent's kind are in their ranges",
-    30: "there are at most 127 branches, or 255 in version 2; each has `name`, `parent` and `at`, in version 2 either `at` or "
-        "`when`, perhaps `edit`, and no other key",
+    30: "there are at most 127 branches, or 255 in version 2; each has `name`, `parent` and `at`, in version 2 either "
+        "`at` or `when`, perhaps `edit`, and no other key",
     31: "`name` has 1 to 32 of a to z, 0 to 9, _ and -, is not root, and not the name of a branch above",
     32: "`parent` is root or the name of a branch above",
-    33: "`at` is not above `events`, `when` is from `open` to `close`, neither is below that of the parent, and all branches of "
-        "one parent have the same of the two",
+    33: "`at` is not above `events`, `when` is from `open` to `close`, neither is below that of the parent, and all "
+        "branches of one parent have the same of the two",
     34: "a branch has at most 16 edits, each of a known kind, with its keys and no other",
     35: "the stock, trader and groups of an edit exist, and its numbers are in range",
     36: f"(branches + 1) * `events` is at most {MOST_EVENTS:,}",
@@ -94,8 +94,8 @@ def faults_of(study: Table, rule: int, place: int) -> list[str]:
     if rule == 2:
         return [f"`version` is {shown(study['version'])}, and is to be 1 or 2"]
     if rule == 3:
-        return [f"`key` has {len(study['key'])} characters, {shown(study['key'])}, and is to have 64 digits, each 0 to 9 or "
-                "a to f"]
+        return [f"`key` has {len(study['key'])} characters, {shown(study['key'])}, and is to have 64 digits, each 0 to "
+                "9 or a to f"]
     if rule == 4:
         return hours_faults(study)
     if rule == 5:
@@ -119,8 +119,8 @@ def faults_of(study: Table, rule: int, place: int) -> list[str]:
         return count_faults(study, place)
     if rule == 36:
         branches, events = len(study.get("branch", [])), study["events"]
-        return [f"({branches} branches + 1) * `events` = {(branches + 1) * events:,}, and is to be at most {MOST_EVENTS:,}: "
-                f"with these branches `events` is to be at most {MOST_EVENTS // (branches + 1):,}"]
+        return [f"({branches} branches + 1) * `events` = {(branches + 1) * events:,}, and is to be at most "
+                f"{MOST_EVENTS:,}: with these branches `events` is to be at most {MOST_EVENTS // (branches + 1):,}"]
     by_entry = {"stock": stock_faults, "change": change_faults, "agent": agent_faults, "branch": branch_faults}
     if rule in (34, 35):
         return edit_faults(study, rule, place)

@@ -7,8 +7,8 @@ import tomllib
 
 WHERE = re.compile(r"(.*) \(at (?:line (\d+), column (\d+)|end of document)\)", re.DOTALL)
 MOST_NESTED = 80
-NEWER = ("An inline table over several lines, a comma before its `}`, `\\e` and `\\x41` in a text are read by the program "
-         "and not by Python: where it is one of these, look further down")
+NEWER = ("An inline table over several lines, a comma before its `}`, `\\e` and `\\x41` in a text are read by the "
+         "program and not by Python: where it is one of these, look further down")
 
 
 def no_toml(data: bytes) -> str:
@@ -24,8 +24,8 @@ def no_toml(data: bytes) -> str:
     except (ValueError, RecursionError) as error:
         return f"this is no TOML: {error}"
     return long_number(text, study) or (
-        f"Python reads this as TOML; the program does not: arrays and inline tables are nested at most {MOST_NESTED} deep, "
-        f"dotted keys have at most {MOST_NESTED} parts, and a carriage return stands before a newline alone")
+        f"Python reads this as TOML; the program does not: arrays and inline tables are nested at most {MOST_NESTED} "
+        f"deep, dotted keys have at most {MOST_NESTED} parts, and a carriage return stands before a newline alone")
 
 
 def toml_fault(text: str, error: str) -> str:
@@ -61,7 +61,8 @@ def long_number(text: str, study: object) -> str | None:
             continue
         if number in numbers:
             place = line_and_column(text.encode(), len(text[:match.start()].encode()))
-            return f"{place}: the number {match[0]} is outside 64 bits, -9,223,372,036,854,775,808 to 9,223,372,036,854,775,807"
+            return (f"{place}: the number {match[0]} is outside 64 bits, -9,223,372,036,854,775,808 to "
+                    "9,223,372,036,854,775,807")
     return f"the number {numbers[0]} is outside 64 bits" if numbers else None
 
 

@@ -1,9 +1,8 @@
 """`why`: what is wrong with a file that the program refused, in a sentence: a study, orders, a script or a bundle.
 
 What a file is, its content tells. The program is asked for the rule and the place; it alone decides. The file is then
-looked at once more here, by Python's own readers, without numpy. Where the study is not given that a script or orders go
-with, only what they show alone is told.
-"""
+looked at once more here, by Python's own readers, without numpy. Where the study is not given that a script or orders
+go with, only what they show alone is told. """
 
 from __future__ import annotations
 
@@ -35,15 +34,17 @@ NO_STUDY_GIVEN = "its study was not given, so only what it shows alone was looke
 
 def add_words(parser: argparse.ArgumentParser) -> None:
     """The words of the command."""
-    parser.add_argument("file", metavar="FILE", nargs="?", help="a study, a file of orders, a script, or a bundle; with --write, "
-                                                                "what the output went to")
+    parser.add_argument("file", metavar="FILE", nargs="?", help="a study, a file of orders, a script, or a bundle; "
+                                                                "with --write, what the output went to")
     parser.add_argument("--study", metavar="STUDY", help="the study that the orders or the script were given with")
     parser.add_argument("--write", action="store_true", help="why writing to FILE failed (without FILE: to a pipe)")
-    parser.add_argument("--program", metavar="PATH", help="the program that is asked, where it is not the checkout's or wheel's own")
+    parser.add_argument("--program", metavar="PATH", help="the program that is asked, where it is not the checkout's "
+                                                          "or wheel's own")
 
 
 def main(arguments: argparse.Namespace) -> int:
-    """Says what is wrong with a file. The status is the program's where it was asked; else 0 where nothing is wrong, 1."""
+    """Says what is wrong with a file. The status is the program's where it was asked; else 0 where nothing is wrong,
+    1."""
     if arguments.write:
         print(file_faults.write_fault(arguments.file))
         return 7
@@ -83,7 +84,8 @@ def ask_program(program: str, words: list[str]) -> tuple[int, str]:
     output = None if words[0] in ("check", "audit") else subprocess.DEVNULL
     sys.stdout.flush()
     try:
-        process = subprocess.Popen([program, *words], stdout=output, stderr=subprocess.PIPE, text=True, errors="surrogateescape")
+        process = subprocess.Popen([program, *words], stdout=output, stderr=subprocess.PIPE, text=True,
+                                   errors="surrogateescape")
     except OSError as error:
         raise InputError(f"the program cannot be run: {program}: {error.strerror}; name it by --program") from None
     try:
@@ -100,8 +102,8 @@ def ask_program(program: str, words: list[str]) -> tuple[int, str]:
 # ---------------------------------------------------------------- what a file is
 
 def kind_of(path: str) -> str:
-    """What a file is by its content: "study", "orders", "script", "bundle", "other" (some other file of this project), or
-    "unread" where it can't be read."""
+    """What a file is by its content: "study", "orders", "script", "bundle", "other" (some other file of this project),
+    or "unread" where it can't be read."""
     if file_faults.read_fault(path) is not None:
         return "unread"
     with open(path, "rb") as file:
@@ -136,12 +138,13 @@ def other_kind(path: str) -> str:
     first = head.lstrip(b"\xef\xbb\xbf\r\n")
     if first.startswith(b"branch,"):
         return f"{path} is what `table` writes, and no study"
-    return (f"{path} is a series file, and no study: ask why of the study that names it, as `series = {path!r}`; the program "
-            "then says which of its records is refused")
+    return (f"{path} is a series file, and no study: ask why of the study that names it, as `series = {path!r}`; the "
+            "program then says which of its records is refused")
 
 
 def first_symbol(study_path: str) -> str:
-    """The symbol of the first stock of a study; where it can't be read, one that no study has, which comes to the same."""
+    """The symbol of the first stock of a study; where it can't be read, one that no study has, which comes to the
+    same."""
     table = study_table(study_path)
     stocks = (table or {}).get("stock")
     symbol = stocks[0].get("symbol") if isinstance(stocks, list) and stocks and isinstance(stocks[0], dict) else None

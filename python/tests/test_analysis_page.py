@@ -23,8 +23,8 @@ PAGE = (ROOT / "docs/ANALYSIS.md").read_text()
 SWEEPS = "Many keys and many values"
 BLOCK = re.compile(r"^```(\w+)\n(.*?)^```$", re.MULTILINE | re.DOTALL)
 # What an indented line is: an installation, or a command for another machine's queue.
-NOT_RUN = ("pip install ", "apt-get install ", "export PYTHONPATH=", "snakemake --snakefile sweep/Snakefile --configfile "
-           "sweep/ticks.yaml --profile ")
+NOT_RUN = ("pip install ", "apt-get install ", "export PYTHONPATH=", "snakemake --snakefile sweep/Snakefile "
+           "--configfile sweep/ticks.yaml --profile ")
 
 
 def sections():
@@ -94,8 +94,9 @@ def reader(tmp_path, monkeypatch, program):
 def test_the_page_does_what_it_says(reader):
     done = [reader.do(kind, text) for title, blocks in sections() if title != SWEEPS for kind, text in blocks]
     assert len(done) > 20
-    for name in ("spread.png", "halted.toml", "halted.bundle", "halted.bundle.run.json", "tick_size.html", "mid_and_value.svg",
-                 "tick_size_csv/wide/trades.csv", "wide.itch", "wide_lobster/ABM_message_10.csv", "wide.pcap"):
+    for name in ("spread.png", "halted.toml", "halted.bundle", "halted.bundle.run.json", "tick_size.html",
+                 "mid_and_value.svg", "tick_size_csv/wide/trades.csv", "wide.itch", "wide_lobster/ABM_message_10.csv",
+                 "wide.pcap"):
         assert (reader.folder / name).stat().st_size > 0
     figure = (reader.folder / "spread.png").read_bytes()
     assert figure.startswith(b"\x89PNG") and len(figure) > 5_000
@@ -130,7 +131,8 @@ def test_the_first_figure_takes_fifteen_lines():
 
 
 def test_names_and_links_are_there():
-    """Each name of the package that the page writes is one, and each file that it links to; each error has its name there."""
+    """Each name of the package that the page writes is one, and each file that it links to; each error has its name
+    there."""
     import biqsolur
     from biqsolur import errors
     for name, found in vars(errors).items():

@@ -1,4 +1,5 @@
-"""A branch as a network capture: a plain reader finds each message and right headers, and tshark dissects every field."""
+"""A branch as a network capture: a plain reader finds each message and right headers, and tshark dissects every
+field."""
 
 import shutil
 import struct
@@ -26,8 +27,9 @@ OUCH = {
     "cross": "cross_type", "customer": "customer_type", "handled": "timestamp", "reference": "order_reference_number",
     "state": "order_state", "weight": "bbo_weight_indicator", "match": "match_number", "flag": "liquidity_flag"}
 RENAMED = {
-    (Executed, "shares"): "executed_shares", (Executed, "price"): "execution_price", (Canceled, "shares"): "decrement_shares",
-    (Canceled, "reason"): "cancel_reason", (Rejected, "reason"): "reject_reason"}
+    (Executed, "shares"): "executed_shares", (Executed, "price"): "execution_price",
+    (Canceled, "shares"): "decrement_shares", (Canceled, "reason"): "cancel_reason",
+    (Rejected, "reason"): "reject_reason"}
 
 
 @pytest.fixture(scope="module", params=SEEDS)
@@ -82,8 +84,9 @@ def test_a_plain_reader_finds_the_messages(captured):
     for time, packet in read_pcap(path.read_bytes()):
         times.append(time)
         ip, tcp, data = packet[14:34], packet[34:54], packet[HEADERS:]
-        assert packet[12:14] == b"\x08\0" and ip[0] == 0x45 and ip[9] == 6 and int.from_bytes(ip[2:4], "big") == len(packet) - 14
-        assert checksum(ip) == 0 and checksum(ip[12:20] + bytes([0, 6]) + (len(tcp + data)).to_bytes(2, "big") + tcp + data) == 0
+        assert packet[12:14] == b"\x08\0" and ip[0] == 0x45 and ip[9] == 6
+        assert int.from_bytes(ip[2:4], "big") == len(packet) - 14 and checksum(ip) == 0
+        assert checksum(ip[12:20] + bytes([0, 6]) + (len(tcp + data)).to_bytes(2, "big") + tcp + data) == 0
         source, target, sequence, acknowledged, flags, window = struct.unpack(">HHIIHH", tcp[:16])
         to_exchange = target == capture.PORT
         assert (source == capture.PORT) != to_exchange
@@ -137,9 +140,11 @@ def test_tshark_dissects_each_field(captured, tmp_path):
                    | {f"ouch.{name}" for name in RENAMED.values()} | {"ouch.match_number", "ouch.liquidity_flag"})
     columns = ["frame.time_epoch", "ip.checksum.status", "tcp.checksum.status", "_ws.malformed",
                "tcp.analysis.flags", "soupbintcp.packet_type", "soupbintcp.message", "ouch.packet_type", *names]
-    words = [TSHARK, "-n", "-r", path, "-d", f"tcp.port=={capture.PORT},soupbintcp", "-o", "ip.check_checksum:TRUE", "-o",
-             "tcp.check_checksum:TRUE", "-T", "fields", "-E", "separator=/t", *(word for name in columns for word in ("-e", name))]
-    answer = subprocess.run(words, capture_output=True, text=True, env={"WIRESHARK_CONFIG_DIR": str(tmp_path), "HOME": str(tmp_path)})
+    words = [TSHARK, "-n", "-r", path, "-d", f"tcp.port=={capture.PORT},soupbintcp", "-o", "ip.check_checksum:TRUE",
+             "-o", "tcp.check_checksum:TRUE", "-T", "fields", "-E", "separator=/t",
+             *(word for name in columns for word in ("-e", name))]
+    answer = subprocess.run(words, capture_output=True, text=True,
+                            env={"WIRESHARK_CONFIG_DIR": str(tmp_path), "HOME": str(tmp_path)})
     assert answer.returncode == 0, answer.stderr
     rows = [dict(zip(columns, line.split("\t"))) for line in answer.stdout.splitlines()]
     assert len(rows) == len(read_pcap(path.read_bytes()))
@@ -150,7 +155,8 @@ def test_tshark_dissects_each_field(captured, tmp_path):
     assert len(carried) == len(sent)
     for row, entry in zip(carried, sent):
         message = entry.message
-        said = {field_name(message, field.name): shown(field.name, getattr(message, field.name)) for field in message.FIELDS}
+        said = {field_name(message, field.name): shown(field.name, getattr(message, field.name))
+                for field in message.FIELDS}
         assert row["ouch.packet_type"] == f"'{message.TYPE}'"
         assert row["frame.time_epoch"] == f"{entry.time // 10**9}.{entry.time % 10**9:09}"
         assert {name: row[name] for name in names if row[name]} == said
@@ -184,7 +190,8 @@ def test_the_command_and_what_it_refuses(bundle, tmp_path, capsys, monkeypatch):
     monkeypatch.setitem(sys.modules, "dpkt", None)
     assert main(["capture", bundle.path, "root", "-o", str(tmp_path / "b.pcap")]) == 1
     assert "python3-dpkt" in capsys.readouterr().err
-    assert [path.name for path in tmp_path.iterdir()] == ["root.pcap"] and (tmp_path / "root.pcap").read_bytes() == first
+    assert [path.name for path in tmp_path.iterdir()] == ["root.pcap"]
+    assert (tmp_path / "root.pcap").read_bytes() == first
 
 
 def test_nothing_stays_of_a_capture_that_is_cut(captured, tmp_path, monkeypatch):

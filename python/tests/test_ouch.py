@@ -15,11 +15,12 @@ ORDER = Enter(token="MINE1", side="B", shares=100, symbol="ABM", price=1_000_000
 
 # The example of each field that the layout of the program's documents has: (offset, length), counted from the type.
 LAYOUT = {
-    "O": [(1, 14), (15, 1), (16, 4), (20, 8), (28, 4), (32, 4), (36, 4), (40, 1), (41, 1), (42, 1), (43, 4), (47, 1), (48, 1)],
+    "O": [(1, 14), (15, 1), (16, 4), (20, 8), (28, 4), (32, 4), (36, 4), (40, 1), (41, 1), (42, 1), (43, 4), (47, 1),
+          (48, 1)],
     "X": [(1, 14), (15, 4)],
     "S": [(1, 8), (9, 1)],
-    "A": [(1, 8), (9, 14), (23, 1), (24, 4), (28, 8), (36, 4), (40, 4), (44, 4), (48, 1), (49, 8), (57, 1), (58, 1), (59, 4),
-          (63, 1), (64, 1), (65, 1)],
+    "A": [(1, 8), (9, 14), (23, 1), (24, 4), (28, 8), (36, 4), (40, 4), (44, 4), (48, 1), (49, 8), (57, 1), (58, 1),
+          (59, 4), (63, 1), (64, 1), (65, 1)],
     "C": [(1, 8), (9, 14), (23, 4), (27, 1)],
     "E": [(1, 8), (9, 14), (23, 4), (27, 4), (31, 1), (32, 8)],
     "J": [(1, 8), (9, 14), (23, 1)],
@@ -53,13 +54,14 @@ def test_the_layout_is_that_of_the_documents():
 
 
 def test_an_order_byte_by_byte():
-    assert ORDER.to_bytes() == (b"O" b"MINE1         " b"B" b"\0\0\0\x64" b"ABM     " b"\0\x0f\x42\x40" b"\0\x01\x86\x9f" b"ABID"
+    assert ORDER.to_bytes() == (b"O" b"MINE1         " b"B" b"\0\0\0\x64" b"ABM     " b"\0\x0f\x42\x40"
+                                b"\0\x01\x86\x9f" b"ABID"
                                 b"Y" b"P" b"N" b"\0\0\0\0" b"N" b"N")
     assert ORDER.hex() == ORDER.to_bytes().hex()
     assert Cancel("MINE1", 40).to_bytes() == b"XMINE1         \0\0\0\x28"
     reply = Executed(handled=34_200_000_000_000, token="T0002000000017", shares=5, price=100_100, flag="R", match=3)
-    assert reply.to_bytes() == b"E" + (34_200_000_000_000).to_bytes(8, "big") + b"T0002000000017\0\0\0\x05\0\x01\x87\x04R" \
-        + (3).to_bytes(8, "big")
+    assert reply.to_bytes() == (b"E" + (34_200_000_000_000).to_bytes(8, "big")
+                                + b"T0002000000017\0\0\0\x05\0\x01\x87\x04R" + (3).to_bytes(8, "big"))
 
 
 @pytest.mark.parametrize("letter", MESSAGES)
@@ -94,12 +96,16 @@ def test_a_changed_byte_is_another_message_or_is_refused_at_its_field(letter):
     ({"token": "a "}, 1, "letters and digits"), ({"token": "ä"}, 1, "letters and digits"),
     ({"side": "b"}, 15, '`side` is \'b\', and is to be "B" (buy) or "S" (sell)'), ({"side": ""}, 15, "side"),
     ({"shares": -1}, 16, "`shares` is -1, and is to be a whole number from 0 to 4,294,967,295"),
-    ({"shares": 2**32}, 16, "whole number"), ({"shares": 1.0}, 16, "whole number"), ({"shares": True}, 16, "whole number"),
+    ({"shares": 2**32}, 16, "whole number"), ({"shares": 1.0}, 16, "whole number"),
+    ({"shares": True}, 16, "whole number"),
     ({"shares": "1"}, 16, "whole number"), ({"symbol": "A B"}, 20, "without a space"), ({"symbol": ""}, 20, "1 to 8"),
-    ({"symbol": "NINECHARS"}, 20, "1 to 8"), ({"price": 10.5}, 28, "whole number"), ({"price": None}, 28, "whole number"),
-    ({"time_in_force": -5}, 32, "whole number"), ({"firm": "ABIDE"}, 36, "at most 4"), ({"firm": "AB "}, 36, "the last no space"),
+    ({"symbol": "NINECHARS"}, 20, "1 to 8"), ({"price": 10.5}, 28, "whole number"),
+    ({"price": None}, 28, "whole number"),
+    ({"time_in_force": -5}, 32, "whole number"), ({"firm": "ABIDE"}, 36, "at most 4"),
+    ({"firm": "AB "}, 36, "the last no space"),
     ({"display": ""}, 40, "one ASCII character"), ({"display": "\n"}, 40, "one ASCII character"),
-    ({"capacity": "PP"}, 41, "one ASCII character"), ({"minimum": 2**40}, 43, "whole number"), ({"customer": 1}, 48, "one ASCII"),
+    ({"capacity": "PP"}, 41, "one ASCII "
+                             "character"), ({"minimum": 2**40}, 43, "whole number"), ({"customer": 1}, 48, "one ASCII"),
 ])
 def test_a_field_that_cannot_be(fields, offset, said):
     with pytest.raises(OuchError) as caught:
@@ -145,7 +151,8 @@ def test_the_tokens_of_the_traders():
 
 
 def test_every_message_of_a_bundle(market):
-    """Each order and reply of each branch: decoded and encoded it is the bundle's bytes, with the data frames' fields."""
+    """Each order and reply of each branch: decoded and encoded it is the bundle's bytes, with the data frames'
+    fields."""
     bundle = biqsolur.read(market.bundle)
     for branch in bundle.branches.values():
         sent = list(branch.messages())
@@ -157,7 +164,8 @@ def test_every_message_of_a_bundle(market):
             assert [(entry.event, entry.time, entry.trader) for entry in entries] == list(
                 zip(frame.event, frame.time, frame.agent))
             columns = frame.assign(token=bundle.tokens.texts(frame.token))
-            for name in ("token", "side", "shares", "symbol", "price", "handled", "reference", "match", "flag", "reason"):
+            for name in ("token", "side", "shares", "symbol", "price", "handled", "reference", "match", "flag",
+                         "reason"):
                 if name in frame:
                     values = columns[name].tolist()
                     empty = "" if isinstance(values[0] if values else "", str) else 0

@@ -1,4 +1,5 @@
-"""The fundamental value: by a slow plain loop from the study alone, and by what value traders did with what they were told."""
+"""The fundamental value: by a slow plain loop from the study alone, and by what value traders did with what they were
+told."""
 
 import struct
 import subprocess
@@ -85,8 +86,8 @@ def slow_offset(branch, study, symbol, before):
 # ---------------------------------------------------------------- markets
 
 def calm(generator):
-    """A study of a seed whose edits change values, halts and latencies alone, and with no change of ticks; a value trader of
-    each stock is there."""
+    """A study of a seed whose edits change values, halts and latencies alone, and with no change of ticks; a value
+    trader of each stock is there."""
     study, series = generator.make()
     study["change"] = [change for change in study["change"] if change["kind"] != "tick"]
     study["agent"] = [{**agent, "count": 1, "every": max(1, agent["every"] // 3)} for agent in study["agent"]]
@@ -96,7 +97,8 @@ def calm(generator):
         for symbol in generator.symbols]
     offsets = [-3 * generator.tick, 2 * generator.tick, -TOP, 2_000_000_000]
     for branch in study["branch"]:
-        branch["edit"] = [edit for edit in branch["edit"] if edit["kind"] in ("halt", "resume", "latency", "series", "fee")][:13]
+        branch["edit"] = [edit for edit in branch["edit"]
+                          if edit["kind"] in ("halt", "resume", "latency", "series", "fee")][:13]
         branch["edit"] += [{"kind": "series", "stock": symbol, "offset": generator.random.choice(offsets)}
                            for symbol in generator.symbols]
     return study, series
@@ -133,7 +135,8 @@ def test_the_value_over_time(priced):
             assert list(frame.columns) == ["time", "value", "value_dollars", "series", "offset"]
             assert frame.time.is_monotonic_increasing and frame.time.iloc[0] == study["open"]
             assert frame.series.tolist() == [slow.at(symbol, time) for time in frame.time.tolist()]
-            assert frame.value.tolist() == [clamped(sum(pair)) for pair in zip(frame.series.tolist(), frame.offset.tolist())]
+            assert frame.value.tolist() == [clamped(sum(pair)) for pair in zip(
+                frame.series.tolist(), frame.offset.tolist())]
             assert frame.offset.iloc[-1] == branch.closing.stocks.set_index("symbol").offset[symbol]
             stock = next(stock for stock in study["stock"] if stock["symbol"] == symbol)
             edits = sum(edit["kind"] == "series" and edit["stock"] == symbol for entry in study["branch"]
@@ -230,9 +233,12 @@ def test_shocks_at_the_ends_of_their_range():
     ends = numpy.array([0, 2**32 - 1, 2**31], numpy.uint32)
     assert fundamental.centred(ends, 10**9).tolist() == [centred(drawn, 10**9) for drawn in ends.tolist()]
     assert fundamental.centred(ends, 0).tolist() == [0, 0, 0]
-    assert fundamental.rule_values({"start": 5, "mean": 1, "pull": 0, "shock": 10**9}, ends).tolist() == [5, 1, 10**9 + 1, 10**9 + 1]
-    assert fundamental.rule_values({"start": TOP - 5, "mean": 1, "pull": 0, "shock": 10}, ends).tolist() == [TOP - 5, TOP - 15, TOP - 5, TOP - 5]
-    assert fundamental.rule_values({"start": TOP, "mean": TOP, "pull": 0, "shock": 10}, ends[1:]).tolist() == [TOP, TOP, TOP]
+    for start, mean, shock, drawn, values in (
+            (5, 1, 10**9, ends, [5, 1, 10**9 + 1, 10**9 + 1]),
+            (TOP - 5, 1, 10, ends, [TOP - 5, TOP - 15, TOP - 5, TOP - 5]),
+            (TOP, TOP, 10, ends[1:], [TOP, TOP, TOP])):
+        rule = {"start": start, "mean": mean, "pull": 0, "shock": shock}
+        assert fundamental.rule_values(rule, drawn).tolist() == values
 
 
 def test_what_is_asked_for_wrongly(priced, tmp_path, monkeypatch):
@@ -267,7 +273,8 @@ def test_a_study_with_other_offsets(priced):
     place = len(study["branch"]) - 1
     last = len(study["branch"][place]["edit"]) - 1
     edit = study["branch"][place]["edit"][last]
-    other = biqsolur.Study(study, folder).with_(["branch", place, "edit", last, "offset"], edit["offset"] + (-1 if edit["offset"] > 0 else 1))
+    changed = edit["offset"] + (-1 if edit["offset"] > 0 else 1)
+    other = biqsolur.Study(study, folder).with_(["branch", place, "edit", last, "offset"], changed)
     if not (branch.edits.branch == branch.name).any():      # the run ended before
         return
     with pytest.raises(StudyNeededError, match="don't come to the one with which"):

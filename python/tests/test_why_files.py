@@ -46,9 +46,11 @@ ORDERS = [
     ("\n\n", 0, ["the file has no record"]),
     ("Agent,Side,Shares,Price\n", 0, ["record 0 (line 1, \"Agent,Side,Shares,Price\")", "in small letters"]),
     ("agent, side, shares, price\n", 0, ["without spaces"]),
-    (HEAD + "1,B,100,100000\n\n0,B,100,100000\n", 2, ["record 2 (line 4, \"0,B,100,100000\"): `agent` is \"0\"", "1 to 3 ",
+    (HEAD + "1,B,100,100000\n\n0,B,100,100000\n", 2, ["record 2 (line 4, \"0,B,100,100000\"): `agent` is "
+                                                      "\"0\"", "1 to 3 ",
                                                       "0 is the exchange"]),
-    (HEAD + "4,B,100,100000\n", 1, ["`agent` is \"4\", and is to be the number of a trader of the study, which has 3: 1 to 3"]),
+    (HEAD + "4,B,100,100000\n", 1, ["`agent` is \"4\", and is to be the number of a trader of the study, which has 3: "
+                                    "1 to 3"]),
     (HEAD + "maker 1,B,100,100000\n", 1, ["`agent` is \"maker 1\""]),
     (HEAD + "0001,B,100,100000\n", 1, ["1 to 3 in 1 to 3 digits"]),
     (HEAD + "1,buy,100,100000\n", 1, ["`side` is \"buy\", and is to be `B` to buy or `S` to sell; did you mean `B`?"]),
@@ -93,15 +95,18 @@ def test_the_least_bad_record_is_seen_without_the_study(why):
 
 def test_right_orders(why):
     assert why("orders.csv", HEAD, "--study", "study.toml")[:2] == (0, "")
-    assert why("orders.csv", HEAD.replace("\n", "\r\n") + "\n\"3\",S,000001,1\n", "--study", "study.toml") == (0, "", "")
+    rows = HEAD.replace("\n", "\r\n") + "\n\"3\",S,000001,1\n"
+    assert why("orders.csv", rows, "--study", "study.toml") == (0, "", "")
     assert why("orders.csv", HEAD + "3,S,1,1\n", "--study", "nothing.toml") == (3, "there is no nothing.toml",
                                                                               "no such file: nothing.toml")
 
 
 def test_random_orders_are_named(program, folder):
-    """A field of right orders is changed: where the program refuses it the sentence is no general one, and Python sees it."""
+    """A field of right orders is changed: where the program refuses it the sentence is no general one, and Python sees
+    it."""
     generator = random.Random("orders")
-    values = ["", "0", "1", "3", "4", "B", "S", "b", "999999", "1000000", "1999999900", "1999999901", " 1", "1 ", "-1", "+1", "\u0661"]
+    values = ["", "0", "1", "3", "4", "B", "S", "b", "999999", "1000000", "1999999900", "1999999901", " 1", "1 ", "-1",
+              "+1", "\u0661"]
     for _ in range(40):
         rows = [["1", "B", "5", "100000"] for _ in range(4)]
         row = generator.choice(rows)
@@ -134,18 +139,21 @@ SCRIPTS = [
     ("[[act]]\nkind = undo\n", "script refused: act 64", ["the script: line 2, column"]),
     # status 15: an act
     (acts(FORK, 'kind = "jump"'), "script refused: act 1",
-     ["act 1 (the second `[[act]]`, \"jump\"): `kind` is \"jump\", and is to be one of fork, undo, edit, rewind, close, values"]),
+     ["act 1 (the second `[[act]]`, \"jump\"): `kind` is \"jump\", and is to be one of fork, undo, edit, rewind, "
+      "close, values"]),
     (acts('kind = "Close"; name = "root"'), "script refused: act 0", ["did you mean `close`?"]),
     (acts('name = "root"'), "script refused: act 0", ["the key `kind` is missing"]),
     (acts(UNDO + '; name = "order"'), "script refused: act 0", ["unknown key `name`"]),
     (acts('kind = "edit"; name = "order"'), "script refused: act 0", ["the key `edit` is missing"]),
-    (acts(FORK.replace("at =", "event =")), "script refused: act 0", ["unknown key `event`", "the key `at` is missing"]),
+    (acts(FORK.replace("at =", "event =")), "script refused: act 0", ["unknown key `event`", "the key `at` is "
+                                                                                             "missing"]),
     (acts(FORK.replace("20", "\"20\"")), "script refused: act 0", ["`at` is \"20\", and is to be a whole number"]),
     (acts(FORK.replace("20", "-1")), "script refused: act 0", ["`at` is -1, and is to be 0 to 9,999,999"]),
     (acts('kind = "rewind"; name = "root"; event = 10000000'), "script refused: act 0", ["`event` is 10000000"]),
     (acts(FORK.replace("new", "Wide")), "script refused: act 0",
      ["`name` is \"Wide\", and is to have 1 to 32 of a to z, 0 to 9, _ and -"]),
-    (acts(FORK.replace("\"root\"", "\"\"")), "script refused: act 0", ["`parent` is \"\" of 0 bytes, and is to have 1 to 32"]),
+    (acts(FORK.replace("\"root\"", "\"\"")), "script refused: act 0", ["`parent` is \"\" of 0 bytes, and is to have 1 "
+                                                                       "to 32"]),
     (acts(f'kind = "close"; name = "{"a" * 33}"'), "script refused: act 0", ["of 33 bytes"]),
     (acts(FORK + '; edit = [{ kind = "halt", stock = "ABC" }]'), "script refused: act 0",
      ["edit 0 (its first): `stock` is \"ABC\", and is to be the symbol of a stock", "did you mean `ABM`?"]),
@@ -156,20 +164,24 @@ SCRIPTS = [
     (acts('kind = "edit"; name = "order"; edit = [{ kind = "inject", agent = 1, after = 0, message = "00" }]'),
      "script refused: act 0", ["`message` begins with 00"]),
     # status 16: the tree
-    (acts(CLOSE), "act refused: 0", ["act 0 (the first `[[act]]`, \"close\"): `name` is \"new\", and is to be a branch of the tree as it "
-                                    "then stands: root, cheap, later, order"]),
+    (acts(CLOSE), "act refused: 0", ["act 0 (the first `[[act]]`, \"close\"): `name` is \"new\", and is to be a branch "
+                                    "of the tree as it then stands: root, cheap, later, order"]),
     (acts(FORK, UNDO, CLOSE), "act refused: 2", ["`name` is \"new\"", "it was undone before"]),
     (acts('kind = "values"; name = "chep"'), "act refused: 0", ["did you mean `cheap`?"]),
     (acts(FORK.replace('"root"', '"no"')), "act refused: 0", ["`parent` is \"no\""]),
     (acts(FORK, FORK), "act refused: 1", ["`name` is \"new\", which is the name of a branch already"]),
-    (acts(FORK.replace("new", "root")), "act refused: 0", ["`name` is \"root\", which is the name of a branch already"]),
-    (acts(FORK.replace("20", "101")), "act refused: 0", ["`at` is 101, and is to be 0 to 100", "above the study's `events`"]),
-    (acts(FORK.replace('"root"', '"later"')), "act refused: 0", ["`at` is 20, and is to be 30 to 100", "parent \"later\""]),
+    (acts(FORK.replace("new", "root")), "act refused: 0", ["`name` is \"root\", which is the name of a branch "
+                                                           "already"]),
+    (acts(FORK.replace("20", "101")), "act refused: 0", ["`at` is 101, and is to be 0 to 100", "above the study's "
+                                                                                               "`events`"]),
+    (acts(FORK.replace('"root"', '"later"')), "act refused: 0", ["`at` is 20, and is to be 30 to "
+                                                                 "100", "parent \"later\""]),
     (acts(UNDO, UNDO, UNDO, UNDO), "act refused: 3", ["there is no branch beside the root any more"]),
     (acts('kind = "edit"; name = "root"; edit = []'), "act refused: 0", ["`name` is \"root\", which has no edits"]),
     # status 9
     (acts(FORK, 'kind = "rewind"; name = "new"; event = 5000'), "no event: act 1, last event",
-     ["act 1 (the second `[[act]]`, \"rewind\"): `event` is 5000, and is to be 0 to ", "the last event of the branch \"new\""]),
+     ["act 1 (the second `[[act]]`, \"rewind\"): `event` is 5000, and is to be 0 to ", "the last event of the branch "
+                                                                                       "\"new\""]),
 ]
 
 
@@ -215,7 +227,8 @@ def test_too_many_branches_in_a_tree():
     """255 branches of version 2 can't be a session's study where they leave by time, so the tree is looked at alone."""
     study = {"events": 10, "branch": [{"name": f"b{place}", "at": 0} for place in range(255)]}
     act = {"kind": "fork", "name": "more", "parent": "root", "at": 0}
-    assert "there would be 257 branches with the root" in script_rules.explain_script(acts(FORK.replace("20", "0")).encode(), 16, 0, study)
+    sentence = script_rules.explain_script(acts(FORK.replace("20", "0")).encode(), 16, 0, study)
+    assert "there would be 257 branches with the root" in sentence
     assert script_rules.tree_faults([act], 0, {**study, "branch": study["branch"][1:]}) == []
 
 
@@ -246,10 +259,11 @@ def written(program, tmp_path_factory):
 
 @pytest.fixture(scope="module")
 def halting(program, tmp_path_factory):
-    """The bytes of a bundle with dated halts and resumptions, and a branch that halts and resumes; one time is both's."""
+    """The bytes of a bundle with dated halts and resumptions, and a branch that halts and resumes; one time is
+    both's."""
     study = STUDY.replace('kind = "fee"\nadd = 0\ntake = 10', 'kind = "halt"').replace(
-        "[[agent]]", '[[change]]\ntime = 1300\nstock = "ABM"\nkind = "resume"\n\n[[change]]\ntime = 1300\nstock = "XYZ"\n'
-        'kind = "halt"\n\n[[agent]]', 1).replace(
+        "[[agent]]", '[[change]]\ntime = 1300\nstock = "ABM"\nkind = "resume"\n\n[[change]]\ntime = 1300\n'
+        'stock = "XYZ"\nkind = "halt"\n\n[[agent]]', 1).replace(
         '{ kind = "silence", agent = 3 }', '{ kind = "halt", stock = "ABM" }, { kind = "resume", stock = "ABM" }')
     return ran(program, tmp_path_factory.mktemp("halting"), study, ("values.csv", VALUES))
 
@@ -271,7 +285,8 @@ def test_the_walk_takes_what_the_program_writes(written):
 
 
 def test_a_bundle_that_is_cut(why, written):
-    cases = [(0, "the file is empty"), (1, "one byte is left"), (11, "the file ends here, and `b` (branch) is to stand"),
+    cases = [(0, "the file is empty"), (1, "one byte is left"), (11, "the file ends here, and `b` (branch) is to "
+                                                                     "stand"),
              (30, "bytes, and "), (len(written) - 5, "the file ends here, and `z` (end) is to stand"),
              (len(written) - 4, "one byte is left"), (len(written) - 1, "the frame says 3 bytes, and 2 are left")]
     for size, said in cases:
@@ -295,8 +310,8 @@ def first_fault(data):
 
 
 def damaged(written, generator):
-    """Bundles of which a byte is changed, or a frame is left out or doubled elsewhere; and each frame behind each trading
-    action."""
+    """Bundles of which a byte is changed, or a frame is left out or doubled elsewhere; and each frame behind each
+    trading action."""
     frames = list(bundle_walk.frames(written))
     ends = {frame.offset: frame.offset + 2 + len(frame.payload) for frame in frames}
     rare = [frame.offset for frame in frames if frame.letter in "hbSRcsadzH"]
@@ -339,7 +354,8 @@ def test_what_stood_there_and_what_may(why, written):
     places = [frame.offset for frame in bundle_walk.frames(written)]
     status, sentence, line = why("b.bundle", written + written[:11])
     assert status == 13 and line == f"bad bundle: 3 at {len(written)}"
-    assert "here `h` (header) stands, and may stand nothing, as the end stands before; a file to which something was added" in sentence
+    assert "here `h` (header) stands, and may stand nothing, as the end stands before" in sentence
+    assert "; a file to which something was added" in sentence
     status, sentence, _ = why("b.bundle", written[:places[1]] + written[places[2]:])
     assert status == 13 and sentence == "at byte 11: here `S` (System Event) stands, and may stand `b` (branch)"
     changed = bytearray(written)
@@ -355,7 +371,8 @@ def test_what_stood_there_and_what_may(why, written):
 def test_an_order_in_an_event_with_a_wrong_byte(program, tmp_path, written):
     frames = list(bundle_walk.frames(written))
     frame = next(frame for frame in frames if frame.letter == "e" and len(frame.payload) == 43 + 49)
-    for at, said in ((25, "58 at byte 25, where 44 or 50 is to stand"), (43 + 15, "58 at byte 58, where 42 (B) or 53 (S)"),
+    for at, said in ((25, "58 at byte 25, where 44 or 50 is to stand"), (43 + 15, "58 at byte 58, where 42 (B) or 53 "
+                                                                                  "(S)"),
                      (42, "58 at byte 42, where 69 is to stand"), (43, "58 at byte 43, where 4f is to stand")):
         data = bytearray(written)
         data[frame.offset + 2 + at] = ord("X")
@@ -376,7 +393,8 @@ def fed(letter, reference, shares=0, price=0, locate=1, side=b"B"):
     """A message of the feed as a frame."""
     body = {"A": side + shares.to_bytes(4, "big") + b"ABM     " + price.to_bytes(4, "big"), "D": b"",
             "E": shares.to_bytes(4, "big") + bytes(8), "X": shares.to_bytes(4, "big")}[letter]
-    return bundle_walk.Frame(0, letter.encode() + locate.to_bytes(2, "big") + bytes(8) + reference.to_bytes(8, "big") + body)
+    head = letter.encode() + locate.to_bytes(2, "big") + bytes(8) + reference.to_bytes(8, "big")
+    return bundle_walk.Frame(0, head + body)
 
 
 def test_the_feed_is_applied_as_the_audit_does():
@@ -393,7 +411,8 @@ def test_the_feed_is_applied_as_the_audit_does():
 
 
 def test_a_closing_that_the_feed_does_not_tell(program, tmp_path, written):
-    """Messages of the feed and orders of the closing are changed: branch and reference are the program's, the sentence says what."""
+    """Messages of the feed and orders of the closing are changed: branch and reference are the program's, the sentence
+    says what."""
     generator = random.Random("audit")
     frames = list(bundle_walk.frames(written))
     assert audited(program, tmp_path, written)[0] == 0
@@ -413,7 +432,8 @@ def test_a_closing_that_the_feed_does_not_tell(program, tmp_path, written):
                 assert "what differs is" not in sentence and (numbers[1] == 0 or f"{numbers[1]:,}" in sentence)
                 if "can't be applied" in sentence:
                     assert f" behind event {event_before(data, frame.offset):,}, " in sentence
-                said.add(next(words for words in ("can't be applied", "in the closing, and", "in the state") if words in sentence))
+                said.add(next(words for words in ("can't be applied", "in the closing, "
+                                                                      "and", "in the state") if words in sentence))
     assert len(said) >= 2
 
 
@@ -423,7 +443,8 @@ def test_the_command_over_a_closing(why, written):
     data[frame.offset + 2 + 3] = ord("P")
     status, sentence, line = why("b.bundle", bytes(data))
     assert (status, line) == (14, "audit failed: branch 0, reference 0")
-    assert "stock 0 (the first) is in the state 'P' in the closing, and in 'T' by the feed" in sentence or "by the feed" in sentence
+    state = chr(frame.payload[3])
+    assert f"stock 0 (the first) is in the state 'P' in the closing, and in {state!r} by the feed" in sentence
     status, sentence, line = why("b.bundle", written)
     assert (status, line) == (0, "") and sentence.startswith("audit ok: branches ")
 
@@ -525,9 +546,11 @@ def test_files_that_cannot_be_written(why, folder, monkeypatch):
     assert why("pipe", None, "--write")[1] == "pipe is a named pipe: its reader ended before"
     assert "`| head` does" in why("-", None, "--write")[1]
     assert "nothing stands in the way now" in why("out.bundle", None, "--write")[1]
-    full = type("system", (), {"f_flag": 0, "f_blocks": 10, "f_frsize": 4096, "f_bavail": 0, "f_files": 0, "f_favail": 0})
+    numbers = {"f_flag": 0, "f_blocks": 10, "f_frsize": 4096, "f_bavail": 0, "f_files": 0, "f_favail": 0}
+    full = type("system", (), numbers)
     monkeypatch.setattr(os, "statvfs", lambda path: full)
-    assert "the disk is full: the file system of out.bundle has no room left of 40,960 bytes" in why("out.bundle", None, "--write")[1]
+    sentence = why("out.bundle", None, "--write")[1]
+    assert sentence == "the disk is full: the file system of out.bundle has no room left of 40,960 bytes"
     monkeypatch.setattr(full, "f_bavail", 5)
     monkeypatch.setattr(full, "f_flag", os.ST_RDONLY)
     assert "can only be read" in why("out.bundle", None, "--write")[1]
@@ -538,7 +561,8 @@ def test_files_that_cannot_be_written(why, folder, monkeypatch):
 
 def test_a_file_that_is_as_long_as_it_may_get(folder):
     code = ("import resource, sys; sys.path.insert(0, sys.argv[1]); from biqsolur.file_faults import write_fault\n"
-            "resource.setrlimit(resource.RLIMIT_FSIZE, (100, resource.RLIM_INFINITY)); print(write_fault('study.toml'))")
+            "resource.setrlimit(resource.RLIMIT_FSIZE, (100, resource.RLIM_INFINITY)); "
+            "print(write_fault('study.toml'))")
     package = os.path.dirname(os.path.dirname(file_faults.__file__))
     answer = subprocess.run([sys.executable, "-c", code, package], capture_output=True, text=True, cwd=folder)
     assert f"study.toml has {len(STUDY):,} bytes, and a file may have 100 here (ulimit -f)" in answer.stdout
