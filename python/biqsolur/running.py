@@ -17,7 +17,9 @@ from __future__ import annotations
 import contextlib
 import os
 import re
+import signal
 import subprocess
+import threading
 import time
 from collections.abc import Callable, Iterable, Iterator, Mapping, Sequence
 from dataclasses import dataclass, replace
@@ -98,8 +100,10 @@ def ended(program: Program, words: list[str], folder: str | os.PathLike[str] | N
 
     output: a descriptor to write to, or subprocess.PIPE. descriptors: those that the program inherits.
     """
-    process = started(program, words, folder, output, descriptors)
+    process = None
     try:
+        with interrupts_held():
+            process = started(program, words, folder, output, descriptors)
         while True:
             try:
                 stdout, stderr = process.communicate(timeout=None if watch is None else PROGRESS_SECONDS)
@@ -108,12 +112,35 @@ def ended(program: Program, words: list[str], folder: str | os.PathLike[str] | N
                 if watch is not None:
                     watch()
     finally:
-        if process.returncode is None:
-            process.kill()
-            process.wait()
-        for pipe in (process.stdout, process.stderr):
-            if pipe is not None:
-                pipe.close()
+        if process is not None:
+            end(process)
+
+
+def end(process: subprocess.Popen[bytes]) -> None:
+    """Ends the program where it still runs, and closes its pipes."""
+    if process.returncode is None:
+        process.kill()
+        process.wait()
+    for pipe in (process.stdout, process.stderr):
+        if pipe is not None:
+            pipe.close()
+
+
+@contextlib.contextmanager
+def interrupts_held() -> Iterator[None]:
+    """Holds an interrupt back until the block is done, so that none comes between the start of a program and the moment
+    at which it is known. Python tells its main thread alone of signals."""
+    if threading.current_thread() is not threading.main_thread():
+        yield
+        return
+    held: list[int] = []
+    before = signal.signal(signal.SIGINT, lambda number, frame: held.append(number))
+    try:
+        yield
+    finally:
+        signal.signal(signal.SIGINT, signal.SIG_DFL if before is None else before)
+        if held:
+            signal.raise_signal(signal.SIGINT)
 
 
 def started(program: Program, words: list[str], folder: str | os.PathLike[str] | None, output: int,

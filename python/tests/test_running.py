@@ -503,6 +503,25 @@ def test_an_interrupt_from_outside(tmp_path, own_cache):
     assert files_of(own_cache) == []
 
 
+def test_an_interrupt_while_the_program_starts(tmp_path, monkeypatch):
+    monkeypatch.setenv("PID", str(tmp_path / "pid"))
+    before = signal.getsignal(signal.SIGINT)
+    real = running.started
+    begun = []
+
+    def started(*words):
+        signal.raise_signal(signal.SIGINT)
+        begun.append(real(*words))
+        signal.raise_signal(signal.SIGINT)
+        return begun[0]
+
+    monkeypatch.setattr(running, "started", started)
+    with pytest.raises(KeyboardInterrupt):
+        biqsolur.run_bytes("run", program=stub(tmp_path, SLEEPER))
+    assert begun[0].returncode == -signal.SIGKILL
+    assert signal.getsignal(signal.SIGINT) is before
+
+
 def test_progress_is_told(capfd):
     told = []
     bundle = biqsolur.run(TICK, progress=told.append)
