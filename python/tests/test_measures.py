@@ -131,6 +131,8 @@ def test_lives_part_the_orders_and_agree_with_the_closing(measured):
                           ("open", "open"), ("rested", "rested"), ("first_fill", "first_fill"), ("end", "end"),
                           ("ahead", "ahead"), ("bid", "bid"), ("ask", "ask"), ("hidden", "hidden")]:
             assert frame[name].tolist() == [order[key] for order in found], name
+    for branch in measured.bundle.branches.values():
+        frame = measures.lives(branch)
         counts, closing = frame.fate.value_counts(), branch.closing
         taken = frame[frame.fate.isin(["filled", "canceled", "open"])]
         assert counts.sum() == len(frame)
@@ -156,6 +158,7 @@ def test_who_is_filled_next_has_nobody_before_it(measured):
             path = measures.queue_path(branch, row.reference)
             assert (path.event.iloc[0], path.ahead.iloc[0], path.open.iloc[0]) == (row.event, row.ahead, row.rested)
             assert path.open.iloc[-1] == row.open
+            assert ((path.ahead.diff() != 0) | (path.open.diff() != 0)).all()
 
 
 @each_market

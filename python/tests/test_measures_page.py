@@ -101,6 +101,21 @@ def test_the_measures_value_is_that_of_the_study(worked):
     assert sum(found.profit) + sum(found.fees) == 0
 
 
+def test_a_horizon_may_reach_to_the_very_end_and_no_further(worked):
+    last = measures.trade_spreads(worked, "6s").iloc[-1]
+    assert (last.time + 6 * 10**9, last.later) == (34_220_000_000_000, 99_900)
+    assert math.isnan(measures.trade_spreads(worked, 6 * 10**9 + 1).iloc[-1].later)
+
+
+def test_times_begin_with_the_event_and_not_behind_it(worked):
+    """Behind the event that rests LAST, at 9:30:16, four seconds are left, in all of which both sides are there."""
+    rests = int(worked.orders.event.iloc[-1])
+    assert worked.tape.window(rests).length == 4 * 10**9
+    assert measures.NAMES["quoted_spread"].compute(worked, after=rests)["two_sided"] == 1.0
+    before = measures.NAMES["quoted_spread"].compute(worked, after=rests - 1)
+    assert worked.tape.window(rests - 1).length == 5 * 10**9 and before["two_sided"] == pytest.approx(4 / 5)
+
+
 def test_each_measure_names_its_units_and_what_it_is(numbers):
     for measure in measures.NAMES.values():
         assert measure.about.endswith(".") or len(measure.about) > 40
