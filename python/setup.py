@@ -1,4 +1,5 @@
-"""Builds the package with the released program in it: biqsolur/bin/abides, unpacked from release/ and compared with its sum.
+"""Builds the package with the released program in it: biqsolur/bin/abides, unpacked from release/ and compared with its sum,
+and beside it the line of the kit that proved it.
 
 A source distribution has the packed program in its folder `release`, a checkout beside this folder. What is said of the package
 stands in pyproject.toml.
@@ -55,6 +56,7 @@ class BuildWithProgram(build_py):
         place.parent.mkdir(parents=True, exist_ok=True)
         place.write_bytes(program())
         place.chmod(0o755)
+        shutil.copyfile(release() / "KIT", place.parent / "KIT")
 
 
 class SourceWithProgram(sdist):

@@ -19,7 +19,7 @@ REQUIREMENT = re.compile(r"([A-Za-z0-9._-]+)(?:\[[^]]*\])?\s*(.*)")
 # Debian's names where they aren't `python3-` and the name of the package.
 DEBIAN = {"snakemake": "snakemake", "pyyaml": "python3-yaml"}
 # The programs that tests run, with Debian's packages. pip has none of them.
-TOOLS = {"tshark": "tshark", "unzip": "unzip"}
+TOOLS = {"tshark": "tshark", "shellcheck": "shellcheck", "xz": "xz-utils"}
 BROWSER_TOOLS = {"chromium": "chromium", "chromedriver": "chromium-driver"}
 BROWSER_EXTRA = "browser"
 

@@ -17,12 +17,13 @@ import subprocess
 import tempfile
 import time
 from collections.abc import Iterator
+from contextlib import ExitStack, contextmanager
 from pathlib import Path
 
 import pytest
 from conftest import ROOT
 
-LONGEST = 20
+LONGEST = 120
 RUNS = "abides: running the release made from these sources, as its record says (./prove proves and builds it here)\n"
 WORDS_OF_HELP = ("run STUDY", "table STUDY", "check STUDY", "rewind STUDY B:E", "cross STUDY B:E SYMBOL FILE",
                  "session STUDY SCRIPT", "audit BUNDLE", "big NUMBER", "explore STUDY", "--workers N", "--places N")
@@ -89,10 +90,16 @@ class Checkout:
         return subprocess.run(["/bin/sh", "-c", line], cwd=self.room, env={**self.env, "ABIDES": self.script(), **env},
                               capture_output=True, text=True, timeout=LONGEST)
 
-    def start(self, *words: str, script: str | None = None, **env: str) -> subprocess.Popen:
-        """Starts a script whose standard error can be read line by line."""
-        return subprocess.Popen([script or self.script(), *words], cwd=self.room, env={**self.env, **env},
-                                stdin=subprocess.DEVNULL, stdout=subprocess.PIPE, stderr=subprocess.PIPE, text=True)
+    @contextmanager
+    def started(self, *words: str, script: str | None = None, **env: str) -> Iterator[subprocess.Popen]:
+        """Starts a script whose output can be read line by line; what still runs in the end is killed."""
+        process = subprocess.Popen(["env", "--default-signal=INT,QUIT", script or self.script(), *words], cwd=self.room, env={**self.env, **env},
+                                   stdin=subprocess.DEVNULL, stdout=subprocess.PIPE, stderr=subprocess.PIPE, text=True)
+        try:
+            yield process
+        finally:
+            process.kill()
+            process.communicate()
 
     def stub(self, name: str, text: str) -> None:
         """Puts a script on the path, before the system's."""
@@ -316,7 +323,7 @@ def test_another_program_can_be_named(used: Checkout, tmp_path: Path) -> None:
 # Statuses, signals, streams
 
 FILE_WORDS = ["cross", "--workers", "4", "study", "B:E", "--", "SYM", "orders"]
-FILES = {5: "study", 12: "orders", 13: "study", 14: "study", 15: "B:E", 16: "B:E"}
+FILES = {5: "study", 12: "orders --study study", 13: "study", 14: "study", 15: "B:E --study study", 16: "B:E --study study"}
 
 
 @pytest.mark.parametrize("status", range(17))
@@ -349,7 +356,7 @@ def test_control_characters_of_a_name_are_not_repeated(used: Checkout) -> None:
 @pytest.mark.parametrize("number", [signal.SIGTERM, signal.SIGINT, signal.SIGHUP, signal.SIGQUIT, signal.SIGKILL, signal.SIGUSR1])
 def test_a_signal_ends_script_and_program(used: Checkout, number: signal.Signals) -> None:
     """The caller sees the signal, and the program is gone."""
-    with used.start("run", STUB_FOREVER="yes") as process:
+    with used.started("run", STUB_FOREVER="yes") as process:
         program = int(line_of(process, r"at work as (\d+)")[1])
         process.send_signal(number)
         assert process.wait(LONGEST) == -number
@@ -433,7 +440,7 @@ def test_settings_of_xz_change_nothing(checkout: Checkout) -> None:
 
 
 TOOLS = ("sh", "readlink", "sha256sum", "cut", "sed", "cat", "mkdir", "mv", "rm", "chmod", "find", "sort", "xargs", "uname",
-         "tail", "touch", "setpriv", "wc", "sleep")
+         "tail", "touch", "setpriv", "env", "wc", "sleep")
 
 
 @pytest.mark.parametrize("more", [("xz",), ("xz", "awk", "git"), ("dpkg-deb", "tar", "gzip")])
@@ -451,9 +458,10 @@ def test_without_something_that_unpacks_it_builds(checkout: Checkout) -> None:
     assert answer.stderr.startswith("abides: there is no xz on the path to unpack the release; building from source\n")
 
 
-def test_without_setpriv_the_program_is_run_all_the_same(used: Checkout) -> None:
+@pytest.mark.parametrize("lacking", ["setpriv", "env"])
+def test_without_setpriv_the_program_is_run_all_the_same(used: Checkout, lacking: str) -> None:
     """The script becomes it then, and the second line is left out."""
-    answer = used.call("run", STUB_STATUS="5", **used.only(*(set(TOOLS) - {"setpriv"})))
+    answer = used.call("run", STUB_STATUS="5", **used.only(*(set(TOOLS) - {lacking})))
     assert (answer.returncode, answer.stderr) == (5, "note of the program\n")
 
 
@@ -514,11 +522,12 @@ def test_a_checkout_without_leave_to_write(for_others: Path) -> None:
 
 def test_ten_at_once(checkout: Checkout) -> None:
     """All in a fresh checkout: each runs, and nothing is left over."""
-    several = [checkout.start("run", str(number)) for number in range(10)]
-    for number, process in enumerate(several):
-        output, said = process.communicate(timeout=LONGEST)
-        assert (process.returncode, output) == (0, f"{checkout.released}\nrun\n{number}\n")
-        assert said in (RUNS, "")
+    with ExitStack() as stack:
+        several = [stack.enter_context(checkout.started("run", str(number))) for number in range(10)]
+        for number, process in enumerate(several):
+            output, said = process.communicate(timeout=LONGEST)
+            assert (process.returncode, output) == (0, f"{checkout.released}\nrun\n{number}\n")
+            assert said in (RUNS, "")
     assert sorted(path.name for path in checkout.out.iterdir()) == ["abides_release", "abides_release.sum"]
 
 
@@ -591,7 +600,7 @@ def process_of_rt(checkout: Checkout) -> int:
 
 def test_prove_says_what_it_is_at(waiting: Checkout) -> None:
     """Again and again, until rt is done; which crates come next is told too."""
-    with waiting.start(script=waiting.script("prove"), PROVE_TELLS_EVERY="0.05") as process:
+    with waiting.started(script=waiting.script("prove"), PROVE_TELLS_EVERY="0.05") as process:
         assert process.stdout is not None
         said = [line for line, _ in zip(iter(lambda: next(line for line in process.stdout if "at work for" in line), None), range(3))]
         assert all(re.fullmatch(r"prove: at work for 0 min \d+ s, 1 of 2 crates done; now or next: abides_main \n", line)
@@ -608,7 +617,7 @@ def test_an_end_while_it_proves_leaves_nothing_behind(waiting: Checkout, script:
     """No rt, and no turn that keeps the next call away; also where ./abides is what builds."""
     (waiting.home / "release/SOURCES").unlink()
     words = ["run"] if script == "abides" else []
-    with waiting.start(*words, script=waiting.script(script)) as process:
+    with waiting.started(*words, script=waiting.script(script)) as process:
         rt = process_of_rt(waiting)
         process.send_signal(number)
         _, said = process.communicate(timeout=LONGEST)
@@ -621,7 +630,7 @@ def test_an_end_while_it_proves_leaves_nothing_behind(waiting: Checkout, script:
 
 def test_two_calls_do_not_prove_at_once(waiting: Checkout) -> None:
     """The second says which process is at work; a turn of a stranger's number, or of an older kind, blocks nothing."""
-    with waiting.start(script=waiting.script("prove")) as process:
+    with waiting.started(script=waiting.script("prove")) as process:
         process_of_rt(waiting)
         answer = prove(waiting)
         assert (answer.returncode, answer.stderr) == (1, f"prove: another ./prove is at work on this clone (process {process.pid})\n")
@@ -657,7 +666,7 @@ def test_shellcheck_has_nothing_to_say() -> None:
     if shutil.which("shellcheck") is None:
         pytest.skip("no shellcheck on the path (Debian: shellcheck)")
     scripts = [ROOT / name for name in ("abides", "prove", "test", ".ci/run", "release/common.sh", "release/check", "release/make",
-                                        "release/sources-sum", "bench/run")]
+                                        "release/sources-sum")]
     answer = subprocess.run(["shellcheck", "-x", *scripts], capture_output=True, text=True, cwd=ROOT)
     assert (answer.returncode, answer.stdout) == (0, "")
 
