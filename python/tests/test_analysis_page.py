@@ -18,6 +18,7 @@ pytest.importorskip("matplotlib", reason="matplotlib is not installed (Debian: p
 pytest.importorskip("scipy", reason="scipy is not installed (Debian: python3-scipy)")
 pytest.importorskip("cryptography", reason="cryptography is not installed (Debian: python3-cryptography)")
 pytest.importorskip("dpkt", reason="dpkt is not installed (Debian: python3-dpkt)")
+pytest.importorskip("tqdm", reason="tqdm is not installed (Debian: python3-tqdm)")
 pytest.importorskip("plotly", reason="plotly is not installed (Debian: python3-plotly)")
 PAGE = (ROOT / "docs/ANALYSIS.md").read_text()
 SWEEPS = "Many keys and many values"
