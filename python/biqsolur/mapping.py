@@ -2,7 +2,7 @@
 
     frame = biqsolur.map("examples/tick_size.toml", 30, lambda bundle: bundle.branches["wide"].trades.shares.sum())
 
-Each key is run and answered in a process of its own; a sweep (docs/ANALYSIS.md) does the same for many machines, with
+Each key is run and answered in a process of its own; a sweep (docs/SWEEPS.md) does the same for many machines, with
 changed values, and goes on after an interrupt.
 """
 

@@ -151,12 +151,22 @@ def drawn(path):
 
 
 PAGES = ["README.md", *sorted(str(path.relative_to(HOME)) for path in (HOME / "docs").glob("*.md"))]
-SHOWN = [(page, *found) for page in PAGES
-         for found in re.findall(r"!\[[^\]]+\]\(((?:docs/)?pictures/([^)]+))\)\n\n    python3 -m biqsolur (figure .*)\n",
-                                 (HOME / page).read_text())]
+PICTURE = re.compile(r"!\[[^\]]+\]\(((?:docs/)?pictures/([^)]+))\)")
 
 
-@pytest.mark.parametrize("page, link, name, words", SHOWN, ids=[f"{shown[0]}-{shown[2]}" for shown in SHOWN])
+def shown():
+    """Of each picture in a page: the page, its link, its name, and the command that stands on the page for it."""
+    for page in PAGES:
+        text = (HOME / page).read_text()
+        for link, name in PICTURE.findall(text):
+            commands = re.findall(rf"^ *python3 -m biqsolur (figure .* -o {re.escape(name)})$", text, re.M)
+            yield page, link, name, commands[0] if commands else ""
+
+
+SHOWN = list(shown())
+
+
+@pytest.mark.parametrize("page, link, name, words", SHOWN, ids=[f"{one[0]}-{one[2]}" for one in SHOWN])
 def test_a_picture_of_the_docs_is_what_its_command_draws(page, link, name, words, tmp_path, monkeypatch, program):
     monkeypatch.chdir(HOME)
     there = (HOME / page).parent / link
@@ -171,7 +181,7 @@ def test_a_picture_of_the_docs_is_what_its_command_draws(page, link, name, words
 
 
 def test_each_picture_of_the_docs_is_shown_with_its_command():
-    shown = {name for _, _, name, _ in SHOWN}
-    assert shown == {path.name for path in (HOME / "docs" / "pictures").iterdir()} and len(shown) >= 3
+    names = {name for _, _, name, words in SHOWN if words}
+    assert names == {path.name for path in (HOME / "docs" / "pictures").iterdir()} and len(names) >= 3
     for page in PAGES:
-        assert (HOME / page).read_text().count("pictures/") == sum(shown[0] == page for shown in SHOWN), page
+        assert (HOME / page).read_text().count("pictures/") == sum(page == one[0] for one in SHOWN), page

@@ -598,3 +598,41 @@ def test_a_refused_sweep_by_snakemake(tmp_path, program):
     status, said = snakemake(tmp_path, configuration(tmp_path, program, grid={"agent.noise.size": [0]}))
     assert status != 0 and "sweep: 1 of 1 points are refused under all keys" in said and "Traceback" not in said
     assert not Path("out/runs").exists()
+
+
+# ------------------------------------------------------------ what the docs say
+
+PAGE = (HOME / "docs" / "SWEEPS.md").read_text()
+
+
+def test_the_configuration_of_the_docs_is_the_one_that_is_there():
+    text = (HOME / "sweep" / "ticks.yaml").read_text()
+    assert f"```yaml\n{text.split(chr(10), 1)[1]}```\n" in PAGE
+    rows = re.findall(r"^\| `(\w+)[^|]*` \| ", PAGE.split("| Setting |")[1].split("\n\n")[0], re.M)
+    assert sorted(rows) == sorted(plan.SETTINGS)
+
+
+def ticks(program, **changes):
+    """The configuration of ticks.yaml without its measures, carried out below the test's folder."""
+    return {"study": str(STUDY), "keys": 30, "output": "out", "program": str(program), "batch": 90,
+            "grid": {"branch.wide.edit.0.bands": [[[0, 200]], [[0, 500]], [[0, 1000]]], "agent.noise.size": [50, 100]}} | changes
+
+
+def test_the_table_of_the_docs(tmp_path, program):
+    summary.summarise(carried_out(ticks(program)))
+    s = pandas.read_csv("out/summary.csv")
+    names = ["branch.wide.edit.0.bands", "agent.noise.size", "pairs", "difference", "low", "high"]
+    found = s[(s.branch == "wide") & (s.measure == "spread_sum")][names].to_numpy().astype(str).tolist()
+    lines = PAGE.split("    branch.wide.edit.0.bands  agent")[1].split("\n\n")[0].splitlines()[1:]
+    said = [re.match(r"\s*(\[\[.*\]\])\s+(.*)", line).groups() for line in lines]
+    assert [[bands, *map(float, rest.split())] for bands, rest in said] == [
+        [row[0], *(pytest.approx(float(value), abs=5e-7) for value in row[1:])] for row in found]
+
+
+def test_the_effective_spread_of_the_docs(tmp_path, program):
+    made = carried_out(ticks(program, measures=["effective_spread"], grid={"branch.wide.edit.0.bands": [[[0, 500]]]}))
+    summary.summarise(made)
+    row, = (row for row in rows_of("out/summary.csv") if (row["branch"], row["measure"]) == ("wide", "effective_spread"))
+    cents = [f"{float(row[name]) / 100:.2f}" for name in ("difference", "low", "high")]
+    assert "the effective spread of a trade is {} cents more than in the root over the same events ({} to {})".format(
+        *cents) in PAGE

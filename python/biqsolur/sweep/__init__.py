@@ -2,5 +2,5 @@
 
 `plan` reads a configuration and writes the study of each point; `run` carries out one job, a few points under a few keys;
 `summary` says for each point, branch and measure what the keys say together; `page` draws that. sweep/Snakefile calls them,
-and docs/ANALYSIS.md is for whoever runs a sweep.
+and docs/SWEEPS.md is for whoever runs a sweep.
 """

@@ -1,6 +1,6 @@
 """What a sweep is to run: a base study, keys, a grid of changed values, and what is asked of each run.
 
-docs/ANALYSIS.md has the settings of a configuration. A plan stands in OUTPUT/plan.json, with the study of each point beside
+docs/SWEEPS.md has the settings of a configuration. A plan stands in OUTPUT/plan.json, with the study of each point beside
 it; a job reads no more than that.
 """
 
