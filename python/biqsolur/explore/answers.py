@@ -13,7 +13,7 @@ from biqsolur.explore.moment import moment, trader_table
 from biqsolur.explore.run import Run
 from biqsolur.explore.taking import session_script
 from biqsolur.explore.view import View
-from biqsolur.explore.words import sentence
+from biqsolur.explore.words import edit_words, sentence
 
 Table = dict[str, Any]
 Words = dict[str, str]
@@ -80,7 +80,7 @@ def branch_table(run: Run, name: str) -> Table:
     difference = branch.first_difference
     return {
         "name": name, "parent": branch.parent, "fork": branch.fork, "count": view.count,
-        "at": entry.get("at"), "when": entry.get("when"), "edits": entry.get("edit", []),
+        "at": entry.get("at"), "when": entry.get("when"), "edits": [edit_words(view, edit) for edit in entry.get("edit", [])],
         "fork_time": view.time_of(min(branch.fork, view.count)), "end_time": view.time_of(view.count),
         "end": branch.closing.counts["end"], "difference": difference,
         "difference_time": view.time_of(min(difference, view.count)) if difference else None,

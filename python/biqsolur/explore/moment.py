@@ -7,7 +7,7 @@ from typing import Any
 from biqsolur import layouts
 from biqsolur.explore.rules import Table, edits_of, rules_at
 from biqsolur.explore.view import View
-from biqsolur.explore.words import event_table, message_words, money
+from biqsolur.explore.words import edit_words, event_table, message_words, money
 from biqsolur.rewinds import State
 
 MOST_LEVELS = 40            # of a side that are told; how many there are is told too
@@ -31,7 +31,7 @@ def moment(study: Table, view: View, state: State) -> Table:
 
 def edits_at(study: Table, view: View, event: int) -> list[Table]:
     """The edits that were made after this very event, each with its branch."""
-    return [{"branch": name, **edit} for made, name, edit in edits_of(study, view) if made == event]
+    return [{"branch": name, **edit_words(view, edit)} for made, name, edit in edits_of(study, view) if made == event]
 
 
 def stocks_table(state: State, rules: Table) -> list[Table]:

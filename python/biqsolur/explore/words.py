@@ -152,19 +152,18 @@ def reply_words(body: bytes, values: dict[str, str]) -> str:
 
 
 def consequence(view: View, event: int, head: dict[str, int], said: str) -> str:
-    """A delivered message, and what the feed told of it."""
+    """A delivered message: who heard it, or what the feed told of it."""
     letter, name = chr(head["body"]), view.people.name
+    who = name(head["receiver"])
+    hearer = f"{who[0].upper()}{who[1:]}"
     if letter == "w":
-        return f"{name(head['receiver'])[0].upper()}{name(head['receiver'])[1:]} wakes up."
-    verb = {"q": "is heard", "o": "is heard"}.get(letter, "reaches the exchange")
-    if letter == "q":
-        phrase, numbers = said.split(": ", 1)
-        return f"{phrase[0].upper()}{phrase[1:]} {verb}: {numbers}."
-    if letter == "o":
-        return f"{said[0].upper()}{said[1:]}: it is heard."
+        return f"{hearer} wakes up."
+    if letter in "qo":
+        heard = said.replace(f" to {who}", "", 1).removeprefix("the reply that ")
+        return f"{hearer} hears {heard if letter == 'q' else f'that {heard}'}."
     told = told_by_feed(view, event) if letter == "i" else []
     end = f": {'; '.join(told)}" if told else ""
-    return f"{said[0].upper()}{said[1:]} {verb}{end}."
+    return f"{said[0].upper()}{said[1:]} reaches the exchange{end}."
 
 
 def told_by_feed(view: View, event: int) -> list[str]:
@@ -222,3 +221,10 @@ def event_table(view: View, event: int) -> dict[str, Any]:
         "fields": decode(letter, body, view.symbols), "trades": trades_of(view, event),
         "feed": [{"kind": kind, **fields} for kind, fields in feed_of(view, event)],
     }
+
+
+def edit_words(view: View, edit: dict[str, Any]) -> dict[str, Any]:
+    """An edit with what its message says, where it injects one."""
+    if edit["kind"] != "inject":
+        return edit
+    return {**edit, "words": message_words(view, "i", bytes.fromhex(edit["message"]), edit["agent"], 0)}

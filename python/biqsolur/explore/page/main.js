@@ -216,6 +216,8 @@ function goSafe(branch, event) {
 function drawMoment() {
   const { state, study } = page;
   byId("branch").value = page.branch;
+  byId("stock").value = page.stock;
+  byId("agent").value = page.agent;
   byId("event").value = page.event;
   byId("clock").value = clock(state.time);
   byId("what-title").textContent = page.event ? `Event ${whole(page.event)} of ${whole(branchTable().count)}` : "The opening";

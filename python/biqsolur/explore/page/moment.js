@@ -39,7 +39,7 @@ export function editWords(edit, people) {
     case "latency": return `from group ${edit.from} to group ${edit.to} a message takes ${span(edit.base)} and up to ${span(edit.jitter)} more`;
     case "agent": return `${edit.name} of ${people.name(edit.agent)} becomes ${parameterText(edit.name, edit.value)}`;
     case "silence": return `${people.name(edit.agent)} falls silent`;
-    case "inject": return `a message of ${people.name(edit.agent)} comes ${span(edit.after)} later`;
+    case "inject": return `${edit.words} comes ${span(edit.after)} later`;
     case "series": return `the value of ${stock} moves by ${edit.offset / 10000} dollars`;
     default: return edit.kind;
   }
