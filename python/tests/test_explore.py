@@ -605,6 +605,16 @@ def test_a_refused_study_is_told_and_can_be_mended(tmp_path: Path, program: str)
         assert served.get("status")[1]["ready"]
 
 
+def test_the_server_ends_while_a_request_hangs(program: str) -> None:
+    """A connection on which half a request came, and another on which nothing came, hold up no end."""
+    with Served(EXAMPLE, program) as served:
+        with socket.create_connection(("127.0.0.1", served.port), timeout=LONGEST) as half, \
+                socket.create_connection(("127.0.0.1", served.port), timeout=LONGEST):
+            half.sendall(f"POST /{TOKEN}/api/change HTTP/1.1\r\nHost: 127.0.0.1:{served.port}\r\nContent-Length: 9\r\n\r\n{{".encode())
+            served.ask("status")
+            served.end()
+
+
 # ---------------------------------------------------------------- refusals of the server
 
 def raw(served: Served, data: bytes) -> bytes:

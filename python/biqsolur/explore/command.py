@@ -3,6 +3,7 @@
 from __future__ import annotations
 
 import argparse
+import asyncio
 import contextlib
 import html
 import os
@@ -27,18 +28,25 @@ from biqsolur.study import Study
 
 HERE = "127.0.0.1"
 MOST_WORKERS = 64
+SECONDS_TO_END = 1.0        # that answers under way get when the explorer ends
 
 
 class Server(uvicorn.Server):
-    """A server that first ends what its answers wait for, when it is to end."""
+    """A server that ends soon when it is to end: it first ends what its answers wait for, and then waits for no connection
+    for long, since a browser holds some on which it asks nothing."""
 
     explorer: Explorer
 
     def handle_exit(self, sig: int, frame: FrameType | None) -> None:
         """Ctrl-C, or the system's wish that this ends."""
-        self.explorer.engine.stop()
-        self.force_exit = self.should_exit
+        self.explorer.engine.end()
         self.should_exit = True
+
+    async def shutdown(self, sockets: list[socket.socket] | None = None) -> None:
+        """Gives answers under way a moment, and then ends."""
+        self.explorer.engine.end()
+        asyncio.get_running_loop().call_later(SECONDS_TO_END, setattr, self, "force_exit", True)
+        await super().shutdown(sockets)
 
 
 def make_server(explorer: Explorer, token: str, opened: Callable[[], None] = lambda: None) -> Server:

@@ -26,7 +26,7 @@ class Stopped(InputError):
 class Engine:
     """Runs the program for several threads at once.
 
-    `stop` ends all that runs, whose callers get Stopped; after `close` nothing is run any more. `folder` has what is made
+    `stop` ends all that runs, whose callers get Stopped; after `end` nothing is run any more. `folder` has what is made
     for downloads, and goes with `close`.
     """
 
@@ -98,8 +98,12 @@ class Engine:
         with self.lock:
             self.stops += 1
 
-    def close(self) -> None:
+    def end(self) -> None:
         """Ends all that runs, and lets nothing else begin."""
         self.closed = True
         self.stop()
+
+    def close(self) -> None:
+        """Ends all, and takes the folder away."""
+        self.end()
         shutil.rmtree(self.folder, ignore_errors=True)
