@@ -10,7 +10,7 @@ from biqsolur.bundle import Branch
 from biqsolur.errors import InputError
 from biqsolur.explore.view import View
 from biqsolur.explore.words import sentence
-from biqsolur.measures.registry import PRICE
+from biqsolur.measures.registry import MONEY, PRICE
 
 Table = dict[str, Any]
 
@@ -52,8 +52,9 @@ def numbers(branch: Branch, after: int) -> dict[str, float | None]:
 
 
 def labelled(number: str, unit: str) -> tuple[str, int]:
-    """What a measure's number is called on the page, and by what it is divided: prices are shown in dollars."""
-    name, scale = number.replace("_", " "), 1
-    if unit.startswith(PRICE):
-        unit, scale = unit.replace(PRICE, "dollars", 1), 10_000
-    return f"{name}, {unit}" if unit else name, scale
+    """What a measure's number is called on the page, and by what it is divided: prices and money are shown in dollars."""
+    name = number.replace("_", " ")
+    for small, scale in ((PRICE, 10_000), (MONEY, 1_000_000)):
+        if unit.startswith(small):
+            return f"{name}, {unit.replace(small, 'dollars', 1)}", scale
+    return f"{name}, {unit}" if unit not in ("", name) else name, 1

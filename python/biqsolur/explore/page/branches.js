@@ -6,6 +6,8 @@ import { clock, el, fill, link, table, whole } from "./format.js";
 import { editWords } from "./moment.js";
 import { colour } from "./timeline.js";
 
+const FIRST_MEASURES = 12;
+
 // `does` has: pick(name), send(kind, table, place of an error), context(), go(branch, event).
 export function showBranches(study, chosen, people, does) {
   fill("branch-list", el("ul", { class: "tree" }, study.branches.map((branch, place) => item(study, branch, place, chosen, people, does))));
@@ -66,12 +68,17 @@ export async function showCompared(study, chosen, does) {
         [[chosen, found.ours], [branch.parent, found.theirs]].map(([name, words]) =>
           el("div", {}, el("dt", {}, name), el("dd", {}, words || "has no such event")))));
   fill("compare", el("h3", {}, `${chosen} beside ${branch.parent}`), first,
-    el("div", { class: "scroll", tabindex: 0, role: "region", "aria-label": "Measures side by side" },
-      table("Measures", [
-        ["measure", "", row => row.name], [branch.parent, "number", row => numberText(row.theirs)],
-        [chosen, "number", row => numberText(row.ours)], ["difference", "number", row => numberText(row.ours === null || row.theirs === null
-          ? null : row.ours - row.theirs)],
-      ], found.measures)));
+    measures("Measures of the events behind the fork", branch, found.measures.slice(0, FIRST_MEASURES)),
+    found.measures.length > FIRST_MEASURES && el("details", {}, el("summary", {}, `${found.measures.length - FIRST_MEASURES} measures more`),
+      measures("More measures of the events behind the fork", branch, found.measures.slice(FIRST_MEASURES))));
+}
+
+function measures(caption, branch, rows) {
+  const difference = row => row.ours === null || row.theirs === null ? null : row.ours - row.theirs;
+  return el("div", { class: "scroll", tabindex: 0, role: "region", "aria-label": caption }, table(caption, [
+    ["measure", "", row => row.name], [branch.parent, "number", row => numberText(row.theirs)],
+    [branch.name, "number", row => numberText(row.ours)], ["difference", "number", row => numberText(difference(row))],
+  ], rows));
 }
 
 function numberText(number) {

@@ -7,17 +7,17 @@ const LEVELS = 12;
 // What the event was, with its bytes decoded.
 export function showEvent(state, people) {
   const what = state.what;
-  const rows = [["number", whole(what.number)], ["time", clock(what.time)]];
-  if (what.number) {
-    rows.push(["message", `number ${whole(what.message)}, from ${people.name(what.sender)} to ${people.name(what.receiver)}`]);
-    if (what.fee !== "0") rows.push(["fees of both sides", `${fee(Number(what.fee))} dollars`]);
-    if (!what.put_back) rows.push(["busy until", clock(what.busy_until)]);
-  }
+  const way = what.number ? `, message ${whole(what.message)} from ${people.name(what.sender)} to ${people.name(what.receiver)}` : "";
+  const rows = [];
+  if (what.number && !what.put_back) rows.push([`${people.name(what.receiver)} is busy until`, clock(what.busy_until)]);
+  if (what.number && what.fee !== "0") rows.push(["fees of both sides", `${fee(Number(what.fee))} dollars`]);
+  const open = document.querySelector("#what-body details")?.open;     // as the user left it at the event before
   fill("what-body",
     el("p", { class: "words" }, what.words),
+    el("p", { class: "hint" }, clock(what.time) + way),
     state.edits.map(edit => el("p", { class: "edit" }, `Edit of ${edit.branch}: ${editWords(edit, people)}.`)),
-    el("dl", { class: "pairs" }, rows.map(([name, value]) => el("div", {}, el("dt", {}, name), el("dd", {}, value)))),
-    what.fields.length > 0 && el("details", {}, el("summary", {}, `its ${what.bytes.length / 2} bytes, decoded`), bytesTable(what)));
+    rows.length > 0 && el("dl", { class: "pairs" }, rows.map(([name, value]) => el("div", {}, el("dt", {}, name), el("dd", {}, value)))),
+    what.fields.length > 0 && el("details", { open }, el("summary", {}, `its ${what.bytes.length / 2} bytes, decoded`), bytesTable(what)));
 }
 
 function bytesTable(what) {
