@@ -27,9 +27,9 @@ def compare(bundle: Bundle, wanted: Any, parent: bool = True, **settings: Any) -
         other = bundle.branches[branch.parent] if parent and branch.parent is not None else None
         after = branch.fork if parent else 0
         for measure in found:
-            own = {name: value for name, value in settings.items() if name in (*measure.takes, "after", "stock", "study")}
-            numbers = measure.compute(branch, **{"after": after, **own})
-            others = measure.compute(other, **{"after": after, **own}) if other is not None else {}
+            own = {"after": after, **{name: value for name, value in settings.items() if name in measure.takes}}
+            numbers = measure.compute(branch, **own)
+            others = measure.compute(other, **own) if other is not None else {}
             rows += [(branch.name, name, numbers.get(name, numpy.nan), others.get(name, numpy.nan), measure.unit(name))
                      for name in dict.fromkeys([*numbers, *others])]
     frame = pandas.DataFrame(rows, columns=["branch", "measure", "value", "parent", "unit"])
@@ -47,4 +47,5 @@ def taken_by_none(found: list[Measure], settings: Mapping[str, Any]) -> None:
     """MeasureError for a setting that none of the measures takes."""
     for name in settings:
         if not any(name in measure.takes for measure in found):
-            raise MeasureError(f"none of the measures {', '.join(measure.name for measure in found)} has a setting {name!r}")
+            names = ", ".join(measure.name for measure in found)
+            raise MeasureError(f"none of the measures {names} has a setting {name!r}")

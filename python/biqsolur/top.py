@@ -138,8 +138,8 @@ def greatest_covering(starts: numpy.ndarray, ends: numpy.ndarray, values: numpy.
 class Levels:
     """The open shares of each price level after each message that changes it.
 
-    level: of each order, a number that rises with stock, side and price. keys: level times the number of messages, and the
-    row, in rising order; sums: the open shares of that level after that row.
+    level: of each order, a number that rises with stock, side and price. keys: level times the number of messages,
+    and the row, in rising order; sums: the open shares of that level after that row.
     """
 
     level: numpy.ndarray

@@ -125,7 +125,8 @@ class PlainTape:
             life.update(fate="filled" if kind == b"E" else "canceled", end=time)
 
     def trade(self, event, time, stock, order, price, shares, resting):
-        self.trades.append((event, time, stock, 1 if order["side"] == "B" else -1, price, shares, order["agent"], resting))
+        sign = 1 if order["side"] == "B" else -1
+        self.trades.append((event, time, stock, sign, price, shares, order["agent"], resting))
         order["on_entry"] += shares
         order["executed"] += shares
         order["first_fill"] = time
@@ -310,15 +311,18 @@ def flows(tape, stock, after, interval):
     """(signed shares, dollars, move, part) of each interval; the first one has its own start too."""
     points, found = grid(tape, after, interval), []
     for place, (one, two) in enumerate(zip(points, points[1:])):
-        inside = [trade for trade in tape.own_trades(stock, after) if one < trade[1] <= two or (place == 0 and trade[1] == one)]
+        inside = [trade for trade in tape.own_trades(stock, after)
+                  if one < trade[1] <= two or (place == 0 and trade[1] == one)]
         before, behind = (mid_of(*tape.at(stock, point)[3:]) for point in (one, two))
-        found.append((sum(trade[3] * trade[5] for trade in inside), sum(trade[4] * trade[5] for trade in inside) / 10_000,
+        found.append((sum(trade[3] * trade[5] for trade in inside),
+                      sum(trade[4] * trade[5] for trade in inside) / 10_000,
                       behind - before, (behind - before) / before))
     return found
 
 
 def kyle_lambda(tape, stock, after, interval, **_):
-    return dict(zip(("kyle_lambda", "kyle_r2"), line([(float(x), y) for x, _, y, _ in flows(tape, stock, after, interval)])))
+    pairs = [(float(x), y) for x, _, y, _ in flows(tape, stock, after, interval)]
+    return dict(zip(("kyle_lambda", "kyle_r2"), line(pairs)))
 
 
 def amihud(tape, stock, after, interval, **_):
@@ -372,8 +376,8 @@ def finish_hidden(order, replies, rest):
         order["executed"] += sum(shares for _, shares in fills)
         order["canceled"] += sum(shares for _, shares in cancels)
         if rest is not None:
-            order.update(fate="open", open=plain.number(rest, 30, 4), canceled=order["shares"] - plain.number(rest, 26, 4),
-                         executed=plain.number(rest, 26, 4) - plain.number(rest, 30, 4))
+            intended, left = plain.number(rest, 26, 4), plain.number(rest, 30, 4)
+            order.update(fate="open", open=left, canceled=order["shares"] - intended, executed=intended - left)
         elif order["executed"] + order["canceled"] == order["shares"]:
             last_fill, last_cancel = (max((time for time, _ in told), default=-1) for told in (fills, cancels))
             order.update(fate="canceled" if last_cancel > last_fill else "filled", end=max(last_fill, last_cancel))
@@ -402,7 +406,8 @@ def order_fates(tape, stock, after, found, **_):
 
 
 def order_lifetime(tape, stock, after, found, **_):
-    lengths = [order["end"] - order["time"] for order in of_stock(found, stock, after) if order["rested"] and order["end"] >= 0]
+    lengths = [order["end"] - order["time"] for order in of_stock(found, stock, after)
+               if order["rested"] and order["end"] >= 0]
     return {"order_lifetime": fmean(lengths) if lengths else NAN, "order_lifetime_median": middle(lengths)}
 
 
@@ -425,7 +430,8 @@ def fill_probability(tape, stock, after, found, **_):
 def time_to_fill(tape, stock, after, found, **_):
     filled = [order for order in of_stock(found, stock, after)
               if order["rested"] and order["on_entry"] == 0 and order["executed"]]
-    return {f"time_to_fill{name}": middle([order["first_fill"] - order["time"] for order in filled if place(order) in places])
+    waits = [(place(order), order["first_fill"] - order["time"]) for order in filled]
+    return {f"time_to_fill{name}": middle([wait for where, wait in waits if where in places])
             for name, places in PLACES.items()}
 
 

@@ -119,7 +119,8 @@ def test_effective_is_realised_spread_and_impact_trade_by_trade(measured):
         assert len(frame) == len(branch.trades) == len(tape.trades)
         known = frame[frame.realised.notna() & frame.impact.notna()]
         assert (known.effective == known.realised + known.impact).all()
-        assert frame.index.tolist() == branch.trades.index.tolist() and frame.event.equals(branch.trades.event.astype(int))
+        assert frame.index.tolist() == branch.trades.index.tolist()
+        assert frame.event.tolist() == branch.trades.event.tolist()
 
 
 @each_market
@@ -127,10 +128,9 @@ def test_lives_part_the_orders_and_agree_with_the_closing(measured):
     for branch, _, found, _ in measured.pairs():
         frame = measures.lives(branch)
         assert len(frame) == len(found) == (branch.orders.kind == "enter").sum()
-        for name, key in [("fate", "fate"), ("on_entry", "on_entry"), ("executed", "executed"), ("canceled", "canceled"),
-                          ("open", "open"), ("rested", "rested"), ("first_fill", "first_fill"), ("end", "end"),
-                          ("ahead", "ahead"), ("bid", "bid"), ("ask", "ask"), ("hidden", "hidden")]:
-            assert frame[name].tolist() == [order[key] for order in found], name
+        for name in ("fate", "on_entry", "executed", "canceled", "open", "rested", "first_fill", "end", "ahead", "bid",
+                     "ask", "hidden"):
+            assert frame[name].tolist() == [order[name] for order in found], name
     for branch in measured.bundle.branches.values():
         frame = measures.lives(branch)
         counts, closing = frame.fate.value_counts(), branch.closing
@@ -193,9 +193,11 @@ def test_accounts_end_as_the_closing_has_them(measured):
 def test_agents_measures_are_those_of_plain_loops(measured):
     kinds = {number: kind for number, kind, _ in measured.study.traders}
     for branch, tape, _, after in measured.pairs():
-        income = measures.NAMES["maker_income"].compute(branch, study=measured.study, horizon=measured.horizon, after=after)
+        income = measures.NAMES["maker_income"].compute(branch, study=measured.study, horizon=measured.horizon,
+                                                        after=after)
         held = measures.NAMES["inventory"].compute(branch, study=measured.study, after=after)
-        expected = dict.fromkeys((f"{name}_{kind}" for name in ("earned", "lost", "kept") for kind in kinds.values()), 0.0)
+        names = [f"{name}_{kind}" for name in ("earned", "lost", "kept") for kind in kinds.values()]
+        expected = dict.fromkeys(names, 0.0)
         resting = dict(zip(zip(branch.trades.event, branch.trades.match), branch.trades.resting))
         matches = iter(resting.values())
         for trade, agent in zip(tape.trades, matches):
@@ -229,7 +231,8 @@ def inventories(branch, tape, kinds, after):
         for agent, kind in kinds.items():
             position, time, area, most = 0, start, 0, None
             for row in branch.trades[branch.trades.stock == stock].itertuples():
-                change = row.shares * ((row.aggressor == agent) - (row.resting == agent)) * (1 if row.side == "B" else -1)
+                sign = 1 if row.side == "B" else -1
+                change = sign * row.shares * ((row.aggressor == agent) - (row.resting == agent))
                 if row.event > after:
                     most = abs(position) if most is None else max(most, abs(position))
                     area += abs(position) * (row.time - time)
@@ -279,7 +282,8 @@ def test_measures_are_found_by_each_way_of_naming_them(root, tmp_path):
     bound = measures.find({"name": "realized_spread", "horizon": "5ms"})
     same(bound.compute(root), measures.NAMES["realised_spread"].compute(root, horizon=5_000_000))
     assert measures.find(len_of_trades).compute(root) == {"len_of_trades": len(root.trades)}
-    (tmp_path / "mine.py").write_text("def both(branch, after=0):\n    return {'trades': len(branch.trades), 'after': after}\n")
+    (tmp_path / "mine.py").write_text("def both(branch, after=0):\n"
+                                      "    return {'trades': len(branch.trades), 'after': after}\n")
     mine = measures.find("mine.py:both", tmp_path)
     assert mine.compute(root, after=3, stock=None) == {"trades": len(root.trades), "after": 3}
     assert mine.unit("trades") == "" and measures.NAMES["profit"].unit("profit_maker") == "0.000001 dollars"
@@ -341,3 +345,45 @@ def test_what_is_kept_is_given_up(root):
     kept = measures.lives(root)
     root.forget()
     assert measures.lives(root) is not kept and measures.lives(root).equals(kept)
+
+
+def enter(token, side, shares, price, force, display):
+    """The bytes of an Enter for ABM."""
+    return (b"O" + token.ljust(14) + side + shares.to_bytes(4, "big") + b"ABM     " + price.to_bytes(4, "big")
+            + force.to_bytes(4, "big") + b"ABID" + display + b"PN" + bytes(4) + b"NN")
+
+
+def test_fates_at_the_very_end_are_those_that_feed_and_closing_tell(program):
+    """Half a second before the close no reply is heard any more: a hidden order and its part cancel stand in the
+    closing, a displayed order in the feed, and of an order with time in force 0 that met nothing neither tells."""
+    study = Study.read(biqsolur_example("worked_market.toml")).without_branch("worked").in_version_2()
+    messages = [enter(b"HIDDEN", b"B", 900, 99_800, 99_999, b"N"), b"X" + b"HIDDEN".ljust(14) + (400).to_bytes(4, "big"),
+                enter(b"SHOWN", b"B", 50, 99_700, 99_999, b"Y"), enter(b"NOTHING", b"B", 70, 99_900, 0, b"Y"),
+                enter(b"SHOWN", b"B", 60, 99_700, 99_999, b"Y"), enter(b"TAKES", b"S", 100, 99_800, 0, b"Y")]
+    edits = [biqsolur.Inject(1, message, after=f"{18_700 + place}ms") for place, message in enumerate(messages)]
+    branch = biqsolur.run(study.branch("late", after=12, edits=edits), program=program, cache=False).branches["late"]
+    frame = measures.lives(branch)
+    assert not (branch.replies.handled >= 34_219_700_000_000).any()
+    assert frame.fate.tolist() == ["open", "open", "unheard", "ignored", "filled"]
+    assert frame[["executed", "canceled", "open", "rested"]].values.tolist() == [
+        [100, 500, 300, 900], [0, 0, 50, 50], [0, 0, 0, 0], [0, 0, 0, 0], [100, 0, 0, 0]]
+    assert measures.NAMES["order_fates"].compute(branch)["orders_unheard"] == 1
+
+
+@pytest.mark.parametrize("change, edit", [(True, False), (False, True), (True, True)])
+def test_fees_change_with_the_very_event(program, change, edit):
+    """A dated change of fees at the nanosecond of a trade holds for it, an edit behind a trade's event does not."""
+    table = Study.read(biqsolur_example("worked_market.toml")).to_dict()
+    if change:
+        table["change"] = [{"time": 34_209_000_000_000, "stock": "ABM", "kind": "fee", "add": 7, "take": 11}]
+    study = Study(table)
+    if edit:
+        study = study.branch("free", parent="worked", after=25, edits=[biqsolur.Fee("ABM", 0, 0)])
+    branch = list(biqsolur.run(study, program=program, cache=False).branches.values())[-1]
+    added, taken = measures.agents.fees_of(branch, study)
+    late = {(True, False): (7, 11), (False, True): (0, 0), (True, True): (7, 11)}[change, edit]
+    rates = [(-2000, 3000)] * 3 + [late] * 3
+    assert branch.trades.event.tolist()[:4] == [21, 25, 25, 33]
+    assert list(zip(added // branch.trades.shares, taken // branch.trades.shares)) == rates
+    assert (added + taken).tolist() == branch.trades.fees.tolist()
+    assert measures.accounts(branch, study).fee.sum() == branch.trades.fees.sum()

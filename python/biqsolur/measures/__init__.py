@@ -5,9 +5,9 @@
     measures.NAMES["realised_spread"].compute(branch, horizon="1s", after=5000)
     measures.trade_spreads(branch)                                  # a data frame, a row a trade
 
-`NAMES` has each measure under its name; `find` takes the other ways of naming one too. A measure of a market of several
-stocks answers for each of them, as `name.SYMBOL`, or for the one that `stock` names. `after` is an event: only those behind
-it count. docs/MEASURES.md has each formula with its numbers on a worked market.
+`NAMES` has each measure under its name; `find` takes the other ways of naming one too. A measure of a market of
+several stocks answers for each of them, as `name.SYMBOL`, or for the one that `stock` names. `after` is an event:
+only those behind it count. docs/MEASURES.md has each formula with its numbers on a worked market.
 """
 
 from __future__ import annotations
@@ -21,12 +21,14 @@ from biqsolur.measures.orders import (
     time_to_fill)
 from biqsolur.measures.registry import NAMES, Measure, find
 from biqsolur.measures.spreads import effective_spread, price_impact, quoted_spread, realised_spread, trade_spreads
-from biqsolur.measures.volatility import autocorrelation, autocorrelations, realised_variance, roll_spread, signature_plot
+from biqsolur.measures.volatility import (
+    autocorrelation, autocorrelations, realised_variance, roll_spread, signature_plot)
 
 __all__ = [
     "NAMES", "Measure", "accounts", "amihud", "autocorrelation", "autocorrelations", "cancel_ratio", "depths",
-    "displayed_depth", "effective_spread", "fill_probability", "fills_by_distance", "find", "imbalance", "inventory", "kyle_lambda",
-    "lives", "maker_income", "order_fates", "order_flow_imbalance", "order_flows", "order_lifetime", "price_impact", "profit",
-    "profits", "queue_at_entry", "queue_path", "quoted_spread", "reaction_latency", "reaction_times", "realised_spread", "realised_variance",
-    "resiliency", "roll_spread", "signature_plot", "time_to_fill", "trade_flows", "trade_spreads",
+    "displayed_depth", "effective_spread", "fill_probability", "fills_by_distance", "find", "imbalance",
+    "inventory", "kyle_lambda", "lives", "maker_income", "order_fates", "order_flow_imbalance", "order_flows",
+    "order_lifetime", "price_impact", "profit", "profits", "queue_at_entry", "queue_path", "quoted_spread",
+    "reaction_latency", "reaction_times", "realised_spread", "realised_variance", "resiliency", "roll_spread",
+    "signature_plot", "time_to_fill", "trade_flows", "trade_spreads",
 ]

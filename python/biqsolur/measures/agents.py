@@ -1,8 +1,9 @@
-"""What agents hold and earn: positions and cash over time, marked profit, and what makers earn and lose on the spread.
+"""What agents hold and earn: positions and cash over time, marked profit, and what makers earn and lose on the
+spread.
 
-Money is in millionths of a dollar: n shares at the price p (0.0001 dollars) are 100 p n. Positions and cash are the settled
-ones, which change when the exchange matches; what an agent has heard of them comes later. A bundle has neither the fees of
-each side nor the kinds of agents: where they are asked for, the study is given too.
+Money is in millionths of a dollar: n shares at the price p (0.0001 dollars) are 100 p n. Positions and cash are the
+settled ones, which change when the exchange matches; what an agent has heard of them comes later. A bundle has
+neither the fees of each side nor the kinds of agents: where they are asked for, the study is given too.
 """
 
 from __future__ import annotations
@@ -28,19 +29,21 @@ UNKNOWN = "unknown"             # the kind of an agent that no reply has told
 
 
 def study_of(branch: Branch, study: object, wanted: str) -> Study:
-    """The study of the branch: the one that is given, or the one that its bundle knows. StudyNeededError where there is none,
-    or where it is another one's."""
+    """The study of the branch: the one that is given, or the one that its bundle knows. StudyNeededError where there
+    is none, or where it is another one's."""
     from biqsolur.study import Study
 
     bundle = branch.bundle
     known = study if study is not None else getattr(bundle, "study", None)
     if known is None:
-        raise StudyNeededError(f"{wanted} needs the study, which {bundle.path} alone does not have: give it as study=, a path or "
-                               "a Study, or make the bundle by biqsolur.run, which keeps the study")
+        raise StudyNeededError(f"{wanted} needs the study, which {bundle.path} alone does not have: give study=, a "
+                               "path or a Study, or make the bundle by biqsolur.run, which keeps the study")
     made = known if isinstance(known, Study) else Study(known)
-    if made.symbols != bundle.symbols or made.branches != list(bundle.branches) or len(made.traders) + 1 != bundle.agents:
-        raise StudyNeededError(f"{made!r} is not the study of {bundle.path}, which has the stocks {', '.join(bundle.symbols)}, "
-                               f"{bundle.agents - 1} traders and the branches {', '.join(bundle.branches)}")
+    ours = (bundle.symbols, list(bundle.branches), bundle.agents)
+    if (made.symbols, made.branches, len(made.traders) + 1) != ours:
+        raise StudyNeededError(f"{made!r} is not the study of {bundle.path}, which has the stocks "
+                               f"{', '.join(bundle.symbols)}, {bundle.agents - 1} traders and the branches "
+                               f"{', '.join(bundle.branches)}")
     return made
 
 
@@ -59,9 +62,9 @@ class Rates:
 
 
 def fee_rates(branch: Branch, study: Study) -> list[Rates]:
-    """Of each stock its fees over the branch's run: the study's own, with the dated changes, which hold from the first event
-    at or behind their time on, and the edits, which hold behind the event at which they are made, and before changes that
-    come with the next one."""
+    """Of each stock its fees over the branch's run: the study's own, with the dated changes, which hold from the
+    first event at or behind their time on, and the edits, which hold behind the event at which they are made, and
+    before changes that come with the next one."""
     table, times = study.to_dict(), tape_of(branch).event_times
     found = {stock["symbol"]: [(0, 0, stock["add"], stock["take"])] for stock in table["stock"]}
     edits = {entry["name"]: entry.get("edit", []) for entry in table.get("branch", [])}
@@ -81,7 +84,8 @@ def fee_rates(branch: Branch, study: Study) -> list[Rates]:
 
 
 def fees_of(branch: Branch, study: Study) -> tuple[numpy.ndarray, numpy.ndarray]:
-    """The fees of who rested and of who came, of each trade in the order of `branch.trades` (millionths of a dollar)."""
+    """The fees of who rested and of who came, of each trade in the order of `branch.trades` (millionths of a
+    dollar)."""
     trades, rates = branch.trades, fee_rates(branch, study)
     stocks, shares, events = trades.stock.to_numpy(), trades.shares.to_numpy(), trades.event.to_numpy()
     added, taken = numpy.zeros(len(trades), numpy.int64), numpy.zeros(len(trades), numpy.int64)
@@ -93,10 +97,10 @@ def fees_of(branch: Branch, study: Study) -> tuple[numpy.ndarray, numpy.ndarray]
 
 
 def accounts(branch: Branch, study: object = None) -> pandas.DataFrame:
-    """Each agent's side of each trade: two rows a trade, first of who came, then of who rested. Columns: event, time (ns),
-    agent (-1: one whose hidden order traded, and who had not heard of it at the end), stock, shares (bought; below 0 where
-    sold), price, cash (what the trade adds to the cash, without fees), position (of the agent in the stock
-    after the whole trade).
+    """Each agent's side of each trade: two rows a trade, first of who came, then of who rested. Columns: event, time
+    (ns), agent (-1: one whose hidden order traded, and who had not heard of it at the end), stock, shares (bought;
+    below 0 where sold), price, cash (what the trade adds to the cash, without fees), position (of the agent in the
+    stock after the whole trade).
 
     With a study, also fee (what the agent pays; below 0 where it is paid).
     """
@@ -134,13 +138,14 @@ def doubled_mark(branch: Branch, stock: int, event: int, mark: str, study: Study
 
 def profits(branch: Branch, study: object = None, *, mark: str = "mid",
             after: int = 0) -> pandas.DataFrame:
-    """What each agent has earned behind the event `after`: a row an agent, with agent, kind, cash (what its trades added,
-    without fees), fees (paid), marked (what its positions are worth at the end, less what they were at the start) and
-    profit = cash - fees + marked, in millionths of a dollar, Python's whole numbers.
+    """What each agent has earned behind the event `after`: a row an agent, with agent, kind, cash (what its trades
+    added, without fees), fees (paid), marked (what its positions are worth at the end, less what they were at the
+    start) and profit = cash - fees + marked, in millionths of a dollar, Python's whole numbers.
 
-    A position is marked at `mark`: "mid", the last mid that was there (the last trade's price where none was); "last", the
-    last trade's price; or "value", the stock's fundamental value. The exchange has the fees, so all profits and all fees
-    add up to 0. What no cash tells: a maker that has bought is down by what it paid until its shares are marked.
+    A position is marked at `mark`: "mid", the last mid that was there (the last trade's price where none was);
+    "last", the last trade's price; or "value", the stock's fundamental value. The exchange has the fees, so all
+    profits and all fees add up to 0. What no cash tells: a maker that has bought is down by what it paid until its
+    shares are marked.
     """
     if mark not in MARKS:
         raise MeasureError(f"mark = {mark!r}: take one of {', '.join(MARKS)}")
@@ -164,8 +169,8 @@ def profits(branch: Branch, study: object = None, *, mark: str = "mid",
 
 
 def exact_sums(groups: pandas.Series, values: pandas.Series) -> dict[int, int]:
-    """The sum of the values of each group, as Python's whole numbers: halves of the numbers are summed apart, so that no sum
-    leaves 64 bits."""
+    """The sum of the values of each group, as Python's whole numbers: halves of the numbers are summed apart, so that
+    no sum leaves 64 bits."""
     numbers = values.to_numpy()
     sums = pandas.DataFrame({"group": groups.to_numpy(), "upper": numbers >> 31, "lower": numbers & 0x7FFFFFFF})
     sums = sums.groupby("group").sum()
@@ -183,8 +188,8 @@ def by_kind(frame: pandas.DataFrame, kinds: Mapping[int, str], name: str, column
 
 def profit(branch: Branch, *, study: object = None, mark: str = "mid",
            after: int = 0) -> dict[str, float]:
-    """The marked profit of all agents of each kind, after fees (see `profits`), as profit_KIND; profit_exchange has the fees
-    of all. They add up to 0, so that profit_exchange is what the agents together have lost.
+    """The marked profit of all agents of each kind, after fees (see `profits`), as profit_KIND; profit_exchange has
+    the fees of all. They add up to 0, so that profit_exchange is what the agents together have lost.
 
         profit = cash - fees + sum over the stocks of 100 (position m - position' m')
 
@@ -197,13 +202,14 @@ def profit(branch: Branch, *, study: object = None, mark: str = "mid",
 
 def maker_income(branch: Branch, *, study: object = None,
                  horizon: int | str = HORIZON, after: int = 0) -> dict[str, float]:
-    """What resting orders earn on the spread, and what of it they lose to those who know more, by the kind of their agent.
+    """What resting orders earn on the spread, and what of it they lose to those who know more, by the kind of their
+    agent.
 
         earned_KIND = sum(50 n_i effective_i)    lost_KIND = sum(50 n_i impact_i)    kept_KIND = sum(50 n_i realised_i)
 
-    over the trades in which an agent of the kind rested, with the spreads of `trade_spreads` at the horizon; so earned = lost
-    + kept. A trade of which the later mid is not known is left out of all three. In millionths of a dollar, without fees.
-    Source: Huang and Stoll (1996).
+    over the trades in which an agent of the kind rested, with the spreads of `trade_spreads` at the horizon; so
+    earned = lost + kept. A trade of which the later mid is not known is left out of all three. In millionths of a
+    dollar, without fees. Source: Huang and Stoll (1996).
     """
     kinds = kinds_of(study_of(branch, study, "maker_income"))
     frame = trade_spreads(branch, horizon)
@@ -217,8 +223,9 @@ def maker_income(branch: Branch, *, study: object = None,
 
 def inventory(branch: Branch, *, study: object = None,
               after: int = 0, stock: int | str | None = None) -> dict[str, float]:
-    """How much agents hold: for each kind the mean over its agents of the time-weighted mean of the absolute position in the
-    stock, as inventory_KIND, and the greatest absolute position of any of them, as inventory_most_KIND. In shares.
+    """How much agents hold: for each kind the mean over its agents of the time-weighted mean of the absolute position
+    in the stock, as inventory_KIND, and the greatest absolute position of any of them, as inventory_most_KIND. In
+    shares.
 
         inventory = mean over the agents of (1 / T) * integral of |position(t)| dt
 
@@ -242,7 +249,8 @@ def inventory(branch: Branch, *, study: object = None,
 
 
 def held_position(rows: pandas.DataFrame | None, start: int, end: int, after: int) -> tuple[float, float]:
-    """Of one agent in one stock the time-weighted mean and the greatest absolute position from `start` to `end` (ns)."""
+    """Of one agent in one stock the time-weighted mean and the greatest absolute position from `start` to `end`
+    (ns)."""
     if rows is None:
         return 0.0, 0.0
     times = numpy.append(rows.time.to_numpy(), end)

@@ -23,8 +23,8 @@ HORIZON = 1_000_000_000         # ns
 
 
 def depths(branch: Branch, levels: int = LEVELS) -> pandas.DataFrame:
-    """The displayed shares at the best `levels` price levels of each side, after each event that changed one of them: event,
-    time (ns), stock, bid_depth, ask_depth (shares). Before a stock's first row both are 0."""
+    """The displayed shares at the best `levels` price levels of each side, after each event that changed one of them:
+    event, time (ns), stock, bid_depth, ask_depth (shares). Before a stock's first row both are 0."""
     if levels < 1:
         raise LevelsError(f"levels = {levels}: a book has at least one level")
     return tape_of(branch).keep(f"depths {levels}", lambda of: make_depths(of, levels))
@@ -62,7 +62,8 @@ def changed_depths(messages: BookMessages, bids: numpy.ndarray, asks: numpy.ndar
 
 def held_depths(branch: Branch, stock: int, steps: Steps, window: Window,
                 levels: int) -> tuple[numpy.ndarray, numpy.ndarray, numpy.ndarray]:
-    """Of one stock the depths of both sides and for how many nanoseconds of the window each pair stands while it trades."""
+    """Of one stock the depths of both sides and for how many nanoseconds of the window each pair stands while it
+    trades."""
     frame = depths(branch, levels)
     own = (frame.stock == stock).to_numpy()
     times = frame.time.to_numpy()[own]
@@ -75,7 +76,8 @@ def held_depths(branch: Branch, stock: int, steps: Steps, window: Window,
     return bids, asks, numpy.where(trading, held, 0)
 
 
-def displayed_depth(branch: Branch, *, levels: int = LEVELS, after: int = 0, stock: int | str | None = None) -> dict[str, float]:
+def displayed_depth(branch: Branch, *, levels: int = LEVELS, after: int = 0,
+                    stock: int | str | None = None) -> dict[str, float]:
     """The time-weighted mean, while the stock trades, of the displayed shares at the best `levels` price levels.
 
         bid_depth = sum(w_i B_i) / sum(w_i),   B_i: the shares at the best levels to buy; ask_depth likewise
@@ -96,8 +98,9 @@ def imbalance(branch: Branch, *, levels: int = 1, after: int = 0, stock: int | s
 
         imbalance = sum(w_i (B_i - A_i) / (B_i + A_i)) / sum(w_i)
 
-    over the best `levels` price levels of each side, where anything is displayed; from -1 to 1. imbalance_absolute is the
-    mean of its absolute value. R's highfrequency has the same ratio as `depthImbalanceDifference`, signed by the trade.
+    over the best `levels` price levels of each side, where anything is displayed; from -1 to 1. imbalance_absolute is
+    the mean of its absolute value. R's highfrequency has the same ratio as `depthImbalanceDifference`, signed by the
+    trade.
     """
     numbers: dict[str, float] = {}
     window = tape_of(branch).window(after)
@@ -114,8 +117,8 @@ def flow_steps(steps: Steps) -> numpy.ndarray:
 
         e = [b >= b'] q - [b <= b'] q' - [a <= a'] r + [a >= a'] r'
 
-    with b and a the best prices, q and r the shares at them, and ' for those before. An empty side to sell is beyond every
-    price, one to buy below every price, both with 0 shares.
+    with b and a the best prices, q and r the shares at them, and ' for those before. An empty side to sell is beyond
+    every price, one to buy below every price, both with 0 shares.
     """
     bid, ask = steps.bid.astype(float), numpy.where(steps.ask > 0, steps.ask, numpy.inf)
     bid_before, ask_before = numpy.append(0, bid[:-1]), numpy.append(numpy.inf, ask[:-1])
@@ -126,9 +129,10 @@ def flow_steps(steps: Steps) -> numpy.ndarray:
 
 
 def order_flows(branch: Branch, interval: int | str = INTERVAL, *, after: int = 0) -> pandas.DataFrame:
-    """The order-flow imbalance over each interval of a grid: a row a stock and interval, with stock, start (ns), imbalance
-    (shares) and move (of the mid over it, 0.0001 dollars; not-a-number where an end has no mid). The changes that count are
-    those behind the interval's start and at or before its end. Source: Cont, Kukanov and Stoikov (2014).
+    """The order-flow imbalance over each interval of a grid: a row a stock and interval, with stock, start (ns),
+    imbalance (shares) and move (of the mid over it, 0.0001 dollars; not-a-number where an end has no mid). The
+    changes that count are those behind the interval's start and at or before its end. Source: Cont, Kukanov and
+    Stoikov (2014).
     """
     window, length, parts = tape_of(branch).window(after), duration(interval, "interval"), []
     for number, steps, _ in per_stock(branch, None):
@@ -142,7 +146,8 @@ def order_flows(branch: Branch, interval: int | str = INTERVAL, *, after: int = 
 
 
 def slope(across: numpy.ndarray, up: numpy.ndarray) -> tuple[float, float]:
-    """Slope and R squared of the least-squares line with intercept; not-a-number where there are not two places across."""
+    """Slope and R squared of the least-squares line with intercept; not-a-number where there are not two places
+    across."""
     known = ~(numpy.isnan(across) | numpy.isnan(up))
     across, up = across[known], up[known]
     if len(across) < 2 or numpy.ptp(across) == 0:
@@ -171,8 +176,9 @@ def order_flow_imbalance(branch: Branch, *, interval: int | str = INTERVAL, afte
 
 
 def recoveries(steps: Steps, trades: Trades, window: Window) -> tuple[numpy.ndarray, numpy.ndarray]:
-    """Of each event that traded and left a wider spread than before it: its time, and how long (ns) until the spread was
-    back at what it was before or below; not-a-number where it never was. An emptied side makes the spread infinite."""
+    """Of each event that traded and left a wider spread than before it: its time, and how long (ns) until the spread
+    was back at what it was before or below; not-a-number where it never was. An emptied side makes the spread
+    infinite."""
     both = (steps.bid > 0) & (steps.ask > 0)
     spread = numpy.append(numpy.where(both, steps.ask - steps.bid, numpy.inf), numpy.inf)
     events, first = numpy.unique(trades.event, return_index=True)
@@ -185,7 +191,8 @@ def recoveries(steps: Steps, trades: Trades, window: Window) -> tuple[numpy.ndar
 
 
 def first_at_most(values: numpy.ndarray, starts: numpy.ndarray, bounds: numpy.ndarray) -> numpy.ndarray:
-    """For each start, which rise, the first place from it on whose value is at most the bound; their number where none is.
+    """For each start, which rise, the first place from it on whose value is at most the bound; their number where
+    none is.
 
     From the back on, `kept` has the places that are below all between them and the current one, so their values rise.
     """
@@ -209,9 +216,10 @@ def resiliency(branch: Branch, *, horizon: int | str = HORIZON, after: int = 0,
 
         resiliency = (events with the spread back within the horizon) / (events that traded and left a wider spread)
 
-    recovery_time is the median time until the spread is at its former value or below, over those of the run that get there
-    (ns). An event whose horizon is behind the run's end counts where the spread is back by then, and is left out where not.
-    Source: after Foucault, Kadan and Kandel (2005), who ask whether the spread is back before the next trade.
+    recovery_time is the median time until the spread is at its former value or below, over those of the run that get
+    there (ns). An event whose horizon is behind the run's end counts where the spread is back by then, and is left
+    out where not. Source: after Foucault, Kadan and Kandel (2005), who ask whether the spread is back before the next
+    trade.
     """
     numbers: dict[str, float] = {}
     window, length = tape_of(branch).window(after), duration(horizon)

@@ -18,10 +18,10 @@ INTERVAL = 1_000_000_000        # ns
 
 
 def trade_flows(branch: Branch, interval: int | str = INTERVAL, *, after: int = 0) -> pandas.DataFrame:
-    """What was traded over each interval of a grid, and how the mid moved: a row a stock and interval, with stock, start
-    (ns), bought and sold (shares of the orders that came), dollars (traded), move (of the mid, 0.0001 dollars) and part (the
-    move as a part of the mid at the start). Trades behind the interval's start and at or before its end count; the move is
-    not-a-number where an end has no mid.
+    """What was traded over each interval of a grid, and how the mid moved: a row a stock and interval, with stock,
+    start (ns), bought and sold (shares of the orders that came), dollars (traded), move (of the mid, 0.0001 dollars)
+    and part (the move as a part of the mid at the start). Trades behind the interval's start and at or before its end
+    count; the move is not-a-number where an end has no mid.
     """
     window, length, parts = tape_of(branch).window(after), duration(interval, "interval"), []
     for number, steps, trades in per_stock(branch, None):
@@ -32,11 +32,12 @@ def trade_flows(branch: Branch, interval: int | str = INTERVAL, *, after: int = 
         inside = which < len(points) - 1
         columns = {"bought": trades.shares * (trades.sign > 0), "sold": trades.shares * (trades.sign < 0),
                    "dollars": trades.price * trades.shares / 10_000}
-        sums = {name: numpy.bincount(which[inside], values[inside], max(len(points) - 1, 0))[:max(len(points) - 1, 0)]
+        sums = {name: numpy.bincount(which[inside], values[inside], len(points) - 1)[:len(points) - 1]
                 for name, values in columns.items()}
         mid = steps.mid[steps.at(points)]
-        parts.append(pandas.DataFrame({"stock": numpy.int32(number), "start": points[:-1], **sums, "move": numpy.diff(mid),
-                                       "part": numpy.diff(mid) / mid[:-1]}))
+        move = numpy.diff(mid)
+        parts.append(pandas.DataFrame({"stock": numpy.int32(number), "start": points[:-1], **sums, "move": move,
+                                       "part": move / mid[:-1]}))
     return pandas.concat(parts, ignore_index=True)
 
 
@@ -64,8 +65,8 @@ def amihud(branch: Branch, *, interval: int | str = INTERVAL, after: int = 0,
 
         amihud = 1,000,000 * mean(|m_j / m_(j-1) - 1| / D_j),   D_j: the dollars traded in interval j
 
-    over the intervals with trades and a mid at both ends, as a part of the price per million dollars. Source: Amihud (2002),
-    with the days replaced by intervals and the closing prices by mids.
+    over the intervals with trades and a mid at both ends, as a part of the price per million dollars. Source: Amihud
+    (2002), with the days replaced by intervals and the closing prices by mids.
     """
     numbers: dict[str, float] = {}
     flows = trade_flows(branch, interval, after=after)

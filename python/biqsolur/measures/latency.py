@@ -16,13 +16,13 @@ if TYPE_CHECKING:
 
 
 def reaction_times(branch: Branch) -> pandas.DataFrame:
-    """Of each order that came to the exchange, in the order of `orders.lives`, the way from quote to fill: event, agent,
-    stock, quote (the event with which the agent heard the quote that the order answers; 0 where it had heard none, as of an
-    order that an edit injects), quoted (when that was), arrived (at the exchange), filled (first executed), told (when the
-    agent heard of that); times in ns, -1 where there is none.
+    """Of each order that came to the exchange, in the order of `orders.lives`, the way from quote to fill: event,
+    agent, stock, quote (the event with which the agent heard the quote that the order answers; 0 where it had heard
+    none, as of an order that an edit injects), quoted (when that was), arrived (at the exchange), filled (first
+    executed), told (when the agent heard of that); times in ns, -1 where there is none.
 
-    Messages are numbered in the order in which they are sent. So the quote is the last one that the agent heard while no
-    message had been delivered whose number is above the order's.
+    Messages are numbered in the order in which they are sent. So the quote is the last one that the agent heard while
+    no message had been delivered whose number is above the order's.
     """
     return tape_of(branch).keep("reactions", make_reactions)
 
@@ -72,7 +72,7 @@ def reaction_latency(branch: Branch, *, after: int = 0, stock: int | str | None 
     """How long quote, order and fill are apart: medians, in ns, over the orders that came behind the event `after`.
 
         quote_to_order   from when the agent heard the quote that it answers to when the order came to the exchange
-        order_to_fill    from then to its first execution, over the orders that were executed (0 of one that came and traded)
+        order_to_fill    from then to its first execution, over the executed orders (0 of one that came and traded)
         fill_to_report   from the first execution to when the agent heard of it
     """
     numbers: dict[str, float] = {}

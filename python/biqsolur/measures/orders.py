@@ -28,22 +28,27 @@ DISTANCES = {"improving": -1, "at_touch": 0, "behind": 1}
 def lives(branch: Branch) -> pandas.DataFrame:
     """The life of each order that came to the exchange: a row an Enter, in the order in which they came.
 
-    Columns: event, time (ns; when the exchange took it), agent, token (a number), stock (-1 where the symbol is none),
-    sign (1 to buy, -1 to sell), shares, price, time_in_force, hidden (bool), reference (0 where it is not known), fate, and
+    Columns: event, time (ns; when the exchange took it), agent, token (a number), stock (-1 where the symbol is
+    none), sign (1 to buy, -1 to sell), shares, price, time_in_force, hidden (bool), reference (0 where it is not
+    known), fate, and
 
     - on_entry, rested: shares that were executed when it came, and that came to rest then;
-    - executed, canceled, open: all its shares that were executed, that a cancel (or time in force 0) took away, and that are
-      open at the end of the run. Of an accepted order whose replies were all heard they add up to `shares`;
-    - first_fill, end (ns): when it was first executed, and when nothing of it was left; -1 where that was not, or is not known;
+    - executed, canceled, open: all its shares that were executed, that a cancel (or time in force 0) took away, and
+      that are open at the end of the run. Of an order that was filled or canceled, or is open, they add up to
+      `shares`;
+    - first_fill, end (ns): when it was first executed, and when nothing of it was left; -1 where that was not, or is
+      not known;
     - bid, ask: the best displayed prices of its stock right before it came (0 where a side is empty);
-    - distance: how far its price is behind the best displayed one of its own side then (0.0001 dollars; below 0 where it is
-      better; not-a-number where that side is empty);
-    - ahead: the shares displayed before it at its price when it came to rest; -1 where it did not come to rest displayed.
+    - distance: how far its price is behind the best displayed one of its own side then (0.0001 dollars; below 0 where
+      it is better; not-a-number where that side is empty);
+    - ahead: the shares displayed before it at its price when it came to rest; -1 where it did not come to rest
+      displayed.
 
-    Each order has one fate: `filled` (the last of it was executed), `canceled` (the last of it was canceled, by its agent or
-    by time in force 0), `rejected`, `open` (it rests at the end), `ignored` (its agent had used the token before: the
-    exchange takes no notice), or `unheard`: at the end the reply is still under way, and the feed says nothing of it. That
-    can be only of orders that were rejected, hidden or of time in force 0, in the last moments of a run.
+    Each order has one fate: `filled` (the last of it was executed), `canceled` (the last of it was canceled, by its
+    agent or by time in force 0), `rejected`, `open` (it rests at the end), `ignored` (its agent had used the token
+    before: the exchange takes no notice), or `unheard`: at the end the reply is still under way, and the feed says
+    nothing of it. That can be only of orders that were rejected, hidden or of time in force 0, in the last moments of
+    a run.
     """
     return tape_of(branch).keep("lives", make_lives)
 
@@ -79,9 +84,9 @@ def entered(branch: Branch) -> Entered:
     return Entered(
         head["number"].astype(numpy.int64), head["time"].astype(numpy.int64), agent, token,
         numpy.where(stock < len(branch.symbols), stock, -1), numpy.where(body["side"] == ord("B"), 1, -1),
-        body["shares"].astype(numpy.int64), body["price"].astype(numpy.int64), body["time_in_force"].astype(numpy.int64),
-        frames.records(index, DISPLAY, layouts.EVENT.itemsize)["display"] == ord("N"), head["message"].astype(numpy.int64),
-        pair_of(agent, token))
+        *(body[name].astype(numpy.int64) for name in ("shares", "price", "time_in_force")),
+        frames.records(index, DISPLAY, layouts.EVENT.itemsize)["display"] == ord("N"),
+        head["message"].astype(numpy.int64), pair_of(agent, token))
 
 
 def pair_of(agent: numpy.ndarray, token: numpy.ndarray) -> numpy.ndarray:
@@ -119,7 +124,8 @@ def firsts(count: int, place: numpy.ndarray, times: numpy.ndarray) -> numpy.ndar
 
 
 class Story:
-    """What is known of each order that came, taken from the feed, from the replies that were heard, and from the closing.
+    """What is known of each order that came, taken from the feed, from the replies that were heard, and from the
+    closing.
 
     Of an order that rested displayed the feed tells all; of one that rested hidden its replies do.
     """
@@ -163,8 +169,10 @@ class Story:
         self.open[place] = self.rested[place] - totals(count, messages.order[fills | takes],
                                                        -messages.change[fills | takes])[own]
         first = firsts(count, messages.order[fills], messages.time[fills])[own]
-        self.first_fill[place] = numpy.where((self.first_fill[place] < 0) & (first < NEVER), first, self.first_fill[place])
-        self.ahead[place] = levels.open_shares(levels.level, messages.row, len(messages.index))[own] - messages.shares[own]
+        later = (self.first_fill[place] < 0) & (first < NEVER)
+        self.first_fill[place[later]] = first[later]
+        at_rest = levels.open_shares(levels.level, messages.row, len(messages.index))
+        self.ahead[place] = at_rest[own] - messages.shares[own]
 
     def take_replies(self, replies: pandas.DataFrame) -> None:
         """What the agents heard: that an order was accepted or rejected, and what became of one that rested hidden."""
@@ -197,8 +205,8 @@ class Story:
         self.accepted[place] = True
 
     def take_rests(self) -> None:
-        """What follows from the rules: an order whose time in force is 0 never rests, and a rest that is not displayed is
-        hidden."""
+        """What follows from the rules: an order whose time in force is 0 never rests, and a rest that is not
+        displayed is hidden."""
         orders = self.orders
         self.accepted |= (self.displayed >= 0) | (self.on_entry > 0)
         at_once = self.accepted & (orders.time_in_force == 0)
@@ -221,7 +229,8 @@ class Story:
         messages, shown = self.tape.messages, self.displayed >= 0
         last = numpy.append(messages.kind, 0)[numpy.append(messages.end, -1)[self.displayed]]
         at_once = self.orders.time_in_force == 0
-        return numpy.where(shown, last != ord("E"), numpy.where(at_once, self.canceled > 0, self.last_cancel > self.last_fill))
+        hidden = numpy.where(at_once, self.canceled > 0, self.last_cancel > self.last_fill)
+        return numpy.where(shown, last != ord("E"), hidden)
 
     def ends(self, fate: numpy.ndarray) -> numpy.ndarray:
         """When nothing of an order was left (ns), -1 where something is, or where it is not known."""
@@ -261,8 +270,8 @@ def make_lives(branch: Branch) -> pandas.DataFrame:
 
 
 def repeats(orders: Entered) -> tuple[Pairs, numpy.ndarray, numpy.ndarray]:
-    """Which order each pair means; which orders came under a pair that was remembered; and which came when as many pairs
-    were remembered as can be, under another one: the exchange rejects them, and remembers none of them."""
+    """Which order each pair means; which orders came under a pair that was remembered; and which came when as many
+    pairs were remembered as can be, under another one: the exchange rejects them, and remembers none of them."""
     known, first, inverse = numpy.unique(orders.pair, return_index=True, return_inverse=True)
     rank = numpy.empty(len(known), numpy.int64)
     rank[numpy.argsort(first, kind="stable")] = numpy.arange(len(known))
@@ -283,9 +292,10 @@ def best_before(tape: Tape, orders: Entered) -> dict[str, numpy.ndarray]:
 
 
 def queue_path(branch: Branch, reference: int) -> pandas.DataFrame:
-    """The place in the queue of an order that rested displayed, along its life: a row for when it came to rest, and one for
-    each later message at its price that changes how many shares are before it or open of it. Columns: event, time (ns),
-    ahead (displayed shares before it at its price), open (its own shares). MeasureError where the feed has no such order."""
+    """The place in the queue of an order that rested displayed, along its life: a row for when it came to rest, and
+    one for each later message at its price that changes how many shares are before it or open of it. Columns: event,
+    time (ns), ahead (displayed shares before it at its price), open (its own shares). MeasureError where the feed has
+    no such order."""
     messages, level = tape_of(branch).messages, tape_of(branch).levels.level
     orders = numpy.flatnonzero(messages.reference == reference)
     if len(orders) == 0:
@@ -312,9 +322,10 @@ def median(values: pandas.Series) -> float:
 
 
 def order_fates(branch: Branch, *, after: int = 0, stock: int | str | None = None) -> dict[str, float]:
-    """How many orders came, and how many of them had each fate (see `lives`): orders = orders_filled + orders_canceled +
-    orders_rejected + orders_open + orders_ignored + orders_unheard. They are counted where they came behind the event
-    `after`, whatever became of them when. An order for an unknown symbol belongs to no stock and is not counted.
+    """How many orders came, and how many of them had each fate (see `lives`): orders = orders_filled +
+    orders_canceled + orders_rejected + orders_open + orders_ignored + orders_unheard. They are counted where they
+    came behind the event `after`, whatever became of them when. An order for an unknown symbol belongs to no stock
+    and is not counted.
     """
     numbers: dict[str, float] = {}
     for number, own in lives_of(branch, after, stock):
@@ -324,8 +335,9 @@ def order_fates(branch: Branch, *, after: int = 0, stock: int | str | None = Non
 
 
 def order_lifetime(branch: Branch, *, after: int = 0, stock: int | str | None = None) -> dict[str, float]:
-    """How long orders rest: mean and median, over the orders that came to rest and have ended, of the time from when they
-    came to when nothing of them was left (ns). Orders that rest at the end are left out, so a short run makes lives short.
+    """How long orders rest: mean and median, over the orders that came to rest and have ended, of the time from when
+    they came to when nothing of them was left (ns). Orders that rest at the end are left out, so a short run makes
+    lives short.
 
         order_lifetime = mean(end_i - time_i)
 
@@ -335,7 +347,8 @@ def order_lifetime(branch: Branch, *, after: int = 0, stock: int | str | None = 
     for number, own in lives_of(branch, after, stock):
         ended = own[(own.rested > 0) & (own.end >= 0)]
         length = ended.end - ended.time
-        numbers |= named(branch, number, {"order_lifetime": float(length.mean()), "order_lifetime_median": median(length)})
+        numbers |= named(branch, number, {"order_lifetime": float(length.mean()),
+                                          "order_lifetime_median": median(length)})
     return numbers
 
 
@@ -344,8 +357,8 @@ def cancel_ratio(branch: Branch, *, after: int = 0, stock: int | str | None = No
 
         cancel_ratio = canceled / (filled + canceled + open)          orders_per_trade = orders / trades
 
-    with the fates of `lives`, of orders that came behind the event `after`, and the matches behind it. Not-a-number where
-    there is nothing to divide by. Source: Hasbrouck and Saar (2009) for the first.
+    with the fates of `lives`, of orders that came behind the event `after`, and the matches behind it. Not-a-number
+    where there is nothing to divide by. Source: Hasbrouck and Saar (2009) for the first.
     """
     numbers: dict[str, float] = {}
     for number, own in lives_of(branch, after, stock):
@@ -357,9 +370,10 @@ def cancel_ratio(branch: Branch, *, after: int = 0, stock: int | str | None = No
 
 
 def resting_fills(own: pandas.DataFrame) -> pandas.DataFrame:
-    """Of the lives those of orders that came to rest, with filled (bool: executed at all while it rested), wait (ns from
-    when it came to its first execution while it rested; of one that was executed as it came too the first one counts, 0) and
-    place: -1 where its price improved the best one of its side, 0 at it, 1 behind it; an empty side is improved."""
+    """Of the lives those of orders that came to rest, with filled (bool: executed at all while it rested), wait (ns
+    from when it came to its first execution while it rested; of one that was executed as it came too the first one
+    counts, 0) and place: -1 where its price improved the best one of its side, 0 at it, 1 behind it; an empty side is
+    improved."""
     rests = own[own.rested > 0]
     filled = rests.executed > rests.on_entry
     return rests.assign(filled=filled, wait=rests.first_fill - rests.time,
@@ -372,8 +386,8 @@ def fill_probability(branch: Branch, *, after: int = 0, stock: int | str | None 
         fill_probability = (orders executed while they rested) / (orders that came to rest)
 
     and the same of those whose price improved the best displayed one of their side, was at it, and was behind it:
-    fill_probability_improving, _at_touch, _behind. Orders that still rest at the end count as not executed where they have
-    not been. Source: Lo, MacKinlay and Zhang (2002) of times to fill.
+    fill_probability_improving, _at_touch, _behind. Orders that still rest at the end count as not executed where they
+    have not been. Source: Lo, MacKinlay and Zhang (2002) of times to fill.
     """
     numbers: dict[str, float] = {}
     for number, own in lives_of(branch, after, stock):
@@ -386,9 +400,9 @@ def fill_probability(branch: Branch, *, after: int = 0, stock: int | str | None 
 
 
 def time_to_fill(branch: Branch, *, after: int = 0, stock: int | str | None = None) -> dict[str, float]:
-    """How long an order waits for its first execution: the median over the orders that were executed while they rested, and
-    not already as they came, from when they came to then (ns); time_to_fill_improving, _at_touch, _behind by the place of
-    their price (see `fill_probability`). Source: Lo, MacKinlay and Zhang (2002).
+    """How long an order waits for its first execution: the median over the orders that were executed while they
+    rested, and not already as they came, from when they came to then (ns); time_to_fill_improving, _at_touch, _behind
+    by the place of their price (see `fill_probability`). Source: Lo, MacKinlay and Zhang (2002).
     """
     numbers: dict[str, float] = {}
     for number, own in lives_of(branch, after, stock):
@@ -402,9 +416,10 @@ def time_to_fill(branch: Branch, *, after: int = 0, stock: int | str | None = No
 
 
 def fills_by_distance(branch: Branch, *, after: int = 0) -> pandas.DataFrame:
-    """Fill probability and time to fill at each distance from the touch: a row a stock and distance, with stock, distance
-    (0.0001 dollars behind the best displayed price of the order's own side when it came), orders (that came to rest),
-    filled (the part executed at all while it rested) and wait (the median ns to the first execution of those that were)."""
+    """Fill probability and time to fill at each distance from the touch: a row a stock and distance, with stock,
+    distance (0.0001 dollars behind the best displayed price of the order's own side when it came), orders (that came
+    to rest), filled (the part executed at all while it rested) and wait (the median ns to the first execution of
+    those that were)."""
     frame = resting_fills(lives(branch)[lambda own: own.event > after])
     frame = frame[frame.distance.notna()].assign(wait=frame.wait.where(frame.filled))
     groups = frame.groupby(["stock", "distance"])
@@ -413,8 +428,9 @@ def fills_by_distance(branch: Branch, *, after: int = 0) -> pandas.DataFrame:
 
 
 def queue_at_entry(branch: Branch, *, after: int = 0, stock: int | str | None = None) -> dict[str, float]:
-    """How many shares are before an order when it comes to rest: the mean, over the orders that rested displayed, of the
-    displayed shares at its price that came before it; queue_at_touch over those at the best price of their side. In shares.
+    """How many shares are before an order when it comes to rest: the mean, over the orders that rested displayed, of
+    the displayed shares at its price that came before it; queue_at_touch over those at the best price of their side.
+    In shares.
     """
     numbers: dict[str, float] = {}
     for number, own in lives_of(branch, after, stock):

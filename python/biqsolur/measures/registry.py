@@ -22,9 +22,9 @@ PRICE, SHARES, PART = "0.0001 dollars", "shares", "a part of 1"
 class Measure:
     """A measure.
 
-    Attributes: name; function (of a branch and settings by name, to a number or to numbers by their names); units (by the
-    names of its numbers, without the symbol of a stock); settings (those that are bound: `find` binds what is named with
-    the measure, and `compute` adds to them).
+    Attributes: name; function (of a branch and settings by name, to a number or to numbers by their names); units (by
+    the names of its numbers, without the symbol of a stock); settings (those that are bound: `find` binds what is
+    named with the measure, and `compute` adds to them).
     """
 
     name: str
@@ -43,15 +43,15 @@ class Measure:
         return [name for name in inspect.signature(self.function).parameters][1:]
 
     def unit(self, number: str) -> str:
-        """The unit of one of its numbers, which may have a kind of agents or the symbol of a stock behind it; "" where it is
-        not known."""
+        """The unit of one of its numbers, which may have a kind of agents or the symbol of a stock behind it; ""
+        where it is not known."""
         name = number.split(".")[0]
         return self.units.get(name) or self.units.get(name.rsplit("_", 1)[0], "")
 
     def compute(self, branch: Branch, **settings: Any) -> dict[str, float]:
-        """Its numbers of a branch, by their names. A number that the run does not give is not-a-number. Settings that all
-        measures may be given, `after`, `stock` and `study`, are left out where this one takes none of them; another that
-        it does not take is a MeasureError."""
+        """Its numbers of a branch, by their names. A number that the run does not give is not-a-number. Settings that
+        all measures may be given, `after`, `stock` and `study`, are left out where this one takes none of them;
+        another that it does not take is a MeasureError."""
         return as_numbers(self.name, self.function(branch, **self.taken({**self.settings, **settings})))
 
     def taken(self, settings: dict[str, Any]) -> dict[str, Any]:
@@ -69,7 +69,8 @@ def as_numbers(name: str, answer: Any) -> dict[str, float]:
     try:
         return {str(key): float(value) for key, value in numbers.items()}
     except (TypeError, ValueError) as error:
-        raise MeasureError(f"measure {name} answered {answer!r}: it has to answer a number, or numbers by names") from error
+        raise MeasureError(f"measure {name} answered {answer!r}: it has to answer a number, or numbers by "
+                           "names") from error
 
 
 def measure(function: Callable[..., Any], **units: str) -> Measure:
@@ -81,7 +82,8 @@ BASIS, LENGTH, COUNT, MONEY, LINE = "basis points", "ns", "orders", "0.000001 do
 
 NAMES: dict[str, Measure] = {each.name: each for each in [
     measure(spreads.quoted_spread, quoted_spread=PRICE, quoted_spread_bps=BASIS, two_sided=PART),
-    measure(spreads.effective_spread, effective_spread=PRICE, effective_spread_by_shares=PRICE, effective_spread_bps=BASIS),
+    measure(spreads.effective_spread, effective_spread=PRICE, effective_spread_by_shares=PRICE,
+            effective_spread_bps=BASIS),
     measure(spreads.realised_spread, realised_spread=PRICE, realised_spread_by_shares=PRICE),
     measure(spreads.price_impact, price_impact=PRICE, price_impact_by_shares=PRICE),
     measure(depth.displayed_depth, bid_depth=SHARES, ask_depth=SHARES, depth=SHARES),
@@ -118,9 +120,9 @@ OTHER_NAMES = {
 def find(wanted: str | Mapping[str, Any] | Callable[..., Any] | Measure, folder: str | Path = ".") -> Measure:
     """The measure that is named.
 
-    By its name; by a table with `name` and settings, as {"name": "realised_spread", "horizon": "5s"}; by a function of a
-    branch, to a number or to numbers by their names; or by a text FILE.py:FUNCTION, a file of Python from `folder` on.
-    MeasureError where there is none such.
+    By its name; by a table with `name` and settings, as {"name": "realised_spread", "horizon": "5s"}; by a function
+    of a branch, to a number or to numbers by their names; or by a text FILE.py:FUNCTION, a file of Python from
+    `folder` on. MeasureError where there is none such.
     """
     if isinstance(wanted, Measure):
         return wanted

@@ -21,8 +21,8 @@ HORIZON = 5_000_000_000         # ns
 
 @dataclass
 class Spreads:
-    """The spreads of trades, an array each with an element a trade (0.0001 dollars): mid (before the trade's event), later
-    (the mid at the horizon), effective, realised, impact. Not-a-number where a mid is not known."""
+    """The spreads of trades, an array each with an element a trade (0.0001 dollars): mid (before the trade's event),
+    later (the mid at the horizon), effective, realised, impact. Not-a-number where a mid is not known."""
 
     mid: numpy.ndarray
     later: numpy.ndarray
@@ -43,16 +43,17 @@ def spreads_of(steps: Steps, trades: Trades, horizon: int, end: int) -> Spreads:
 def trade_spreads(branch: Branch, horizon: int | str = HORIZON) -> pandas.DataFrame:
     """The spreads of each trade, in the order of `branch.trades` and with its row labels.
 
-    With q = 1 for a buy and -1 for a sell (of the order that came), p the price, m the mid right before the trade's event
-    and m' the mid `horizon` behind the trade (after all events at or before that time):
+    With q = 1 for a buy and -1 for a sell (of the order that came), p the price, m the mid right before the trade's
+    event and m' the mid `horizon` behind the trade (after all events at or before that time):
 
         effective = 2 q (p - m)        realised = 2 q (p - m')        impact = 2 q (m' - m)
 
-    so effective = realised + impact, trade by trade. Columns: event, time (ns), stock, sign, price, shares, mid, later,
-    effective, realised, impact (0.0001 dollars); not-a-number where a side of the book was empty, or where the run has
-    ended before the horizon. A trade is a match: an order that meets three others makes three.
+    so effective = realised + impact, trade by trade. Columns: event, time (ns), stock, sign, price, shares, mid,
+    later, effective, realised, impact (0.0001 dollars); not-a-number where a side of the book was empty, or where the
+    run has ended before the horizon. A trade is a match: an order that meets three others makes three.
 
-    Sources: Huang and Stoll (1996); Bessembinder and Kaufman (1997); 17 CFR 242.600(b), with the mid at order receipt.
+    Sources: Huang and Stoll (1996); Bessembinder and Kaufman (1997); 17 CFR 242.600(b), with the mid at order
+    receipt.
     """
     tape = tape_of(branch)
     length = duration(horizon)
@@ -110,17 +111,19 @@ def effective_spread(branch: Branch, *, after: int = 0, stock: int | str | None 
         trades = trades.since(after)
         found = spreads_of(steps, trades, 0, 0)
         numbers |= named(branch, number, {
-            "effective_spread": mean(found.effective), "effective_spread_by_shares": mean(found.effective, trades.shares),
+            "effective_spread": mean(found.effective),
+            "effective_spread_by_shares": mean(found.effective, trades.shares),
             "effective_spread_bps": mean(10_000 * found.effective / found.mid)})
     return numbers
 
 
 def realised_spread(branch: Branch, *, horizon: int | str = HORIZON, after: int = 0,
                     stock: int | str | None = None) -> dict[str, float]:
-    """The mean over the trades of twice the distance of the price from the mid `horizon` later: what whoever stood in the
-    book keeps of the effective spread.
+    """The mean over the trades of twice the distance of the price from the mid `horizon` later: what whoever stood in
+    the book keeps of the effective spread.
 
-        realised_spread = mean(2 q_i (p_i - m'_i))      realised_spread_by_shares = sum(n_i 2 q_i (p_i - m'_i)) / sum(n_i)
+        realised_spread = mean(2 q_i (p_i - m'_i))
+        realised_spread_by_shares = sum(n_i 2 q_i (p_i - m'_i)) / sum(n_i)
 
     A trade whose horizon is behind the run's end is left out. Sources: Huang and Stoll (1996); by shares, with five
     minutes, the "average realized spread" of 17 CFR 242.600(b); `realizedSpread` in R's highfrequency.
@@ -135,8 +138,8 @@ def price_impact(branch: Branch, *, horizon: int | str = HORIZON, after: int = 0
 
         price_impact = mean(2 q_i (m'_i - m_i))         price_impact_by_shares = sum(n_i 2 q_i (m'_i - m_i)) / sum(n_i)
 
-    Trade by trade it is effective less realised spread. Sources: Huang and Stoll (1996); Bessembinder and Kaufman (1997);
-    `priceImpact` in R's highfrequency is half of it.
+    Trade by trade it is effective less realised spread. Sources: Huang and Stoll (1996); Bessembinder and Kaufman
+    (1997); `priceImpact` in R's highfrequency is half of it.
     """
     return horizon_numbers(branch, "impact", "price_impact", horizon, after, stock)
 

@@ -1,8 +1,9 @@
-"""What all measures of a branch go by: the best prices over time, and the trades with the prices before and behind them.
+"""What all measures of a branch go by: the best prices over time, and the trades with the prices before and behind
+them.
 
 The mid of a stock is half the sum of its best displayed bid and ask, and there is none where a side is empty. Hidden
-orders are in no bid, ask or mid; what they trade is among the trades. The side of a trade is that of the order that came
-with its event. It is known, and not guessed from prices as by Lee and Ready (1991).
+orders are in no bid, ask or mid; what they trade is among the trades. The side of a trade is that of the order that
+came with its event. It is known, and not guessed from prices as by Lee and Ready (1991).
 """
 
 from __future__ import annotations
@@ -76,8 +77,8 @@ class Window:
         if interval < 1:
             raise MeasureError(f"interval = {interval} ns: take one above 0")
         if self.length // interval >= MOST_POINTS:
-            raise MeasureError(f"interval = {interval} ns makes {self.length // interval + 1} points of this run: take a "
-                               f"longer one, so that they are at most {MOST_POINTS}")
+            raise MeasureError(f"interval = {interval} ns makes {self.length // interval + 1} points of this run: take "
+                               f"a longer one, so that they are at most {MOST_POINTS}")
         return numpy.arange(self.start, self.end + 1, interval, dtype=numpy.int64)
 
 
@@ -196,7 +197,9 @@ class Tape:
         if after < 0:
             raise MeasureError(f"after = {after}: events are numbered from 1, so take 0 or more")
         end = int(moments[-1]) if len(moments) else self.opening
-        return Window(after, self.opening if after == 0 else int(moments[after - 1]) if after <= len(moments) else end, end)
+        if after == 0:
+            return Window(after, self.opening, end)
+        return Window(after, int(moments[after - 1]) if after <= len(moments) else end, end)
 
     def stocks(self, stock: int | str | None) -> list[int]:
         """The stocks that a measure takes: the one that is named by its symbol or number, or all of them."""
@@ -242,7 +245,8 @@ def weights(steps: Steps, window: Window) -> numpy.ndarray:
 
 
 def mean(values: numpy.ndarray, weight: numpy.ndarray | None = None) -> float:
-    """The mean of those values that are numbers, weighted where `weight` is given; not-a-number where there are none."""
+    """The mean of those values that are numbers, weighted where `weight` is given; not-a-number where there are
+    none."""
     known = ~numpy.isnan(values)
     if weight is not None:
         known &= weight > 0

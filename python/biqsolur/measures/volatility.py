@@ -1,7 +1,7 @@
 """How much prices move: variances, autocorrelations, and the spread that bounces show.
 
-Returns are differences of the logarithm of the mid, from one point of a grid of times to the next. At each point the mid is
-that after all events at or before it.
+Returns are differences of the logarithm of the mid, from one point of a grid of times to the next. At each point the
+mid is that after all events at or before it.
 """
 
 from __future__ import annotations
@@ -50,10 +50,11 @@ def realised_variance(branch: Branch, *, interval: int | str = INTERVAL, after: 
 
 
 def signature_plot(branch: Branch, intervals: Sequence[int | str] = INTERVALS, *, after: int = 0) -> pandas.DataFrame:
-    """The realised variance of each stock at several intervals: a row a stock and interval, with stock, symbol, interval
-    (ns), returns (how many are known) and realised_variance.
+    """The realised variance of each stock at several intervals: a row a stock and interval, with stock, symbol,
+    interval (ns), returns (how many are known) and realised_variance.
 
-    Where it rises as the interval gets shorter, prices bounce. Source: Andersen, Bollerslev, Diebold and Labys (2000).
+    Where it rises as the interval gets shorter, prices bounce. Source: Andersen, Bollerslev, Diebold and Labys
+    (2000).
     """
     window, rows = tape_of(branch).window(after), []
     for number, steps, _ in per_stock(branch, None):
@@ -79,10 +80,11 @@ def correlation_at(values: numpy.ndarray, lag: int) -> float:
     return float(products.sum()) / square if len(products) and square > 0 else math.nan
 
 
-def autocorrelations(branch: Branch, lags: int = LAGS, *, interval: int | str = INTERVAL, after: int = 0) -> pandas.DataFrame:
-    """Autocorrelations of each stock at the lags 1 to `lags`: a row a stock and lag, with stock, symbol, lag, returns (log-
-    returns of the mid over the grid), absolute (their absolute values) and signs (1 and -1 for the side of each trade, in
-    order). Source: Cont (2001): returns have next to none, absolute returns and signs keep theirs for long.
+def autocorrelations(branch: Branch, lags: int = LAGS, *, interval: int | str = INTERVAL,
+                     after: int = 0) -> pandas.DataFrame:
+    """Autocorrelations of each stock at the lags 1 to `lags`: a row a stock and lag, with stock, symbol, lag, returns
+    (log- returns of the mid over the grid), absolute (their absolute values) and signs (1 and -1 for the side of each
+    trade, in order). Source: Cont (2001): returns have next to none, absolute returns and signs keep theirs for long.
     """
     window, length, rows = tape_of(branch).window(after), duration(interval, "interval"), []
     for number, steps, trades in per_stock(branch, None):
@@ -95,8 +97,8 @@ def autocorrelations(branch: Branch, lags: int = LAGS, *, interval: int | str = 
 
 def autocorrelation(branch: Branch, *, lag: int = 1, interval: int | str = INTERVAL, after: int = 0,
                     stock: int | str | None = None) -> dict[str, float]:
-    """The autocorrelation, at one lag, of the log-returns of the mid over a grid, of their absolute values, and of the sides
-    of the trades in order.
+    """The autocorrelation, at one lag, of the log-returns of the mid over a grid, of their absolute values, and of
+    the sides of the trades in order.
 
         autocorrelation_* = sum((x_i - x)(x_(i+lag) - x)) / sum((x_i - x)^2),   x: the mean
 
@@ -119,8 +121,8 @@ def roll_spread(branch: Branch, *, after: int = 0, stock: int | str | None = Non
 
         roll_spread = 2 sqrt(-cov(d_i, d_(i-1))),   d_i: the change from one trade's price to the next one's
 
-    with the covariance of the n - 1 pairs divided by n - 1; not-a-number where it is above 0 (Roll's measure has no answer
-    then) or where there are fewer than three trades. In 0.0001 dollars. Source: Roll (1984).
+    with the covariance of the n - 1 pairs divided by n - 1; not-a-number where it is above 0 (Roll's measure has no
+    answer then) or where there are fewer than three trades. In 0.0001 dollars. Source: Roll (1984).
     """
     numbers: dict[str, float] = {}
     for number, _, trades in per_stock(branch, stock):
