@@ -19,7 +19,7 @@ import re
 import struct
 from dataclasses import dataclass
 from decimal import Decimal
-from typing import ClassVar
+from typing import ClassVar, Self
 
 from biqsolur.errors import OuchError
 
@@ -139,7 +139,7 @@ class Message:
         return self.to_bytes().hex()
 
     @classmethod
-    def from_bytes(cls, data: bytes) -> Message:
+    def from_bytes(cls, data: bytes) -> Self:
         """The message of these bytes. Raises OuchError with the offset of what is wrong: 0 where the type is another
         one, the length of the bytes where they are too short or too long, else the first bad field's offset."""
         data = bytes(data)

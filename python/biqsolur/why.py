@@ -43,10 +43,9 @@ def add_words(parser: argparse.ArgumentParser) -> None:
 
 
 def main(arguments: argparse.Namespace) -> int:
-    """Says what is wrong with a file. The status is the program's where it was asked; else 0 where nothing is wrong,
-    1."""
+    """Says what is wrong with a file. The status is the program's; where it is not asked, the one that it would give."""
     if arguments.write:
-        print(file_faults.write_fault(arguments.file))
+        say(file_faults.write_fault(arguments.file))
         return 7
     if arguments.file is None:
         raise InputError("name the file that was refused: why FILE")
@@ -57,8 +56,14 @@ def main(arguments: argparse.Namespace) -> int:
     status, line = ask_program(program_of(arguments), asked_words(arguments, kind))
     sentence = other or said_of(arguments, kind, line)
     if sentence is not None:
-        print(sentence)
+        say(sentence)
     return status
+
+
+def say(sentence: str) -> None:
+    """Prints a sentence; what of a path or a text can't be shown is written as an escape."""
+    print("".join(letter if letter.isprintable() or letter == "\n" else letter.encode("unicode_escape").decode()
+                  for letter in sentence))
 
 
 def asked_words(arguments: argparse.Namespace, kind: str) -> list[str]:
@@ -166,6 +171,9 @@ def said_of(arguments: argparse.Namespace, kind: str, line: str) -> str | None:
     if match := REFUSED.fullmatch(line):
         study = arguments.study if kind in ("orders", "script") else arguments.file
         return why(study, int(match[1]), int(match[2]))
+    odd = [path for path in (arguments.file, arguments.study) if path and not is_utf8(path)]
+    if odd:
+        return f"{odd[0]}: this name is no text in UTF-8, and the program takes no other: rename the file"
     if match := FILE_LINES.fullmatch(line):
         most = file_faults.MOST_BUNDLE_BYTES if kind == "bundle" else file_faults.MOST_BYTES
         return file_faults.read_fault(match[1], most) or f"{match[1]}: it can be read now; run the command again"
@@ -173,6 +181,11 @@ def said_of(arguments: argparse.Namespace, kind: str, line: str) -> str | None:
     if data is None:
         return None
     return said_of_data(data, study_table(arguments.study) if arguments.study else None, line)
+
+
+def is_utf8(path: str) -> bool:
+    """Whether a path is a text in UTF-8."""
+    return not any("\ud800" <= letter <= "\udfff" for letter in path)
 
 
 def said_of_data(path: Path, study: dict[str, object] | None, line: str) -> str | None:
@@ -210,7 +223,7 @@ def alone(path: str, kind: str) -> int:
     """Says what orders or a script show without their study, as the program can't be asked: 12, 15, or 0."""
     data = Path(path).read_bytes()
     if len(data) > file_faults.MOST_BYTES:
-        print(file_faults.read_fault(path, file_faults.MOST_BYTES))
+        say(f"{file_faults.read_fault(path, file_faults.MOST_BYTES)}")
         return 4
     if kind == "orders":
         record = order_rules.first_bad_record(data)
@@ -220,6 +233,6 @@ def alone(path: str, kind: str) -> int:
         fault = script_rules.first_script_fault(data)
         sentence = None if fault is None else script_rules.explain_script(data, *fault)
         status = 15
-    print(sentence or f"{path}: no fault is seen in it")
-    print(NO_STUDY_GIVEN.format(path))
+    say(sentence or f"{path}: no fault is seen in it")
+    say(NO_STUDY_GIVEN.format(path))
     return 0 if sentence is None else status

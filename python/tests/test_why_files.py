@@ -486,6 +486,13 @@ def test_files_that_cannot_be_read(why, folder):
     assert file_faults.read_fault("long.toml", 16_777_216) == "long.toml has 16,777,217 bytes, and may have 16,777,216"
 
 
+def test_names_that_cannot_be_shown(why):
+    """Letters that move a terminal's cursor, and bytes that are no text, are written as escapes."""
+    assert why("a\x1b[31m.toml")[1] == "there is no a\\x1b[31m.toml"
+    assert why("a\udcff.toml")[:2] == (2, "a\\udcff.toml: this name is no text in UTF-8, and the program takes no other: "
+                                          "rename the file")
+
+
 def test_a_series_file_that_is_not_there(why, folder):
     (folder / "values.csv").unlink()
     assert why("study.toml") == (3, "there is no values.csv", "no such file: values.csv")
