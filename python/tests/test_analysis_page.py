@@ -112,17 +112,11 @@ def test_the_sweep_of_the_page(reader):
 
 
 def test_no_command_stands_outside_the_blocks():
-    """Lines that are shown and not run are installations and what needs another machine."""
+    """Lines that are shown and not run are installations."""
     outside = BLOCK.sub("", PAGE)
     shown = [line.strip() for line in outside.splitlines() if line.startswith("    ")]
     assert shown and all(line.startswith(NOT_RUN) for line in shown)
     assert outside.count("```") == 0
-
-
-def test_the_settings_of_a_sweep_are_all_told():
-    from biqsolur.sweep.plan import SETTINGS
-    told = set(re.findall(r"^\| `(\w+)` \|", PAGE, re.MULTILINE))
-    assert set(SETTINGS) - {"study", "output"} <= told
 
 
 def test_the_first_figure_takes_fifteen_lines():
