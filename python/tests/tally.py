@@ -88,7 +88,7 @@ def workers() -> int:
         processors = len(os.sched_getaffinity(0))
     except (OSError, AttributeError):
         processors = os.cpu_count() or 1
-    return int(max(1, min(processors, math.ceil(quota()), free_memory() // WORKER_MEMORY, 16)))
+    return max(1, math.ceil(min(processors, quota(), free_memory() // WORKER_MEMORY, 16)))
 
 
 def run_pytest(words: list[str], folder: Path) -> tuple[int, Tally]:
