@@ -2,9 +2,9 @@
 
     python3 examples/spread_under_ticks.py [STUDY [KEYS]]
 
-Runs a study (examples/tick_size.toml) under the keys 1 to 30, with branches at event 5,000 for ticks of two, five and ten
-cents, and tells the mean quoted spread that traders heard after that event. Needs Debian's python3-numpy, python3-pandas,
-python3-scipy, python3-tomlkit and python3-tqdm.
+Runs a study (examples/tick_size.toml) under the keys 1 to 30, with branches at event 5,000 for ticks of two, five and
+ten cents, and tells the mean quoted spread that traders heard after that event. Needs Debian's python3-numpy,
+python3-pandas, python3-scipy, python3-tomlkit and python3-tqdm.
 """
 
 import pathlib

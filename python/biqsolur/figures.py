@@ -1,7 +1,7 @@
 """Pictures for a paper: `python3 -m biqsolur figure BUNDLE --measure mid --branches root,wide -o mid.pdf`.
 
-Drawn by matplotlib as SVG, PDF or PNG: axes in units, the branches as lines, and below them what study, key and version the
-picture is of. The same bundle makes the same bytes with the same matplotlib. Texts of an SVG stay texts.
+Drawn by matplotlib as SVG, PDF or PNG: axes in units, the branches as lines, and below them what study, key and
+version the picture is of. The same bundle makes the same bytes with the same matplotlib. Texts of an SVG stay texts.
 """
 
 from __future__ import annotations
@@ -29,7 +29,8 @@ WIDTH, HEIGHT = 7.0, 3.4        # inches
 ROOT_STYLE = {"color": "#8b949e", "linewidth": 2.6}
 COLOURS = ["#0072b2", "#d55e00", "#009e73", "#cc79a7", "#e69f00", "#56b4e9", "#7a5195"]
 DASHES = ["solid", "dashed", "dotted", "dashdot"]
-STEPS = [1, 2, 5, 10, 15, 20, 30, 60, 120, 300, 600, 900, 1200, 1800, 3600, 7200, 14400]      # seconds between two ticks
+# Seconds between two ticks.
+STEPS = [1, 2, 5, 10, 15, 20, 30, 60, 120, 300, 600, 900, 1200, 1800, 3600, 7200, 14400]
 SETTINGS = {"svg.hashsalt": "biqsolur", "svg.fonttype": "none", "pdf.fonttype": 42, "font.family": "sans-serif",
             "font.sans-serif": ["DejaVu Sans"], "font.size": 9,
             "axes.spines.top": False, "axes.spines.right": False, "axes.edgecolor": "#8b949e", "axes.grid": True,
@@ -38,8 +39,8 @@ SETTINGS = {"svg.hashsalt": "biqsolur", "svg.fonttype": "none", "pdf.fonttype": 
 
 @dataclass(frozen=True)
 class Picture:
-    """What a measure looks like: the axis with its unit, what the caption calls it, whether the axis begins at 0, and whether
-    its numbers are whole ones."""
+    """What a measure looks like: the axis with its unit, what the caption calls it, whether the axis begins at 0, and
+    whether its numbers are whole ones."""
 
     axis: str
     words: str
@@ -70,10 +71,11 @@ def figure(source: Bundle | str | os.PathLike[str], measure: str = "mid", branch
            study: Study | str | os.PathLike[str] | None = None) -> Any:
     """A matplotlib Figure of one measure of a bundle's branches over time.
 
-    source: a Bundle, or a path: of a bundle, or of a study (TOML), which is then run. measure: one of PICTURES. branches: names,
-    all where nothing is said; each is drawn from where it leaves the nearest branch in the picture that it comes from, else from
-    the opening. stock: a symbol, the first where nothing is said. begin, end: times of day. study: what the bundle is of, where
-    no record stands beside it; then the caption names it, and a picture of the mid price has the fundamental value.
+    source: a Bundle, or a path: of a bundle, or of a study (TOML), which is then run. measure: one of PICTURES.
+    branches: names, all where nothing is said; each is drawn from where it leaves the nearest branch in the picture
+    that it comes from, else from the opening. stock: a symbol, the first where nothing is said. begin, end: times of
+    day. study: what the bundle is of, where no record stands beside it; then the caption names it, and a picture of
+    the mid price has the fundamental value.
 
     FigureError where there is no such measure or stock, or nothing is between begin and end; UnknownBranchError.
     """
@@ -89,20 +91,23 @@ def figure(source: Bundle | str | os.PathLike[str], measure: str = "mid", branch
     lines = [line_of(branch, series[branch.name], measure, series, span) for branch in chosen]
     if measure == "mid" and known is not None:
         lines += value_lines(chosen, symbol, known, span)
-    return drawn(lines, PICTURES[measure], caption(made, known, name, PICTURES[measure], symbol), span, list(made.branches),
-                 forks_of(chosen, series))
+    words = caption(made, known, name, PICTURES[measure], symbol)
+    return drawn(lines, PICTURES[measure], words, span, list(made.branches), forks_of(chosen, series))
 
 
 def opened(source: Bundle | str | os.PathLike[str],
            study: Study | str | os.PathLike[str] | None) -> tuple[Bundle, Study | None, str]:
     """The bundle, its study where that is known, and what a caption calls it."""
-    name = "" if study is None or isinstance(study, Study) else f"Study {Path(study).name}"
-    known = Study.read(study) if name else study
+    name, known = "", None
+    if isinstance(study, Study):
+        known = study
+    elif study is not None:
+        name, known = f"Study {Path(study).name}", Study.read(study)
     if not isinstance(source, Bundle) and Path(source).suffix == ".toml":
         from biqsolur.running import run
         made = Study.read(source)
         return run(made), made, f"Study {Path(source).name}"
-    bundle = source if isinstance(source, Bundle) else read(source)
+    bundle = source if isinstance(source, Bundle) else read(Path(source))
     return bundle, known or bundle.study, name or f"Bundle {Path(str(bundle.path)).name}"
 
 
@@ -121,11 +126,13 @@ def span_of(series: dict[str, StockSeries], begin: object, end: object) -> tuple
     span = (min(one.begin for one in series.values()) if begin is None else nanoseconds(begin),
             max(one.end for one in series.values()) if end is None else nanoseconds(end))
     if span[0] >= span[1]:
-        raise FigureError(f"the picture would end at {clock(span[1])} and begin at {clock(span[0])}: choose a begin before the end")
+        raise FigureError(f"the picture would end at {clock(span[1])} and begin at {clock(span[0])}: choose a begin "
+                          "before the end")
     return span
 
 
-def line_of(branch: Branch, own: StockSeries, measure: str, drawn_too: dict[str, StockSeries], span: tuple[int, int]) -> Line:
+def line_of(branch: Branch, own: StockSeries, measure: str, drawn_too: Container[str],
+            span: tuple[int, int]) -> Line:
     """The line of a branch."""
     times, values = column(own, measure)
     leaving = leaving_time(branch, own, drawn_too)
@@ -181,7 +188,8 @@ def value_lines(branches: list[Branch], symbol: str, study: Study, span: tuple[i
             frame = branch.value(symbol, study)
         except StudyError:
             return []
-        made = cut("value" if not lines else f"value in {branch.name}", frame.time.to_numpy(), frame.value_dollars.to_numpy(), span)
+        name = f"value in {branch.name}" if lines else "value"
+        made = cut(name, frame.time.to_numpy(), frame.value_dollars.to_numpy(), span)
         if all(len(made.times) != len(line.times) or not numpy.array_equal(made.values, line.values) for line in lines):
             lines.append(made)
     return lines
@@ -213,7 +221,8 @@ def clock(time: int) -> str:
     return text + (f".{part:09d}".rstrip("0") if part else "")
 
 
-def drawn(lines: list[Line], picture: Picture, words: str, span: tuple[int, int], order: list[str], forks: list[int]) -> Any:
+def drawn(lines: list[Line], picture: Picture, words: str, span: tuple[int, int], order: list[str],
+          forks: list[int]) -> Any:
     """The Figure."""
     import matplotlib
     from matplotlib.figure import Figure
@@ -223,8 +232,8 @@ def drawn(lines: list[Line], picture: Picture, words: str, span: tuple[int, int]
         for fork in forks:
             axes.axvline((fork - span[0]) / SECOND, color="#8b949e", linewidth=0.8, linestyle="dotted", gid="fork")
         for line in lines:
-            axes.step((line.times - span[0]) / SECOND, line.values, where="post", label=line.name, gid=f"line {line.name}",
-                      **style_of(line.name, order))
+            axes.step((line.times - span[0]) / SECOND, line.values, where="post", label=line.name,
+                      gid=f"line {line.name}", **style_of(line.name, order))
         finished(axes, picture, span)
         made.text(0.12, 0.02, words, fontsize=7.5, color="#57606a", gid="caption")
     return made
@@ -269,8 +278,8 @@ def finished(axes: Any, picture: Picture, span: tuple[int, int]) -> None:
 
 def write_figure(source: Bundle | str | os.PathLike[str], output: str | os.PathLike[str], measure: str = "mid",
                  branches: Sequence[str] | None = None, **settings: Any) -> None:
-    """Draws `figure(source, measure, branches, ...)` and writes it to a file that is not there yet, whole or not at all. The
-    format is the ending's: .svg, .pdf or .png."""
+    """Draws `figure(source, measure, branches, ...)` and writes it to a file that is not there yet, whole or not at
+    all. The format is the ending's: .svg, .pdf or .png."""
     import matplotlib
     path = Path(output)
     if path.suffix.lower() not in FORMATS:

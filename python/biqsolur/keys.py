@@ -23,8 +23,8 @@ def key_of(value: int | str) -> str:
 
 
 def keys_of(value: int | Sequence[int | str]) -> list[str]:
-    """Keys from how many they are (1, 2, 3 and so on), or from a list of numbers and texts. KeysError where there is none,
-    or one stands there twice."""
+    """Keys from how many they are (1, 2, 3 and so on), or from a list of numbers and texts. KeysError where there is
+    none, or one stands there twice."""
     if isinstance(value, int) and not isinstance(value, bool):
         value = range(1, value + 1)
     if isinstance(value, (str, bytes)) or not isinstance(value, Sequence) or not value:

@@ -28,6 +28,7 @@ import pandas
 from biqsolur.bundle import Bundle, read
 from biqsolur.errors import MapError
 from biqsolur.keys import KeyedText, keys_of
+from biqsolur.program import environment
 from biqsolur.study import Study
 
 
@@ -36,15 +37,15 @@ def map_keys(study: Study | str | os.PathLike[str] | Mapping[str, Any], keys: in
              program: str | os.PathLike[str] | None = None, progress: bool | None = None) -> pandas.DataFrame:
     """Runs the study under each key, and gives what `function` says of each bundle, as a frame by key.
 
-    keys: how many (1, 2, 3 and so on), or a list of numbers and of texts of 64 hexadecimal digits. function: of a Bundle,
-    in a process that was forked off this one, so it may be a lambda; the bundle is gone when it returns. What it answers is
-    a row: a number or text is the column `value`, a dict or Series its own columns; a DataFrame is several rows, which keep
-    their labels behind the key's. Rows stand in the order of the keys, and are called as the keys were given. processes: how many side by side, as many as there
-    are processors where it is not said. progress: whether a bar is shown on standard error; where that is a terminal if not
-    said.
+    keys: how many (1, 2, 3 and so on), or a list of numbers and of texts of 64 hexadecimal digits. function: of a
+    Bundle, in a process that was forked off this one, so it may be a lambda; the bundle is gone when it returns. What
+    it answers is a row: a number or text is the column `value`, a dict or Series its own columns; a DataFrame is
+    several rows, which keep their labels behind the key's. Rows stand in the order of the keys, and are called as the
+    keys were given. processes: how many side by side, as many as there are processors where it is not said. progress:
+    whether a bar is shown on standard error; where that is a terminal if not said.
 
-    A study that the program refuses is StudyRefused before anything runs. Where the function raises, or a run fails, it is
-    MapError with the key, and nothing goes on. An interrupt ends all processes.
+    A study that the program refuses is StudyRefused before anything runs. Where the function raises, or a run fails,
+    it is MapError with the key, and nothing goes on. An interrupt ends all processes.
     """
     names = keys_of(keys)
     known = study if isinstance(study, Study) else Study(study)
@@ -55,7 +56,7 @@ def map_keys(study: Study | str | os.PathLike[str] | Mapping[str, Any], keys: in
     with tempfile.TemporaryDirectory(prefix="biqsolur-map-") as folder:
         task = Task(known, found, Path(folder), function)
         answers = all_answers(task, names, min(processes or os.cpu_count() or 1, len(names)), progress)
-    labels = list(range(1, len(names) + 1)) if isinstance(keys, int) else list(keys)
+    labels: Sequence[int | str] = range(1, len(names) + 1) if isinstance(keys, int) else list(keys)
     return frame_of(labels, answers)
 
 
@@ -84,7 +85,7 @@ class Task:
             study.write_text(self.text.of(key), encoding="utf-8", newline="")
             with open(bundle, "wb") as file:
                 run = subprocess.run([self.program, "run", "--", str(study)], stdout=file, stderr=subprocess.PIPE,
-                                     cwd=self.working)
+                                     cwd=self.working, env=environment())
             if run.returncode:
                 line = run.stderr.decode("utf-8", "replace").strip()
                 raise MapError(f"key {key}: the program ended with status {run.returncode}: {line}")
@@ -101,8 +102,8 @@ TASK: Task | None = None        # of this process, which was forked off the one 
 
 
 def begin(task: Task) -> None:
-    """Readies a process: it and the programs that it starts are a group, which is ended as a whole, and which ends itself
-    where the one that maps is no more. An interrupt from the terminal reaches that one alone."""
+    """Readies a process: it and the programs that it starts are a group, which is ended as a whole, and which ends
+    itself where the one that maps is no more. An interrupt from the terminal reaches that one alone."""
     global TASK
     TASK = task
     os.setpgid(0, 0)
@@ -154,7 +155,7 @@ def bar(items: Iterator[Any], count: int, progress: bool | None) -> Iterator[Any
     return iter(tqdm(items, total=count, unit="key", disable=None if progress is None else not progress))
 
 
-def frame_of(keys: list[int | str], answers: list[Any]) -> pandas.DataFrame:
+def frame_of(keys: Sequence[int | str], answers: list[Any]) -> pandas.DataFrame:
     """The answers as a frame whose labels begin with the key."""
     kinds = {kind_of(answer) for answer in answers}
     if len(kinds) > 1:

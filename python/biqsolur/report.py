@@ -11,11 +11,12 @@ from biqsolur.report_page import page_text
 from biqsolur.study import Study
 
 
-def write_report(bundle_path: str | Path, output: str | Path = "report.html", study: Study | str | Path | None = None) -> None:
+def write_report(bundle_path: str | Path, output: str | Path = "report.html",
+                 study: Study | str | Path | None = None) -> None:
     """Writes the report of a bundle. The file must not be there yet; where something is wrong it is not written.
 
-    study: of the bundle, a Study or a path, where no record of the run stands beside it. StudyNeededError where it is another
-    bundle's.
+    study: of the bundle, a Study or a path, where no record of the run stands beside it. StudyNeededError where it is
+    another bundle's.
     """
     refuse_existing(output)
     known = study if study is None or isinstance(study, Study) else Study.read(study)

@@ -35,8 +35,8 @@ class BranchData:
     shared: how many events it shares with its parent. fork: the time (ns) of the last of them. end: the time of its
     end. stocks: the series of each. difference: None where nothing differs, and for the root. cash: of each agent,
     settled, millionths of a dollar. positions: of each stock, of each agent, settled, shares. edits: its own, with
-    event, time, kind and words. trades: of each stock. spreads, parents_spreads: of each stock, of the trades behind the fork,
-    here and in the parent (none for the root). told: what the study tells, None where it isn't known.
+    event, time, kind and words. trades: of each stock. spreads, parents_spreads: of each stock, of the trades behind
+    the fork, here and in the parent (none for the root). told: what the study tells, None where it isn't known.
     """
 
     name: str
@@ -156,7 +156,8 @@ def branch_data(bundle: Bundle, branch: Branch, study: Study | None = None) -> B
         positions=[[int(shares) for shares in agents[f"position_{symbol}"]] for symbol in bundle.symbols],
         edits=own_edits(branch, told), fees=sum(int(fee) for fee in fees[fees != 0]),
         trades=[marks(trades[trades.stock == stock], branch.fork) for stock in range(len(bundle.symbols))],
-        spreads=spreads_of(branch, branch.fork), parents_spreads=[] if parent is None else spreads_of(parent, branch.fork),
+        spreads=spreads_of(branch, branch.fork),
+        parents_spreads=[] if parent is None else spreads_of(parent, branch.fork),
         told=told)
 
 
@@ -214,8 +215,8 @@ def picture(series: StockSeries, fork: int, cells: int) -> dict:
 
 
 def value_step(data: BranchData, parent: BranchData | None, stock: int, begin: int, cells: int) -> list | None:
-    """The fundamental value of one stock in a branch from a time on, thinned; an empty list where it is that of the parent,
-    and None where the study isn't known."""
+    """The fundamental value of one stock in a branch from a time on, thinned; an empty list where it is that of the
+    parent, and None where the study isn't known."""
     if data.told is None:
         return None
     times, values = data.told.values[stock]
@@ -231,7 +232,8 @@ def value_step(data: BranchData, parent: BranchData | None, stock: int, begin: i
 
 
 def trade_marks(trades: pandas.DataFrame, most: int) -> list | None:
-    """Trades as the page's script reads them: times, prices, shares and sides; None where they are too many for the page."""
+    """Trades as the page's script reads them: times, prices, shares and sides; None where they are too many for the
+    page."""
     if len(trades) > most:
         return None
     return [steps(trades.time.to_numpy()), trades.price.tolist(), trades.shares.tolist(), "".join(trades.side)]

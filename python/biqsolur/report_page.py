@@ -21,11 +21,11 @@ POLICY = ("default-src 'none'; script-src 'unsafe-inline'; style-src 'unsafe-inl
           "base-uri 'none'; form-action 'none'")
 
 FIGURES = [
-    ("mid", "Mid price", "Half of best bid and best ask of the displayed book. No hidden order is in this picture, nor in "
-     "the next two. A line breaks off where a side of the book is empty. A branch is drawn from where it leaves its parent. "
-     "▲ is the first event that differs from the parent. A branch none of whose events differs is dotted, so that its parent is "
-     "seen. Dashed in black is the fundamental value, where the study is known. Where at most 400 trades are in sight they are "
-     "marked: a triangle up where the order that came bought."),
+    ("mid", "Mid price", "Half of best bid and best ask of the displayed book. No hidden order is in this picture, nor "
+     "in the next two. A line breaks off where a side of the book is empty. A branch is drawn from where it leaves its "
+     "parent. ▲ is the first event that differs from the parent. A branch none of whose events differs is dotted, so "
+     "that its parent is seen. Dashed in black is the fundamental value, where the study is known. Where at most 400 "
+     "trades are in sight they are marked: a triangle up where the order that came bought."),
     ("spread", "Spread", "Best ask less best bid."),
     ("depth", "Depth by level", "Shares displayed at the best five prices of each side, the best one nearest to zero: "
      "asks above, bids below. The first branch is filled; of the second one level 1 and all five together are lines."),
@@ -82,9 +82,10 @@ def origin_text(bundle: Bundle, study: Study | None) -> str:
     key = "" if study is None else f"Key {study.to_dict()['key']}. "
     if record is not None:
         return key + "; ".join(f"{name}: {text}" for name, text in record.lines()) + "."
-    return key + ("No record of its run stands beside the bundle." if study is not None else
-                  "No record of its run stands beside the bundle, so agents are numbers and edits are kinds: give the study by "
-                  "--study.")
+    if study is not None:
+        return key + "No record of its run stands beside the bundle."
+    return ("No record of its run stands beside the bundle, so agents are numbers and edits are kinds: give the study "
+            "by --study.")
 
 
 def page_text(bundle: Bundle, study: Study | None = None) -> str:

@@ -1,4 +1,5 @@
-"""What a report has of a study: names, edits in words, values, and what kinds of traders earn; and the spreads of trades."""
+"""What a report has of a study: names, edits in words, values, and what kinds of traders earn; and the spreads of
+trades."""
 
 from __future__ import annotations
 
@@ -18,8 +19,8 @@ HORIZON = "5s"      # of the realised spread
 
 @dataclass(frozen=True)
 class Spreads:
-    """The mean effective and realised spread of a stock's trades (0.0001 dollars), equally weighted; not-a-number where there
-    is none."""
+    """The mean effective and realised spread of a stock's trades (0.0001 dollars), equally weighted; not-a-number
+    where there is none."""
 
     effective: float
     realised: float
@@ -27,8 +28,9 @@ class Spreads:
 
 @dataclass(frozen=True)
 class Earned:
-    """What all traders of a kind have at a branch's end: how many they are, and their money since the opening in millionths of
-    a dollar: cash from trades, fees paid, and the profit with positions marked to the mid and to the value."""
+    """What all traders of a kind have at a branch's end: how many they are, and their money since the opening in
+    millionths of a dollar: cash from trades, fees paid, and the profit with positions marked to the mid and to the
+    value."""
 
     kind: str
     count: int
@@ -40,8 +42,8 @@ class Earned:
 
 @dataclass
 class Told:
-    """What a study tells of a branch. edits: the words of each edit, as `branch.edits` has them. values: of each stock its
-    times (ns) and values (four implied decimals). earned: a row a kind."""
+    """What a study tells of a branch. edits: the words of each edit, as `branch.edits` has them. values: of each
+    stock its times (ns) and values (four implied decimals). earned: a row a kind."""
 
     edits: list[str]
     values: list[tuple[numpy.ndarray, numpy.ndarray]] = field(default_factory=list)
@@ -49,9 +51,11 @@ class Told:
 
 
 def study_of_bundle(bundle: Bundle, study: Study | None) -> Study | None:
-    """The study of a bundle: the given one, else the one of its record. StudyNeededError where it is another bundle's."""
+    """The study of a bundle: the given one, else the one of its record. StudyNeededError where it is another
+    bundle's."""
     known = study if study is not None else bundle.study
-    return None if known is None or not bundle.branches else study_of(next(iter(bundle.branches.values())), known, "a report")
+    branch = next(iter(bundle.branches.values()), None)
+    return None if known is None or branch is None else study_of(branch, known, "a report")
 
 
 def told_of(branch: Branch, study: Study | None) -> Told | None:

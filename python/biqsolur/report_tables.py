@@ -152,9 +152,9 @@ def spreads_table(branches: list[BranchData], stock: int) -> str:
     groups = ("Effective spread, cents", f"Realised spread after {HORIZON}, cents")
     first = (tall_head("Branch") + tall_head("Parent")
              + "".join(cell(name, tag="th", more=' colspan="2" scope="colgroup"') for name in groups))
-    note = ("Means over the trades behind the event after which the branch left its parent, of both. The effective spread is "
-            "twice the distance of a trade's price from the mid before it, the realised one from the mid five seconds later: "
-            "what is left to whoever stood in the book.")
+    note = ("Means over the trades behind the event after which the branch left its parent, of both. The effective "
+            "spread is twice the distance of a trade's price from the mid before it, the realised one from the mid "
+            "five seconds later: what is left to whoever stood in the book.")
     return table("Effective and realised spreads", [first, head_cells(["branch", "parent"] * 2, range(4))], rows, note)
 
 
@@ -172,11 +172,12 @@ def kinds_table(branches: list[BranchData]) -> str:
         for number, one in enumerate(found):
             amounts = (one.cash, one.fees, one.at_mid, one.at_value) if one else ()
             texts = [money_text(amount) for amount in amounts] or ["–"] * len(names)
-            row += "".join(cell(text, f"number of-{number}" + ("" if place else " group")) for place, text in enumerate(texts))
+            row += "".join(cell(text, f"number of-{number}" + ("" if place else " group"))
+                           for place, text in enumerate(texts))
         rows.append(row)
-    note = ("Dollars since the opening. A profit is the cash from trades less the fees, with all positions marked at the end "
-            "to the last mid that was there, or to the fundamental value. What the venue took in fees is what all profits at "
-            "one mark add up to, below zero.")
+    note = ("Dollars since the opening. A profit is the cash from trades less the fees, with all positions marked at "
+            "the end to the last mid that was there, or to the fundamental value. What the venue took in fees is what "
+            "all profits at one mark add up to, below zero.")
     return table("Profit by kind of trader", [tall_head("Kind") + tall_head("Agents") + first, second], rows, note)
 
 

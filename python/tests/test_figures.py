@@ -19,7 +19,8 @@ NUMBER = re.compile(r"-?\d+(?:\.\d+)?")
 def bundle(program):
     """A market of three thousand events whose branch has a wider tick, and a branch of that."""
     study = biqsolur.Study(HOME / "examples" / "tick_size.toml").with_("events", 3000).with_("branch.wide.at", 900)
-    study = study.without_branch("same").branch("late", parent="wide", after=2000, edits=[biqsolur.SeriesOffset("ABM", 500)])
+    study = study.without_branch("same")
+    study = study.branch("late", parent="wide", after=2000, edits=[biqsolur.SeriesOffset("ABM", 500)])
     return biqsolur.run(study)
 
 
@@ -37,7 +38,8 @@ def expected(branch, measure, times):
     if measure in ("volume", "fees"):
         column = {"volume": "shares", "fees": "fees"}[measure]
         trades = branch.trades
-        return numpy.array([trades[trades.time <= time][column].sum() for time in times]) / (1 if measure == "volume" else 1e6)
+        unit = 1 if measure == "volume" else 1e6
+        return numpy.array([trades[trades.time <= time][column].sum() for time in times]) / unit
     book = branch.book(5)
     if measure == "depth":
         sides = [f"{side}_shares_{level}" for side in ("bid", "ask") for level in range(1, 6)]
@@ -50,7 +52,8 @@ def expected(branch, measure, times):
 
 @pytest.mark.parametrize("measure", figures.PICTURES)
 def test_lines_are_the_bundles(bundle, measure):
-    """At each point of each line the value is that of the branch, and a branch begins where it leaves a drawn parent."""
+    """At each point of each line the value is that of the branch, and a branch begins where it leaves a drawn
+    parent."""
     made = figures.figure(bundle, measure, begin="9:30:00")
     axes, = made.axes
     origin = 34_200 * 10**9
@@ -69,7 +72,8 @@ def test_lines_are_the_bundles(bundle, measure):
 def test_a_branch_without_its_parent_is_drawn_from_the_opening(bundle):
     axes, = figures.figure(bundle, "volume", ["late"]).axes
     line, = axes.lines
-    assert line.get_xdata()[0] == 0 and line.get_ydata()[0] == 0 and line.get_ydata()[-1] == bundle.branches["late"].trades.shares.sum()
+    x, y = line.get_data()
+    assert x[0] == 0 and y[0] == 0 and y[-1] == bundle.branches["late"].trades.shares.sum()
 
 
 def test_a_branch_whose_parent_is_not_drawn_leaves_its_parents_parent(bundle):
@@ -82,7 +86,8 @@ def test_a_branch_whose_parent_is_not_drawn_leaves_its_parents_parent(bundle):
 def test_the_value_is_in_the_picture_of_the_mid(bundle):
     """Once where branches share it, and again where an edit moves it."""
     axes, = figures.figure(bundle, "mid").axes
-    assert [line.get_label() for line in axes.lines if line.get_gid() != "fork"] == ["root", "wide", "late", "value", "value in late"]
+    names = [line.get_label() for line in axes.lines if line.get_gid() != "fork"]
+    assert names == ["root", "wide", "late", "value", "value in late"]
     values = {line.get_label(): line for line in axes.lines}
     frame = bundle.branches["root"].value("ABM")
     x, y = values["value"].get_data()
@@ -141,10 +146,12 @@ def test_what_is_refused(bundle, tmp_path, capsys):
 
 
 def drawn(path):
-    """What a picture draws, whatever its fonts: of each line and mark its numbers, and all texts without the version."""
+    """What a picture draws, whatever its fonts: of each line and mark its numbers, and all texts without the
+    version."""
     root = xml.parse(path).getroot()
     own = "{http://www.w3.org/2000/svg}"
-    paths = {group.get("id"): [float(number) for part in group.iter(f"{own}path") for number in NUMBER.findall(part.get("d"))]
+    paths = {group.get("id"): [float(number) for part in group.iter(f"{own}path")
+                               for number in NUMBER.findall(part.get("d"))]
              for group in root.iter(f"{own}g") if re.match("line |fork", group.get("id") or "")}
     texts = sorted(re.sub(r"Biqsolur \d+(\.\d+)*", "Biqsolur", text.text) for text in root.iter(f"{own}text"))
     return paths, texts

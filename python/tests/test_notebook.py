@@ -32,7 +32,8 @@ def kernel(program, tmp_path, monkeypatch):
     specification = tmp_path / "jupyter" / "kernels" / "python3"
     specification.mkdir(parents=True)
     command = [sys.executable, "-m", "ipykernel_launcher", "-f", "{connection_file}"]
-    (specification / "kernel.json").write_text(json.dumps({"argv": command, "display_name": "Python 3", "language": "python"}))
+    said = {"argv": command, "display_name": "Python 3", "language": "python"}
+    (specification / "kernel.json").write_text(json.dumps(said))
     monkeypatch.setenv("JUPYTER_PATH", str(tmp_path / "jupyter"))
     for name in ("IPYTHONDIR", "MPLCONFIGDIR", "JUPYTER_CONFIG_DIR"):
         monkeypatch.setenv(name, str(tmp_path / name))
@@ -50,10 +51,10 @@ def test_the_notebook_says_what_stands_in_it(kernel):
     for cell in made.cells:
         if cell.cell_type == "code":
             cell.outputs = []
-    preprocessors.ExecutePreprocessor(timeout=600, startup_timeout=600, kernel_name="python3", config=kernel).preprocess(
-        made, {"metadata": {"path": str(NOTEBOOK.parent)}})
+    execute = preprocessors.ExecutePreprocessor(timeout=600, startup_timeout=600, kernel_name="python3", config=kernel)
+    execute.preprocess(made, {"metadata": {"path": str(NOTEBOOK.parent)}})
     assert [said(cell) for cell in made.cells] == [said(cell) for cell in kept.cells]
     words = " ".join(said(kept.cells[-2]))
     assert "effective_spread: 5.62 cents dearer, 95 % interval 4.83 to 6.41, over 15 keys" in words
-    pictures = [output for cell in made.cells if cell.cell_type == "code" for output in cell.outputs if "image/png" in output.get("data", {})]
-    assert len(pictures) == 1
+    outputs = [output for cell in made.cells if cell.cell_type == "code" for output in cell.outputs]
+    assert sum("image/png" in output.get("data", {}) for output in outputs) == 1

@@ -173,7 +173,8 @@ def test_the_command(made, tmp_path):
 
 
 def test_a_branch_is_cut_where_it_left(tmp_path):
-    """One that leaves at a time, one of it at an event number below that, and an order that sets the ended market going."""
+    """One that leaves at a time, one of it at an event number below that, and an order that sets the ended market
+    going."""
     order = b"OT0001000000001S" + (100).to_bytes(4, "big") + b"ABM     " + (100_000).to_bytes(4, "big") + \
         (99_999).to_bytes(4, "big") + b"ABIDYPN" + bytes(4) + b"NN"
     text = (ROOT / "examples" / "two_watchers.toml").read_text()
@@ -202,7 +203,8 @@ def test_hidden_orders_are_in_no_picture_of_the_book(tmp_path):
     orders = biqsolur.read_rewind(tmp_path / "rewind").state("hidden", 3000).closing.orders
     (hidden,) = orders[orders.hidden].itertuples()
     shown = orders[(orders.side == "S") & ~orders.hidden]
-    assert (hidden.side, hidden.agent, bundle.tokens.text(hidden.token)) == ("S", 5, "S") and hidden.price < shown.price.min()
+    assert (hidden.side, hidden.agent, bundle.tokens.text(hidden.token)) == ("S", 5, "S")
+    assert hidden.price < shown.price.min()
     branch = bundle.branches["hidden"]
     (series,) = report_data.branch_data(bundle, branch).stocks
     state = series.at(branch.events.time[branch.events.number == 3000])[0]
@@ -415,8 +417,8 @@ def test_the_page_prints(made):
 
 @pytest.fixture(scope="module")
 def known(tmp_path_factory):
-    """The page of a small market with its study: a branch whose edits move the value and a trader, one of it that changes
-    nothing, and a control; and its bundle."""
+    """The page of a small market with its study: a branch whose edits move the value and a trader, one of it that
+    changes nothing, and a control; and its bundle."""
     folder = tmp_path_factory.mktemp("known")
     study = biqsolur.Study(ROOT / "examples" / "tick_size.toml").with_("events", 4000).with_("branch.wide.at", 1500)
     study = study.with_("branch.same.at", 1500).branch("moved", parent="wide", after=2500, edits=[
@@ -451,7 +453,8 @@ def test_profit_by_kind_is_that_of_the_measures(known):
         for place, mark in ((2, "mid"), (3, "value")):
             profits = measures.NAMES["profit"].compute(branch, mark=mark)
             found = {row[0]: dollars(row[2 + 4 * number + place]) for row in rows}
-            assert found == {kind: profits[f"profit_{kind}"] for kind in ("maker", "noise")} and profits["profit_maker"] != 0
+            assert found == {kind: profits[f"profit_{kind}"] for kind in ("maker", "noise")}
+            assert profits["profit_maker"] != 0
             assert sum(found.values()) + sum(dollars(row[3 + 4 * number]) for row in rows) == 0
         assert sum(dollars(row[3 + 4 * number]) for row in rows) == branch.trades.fees.sum()
 
@@ -492,7 +495,8 @@ def test_values_and_marks_are_those_of_the_frames(known):
 
 
 def test_a_bundle_alone_says_so(known, tmp_path):
-    """Its agents are numbers and its edits kinds; with a record beside it the page is as with the study, and says whence."""
+    """Its agents are numbers and its edits kinds; with a record beside it the page is as with the study, and says
+    whence."""
     for name in ("alone.bundle", "recorded.bundle"):
         (tmp_path / name).write_bytes((known[0] / "study.bundle").read_bytes())
     known[1].write(tmp_path / "written.bundle")
@@ -500,20 +504,22 @@ def test_a_bundle_alone_says_so(known, tmp_path):
         report.write_report(tmp_path / f"{name}.bundle", tmp_path / f"{name}.html")
     alone, written = ((tmp_path / f"{name}.html").read_text() for name in ("alone", "written"))
     assert "No record of its run stands beside the bundle, so agents are numbers" in alone
-    assert tables_of(alone).tables["Edits"][1][1] == "tick" and "Profit by kind of trader" not in tables_of(alone).tables
+    assert tables_of(alone).tables["Edits"][1][1] == "tick"
+    assert "Profit by kind of trader" not in tables_of(alone).tables
     assert "No record" not in written and f"version: {known[1].provenance.version}" in written
     assert tables_of(written).tables == tables_of((known[0] / "study.html").read_text()).tables
 
 
 def test_another_study_is_refused(known, tmp_path, capsys):
-    study = ROOT / "examples" / "halt_at.toml"
-    assert main(["report", str(known[0] / "study.bundle"), "--study", str(study), "-o", str(tmp_path / "none.html")]) == 1
+    study, bundle = str(ROOT / "examples" / "halt_at.toml"), str(known[0] / "study.bundle")
+    assert main(["report", bundle, "--study", study, "-o", str(tmp_path / "none.html")]) == 1
     assert "is not the study of" in capsys.readouterr().err and not (tmp_path / "none.html").exists()
 
 
 @needs_browser
 def test_controls_values_and_marks_are_drawn(known):
-    """A control is dotted and hides no line; trades are marked once few are in sight; the value stands once and where it moves."""
+    """A control is dotted and hides no line; trades are marked once few are in sight; the value stands once and where
+    it moves."""
     script = """
         const names = () => byId("plot-mid").data.map((trace) => trace.name).filter((name) => name);
         const dash = (name) => byId("plot-spread").data.find((trace) => trace.name === name).line.dash;
@@ -524,7 +530,8 @@ def test_controls_values_and_marks_are_drawn(known):
         const near = names().filter((name) => name.startsWith("trades"));
         const marked = byId("plot-mid").data.find((trace) => trace.name === "trades of root").x.length;
         byId("branch-1").click();
-        return [whole, near.includes("trades of root"), marked, dash("same"), dash("root"), byId("some").textContent];"""
+        const some = byId("some").textContent;
+        return [whole, near.includes("trades of root"), marked, dash("same"), dash("root"), some];"""
     trades = known[1].branches["root"].trades
     inside = ((trades.time >= 34_230 * 10**9) & (trades.time <= 34_231 * 10**9)).sum()
     assert answer(known, "marked.html", script, "study.html") == [

@@ -115,7 +115,8 @@ def test_rows_are_those_of_runs_by_hand(tmp_path, program, batch):
 
 
 def test_a_path_that_is_called_as_a_column(tmp_path, program):
-    """What the grid says of `events` and how many events a run had are two columns, and a summary's rows keep the first."""
+    """What the grid says of `events` and how many events a run had are two columns, and a summary's rows keep the
+    first."""
     made = carried_out(configuration(tmp_path, program, keys=1, grid={"events": [700, 0, 800]}, refused="rows"))
     said = {(row["study.events"], row["events"]) for row in rows_of("out/points.csv")}
     assert said == {("700", "700"), ("0", ""), ("800", "800")}
@@ -126,9 +127,11 @@ def test_a_path_that_is_called_as_a_column(tmp_path, program):
 
 def test_a_run_that_fails_is_the_jobs_end(tmp_path, program, capsys):
     """With the program's status and its line, and without a file of rows."""
-    values = configuration(tmp_path, logged(tmp_path, program, '[ "$1" = table ] && echo "out of memory" >&2 && exit 10'))
+    failing = logged(tmp_path, program, '[ "$1" = table ] && echo "out of memory" >&2 && exit 10')
+    values = configuration(tmp_path, failing)
     made = plan.prepare(values)
-    status = words.main(["run", "out/plan.json", "0-0", "0-0", "--digest", made.digest("0-0", "0-0"), "-o", "out/rows.csv"])
+    digest = made.digest("0-0", "0-0")
+    status = words.main(["run", "out/plan.json", "0-0", "0-0", "--digest", digest, "-o", "out/rows.csv"])
     assert status == 10 and capsys.readouterr().err == "sweep: out of memory\n"
     assert [path.name for path in Path("out").iterdir() if path.is_file()] == ["plan.json"]
 
@@ -159,7 +162,8 @@ def is_there(process):
 def test_a_job_that_is_ended_ends_its_program(tmp_path, program):
     made = plan.prepare(configuration(tmp_path, program))
     sleeper = tmp_path / "sleeper"
-    sleeper.write_text(f"#!/bin/sh\necho $$ > {tmp_path}/process.new\nmv {tmp_path}/process.new {tmp_path}/process\nexec sleep 10000\n")
+    sleeper.write_text(f"#!/bin/sh\necho $$ > {tmp_path}/process.new\nmv {tmp_path}/process.new {tmp_path}/process\n"
+                       "exec sleep 10000\n")
     sleeper.chmod(0o755)
     changed = json.loads(Path("out/plan.json").read_text()) | {"program": str(sleeper)}
     Path("out/plan.json").write_text(json.dumps(changed))
@@ -194,8 +198,8 @@ OWN = "def trades(branch):\n    return {'trades': len(branch.trades), 'fees': br
 def test_measures_are_those_of_the_bundle(tmp_path, program):
     """Of a branch behind its fork, of its parent over the same events, of the root over all; own ones too."""
     (tmp_path / "mine.py").write_text(OWN)
-    wanted = ["effective_spread", {"name": "realised_spread", "horizon": "1s"}, {"name": "realised_spread", "horizon": "5s"},
-              "mine.py:trades"]
+    wanted = ["effective_spread", {"name": "realised_spread", "horizon": "1s"},
+              {"name": "realised_spread", "horizon": "5s"}, "mine.py:trades"]
     made = carried_out(configuration(tmp_path, program, keys=2, measures=wanted, keep="bundles", batch=3))
     rows = rows_of("out/points.csv")
     assert len(rows) == 4 * 2 * 2
@@ -227,7 +231,8 @@ def test_a_measure_in_the_summary(tmp_path, program):
     rows = [row for row in rows_of("out/points.csv") if row["branch"] == "wide"]
     pairs = [number(row["effective_spread"]) - number(row["parent.effective_spread"]) for row in rows]
     pairs = [pair for pair in pairs if not math.isnan(pair)]        # where nothing trades there is no spread
-    said = [row for row in rows_of("out/summary.csv") if row["measure"] == "effective_spread" and row["branch"] == "wide"]
+    said = [row for row in rows_of("out/summary.csv")
+            if (row["measure"], row["branch"]) == ("effective_spread", "wide")]
     assert len(said) == 1 and said[0]["pairs"] == "2" and len(pairs) == 2 and len(rows) == 3
     assert math.isclose(float(said[0]["difference"]), sum(pairs) / 2, rel_tol=1e-12) and sum(pairs) != 0
     assert [row["refused"] for row in rows_of("out/summary.csv") if row["point"] == "1"] == ["3"]
@@ -249,7 +254,8 @@ def test_a_series_file_for_each_key(tmp_path, program):
     settings = configuration(tmp_path, program, keys=2, series=spec, batch=1, keep="bundles", grid={})
     study = biqsolur.Study(STUDY).with_("events", 600).without_branch("same").with_("branch.wide.at", 300)
     table = study.to_dict()
-    stock = {name: value for name, value in table["stock"][0].items() if name not in ("start", "mean", "pull", "shock", "every")}
+    rule = ("start", "mean", "pull", "shock", "every")
+    stock = {name: value for name, value in table["stock"][0].items() if name not in rule}
     table |= {"stock": [stock | {"series": "rows"}], "series": "series.csv"}
     table["agent"].append({**table["agent"][1], "kind": "value", "noise": 0, "margin": 0, "count": 3})
     (tmp_path / "base.toml").write_text(biqsolur.Study(table).to_text())
@@ -277,10 +283,11 @@ def test_a_point_that_is_refused_under_all_keys(tmp_path, program):
     values = configuration(tmp_path, logged(tmp_path, program), grid={"agent.noise.size": [100, 0]})
     with pytest.raises(errors.SweepError) as fault:
         plan.prepare(values)
-    assert str(fault.value).startswith("1 of 2 points are refused under all keys; the first is point 1 (agent.noise.size = 0), "
-                                       "rule 29, place 1: ")
+    assert str(fault.value).startswith("1 of 2 points are refused under all keys; the first is point 1 "
+                                       "(agent.noise.size = 0), rule 29, place 1: ")
     assert "size" in str(fault.value).split("place 1: ")[1]
-    assert {line.split()[0] for line in calls.read_text().splitlines()} == {"check"} and not Path("out/plan.json").exists()
+    assert {line.split()[0] for line in calls.read_text().splitlines()} == {"check"}
+    assert not Path("out/plan.json").exists()
 
 
 def test_a_sweep_in_which_all_were_refused_fails(tmp_path, program, capsys):
@@ -328,7 +335,8 @@ def test_a_configuration_that_is_none(tmp_path, program, changes, said):
 
 def test_a_path_by_name_and_by_number():
     study = biqsolur.Study(STUDY)
-    made = points.study_of(study, {"branch.wide.edit.0.bands": [[0, 7]], "agent.1.size": 9, "stock.ABM.take": 5}).to_dict()
+    values = {"branch.wide.edit.0.bands": [[0, 7]], "agent.1.size": 9, "stock.ABM.take": 5}
+    made = points.study_of(study, values).to_dict()
     assert made["branch"][0]["edit"][0]["bands"] == [[0, 7]] and made["agent"][1]["size"] == 9
     assert made["stock"][0]["take"] == 5 and study.to_dict()["agent"][1]["size"] == 100
     values = {"exchange": {"group": 0, "delay": 1}, "exchange.delay": 2}
@@ -352,14 +360,15 @@ def sample_plan(count=2, keys=3, of_point=1, of_keys=1, **changes):
     """A plan that was made of nothing."""
     values = dict(
         made_of="", output="out", study="base.toml", folder=".", working=".", program="p", program_sum="q",
-        keys=[f"{key:064x}" for key in range(keys)], paths=["size"], measures=[], measures_sum="", series=None, baseline=None,
-        points=[plan.Point({"size": number}, str(number), 5) for number in range(count)], of_point=of_point, of_keys=of_keys,
-        keep=False, refused="error", reports="none")
+        keys=[f"{key:064x}" for key in range(keys)], paths=["size"], measures=[], measures_sum="", series=None,
+        points=[plan.Point({"size": number}, str(number), 5) for number in range(count)], baseline=None,
+        of_point=of_point, of_keys=of_keys, keep=False, refused="error", reports="none")
     return plan.Plan(**values | changes)
 
 
 def test_a_batch_is_the_size_of_a_job():
-    """50 of one point's keys where there are so many, else all keys of several points; else some eight jobs a processor."""
+    """50 of one point's keys where there are so many, else all keys of several points; else some eight jobs a
+    processor."""
     assert plan.layout({"batch": 50}, 10, 10_000, None, 4) == (1, 50)
     assert plan.layout({"batch": 50}, 10, 20, None, 4) == (2, 20)
     assert plan.layout({"batch": 50}, 100, 1, None, 4) == (50, 1)
@@ -414,7 +423,8 @@ def test_a_plan_that_stands_is_kept(tmp_path, program):
 def test_a_plan_of_another_sweep(tmp_path, program, capsys):
     made = plan.prepare(configuration(tmp_path, program))
     plan.prepare(configuration(tmp_path, program, keys=[7, 8]))
-    assert words.main(["run", "out/plan.json", "0-0", "0-0", "--digest", made.digest("0-0", "0-0"), "-o", "rows.csv"]) == 1
+    digest = made.digest("0-0", "0-0")
+    assert words.main(["run", "out/plan.json", "0-0", "0-0", "--digest", digest, "-o", "rows.csv"]) == 1
     assert "two sweeps have one output" in capsys.readouterr().err and not Path("rows.csv").exists()
     assert words.main(["run", "out/plan.json", "0-9", "0-0", "--digest", "x", "-o", "rows.csv"]) == 1
 
@@ -433,8 +443,8 @@ def test_a_study_of_a_point_says_what_it_runs(tmp_path, program):
 
 
 def sample_rows(seed):
-    """Made-up rows of two points: 7 keys, a branch of the root and a branch of that, and a refused run. `late` is a measure
-    that not each run gives."""
+    """Made-up rows of two points: 7 keys, a branch of the root and a branch of that, and a refused run. `late` is a
+    measure that not each run gives."""
     random = numpy.random.default_rng(seed)
     rows = []
     for point in ("0", "1"):
@@ -467,7 +477,8 @@ def checked_interval(row, before, values):
     values = values[~numpy.isnan(values)]
     low, high = stats.t.interval(0.95, len(values) - 1, values.mean(), stats.sem(values))
     assert row[f"{before}pairs"] == len(values)
-    for name, value in (("difference", values.mean()), ("difference_standard_error", stats.sem(values)), ("low", low), ("high", high)):
+    expected = {"difference": values.mean(), "difference_standard_error": stats.sem(values), "low": low, "high": high}
+    for name, value in expected.items():
         assert math.isclose(row[before + name], value, rel_tol=1e-9)
 
 
@@ -567,21 +578,24 @@ def snakemake(folder, values, *more):
     """Starts Snakemake on a configuration and waits: its status and what it said."""
     (folder / "sweep.yaml").write_text(json.dumps(values))      # YAML has JSON in it
     done = subprocess.run(["snakemake", "--snakefile", str(HOME / "sweep" / "Snakefile"), "--configfile", "sweep.yaml",
-                           "--cores", "1", *more], cwd=folder, stdout=subprocess.PIPE, stderr=subprocess.STDOUT, text=True)
+                           "--cores", "1", *more],
+                          cwd=folder, stdout=subprocess.PIPE, stderr=subprocess.STDOUT, text=True)
     return done.returncode, done.stdout
 
 
 @needs_snakemake
 def test_a_sweep_by_snakemake(tmp_path, program):
-    """Its rows and summary are those of the jobs by themselves; a failure that may pass is tried again; the last line counts."""
-    values = configuration(tmp_path, program, keys=2, grid={"agent.noise.size": [100, 0]}, refused="rows", reports="first")
+    """Its rows and summary are those of the jobs by themselves; a failure that may pass is tried again; the last line
+    counts."""
+    values = configuration(tmp_path, program, keys=2, grid={"agent.noise.size": [100, 0]}, refused="rows",
+                           reports="first")
     made = carried_out(values)
     summary.summarise(made)
     expected = {name: Path("out", name).read_bytes() for name in ("points.csv", "summary.csv")}
     shutil.rmtree("out")
     seen = shlex.quote(str(tmp_path / "seen"))
-    failing = logged(tmp_path, program, f'if [ "$1" = table ] && [ ! -e {seen} ]; then : > {seen}; echo "write failed" >&2; '
-                                        'exit 7; fi')
+    failing = logged(tmp_path, program, f'if [ "$1" = table ] && [ ! -e {seen} ]; then : > {seen}; '
+                                        'echo "write failed" >&2; exit 7; fi')
     status, said = snakemake(tmp_path, values | {"program": str(failing)})
     assert status == 0, said
     assert {name: Path("out", name).read_bytes() for name in expected} == expected
@@ -615,7 +629,8 @@ def test_the_configuration_of_the_docs_is_the_one_that_is_there():
 def ticks(program, **changes):
     """The configuration of ticks.yaml without its measures, carried out below the test's folder."""
     return {"study": str(STUDY), "keys": 30, "output": "out", "program": str(program), "batch": 90,
-            "grid": {"branch.wide.edit.0.bands": [[[0, 200]], [[0, 500]], [[0, 1000]]], "agent.noise.size": [50, 100]}} | changes
+            "grid": {"branch.wide.edit.0.bands": [[[0, 200]], [[0, 500]], [[0, 1000]]],
+                     "agent.noise.size": [50, 100]}} | changes
 
 
 def test_the_table_of_the_docs(tmp_path, program):
@@ -632,7 +647,8 @@ def test_the_table_of_the_docs(tmp_path, program):
 def test_the_effective_spread_of_the_docs(tmp_path, program):
     made = carried_out(ticks(program, measures=["effective_spread"], grid={"branch.wide.edit.0.bands": [[[0, 500]]]}))
     summary.summarise(made)
-    row, = (row for row in rows_of("out/summary.csv") if (row["branch"], row["measure"]) == ("wide", "effective_spread"))
+    row, = (row for row in rows_of("out/summary.csv")
+            if (row["branch"], row["measure"]) == ("wide", "effective_spread"))
     cents = [f"{float(row[name]) / 100:.2f}" for name in ("difference", "low", "high")]
     assert "the effective spread of a trade is {} cents more than in the root over the same events ({} to {})".format(
         *cents) in PAGE

@@ -36,7 +36,8 @@ def carry_out(arguments: argparse.Namespace) -> None:
     if arguments.word == "run":
         from biqsolur.sweep.run import run_job
         if plan.digest(arguments.points, arguments.keys) != arguments.digest:
-            raise SweepError(f"{arguments.plan} is of another sweep than this job: two sweeps have one output; give each its own")
+            raise SweepError(f"{arguments.plan} is of another sweep than this job: two sweeps have one output; give "
+                             "each its own")
         run_job(plan, arguments.points, arguments.keys, arguments.output)
     elif arguments.word == "page":
         from biqsolur.sweep.run import write_page
@@ -51,7 +52,8 @@ def carry_out(arguments: argparse.Namespace) -> None:
 
 def main(words: list[str] | None = None) -> int:
     """The status: that of the program where a run failed, 1 for anything else that is wrong."""
-    signal.signal(signal.SIGTERM, lambda number, frame: sys.exit(128 + number))     # the program that is waited for ends too
+    # An exit, so that the program that is waited for ends too.
+    signal.signal(signal.SIGTERM, lambda number, frame: sys.exit(128 + number))
     try:
         carry_out(parser().parse_args(words))
     except (InputError, OSError) as fault:

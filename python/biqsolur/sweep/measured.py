@@ -31,10 +31,11 @@ def measured_rows(plan: Plan, job: Job, output: Path) -> Iterator[Row]:
         start |= {column_of(path): cell(value) for path, value in plan.points[point].values.items()}
         for key in job.keys:
             job.write_study(point, key)
-            yield from run_rows(plan, job, {**start, "key": plan.keys[key]}, wanted, kept_path(plan, output, point, key))
+            kept = kept_path(plan, output, point, key)
+            yield from run_rows(job, {**start, "key": plan.keys[key]}, wanted, kept)
 
 
-def run_rows(plan: Plan, job: Job, start: Row, wanted: list[tuple[Measure, str]], kept: Path | None) -> Iterator[Row]:
+def run_rows(job: Job, start: Row, wanted: list[tuple[Measure, str]], kept: Path | None) -> Iterator[Row]:
     """The rows of one run."""
     status, table, line = job.call("table")
     if status == REFUSED:

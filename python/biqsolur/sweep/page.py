@@ -14,19 +14,22 @@ from biqsolur.sweep.plan import Plan, cell, write_whole
 from biqsolur.sweep.summary import LEVEL
 
 MOST_ROWS = 5_000       # of the table; all are in summary.csv
-STYLE = ("body { font: 16px/1.45 system-ui, sans-serif; margin: 2em auto; max-width: 75em; padding: 0 1em; color: #222 } "
+STYLE = ("body { font: 16px/1.45 system-ui, sans-serif; margin: 2em auto; max-width: 75em; padding: 0 1em } "
          "table { border-collapse: collapse; font-size: 85% } td, th { padding: .15em .7em; text-align: right } "
          "th { border-bottom: 1px solid #888 } div.scroll { overflow-x: auto }")
 START = """async function start() {
-    const bytes = Uint8Array.from(atob(document.getElementById("plotly").textContent), (letter) => letter.charCodeAt(0));
+    const packed = atob(document.getElementById("plotly").textContent);
+    const bytes = Uint8Array.from(packed, (letter) => letter.charCodeAt(0));
+    const stream = new Blob([bytes]).stream().pipeThrough(new DecompressionStream("gzip"));
     const script = document.createElement("script");
-    script.textContent = await new Response(new Blob([bytes]).stream().pipeThrough(new DecompressionStream("gzip"))).text();
+    script.textContent = await new Response(stream).text();
     document.head.append(script);
     await Plotly.newPlot("sweep", drawn.data, drawn.layout, { displaylogo: false, responsive: true });
     document.documentElement.dataset.ready = "yes";
 }
 start().catch((fault) => {
-    document.getElementById("sweep").textContent = `The pictures can't be drawn in this browser (${fault}). The table is complete.`;
+    document.getElementById("sweep").textContent =
+        `The pictures can't be drawn in this browser (${fault}). The table is complete.`;
 });
 """
 COLOURS = ["#0072b2", "#d55e00", "#009e73", "#cc79a7", "#e69f00", "#56b4e9", "#000000"]      # Okabe and Ito's
@@ -41,16 +44,20 @@ def page_text(plan: Plan, frame: pandas.DataFrame) -> str:
     """The whole page."""
     script, _ = plotly_script()
     title = f"Sweep of {Path(plan.study).name}: {len(plan.points):,} points, {len(plan.keys):,} keys"
-    said = ("Points of the grid from left to right, branches by colour. Above is the mean over the keys, below the mean of the "
-            f"differences from the parent under the same key, both with their {LEVEL:.0%} interval (Student's t).")
+    said = ("Points of the grid from left to right, branches by colour. Above is the mean over the keys, below the "
+            "mean of the differences from the parent under the same key, both with their "
+            f"{LEVEL:.0%} interval (Student's t).")
     drawn = figure(plan, frame).to_json().replace("<", "\\u003c")
     picture = (f'<div id="sweep"></div><script type="text/plain" id="plotly">{packed(script)}</script>'
                f'<script>const drawn = {drawn};\n{START}</script>')
     shown = frame.head(MOST_ROWS).astype({name: float for name in frame if frame[name].dtype == "Int64"})
-    more = "" if len(shown) == len(frame) else f"<p>The first {MOST_ROWS:,} of {len(frame):,} rows; summary.csv has all.</p>"
+    more = ""
+    if len(shown) < len(frame):
+        more = f"<p>The first {MOST_ROWS:,} of {len(frame):,} rows; summary.csv has all.</p>"
     table = shown.to_html(index=False, na_rep="–", border=0, float_format=lambda value: f"{value:,.6g}")
-    return (f'<!doctype html><html lang="en"><meta charset="utf-8"><title>{html.escape(title)}</title><style>{STYLE}</style>'
-            f'<h1>{html.escape(title)}</h1><p>{html.escape(said)}</p>{picture}<div class="scroll">{table}</div>{more}</html>\n')
+    title, said = html.escape(title), html.escape(said)
+    return (f'<!doctype html><html lang="en"><meta charset="utf-8"><title>{title}</title><style>{STYLE}</style>'
+            f'<h1>{title}</h1><p>{said}</p>{picture}<div class="scroll">{table}</div>{more}</html>\n')
 
 
 def labels(plan: Plan) -> list[str]:
@@ -84,8 +91,8 @@ def figure(plan: Plan, frame: pandas.DataFrame) -> Any:
 
 
 def traces(own: pandas.DataFrame, branch: str, shift: float, colour: str, shown: bool) -> list[tuple[int, Any]]:
-    """The marks of one branch and measure: the means (row 1), and where it has a parent the differences (row 2). `shift`
-    keeps them from those of other branches."""
+    """The marks of one branch and measure: the means (row 1), and where it has a parent the differences (row 2).
+    `shift` keeps them from those of other branches."""
     import plotly.graph_objects
     from scipy.special import stdtrit
     x = own.point.astype(int) + shift

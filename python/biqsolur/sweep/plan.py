@@ -1,7 +1,7 @@
 """What a sweep is to run: a base study, keys, a grid of changed values, and what is asked of each run.
 
-docs/SWEEPS.md has the settings of a configuration. A plan stands in OUTPUT/plan.json, with the study of each point beside
-it; a job reads no more than that.
+docs/SWEEPS.md has the settings of a configuration. A plan stands in OUTPUT/plan.json, with the study of each point
+beside it; a job reads no more than that.
 """
 
 from __future__ import annotations
@@ -40,8 +40,8 @@ class Point:
 class Plan:
     """A sweep. Points are numbered from 0, and so are keys.
 
-    made_of: a sum of all that the plan was made of. folder: where measures of one's own are looked for. of_point, of_keys:
-    how many points, and how many keys, a job has at most. baseline: a point's number.
+    made_of: a sum of all that the plan was made of. folder: where measures of one's own are looked for. of_point,
+    of_keys: how many points, and how many keys, a job has at most. baseline: a point's number.
     """
 
     made_of: str
@@ -138,8 +138,9 @@ def file_sum(path: str | Path) -> str:
 def read_plan(path: str | Path) -> Plan:
     """A plan from its file."""
     try:
-        table = json.loads(Path(path).read_text(encoding="utf-8"))
-        return Plan(**{**table, "points": [Point(**point) for point in table["points"]]})
+        table: dict[str, Any] = json.loads(Path(path).read_text(encoding="utf-8"))
+        table["points"] = [Point(**point) for point in table["points"]]
+        return Plan(**table)
     except (OSError, ValueError, TypeError, KeyError) as fault:
         raise SweepError(f"{path}: there is no plan that can be read: {fault}; start the sweep by snakemake") from None
 
@@ -148,8 +149,9 @@ def read_plan(path: str | Path) -> Plan:
 
 
 def prepare(config: Mapping[str, Any], cores: int = 1) -> Plan:
-    """The plan of a configuration: the one that stands in its output, where nothing that it was made of has changed, else a
-    new one, which is written there behind the points' studies. SweepError, and no plan is written, where none can be made."""
+    """The plan of a configuration: the one that stands in its output, where nothing that it was made of has changed,
+    else a new one, which is written there behind the points' studies. SweepError, and no plan is written, where none
+    can be made."""
     settings = checked_settings(config)
     place = Path(settings["output"]) / "plan.json"
     old = None
@@ -180,7 +182,8 @@ def checked_settings(config: Mapping[str, Any]) -> dict[str, Any]:
         if settings[name] not in known:
             raise SweepError(f"{name}: one of {', '.join(str(word) for word in known if word)} is wanted")
     if not isinstance(settings["measures"], list):
-        raise SweepError("measures: a list is wanted, of names, of tables with name and settings, and of FILE.py:FUNCTION")
+        raise SweepError("measures: a list is wanted, of names, of tables with name and settings, and of "
+                         "FILE.py:FUNCTION")
     batch = settings["batch"]
     if batch is not None and (isinstance(batch, bool) or not isinstance(batch, int) or batch < 1):
         raise SweepError("batch: how many runs a job has, a number from 1 on, is wanted")
@@ -296,8 +299,8 @@ def baseline_of(wanted: object, points: list[dict[str, Any]]) -> int | None:
     else:
         found = []
     if len(found) != 1:
-        raise SweepError(f"baseline: {wanted!r} is {len(found) or 'no'} points; a number from 0 to {len(points) - 1} is one, "
-                         "or values of the grid's paths that one point has")
+        raise SweepError(f"baseline: {wanted!r} is {len(found) or 'no'} points; a number from 0 to {len(points) - 1} "
+                         "is one, or values of the grid's paths that one point has")
     return found[0]
 
 
@@ -332,7 +335,8 @@ def write_whole(path: Path, text: str) -> None:
 
 
 def check_points(plan: Plan) -> None:
-    """Asks the program whether it accepts each point's study; SweepError with the first that it refuses under all keys."""
+    """Asks the program whether it accepts each point's study; SweepError with the first that it refuses under all
+    keys."""
     from biqsolur.sweep.run import Refusal, refusal_of
     with ThreadPoolExecutor(os.cpu_count() or 1) as threads:
         refusals = list(threads.map(lambda number: refusal_of(plan, number), range(len(plan.points))))
@@ -344,8 +348,8 @@ def check_points(plan: Plan) -> None:
     raise SweepError(
         f"{len(refused)} of {len(refusals)} points are refused under all keys; the first is point {number} "
         f"({words_of(plan.points[number].values)}), rule {found.rule}, place {found.place}: "
-        f"{reason(plan.study_path(number), found)} Mend the study or the grid, or write `refused: rows` to have such runs "
-        "as rows of their own.")
+        f"{reason(plan.study_path(number), found)} Mend the study or the grid, or write `refused: rows` to have such "
+        "runs as rows of their own.")
 
 
 def reason(path: Path, refusal: Any) -> str:

@@ -20,7 +20,8 @@ def points_of(grid: object) -> list[Values]:
         raise SweepError("grid: paths with lists of values are wanted")
     for path, values in grid.items():
         if path in ("key", "series"):
-            raise SweepError(f"grid: {path}: it has a setting of its own beside `grid`, {'keys' if path == 'key' else path}")
+            setting = "keys" if path == "key" else path
+            raise SweepError(f"grid: {path}: it has a setting of its own beside `grid`, {setting}")
         if not isinstance(values, list) or not values:
             raise SweepError(f"grid: {path}: a list of values is wanted")
         spelled = [json.dumps(value, sort_keys=True, default=str) for value in values]
@@ -31,7 +32,8 @@ def points_of(grid: object) -> list[Values]:
 
 def study_of(base: Study, values: Values) -> Study:
     """The base study with a point's values at their paths. A later path may lead into the value of an earlier one."""
-    table, seen = base.to_dict(), {}
+    table = base.to_dict()
+    seen: dict[tuple[str | int, ...], str] = {}
     for path, value in values.items():
         try:
             places, table = changed_table(table, path, value)

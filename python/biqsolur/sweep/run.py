@@ -1,7 +1,7 @@
 """One job of a sweep: a few points under a few keys, one call of the program for each run, and the rows of all of them.
 
-A row is of a point, key and branch: point, values, key, status, rule and place of a refusal, the columns of the program's
-table, and the measures that are asked for. A refused study is one row without a branch.
+A row is of a point, key and branch: point, values, key, status, rule and place of a refusal, the columns of the
+program's table, and the measures that are asked for. A refused study is one row without a branch.
 """
 
 from __future__ import annotations
@@ -22,7 +22,8 @@ from biqsolur.errors import SweepError
 from biqsolur.program import environment
 from biqsolur.sweep.plan import SERIES, Plan, cell, numbers, write_series, write_whole
 
-TABLE_COLUMNS = ["branch", "parent", "stop", "events", "end", "first_difference", "volume", "spread_sum", "range", "fees"]
+TABLE_COLUMNS = ["branch", "parent", "stop", "events", "end", "first_difference", "volume", "spread_sum", "range",
+                 "fees"]
 OWN_COLUMNS = ["key", "status", "rule", "place"]
 OF_PARENT = "parent."           # before a measure's name: what its parent has in the same events
 REFUSED = 5
@@ -73,7 +74,7 @@ class Job:
 
     def call(self, command: str, output: Any = subprocess.PIPE) -> tuple[int, str, str]:
         """Runs the program on the study of the moment: its status (0 or 5), what it wrote and its line."""
-        working = self.folder if self.plan.series is not None else self.plan.working
+        working: str | Path = self.folder if self.plan.series is not None else self.plan.working
         try:
             run = subprocess.run([self.plan.program, command, "--", str(self.study)], stdout=output,
                                  stderr=subprocess.PIPE, cwd=working, env=self.environment, encoding="utf-8",
@@ -94,8 +95,8 @@ def halves(plan: Plan, point: int) -> tuple[str, str]:
 
 
 def refusal_of(plan: Plan, point: int) -> Refusal | None:
-    """What the program says of a point's study that it refuses under all keys, else None. Where no series file is made for
-    each key, a study is refused under all keys or under none."""
+    """What the program says of a point's study that it refuses under all keys, else None. Where no series file is
+    made for each key, a study is refused under all keys or under none."""
     with tempfile.TemporaryDirectory(prefix="biqsolur-sweep-") as folder:
         job, found = Job(plan, range(point, point + 1), range(0), Path(folder)), None
         for key in range(len(plan.keys) if plan.series is not None else 1):
@@ -164,7 +165,8 @@ def measured_lines(plan: Plan, job: Job, output: Path) -> Iterator[str]:
 
 
 def run_job(plan: Plan, points: str, keys: str, output: str | Path) -> None:
-    """Runs a job, whose points and keys are said as `first-last`, and writes its rows to a file, whole or not at all."""
+    """Runs a job, whose points and keys are said as `first-last`, and writes its rows to a file, whole or not at
+    all."""
     path = Path(output)
     path.parent.mkdir(parents=True, exist_ok=True)
     with tempfile.TemporaryDirectory(prefix="biqsolur-sweep-") as folder:

@@ -1,13 +1,14 @@
 """All rows of a sweep, and what the keys say together for each point, branch and measure.
 
-summary.csv has the columns point, the grid's paths, branch, parent, measure; `keys` how many runs gave a number, `refused`
-how many runs were refused; `mean` and `standard_error` over the keys; and of the differences from the parent under the same
-key `pairs`, `difference` (their mean), `difference_standard_error` and the ends `low` and `high` of the interval that
-Student's t gives at 95 %. With a baseline the same columns again, `baseline_` before each, of the differences from the same
-branch of that point under the same key. A cell is empty where there is no such number: errors need two keys.
+summary.csv has the columns point, the grid's paths, branch, parent, measure; `keys` how many runs gave a number,
+`refused` how many runs were refused; `mean` and `standard_error` over the keys; and of the differences from the
+parent under the same key `pairs`, `difference` (their mean), `difference_standard_error` and the ends `low` and
+`high` of the interval that Student's t gives at 95 %. With a baseline the same columns again, `baseline_` before
+each, of the differences from the same branch of that point under the same key. A cell is empty where there is no such
+number: errors need two keys.
 
-The measures `events`, `volume`, `spread_sum`, `range` and `fees` are those of the table, over whole runs. The others are
-over the events behind the fork, and their differences are from the parent over the same events.
+The measures `events`, `volume`, `spread_sum`, `range` and `fees` are those of the table, over whole runs. The others
+are over the events behind the fork, and their differences are from the parent over the same events.
 """
 
 from __future__ import annotations
@@ -85,7 +86,8 @@ def summary_frame(rows: pandas.DataFrame, paths: list[str], baseline: int | None
         if baseline is not None:
             differences = values - numpy.where(other >= 0, values[other], numpy.nan)
             part |= {f"baseline_{column}": cells for column, cells in of_pairs(group, differences).items()}
-        parts.append(pandas.DataFrame({"group": range(group.max(initial=-1) + 1), "place": place, "measure": name, **part}))
+        numbered = {"group": range(group.max(initial=-1) + 1), "place": place, "measure": name}
+        parts.append(pandas.DataFrame({**numbered, **part}))
     return ordered(rows, runs, paths, counts, group, parts)
 
 
@@ -101,10 +103,12 @@ def ordered(rows: pandas.DataFrame, runs: pandas.DataFrame, paths: list[str], co
     made["refused"] = made.point.map(counts.refused)
     order = made.point.map({point: place for place, point in enumerate(points.point)})
     made = made.assign(order=order).sort_values(["order", "group", "place"], kind="stable")
-    columns = ["point", *paths, "branch", "parent", "measure", "keys", "refused", "mean", "standard_error", *PAIR_COLUMNS]
+    columns = ["point", *paths, "branch", "parent", "measure", "keys", "refused", "mean", "standard_error",
+               *PAIR_COLUMNS]
     more = [name for name in made if name.startswith("baseline_")]
     made = made[columns + more].reset_index(drop=True)
-    return made.astype({name: "Int64" for name in columns + more if name in ("keys", "refused") or name.endswith("pairs")})
+    whole = [name for name in columns + more if name in ("keys", "refused") or name.endswith("pairs")]
+    return made.astype(dict.fromkeys(whole, "Int64"))
 
 
 def parent_rows(runs: pandas.DataFrame) -> numpy.ndarray:
@@ -115,7 +119,8 @@ def parent_rows(runs: pandas.DataFrame) -> numpy.ndarray:
 
 
 def baseline_rows(runs: pandas.DataFrame, baseline: int | None) -> numpy.ndarray:
-    """For each row the place of the same branch's row of the baseline's point under the same key, -1 where there is none."""
+    """For each row the place of the same branch's row of the baseline's point under the same key, -1 where there is
+    none."""
     own = runs[runs.point == str(baseline)]
     places = pandas.Series(own.index, pandas.MultiIndex.from_frame(own[["key", "branch"]]), dtype=int)
     found = places.reindex(pandas.MultiIndex.from_frame(runs[["key", "branch"]]), fill_value=-1).to_numpy(int)
@@ -144,12 +149,14 @@ def of_groups(group: numpy.ndarray, values: numpy.ndarray, names: tuple[str, str
 
 
 def of_pairs(group: numpy.ndarray, differences: numpy.ndarray) -> dict[str, numpy.ndarray]:
-    """The same of differences, with their interval; not-a-number throughout for groups that have no other to differ from."""
+    """The same of differences, with their interval; not-a-number throughout for groups that have no other to differ
+    from."""
     from scipy.special import stdtrit
     found = of_groups(group, differences, ("pairs", "difference", "difference_standard_error"))
     pairs, difference, error = found.values()
     half = stdtrit(numpy.maximum(pairs - 1, 1), (1 + LEVEL) / 2) * error
-    return {**found, "pairs": numpy.where(pairs > 0, pairs, numpy.nan), "low": difference - half, "high": difference + half}
+    return {**found, "pairs": numpy.where(pairs > 0, pairs, numpy.nan), "low": difference - half,
+            "high": difference + half}
 
 
 def summarise(plan: Plan) -> None:
