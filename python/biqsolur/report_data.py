@@ -122,7 +122,7 @@ def time_text(time: int, decimals: int = 9) -> str:
 def find_difference(bundle: Bundle, branch: Branch) -> Difference | None:
     """The first difference from the parent."""
     number = branch.first_difference
-    if not number:
+    if not number or branch.parent is None:
         return None
     parent = bundle.branches[branch.parent]
     rows = [row for row in (event_row(branch, number), event_row(parent, number)) if row is not None]
@@ -140,8 +140,8 @@ def fork_time(branch: Branch, begin: int) -> int:
 def branch_data(bundle: Bundle, branch: Branch, study: Study | None = None) -> BranchData:
     """Everything that the report says of a branch. The data frames are given up again."""
     closing, feed = branch.closing, branch.feed
-    begin = int(feed.time.iat[0]) if len(feed) else closing.counts["time"]
-    end = closing.counts["time"]
+    end = int(closing.counts["time"])
+    begin = int(feed.time.iat[0]) if len(feed) else end
     book, trades = branch.book(LEVELS), branch.trades
     agents = closing.agents[closing.agents.agent > 0]
     fees = branch.events.fee

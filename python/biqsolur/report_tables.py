@@ -160,14 +160,14 @@ def spreads_table(branches: list[BranchData], stock: int) -> str:
 
 def kinds_table(branches: list[BranchData]) -> str:
     """What traders of each kind have earned since the opening, in each branch; nothing where the study isn't known."""
-    if any(data.told is None for data in branches):
+    told = [data.told for data in branches if data.told is not None]
+    if len(told) < len(branches):
         return ""
     names = ["cash from trades", "fees paid", "profit at the mid", "profit at the value"]
     first, second = branch_heads(branches, names)
     rows = []
-    kinds = list(dict.fromkeys(row.kind for data in branches for row in data.told.earned))
-    for kind in kinds:
-        found = [next((row for row in data.told.earned if row.kind == kind), None) for data in branches]
+    for kind in dict.fromkeys(row.kind for one in told for row in one.earned):
+        found = [next((row for row in one.earned if row.kind == kind), None) for one in told]
         row = row_head(kind) + cell(next(one.count for one in found if one), "number")
         for number, one in enumerate(found):
             amounts = (one.cash, one.fees, one.at_mid, one.at_value) if one else ()
