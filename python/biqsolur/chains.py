@@ -23,11 +23,12 @@ MOST_EVENTS = 4_000_000     # of all branches together, with the root
 class Moment:
     """The state in which a branch stands once all has come that is due by a time.
 
-    branch: its run up to there. time: that of its last event, or of the opening, in nanoseconds past midnight; an edit's
-    `after` counts from it. end: "Closed" where the run went on but for the time, else why it ended before.
+    branch: its run up to there. events: how many it had. time: that of its last event, or of the opening, in nanoseconds past
+    midnight; an edit's `after` counts from it. end: "Closed" where the run went on but for the time, else why it ended before.
     """
 
     branch: Branch
+    events: int
     time: int
     end: str
 
@@ -37,7 +38,8 @@ def moment_of(study: Study, branch: str, time: int, **running: Any) -> Moment:
     prefix = study.until(time, branch)
     by_events = [entry for entry in prefix.to_dict().get("branch", []) if entry.get("at")]
     last = begun(prefix, by_events, time, running) if by_events else run_last(prefix, **running).branches[branch]
-    return Moment(last, int(last.counts["time"]), str(last.counts["end"]))
+    counts = last.counts
+    return Moment(last, int(counts["events"]), int(counts["time"]), str(counts["end"]))
 
 
 def begun(prefix: Study, by_events: list[Table], time: int, running: dict[str, Any]) -> Branch:

@@ -181,13 +181,13 @@ class Ledger:
         of which the trader's own rule may have sent some too: such an order is known once a reply about it is heard."""
         self.cash = cash
         self.positions: dict[str, int] = {}
-        self.replies = [Heard(one.time, one.message) for one in sent if not one.is_order]    # type: ignore[arg-type]
+        self.replies = [(one.event, Heard(one.time, one.message)) for one in sent if not one.is_order]  # type: ignore[arg-type]
         self.entered = {order.token: OpenOrder(order, order.shares, False, time)
                         for time, order in ((one.time, one.message) for one in sent if one.is_order)
                         if isinstance(order, Enter)}
         self.known = {one.order.token: OpenOrder(one.order, one.order.shares, False, one.time)
                       for one in given if isinstance(one.order, Enter)}
-        for heard in self.replies:
+        for _, heard in self.replies:
             self._hear(heard.reply)
 
     def _hear(self, reply: Reply) -> None:
@@ -211,6 +211,11 @@ class Ledger:
         sign = 1 if order.side == "B" else -1
         self.cash -= sign * 100 * executed.price * executed.shares
         self.positions[order.symbol] = self.positions.get(order.symbol, 0) + sign * executed.shares
+
+    def heard_after(self, events: int) -> tuple[Heard, ...]:
+        """The replies heard after so many events of the run. Their times would not do: what is decided at a time may be
+        answered within the same nanosecond."""
+        return tuple(heard for event, heard in self.replies if event > events)
 
     @property
     def orders(self) -> tuple[OpenOrder, ...]:

@@ -116,7 +116,7 @@ class Game:
         self.given: list[Given] = []
         self.asked = 0
         self.observation: Observation | None = None
-        self.state_time = 0
+        self.state_time = self.events = 0
         self.over = False
 
     @property
@@ -150,13 +150,12 @@ class Game:
             raise PlayError(f"decision {decision}: {error}; say a later `start`") from None
         if moment.end in ("EventLimit", "QueueFull"):
             return None
-        self.state_time = moment.time
         ledger = Ledger(self.entry.get("cash", 0), self.given, own_messages(moment.branch, self.trader))
-        before = self.observation.time if self.observation is not None else -1
+        replies = ledger.heard_after(self.events)
+        self.state_time, self.events = moment.time, moment.events
         self.observation = Observation(
             decision, time, self.table["open"], self.table["close"], self.trader, self.entry["stock"],
-            last_quote(moment.branch, self.trader), ledger.orders, ledger.account,
-            tuple(heard for heard in ledger.replies if heard.time > before), tokens_of(decision, self.used_before))
+            last_quote(moment.branch, self.trader), ledger.orders, ledger.account, replies, tokens_of(decision, self.used_before))
         return self.observation
 
     def give(self, orders: Iterable[Order]) -> None:

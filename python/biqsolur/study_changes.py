@@ -9,7 +9,6 @@ from collections.abc import Sequence
 from typing import Any
 
 import tomlkit
-from tomlkit.exceptions import TOMLKitError
 
 from biqsolur.errors import StudyError
 from biqsolur.fields import FIELDS, NAMES_OF_ENTRIES, TABLE, TABLES, Table, plain_value
@@ -110,7 +109,7 @@ def changed_text(text: str, places: Places, table: Table) -> str | None:
             holder = holder[place]
         holder[places[-1]] = tomlkit.value(value_text(value_at(table, places), grouped=GROUPED.search(text) is not None))
         return said(mark + tomlkit.dumps(document), table)
-    except (TOMLKitError, KeyError, IndexError, TypeError, ValueError):
+    except Exception:       # tomlkit fails at some documents with errors of its own inside
         return None
 
 
@@ -141,7 +140,7 @@ def text_with_agent(text: str, entry: Table, table: Table) -> str | None:
         agents: Any = document["agent"]
         agents.append(item)
         return said(mark + tomlkit.dumps(document), table)
-    except (TOMLKitError, KeyError, IndexError, TypeError, ValueError):
+    except Exception:       # tomlkit fails at some documents with errors of its own inside
         return None
 
 
@@ -155,7 +154,7 @@ def text_without_branches(text: str, numbers: list[int], table: Table) -> str | 
         if "branch" not in table:
             del document["branch"]
         return said(mark + tomlkit.dumps(document), table)
-    except (TOMLKitError, KeyError, IndexError, TypeError, ValueError):
+    except Exception:       # tomlkit fails at some documents with errors of its own inside
         return None
 
 

@@ -88,15 +88,39 @@ def replayed(study, trader):
 def test_the_outcome_gives_the_same_orders(policy, delay):
     """Without the policy: each order's bytes at its time, and what the policy saw is in that run, and nothing later."""
     recorded = Recorded(policy)
-    study = play(MARKET, WATCHER, recorded, every="1500ms", delay=delay)
+    study = play(MARKET, WATCHER, recorded, every="1471ms", delay=delay)     # when nothing else comes
     branch, came = replayed(study, WATCHER)
     way = {None: 50_000, 0: 0, "30ms": 30_000_000}[delay]
-    assert len(recorded.given) > 3 and len(recorded.seen) == (8 if delay == 0 else 7)
+    assert len(recorded.given) > 3 and len(recorded.seen) == 8
     wanted = {}
     for time, order in recorded.given:
         wanted.setdefault(order.to_bytes(), time + way)
     assert came == [(time, data) for data, time in wanted.items()]
     assert study.only("root") == MARKET.in_version_2()
+    check_observations(branch, recorded.seen)
+
+
+def test_replies_within_the_nanosecond():
+    """Without any latency an order is answered at the time of its decision, behind it: the next decision is told so, once."""
+    market = MARKET.with_("latency", {"base": [[0, 0], [0, 0]], "jitter": [[0, 0], [0, 0]]}).with_("exchange.delay", 0)
+    recorded = Recorded(buyer)
+    branch, _ = replayed(play(market, WATCHER, recorded, every="1500ms"), WATCHER)
+    told = [one.reply.to_bytes() for observation in recorded.seen for one in observation.replies]
+    heard = [sent.data for sent in branch.messages()
+             if sent.trader == WATCHER and not sent.is_order and sent.time < recorded.seen[-1].time]
+    assert told[:len(heard)] == heard and len(set(told)) == len(told)
+    times = [one.time for observation in recorded.seen for one in observation.replies]
+    assert any(time == observation.time for time in times for observation in recorded.seen)
+
+
+def test_a_busy_trader_has_not_heard_yet():
+    """What was put back, as the trader was still at work, is no part of what it knows."""
+    market = MARKET.with_("agent.watcher.delay", "40ms")
+    recorded = Recorded(buyer)
+    branch, _ = replayed(play(market, WATCHER, recorded, every="11ms", start="9:30:01.005", end="9:30:01.1", delay=0), WATCHER)
+    events = branch.events
+    put_back = events[(events.receiver == WATCHER) & events.put_back]
+    assert any(((put_back.time <= seen.time) & (put_back.busy_until > seen.time)).any() for seen in recorded.seen)
     check_observations(branch, recorded.seen)
 
 

@@ -177,6 +177,17 @@ def test_paths_by_name(study):
     assert study.with_("branch.wide.edit", [edits.Halt("ABM")]).edits("wide") == [edits.Halt("ABM")]
 
 
+def test_a_whole_table_is_replaced(study):
+    """Where tomlkit can't put it in the text, the study is written anew; what it says is right in each case."""
+    still = {"base": [[0, 0], [0, 0]], "jitter": [[0, 0], [0, 0]]}
+    for base in (study, Study(study.to_dict()), study.only("root"), Study(study.only("root").to_text())):
+        base.to_text()
+        for path, value in [("latency", still), ("exchange", {"group": 1, "delay": 0}), ("branch", []), ("change", []),
+                            ("stock", base.to_dict()["stock"] * 2), ("agent", base.to_dict()["agent"][:1])]:
+            changed = base.with_(path, value)
+            assert changed.to_dict() == {**base.to_dict(), path: value} == tomllib.loads(changed.to_text())
+
+
 def test_a_symbol_with_a_dot():
     """It is named in a list of parts."""
     table, _ = studies.make_study(0)
