@@ -392,23 +392,34 @@ def test_a_strategy_behind_another():
     check_observations(branch, recorded.seen)
 
 
-def test_the_most_decisions_with_orders():
-    """255 branches, and at the next order a clear error; decisions without orders cost none."""
-    quiet = Study.read(ROOT / "examples" / "empty.toml")
-    table = quiet.to_dict()
+def quiet_market():
+    """A watcher that wakes every hundred seconds, and nobody else."""
+    table = Study.read(ROOT / "examples" / "empty.toml").to_dict()
     table.update(open=0, close=400 * SECOND, events=15_000)
     table["stock"][0]["every"] = SECOND
     table["agent"] = [{"kind": "watcher", "group": 0, "stock": "ABM", "first": 0, "every": 100 * SECOND}]
+    return Study(table)
+
+
+def test_a_reply_is_told_once():
+    """Also where it is the last event before the decision, and nothing comes until the next one."""
+    recorded = Recorded(lambda seen: [seen.buy(1, 100)] if seen.decision == 1 else None)
+    play(quiet_market(), 1, recorded, end="0:00:05")
+    assert [len(seen.replies) for seen in recorded.seen] == [0, 1, 0, 0, 0]
+
+
+def test_the_most_decisions_with_orders():
+    """255 branches, and at the next order a clear error; decisions without orders cost none."""
 
     def policy(count):
         return lambda seen: [seen.buy(1, 100) for _ in range(16 * count)] if seen.decision > 3 else None
 
     with pytest.raises(PlayError, match="decision 9, 0:00:09: its orders make more than 255 branches"):
-        play(Study(table), 1, policy(51))
-    game = Game(Study(table), 1)
+        play(quiet_market(), 1, policy(51))
+    game = Game(quiet_market(), 1)
     game.reset()
     game.give([])
     assert game.branches == [] and game.most == 255
-    whole = play(Study(table), 1, policy(51), end="0:00:08")
+    whole = play(quiet_market(), 1, policy(51), end="0:00:08")
     assert len(whole.branches) == 256 and len(whole.edits("play-255")) == 16
     whole.check()
