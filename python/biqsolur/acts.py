@@ -12,7 +12,7 @@ import tomllib
 from collections.abc import Iterable, Mapping, Sequence
 from dataclasses import dataclass, fields
 from pathlib import Path
-from typing import Any, ClassVar
+from typing import Any, ClassVar, cast
 
 from biqsolur.edits import Edit
 from biqsolur.errors import RunError, StudyError
@@ -129,7 +129,7 @@ def script_data(script: str | os.PathLike[str] | Iterable[Act | Mapping[str, Any
         return file_data(Path(script)), os.fspath(script)
     if isinstance(script, (bytes, Mapping, Act)) or not isinstance(script, Iterable):
         raise RunError(f"{script!r} is no script: give a path, a text of TOML, or a list of acts (biqsolur.acts)")
-    return script_text(script).encode(), "the script"
+    return script_text(cast("Iterable[Act | Mapping[str, Any]]", script)).encode(), "the script"
 
 
 def acts_of(data: bytes) -> list[dict[str, Any]] | None:

@@ -161,9 +161,8 @@ def part_for(limit: int) -> Iterator[tuple[Part, Path | None]]:
         warn(error)
     with contextlib.ExitStack() as stack:
         if folder is None:
-            part = stack.enter_context(part_file(temporary_folder()))
-        else:
-            stack.callback(finish, part)
+            part = temporary_part()
+        stack.callback(finish, part)
         yield part, folder
 
 
@@ -183,12 +182,12 @@ def warn(error: OSError) -> None:
                       f"written, or {LIMIT_NAME}=0 for no cache", CacheWarning, stacklevel=6)
 
 
-def temporary_folder() -> Path:
-    """A folder for runs that are not kept. Raises CacheError where there is none."""
+def temporary_part() -> Part:
+    """A new file for a run that isn't kept. Raises CacheError where there is no place for it."""
     try:
         folder = Path(tempfile.gettempdir())
         remove_stale(folder)
-        return folder
+        return new_part(folder)
     except OSError as error:
         raise CacheError(f"there is no folder for the program's output: {error}; set TMPDIR to one that may be "
                          "written") from None

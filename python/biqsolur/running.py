@@ -24,13 +24,14 @@ import time
 from collections.abc import Callable, Iterable, Iterator, Mapping, Sequence
 from dataclasses import dataclass, replace
 from functools import cached_property
+from numbers import Integral
 from pathlib import Path
 from typing import TYPE_CHECKING, Any, NamedTuple, Union
 
 from biqsolur.errors import RunError, StudyError
 from biqsolur.program import Program, environment, kit, program_of, version
 from biqsolur.statuses import (
-    ActRefused, Context, NoSuchBranch, NoSuchEvent, NoSuchStock, OrdersRefused, OtherProgramError, ProgramError,
+    ActRefused, Context, NoSuchBranch, NoSuchEvent, NoSuchFile, NoSuchStock, OrdersRefused, OtherProgramError, ProgramError,
     ProgramMissingError, ScriptRefused, StudyRefused, WriteFailed, error_of)
 
 if TYPE_CHECKING:
@@ -52,6 +53,7 @@ MOST_TARGETS = 64
 MOST_BYTES = 16_777_216         # of a study
 PROGRESS_SECONDS = 0.2          # between two words of progress
 ACCEPTED = r"accepted: agents (\d+), stocks (\d+), branches (\d+), segments (\d+)\n"
+IN_MEMORY = re.compile(r"/proc/self/fd/\d+")
 AUDITED = r"audit ok: branches (\d+), orders (\d+)\n"
 
 
@@ -235,7 +237,7 @@ def given_study(study: AnyStudy) -> Given:
     if isinstance(study, os.PathLike) or isinstance(study, str) and "\n" not in study:
         return study_of_path(os.fspath(study))
     if isinstance(study, str):
-        return study_of_data(study.encode(), "the study", None)
+        return study_of_data(study.encode("utf-8", "surrogatepass"), "the study", None)
     known = study if isinstance(study, Study) else Study(study)
     return given_object(known)
 
@@ -278,9 +280,9 @@ def study_of_data(data: bytes, name: str, path: Path | None) -> Given:
 
 def workers_words(workers: int) -> list[str]:
     """The option of how many workers simulate."""
-    if isinstance(workers, bool) or not isinstance(workers, int) or not 1 <= workers <= MOST_WORKERS:
+    if isinstance(workers, bool) or not isinstance(workers, Integral) or not 1 <= workers <= MOST_WORKERS:
         raise RunError(f"workers = {workers!r}: give a whole number from 1 to {MOST_WORKERS}")
-    return ["--workers", str(workers)]
+    return ["--workers", str(int(workers))]
 
 
 # ---------------------------------------------------------------- commands
@@ -390,7 +392,6 @@ def pairs_of(targets: Iterable[tuple[str, int]]) -> list[tuple[str, int]]:
 
 def target_word(branch: str, event: int) -> str:
     """A state as the program's words name it."""
-    from numbers import Integral
     if not isinstance(event, Integral) or isinstance(event, bool) or not 0 <= event <= 9_999_999:
         raise RunError(f"{event!r} is no event number: give a whole number from 0 on, 0 for the state before the first "
                        "event")
@@ -466,24 +467,23 @@ def session(study: AnyStudy, script: str | os.PathLike[str] | Iterable[Act], wor
 def audit(bundle: Bundle | str | os.PathLike[str], *, program: AnyProgram = None) -> Audit:
     """Asks whether each closing of a bundle is what the branch's feed tells. Raises BadBundle and AuditFailed."""
     which = program_of(program)
-    with contextlib.ExitStack() as stack:
-        words = Words(stack, "audit", "--")
-        add_bundle(words, bundle)
-        answer = ended(which, words.words, None, subprocess.PIPE, words.descriptors)
-        name = words.names.get(words.words[-1], words.words[-1])
+    name = plain_word(os.fspath(bundle) if isinstance(bundle, (str, os.PathLike)) else bundle.path, "path")
+    answer = run_bytes("audit", "--", name, program=which.path)
+    if answer.status == NoSuchFile.STATUS and not isinstance(bundle, (str, os.PathLike)):
+        answer = audit_of_bytes(bundle, which)
     if answer.status:
-        raise error_of(answer.status, answer.stderr, Context(["audit", name], str(which.path), words.names, name))
+        named = {word: name for word in IN_MEMORY.findall(answer.stderr.decode("utf-8", "replace"))}
+        raise error_of(answer.status, answer.stderr, Context(["audit", name], str(which.path), named, name))
     return Audit(*line_of(answer.stdout, AUDITED, which))
 
 
-def add_bundle(words: Words, bundle: Bundle | str | os.PathLike[str]) -> None:
-    """Adds a bundle's path; of one whose file is gone, as the cache gave it up, its bytes, which are still mapped."""
-    if isinstance(bundle, (str, os.PathLike)):
-        words.words.append(plain_word(os.fspath(bundle), "path"))
-    elif os.path.exists(bundle.path):
-        words.words.append(bundle.path)
-    else:
+def audit_of_bytes(bundle: Bundle, program: Program) -> Answer:
+    """The audit of a bundle whose file is gone, as the cache gave it up: its bytes are still mapped."""
+    with contextlib.ExitStack() as stack:
+        words = Words(stack, "audit", "--")
         words.add_file(bundle.frames.raw.data, bundle.path)
+        answer = ended(program, words.words, None, subprocess.PIPE, words.descriptors)
+    return answer
 
 
 # ---------------------------------------------------------------- bundles
@@ -546,7 +546,7 @@ def record_of_run(given: Given, series: str, program: Program, workers: int, bun
     from biqsolur.provenance import Provenance, moment_text, sum_of_bundle
     return Provenance(
         given.data.decode("utf-8", "replace"), folder_text(given), series or None, version(), kit(), program.sum,
-        program.found, moment_text(begun), round(seconds, 6), workers, len(bundle.frames.raw), sum_of_bundle(bundle))
+        program.found, moment_text(begun), round(seconds, 6), int(workers), len(bundle.frames.raw), sum_of_bundle(bundle))
 
 
 def folder_text(given: Given) -> str | None:

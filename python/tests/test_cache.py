@@ -226,6 +226,14 @@ def test_a_cache_that_cannot_be_written(monkeypatch, tmp_path):
     assert Path(bundle.path).exists() and bundle.path != again.path
 
 
+def test_no_place_at_all(monkeypatch, tmp_path):
+    (tmp_path / "file").write_text("")
+    monkeypatch.setenv("XDG_CACHE_HOME", str(tmp_path / "file"))
+    monkeypatch.setattr("tempfile.tempdir", str(tmp_path / "nowhere"))
+    with pytest.warns(biqsolur.CacheWarning), pytest.raises(biqsolur.CacheError, match="set TMPDIR"):
+        biqsolur.run(study_of(1))
+
+
 def test_a_record_that_cannot_be_written(monkeypatch, folder):
     def full(*words):
         raise OSError("no room")

@@ -349,6 +349,12 @@ def test_errors_say_what_to_do():
     assert "did you mean `values`" in said["script"] and "0 to 10,777" in said["event"]
 
 
+def test_a_text_that_is_no_unicode():
+    with pytest.raises(biqsolur.StudyRefused) as caught:
+        biqsolur.run("version = 1\n# \udc80")
+    assert caught.value.rule == 0 and "UTF-8" in caught.value.sentence
+
+
 def test_a_study_that_is_refused_has_rule_and_place():
     with pytest.raises(biqsolur.StudyRefused) as caught:
         biqsolur.run("version = 3\n")
