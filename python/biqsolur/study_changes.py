@@ -12,7 +12,7 @@ import tomlkit
 
 from biqsolur.errors import StudyError
 from biqsolur.fields import FIELDS, NAMES_OF_ENTRIES, TABLE, TABLES, Table, plain_value
-from biqsolur.toml_text import section_lines, study_text, value_text
+from biqsolur.toml_text import is_section, laid_out, section_lines, value_text
 
 Places = list[str | int]
 PLURALS = {"stocks": "stock", "changes": "change", "agents": "agent", "branches": "branch", "edits": "edit"}
@@ -102,12 +102,19 @@ def value_at(table: Any, places: Places) -> Any:
 def changed_text(text: str, places: Places, table: Table) -> str | None:
     """The text with the value that `table` has at these places; None where that can't be done without losing anything,
     and the text is to be written anew."""
+    value, last = value_at(table, places), places[-1]
     try:
         mark, document = parsed(text)
         holder: Any = document
         for place in places[:-1]:
             holder = holder[place]
-        holder[places[-1]] = tomlkit.value(value_text(value_at(table, places), grouped=GROUPED.search(text) is not None))
+        if holder is document and is_section(str(last), value):
+            if last in document:
+                del document[last]
+            return text_with_sections(mark + tomlkit.dumps(document), str(last), value, table)
+        grouped = GROUPED.search(text) is not None
+        lines = laid_out(last, value, grouped) if isinstance(last, str) else value_text(value, grouped)
+        holder[last] = tomlkit.value(lines.replace("\n", line_end(text)))
         return said(mark + tomlkit.dumps(document), table)
     except Exception:       # tomlkit fails at some documents with errors of its own inside
         return None
@@ -120,11 +127,16 @@ def text_with_branches(text: str, branches: list[Table], table: Table) -> str | 
     return text_with_sections(text, "branch", branches, table)
 
 
-def text_with_sections(text: str, key: str, entries: list[Table], table: Table) -> str | None:
-    """The text with more tables of an array at its end; None where that isn't possible."""
-    end = "\r\n" if "\r\n" in text else "\n"
+def text_with_sections(text: str, key: str, entries: Table | list[Table], table: Table) -> str | None:
+    """The text with a table, or more tables of an array, at its end; None where that isn't possible."""
+    end = line_end(text)
     lines = "\n".join(section_lines(key, entries)).replace("\n", end)
     return said(text + ("" if text.endswith("\n") else end) + lines + end, table)
+
+
+def line_end(text: str) -> str:
+    """How a text ends its lines."""
+    return "\r\n" if "\r\n" in text else "\n"
 
 
 def text_with_agent(text: str, entry: Table, table: Table) -> str | None:
@@ -139,7 +151,7 @@ def text_with_agent(text: str, entry: Table, table: Table) -> str | None:
         item.add(tomlkit.nl())
         agents: Any = document["agent"]
         agents.append(item)
-        return said(mark + tomlkit.dumps(document), table)
+        return said(mark + re.sub("\r?\n", line_end(text), tomlkit.dumps(document)), table)
     except Exception:       # tomlkit fails at some documents with errors of its own inside
         return None
 

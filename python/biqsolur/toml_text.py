@@ -42,13 +42,19 @@ def section_lines(key: str, value: Any) -> list[str]:
 
 
 def pair_text(key: str, value: object) -> str:
-    """A key and its value, over several lines where one would be too wide or would hold several tables."""
-    line = f"{key} = {value_text(value)}"
-    if not isinstance(value, list) or len(line) <= WIDEST and not (len(value) > 1 and isinstance(value[0], Mapping)):
+    """A key and its value."""
+    return f"{key} = {laid_out(key, value)}"
+
+
+def laid_out(key: str, value: object, grouped: bool = True) -> str:
+    """A key's value, over several lines where one would be too wide or would hold several tables."""
+    line = value_text(value, grouped)
+    wide = len(key) + len(" = ") + len(line) > WIDEST
+    if not isinstance(value, list) or not wide and not (len(value) > 1 and isinstance(value[0], Mapping)):
         return line
-    if isinstance(value[0], (list, Mapping)):
-        return "\n".join([f"{key} = [", *(f"  {value_text(item)}," for item in value), "]"])
-    return "\n".join([f"{key} = [", *wrapped([f"{value_text(item)}," for item in value]), "]"])
+    items = [f"{value_text(item, grouped)}," for item in value]
+    lines = [f"  {item}" for item in items] if isinstance(value[0], (list, Mapping)) else wrapped(items)
+    return "\n".join(["[", *lines, "]"])
 
 
 def wrapped(words: list[str]) -> list[str]:

@@ -85,7 +85,8 @@ def test_line_ends_and_a_byte_order_mark_stay(end, mark, tmp_path):
     (tmp_path / "study.toml").write_bytes(data)
     study = Study.read(tmp_path / "study.toml")
     assert study.to_text().encode() == data and study == Study(TICK_SIZE)
-    changed = study.with_("events", 19_999).branch("more", after=1, edits=[edits.Silence(1)]).to_text()
+    changed = study.with_("events", 19_999).branch("more", after=1, edits=[edits.Silence(1)]).with_agent("watcher", every=1) \
+        .with_("branch.wide.edit", [edits.Silence(1), edits.Silence(2)]).with_("exchange", {"group": 0, "delay": 1}).to_text()
     assert changed.startswith(mark + "# Question") and ("\r" in changed) == (end == "\r\n")
     assert changed.count("\n") == changed.count(end)
 
@@ -186,6 +187,9 @@ def test_a_whole_table_is_replaced(study):
                             ("stock", base.to_dict()["stock"] * 2), ("agent", base.to_dict()["agent"][:1])]:
             changed = base.with_(path, value)
             assert changed.to_dict() == {**base.to_dict(), path: value} == tomllib.loads(changed.to_text())
+            assert ("# Question" in changed.to_text()) == ("# Question" in base.to_text())
+    many = [edits.AgentParameter(number, "every", "1s") for number in range(1, 17)]
+    assert max(map(len, study.with_("branch.wide.edit", many).to_text().splitlines())) <= 140
 
 
 def test_a_symbol_with_a_dot():
