@@ -2,6 +2,7 @@
 
 import math
 
+import numpy
 import plain
 import plain_measures
 import pytest
@@ -103,13 +104,15 @@ def test_best_prices_are_those_after_each_event_that_changed_them(measured):
 def test_best_prices_are_the_first_level_of_the_book(measured):
     for branch in measured.bundle.branches.values():
         book = branch.book(levels=1)
-        book = book[book.event > 0].drop_duplicates(["event", "stock"], keep="last")
-        top = branch.top().set_index(["stock", "event"])
-        for row in book.itertuples():
-            own = top.loc[[row.stock]] if row.stock in top.index.get_level_values(0) else top.iloc[:0]
-            own = own[own.index.get_level_values(1) <= row.event]
-            last = tuple(own.iloc[-1][["bid", "bid_shares", "ask", "ask_shares"]]) if len(own) else (0, 0, 0, 0)
-            assert last == (row.bid_1, row.bid_shares_1, row.ask_1, row.ask_shares_1)
+        columns = [book[name].tolist() for name in ("event", "stock", "bid_1", "bid_shares_1", "ask_1", "ask_shares_1")]
+        last = {(event, stock): prices for event, stock, *prices in zip(*columns) if event > 0}
+        expected, before = [], {}
+        for (event, stock), prices in last.items():
+            if prices != before.get(stock, [0, 0, 0, 0]):
+                expected.append([event, stock, *prices])
+            before[stock] = prices
+        found = branch.top()[["event", "stock", "bid", "bid_shares", "ask", "ask_shares"]]
+        assert found.to_numpy().tolist() == sorted(expected)
 
 
 @each_market
@@ -357,7 +360,8 @@ def test_fates_at_the_very_end_are_those_that_feed_and_closing_tell(program):
     """Half a second before the close no reply is heard any more: a hidden order and its part cancel stand in the
     closing, a displayed order in the feed, and of an order with time in force 0 that met nothing neither tells."""
     study = Study.read(biqsolur_example("worked_market.toml")).without_branch("worked").in_version_2()
-    messages = [enter(b"HIDDEN", b"B", 900, 99_800, 99_999, b"N"), b"X" + b"HIDDEN".ljust(14) + (400).to_bytes(4, "big"),
+    messages = [enter(b"HIDDEN", b"B", 900, 99_800, 99_999, b"N"),
+                b"X" + b"HIDDEN".ljust(14) + (400).to_bytes(4, "big"),
                 enter(b"SHOWN", b"B", 50, 99_700, 99_999, b"Y"), enter(b"NOTHING", b"B", 70, 99_900, 0, b"Y"),
                 enter(b"SHOWN", b"B", 60, 99_700, 99_999, b"Y"), enter(b"TAKES", b"S", 100, 99_800, 0, b"Y")]
     edits = [biqsolur.Inject(1, message, after=f"{18_700 + place}ms") for place, message in enumerate(messages)]
@@ -387,3 +391,30 @@ def test_fees_change_with_the_very_event(program, change, edit):
     assert list(zip(added // branch.trades.shares, taken // branch.trades.shares)) == rates
     assert (added + taken).tolist() == branch.trades.fees.tolist()
     assert measures.accounts(branch, study).fee.sum() == branch.trades.fees.sum()
+
+
+def test_a_branch_that_begins_behind_its_parents_end_is_compared_from_there(program):
+    """The parent has 57 events, and the branch leaves it at 150: what counts is what comes behind event 57."""
+    study = Study.read(biqsolur_example("worked_market.toml"))
+    sale = biqsolur.Inject(3, enter(b"LATE", b"S", 100, 99_700, 0, b"Y"))
+    bundle = biqsolur.run(study.branch("revived", parent="worked", after=150, edits=[sale]), program=program, cache=False)
+    branch = bundle.branches["revived"]
+    assert (branch.stop, branch.fork, len(branch.events)) == (150, 57, 58)
+    frame = bundle.compare("effective_spread").set_index(["branch", "measure"])
+    assert frame.value["revived", "effective_spread"] == 400        # twice from 9.99 to 9.97
+    assert math.isnan(frame.parent["revived", "effective_spread"])
+
+
+def test_the_exchange_remembers_so_many_pairs_and_no_more():
+    """An order under a remembered pair is ignored; once 131,072 are remembered, one under another pair is rejected."""
+    pairs = [*range(131_074), 5, 131_071, 131_072, 131_080, 131_080]
+    orders = measures.orders.Entered(*[None] * 11, numpy.array(pairs))
+    remembered, again, full = set(), [], []
+    for pair in pairs:
+        again.append(pair in remembered)
+        full.append(pair not in remembered and len(remembered) == 131_072)
+        if not (again[-1] or full[-1]):
+            remembered.add(pair)
+    found = measures.orders.repeats(orders)
+    assert found[1].tolist() == again and found[2].tolist() == full
+    assert sum(again) == 2 and sum(full) == 5
