@@ -121,3 +121,13 @@ def test_each_measure_names_its_units_and_what_it_is(numbers):
         assert measure.about.endswith(".") or len(measure.about) > 40
     for number in numbers:
         assert any(measure.unit(number) for measure in measures.NAMES.values()), number
+
+
+def test_settings_that_are_named_with_a_measure_hold_until_others_are_given(worked):
+    bound = measures.find({"name": "realised_spread", "horizon": "2s"})
+    assert bound.compute(worked)["realised_spread"] == 350
+    assert bound.compute(worked, horizon="6s") == measures.NAMES["realised_spread"].compute(worked, horizon="6s")
+    assert bound.compute(worked, horizon="6s") != bound.compute(worked)
+    frame = worked.bundle.compare([{"name": "realised_spread", "horizon": "2s"}], parent=False)
+    assert frame.value[frame.branch == "worked"].tolist()[0] == 350
+    assert measures.find({"name": bound, "after": 30}).compute(worked) == bound.compute(worked, after=30)
