@@ -20,6 +20,7 @@ import pytest
 
 PACKAGE = Path(__file__).resolve().parent.parent
 ROOT = PACKAGE.parent
+TESTS_FOLDER = PACKAGE / "tests"
 sys.path[:0] = [str(PACKAGE), str(Path(__file__).resolve().parent)]
 
 import studies  # noqa: E402

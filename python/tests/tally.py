@@ -1,6 +1,7 @@
 """Runs pytest over all tests, what failed once more and alone, and says how many passed, failed and were skipped.
 
-    python3 python/tests/tally.py --program PATH [--browser] [--long] [--skip-missing] [--missing NAME ...] [-- WORDS OF PYTEST]
+    python3 python/tests/tally.py --program PATH [--browser] [--long] [--skip-missing] [--missing NAME ...] [--root FOLDER]
+        [-- WORDS OF PYTEST]
 
 A test that fails beside others is run again by itself, at most twice: a machine under load may starve it. What passes then
 counts as passed, and is named. Where there is no pytest, the stored runs alone are run, by stored.py.
@@ -91,12 +92,18 @@ def workers() -> int:
     return max(1, math.ceil(min(processors, quota(), free_memory() // WORKER_MEMORY, 16)))
 
 
+def has_xdist() -> bool:
+    """Whether pytest can have helpers. Where it can it has to know the plugin: others ask for its hooks."""
+    return importlib.util.find_spec("xdist") is not None
+
+
 def run_pytest(words: list[str], folder: Path) -> tuple[int, Tally]:
-    """One call of pytest in this process; its status and how each test ended."""
+    """One call of pytest in this process and folder; its status and how each test ended."""
     import pytest
 
     tally = Tally()
-    fixed = ["-q", "-p", "no:cacheprovider", f"--rootdir={PACKAGE}", f"--basetemp={folder}", "--no-header"]
+    fixed = ["-q", "-p", "no:cacheprovider", f"--rootdir={os.getcwd()}", f"--basetemp={folder}", "--no-header",
+             "--continue-on-collection-errors"]
     return int(pytest.main([*fixed, *words], plugins=[tally])), tally
 
 
@@ -109,7 +116,7 @@ def level_words(asked: argparse.Namespace) -> list[str]:
 def run_again(names: list[str], folder: Path) -> Tally:
     """Runs tests once more in a process of pytest without helpers."""
     print(f"\ntest: once more, alone: {len(names)} that failed", flush=True)
-    return run_pytest(["-p", "no:xdist", *names], folder)[1]
+    return run_pytest([*(["-n", "0"] if has_xdist() else []), *names], folder)[1]
 
 
 def merge(tally: Tally, again: Tally, names: list[str]) -> list[str]:
@@ -124,8 +131,8 @@ def merge(tally: Tally, again: Tally, names: list[str]) -> list[str]:
 
 def run_all(asked: argparse.Namespace, folder: Path) -> tuple[Tally, list[str]]:
     """Runs all tests and the failed ones again; how each ended, and which needed more than one run."""
-    count = workers() if importlib.util.find_spec("xdist") else 1
-    beside = ["-n", str(count)] if count > 1 else []
+    count = workers() if has_xdist() else 1
+    beside = ["-n", str(count)] if count > 1 and "-n" not in asked.words else []
     words = asked.words or ["tests"]
     status, tally = run_pytest([*level_words(asked), *beside, *words], folder / "first")
     needed: list[str] = []
@@ -176,6 +183,7 @@ def options(words: list[str]) -> argparse.Namespace:
     """The options of this script."""
     parser = argparse.ArgumentParser(description=__doc__)
     parser.add_argument("--program", required=True)
+    parser.add_argument("--root", default=str(PACKAGE), help="where pytest runs: the folder above the tests")
     for name in ("--browser", "--long", "--proofs", "--skip-missing"):
         parser.add_argument(name, action="store_true")
     parser.add_argument("--missing", action="append", default=[])
@@ -192,7 +200,7 @@ def main(words: list[str]) -> int:
     """Runs everything; the status is 0 where all passed and nothing was left out that should not be."""
     asked = options(words)
     asked.words = [os.path.abspath(word) if os.path.exists(word.split("::")[0]) else word for word in asked.words]
-    os.chdir(PACKAGE)
+    os.chdir(asked.root)
     signal.signal(signal.SIGTERM, end)
     folder = Path(tempfile.mkdtemp(prefix="biqsolur-test-"))
     try:
