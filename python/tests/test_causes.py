@@ -2,6 +2,7 @@
 
 from __future__ import annotations
 
+import doctest
 import random
 import subprocess
 from collections.abc import Callable
@@ -205,6 +206,31 @@ def test_an_opening_wakeup_and_a_wrong_event(tick_size: biqsolur.Bundle) -> None
             biqsolur.causes(branch, event)
     with pytest.raises(biqsolur.InputError, match="has the events 1 to"):
         biqsolur.effects(branch, len(branch.events) + 1)
+
+
+def test_the_document_shows_what_comes(monkeypatch: pytest.MonkeyPatch) -> None:
+    """The data frame of docs/EXPLORER.md, line by line."""
+    root = Path(__file__).resolve().parents[2]
+    monkeypatch.chdir(root)
+    example = doctest.DocTestParser().get_doctest(
+        (root / "docs" / "EXPLORER.md").read_text(), {"biqsolur": biqsolur}, "EXPLORER.md", "EXPLORER.md", 0)
+    assert len(example.examples) == 2
+    assert doctest.DocTestRunner().run(example) == (0, 2)
+
+
+def test_injected_messages_need_the_study_and_find_it_with_the_bundle(course: Course) -> None:
+    """As a user asks: a bundle of `run` knows its study, and one that was read gets it by name."""
+    for name, branch in course.bundle.branches.items():
+        if not (branch.edits.kind == "inject").any():
+            continue
+        with pytest.raises(biqsolur.StudyNeededError):
+            biqsolur.causes(branch, 1)
+        study = biqsolur.Study.read(course.folder / "study.toml", course.folder)
+        last = len(branch.events)
+        asked = biqsolur.causes(branch, last, study=study)
+        known = biqsolur.causes(biqsolur.run(study).branches[name], last)
+        assert asked.equals(known) and len(known)
+        return
 
 
 def test_an_injected_message_names_the_event_after_which_it_was_injected(course: Course) -> None:

@@ -409,6 +409,27 @@ def test_all_nine_edits_fork_and_the_study_taken_along_gives_the_branch(
         assert report.startswith(b"<!doctype html>") and b"nine" in report
 
 
+def test_the_five_minutes_of_the_document(program: str) -> None:
+    """Each number of the walk in docs/EXPLORER.md."""
+    with Served(EXAMPLE, program) as served:
+        assert served.ask("find", branch="root", event=4990, kind="trade")["event"] == 4992
+        said = (ROOT / "docs" / "EXPLORER.md").read_text()
+        assert served.ask("state", branch="root", event=4992)["what"]["words"] in said
+        why = served.ask("why", branch="root", event=4992)
+        direct = [(row["link"], row["event"]) for row in why["causes"] if row["depth"] == 1]
+        assert direct == [("sent during", 4991), ("met an order of", 4863)]
+        assert "ask 328 at 49.98" in why["causes"][0]["words"]
+        behind = {row["link"]: row["event"] for row in reversed(why["causes"]) if row["depth"] == 2}
+        assert (behind["sent during"], behind["ask set by"]) == (4990, 4863)
+        assert sorted(row["event"] for row in why["effects"]) == [4993, 4994, 4995]
+        served.change("fork", name="wider", parent="root", at=4992, edits=[{"kind": "tick", "stock": "ABM", "bands": [["0.00", "0.05"]]}])
+        compared = served.ask("compare", branch="wider")
+        assert compared["difference"] == 5032 and "at 49.90" in compared["ours"] and "at 49.94" in compared["theirs"]
+        measures = {row["name"]: (row["theirs"], row["ours"]) for row in compared["measures"]}
+        assert measures["trades"] == (298, 294)
+        assert [round(100 * number, 1) for number in measures["quoted spread, dollars"]] == [4.0, 9.9]
+
+
 def test_undo_and_redo_go_through_the_texts(program: str) -> None:
     with Served(EXAMPLE, program) as served:
         first = served.take("study")
