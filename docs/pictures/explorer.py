@@ -26,7 +26,8 @@ SIZE = (1280, 1420)
 
 def main() -> None:
     """Opens the page, lays the parent's book beside the branch's, and takes the picture."""
-    with tempfile.TemporaryDirectory() as folder, Served(ROOT / "examples" / "tick_size.toml", str(find_program())) as served:
+    with tempfile.TemporaryDirectory() as folder, Served(ROOT / "examples" / "tick_size.toml",
+                                                         str(find_program())) as served:
         driver = started(Path(folder))
         try:
             page = Page(driver)

@@ -1,11 +1,11 @@
 """Why an event came, and what came of it.
 
-    biqsolur.causes(wide, 5145)             # from a trade back: its order, the quote that was heard, the order behind it
-    biqsolur.effects(wide, 5145)            # the messages that were sent as it was handled, and where each arrived
+    biqsolur.causes(wide, 5145)     # from a trade back: its order, the quote that was heard, the order behind it
+    biqsolur.effects(wide, 5145)    # the messages that were sent as it was handled, and where each arrived
 
-A message's cause is the event during which it was sent (`biqsolur.senders`). A quote has two more: the orders that set its
-bid and its ask, which are those that stood first at these prices as the exchange answered the question. An order that
-traded as it came has the orders that it met. All of it is read off the bundle's own numbers; nothing is guessed.
+A message's cause is the event during which it was sent (`biqsolur.senders`). A quote has two more: the orders that set
+its bid and its ask, which are those that stood first at these prices as the exchange answered the question. An order
+that traded as it came has the orders that it met. All of it is read off the bundle's own numbers; nothing is guessed.
 """
 
 from __future__ import annotations
@@ -67,7 +67,8 @@ class Causes:
     # ------------------------------------------------------------ back
 
     def links(self, event: int) -> list[Link]:
-        """The direct causes of an event: what its message was sent during, and then what set its quote, or what it met."""
+        """The direct causes of an event: what its message was sent during, and then what set its quote, or what it
+        met."""
         if event == 0:
             return []
         self.check(event)
@@ -145,8 +146,10 @@ class Causes:
             self.check(event)
         senders = self.senders
         return [{
-            "message": int(senders.numbers[row]), "kind": BODY_WORDS.get(int(senders.letter[row]), chr(senders.letter[row])),
-            "sender": int(senders.sender[row]), "receiver": int(senders.receiver[row]), "first": int(senders.first[row]),
+            "message": int(senders.numbers[row]),
+            "kind": BODY_WORDS.get(int(senders.letter[row]), chr(senders.letter[row])),
+            "sender": int(senders.sender[row]), "receiver": int(senders.receiver[row]),
+            "first": int(senders.first[row]),
             "event": int(senders.delivered[row]),
         } for row in sorted(self._by_event[1][self.sent_rows(event)].tolist())]
 
@@ -177,10 +180,10 @@ def causes_of(branch: Branch, study: object = None) -> Causes:
 def causes(branch: Branch, event: int, depth: int = 4, study: object = None) -> pandas.DataFrame:
     """Why an event came: a row a cause, each before its own causes.
 
-    Columns: depth (1 for the event's own causes), of (the event that it is a cause of), link ("sent during", "bid set by",
-    "ask set by", "met an order of", "injected by an edit after", "stood at the opening"), event (0 at the opening), time
-    (ns), kind, message (its number), sender, receiver. Raises InputError where there is no such event, and
-    StudyNeededError where edits injected messages and no study is known.
+    Columns: depth (1 for the event's own causes), of (the event that it is a cause of), link ("sent during", "bid set
+    by", "ask set by", "met an order of", "injected by an edit after", "stood at the opening"), event (0 at the
+    opening), time (ns), kind, message (its number), sender, receiver. Raises InputError where there is no such event,
+    and StudyNeededError where edits injected messages and no study is known.
     """
     made = causes_of(branch, study)
     made.check(event)
@@ -204,9 +207,9 @@ def causes(branch: Branch, event: int, depth: int = 4, study: object = None) -> 
 def effects(branch: Branch, event: int, study: object = None) -> pandas.DataFrame:
     """What came of an event: a row a message that was sent during it, by number. 0 is the opening.
 
-    Columns: message (its number), kind, sender, receiver, first (the event in which it first stands), event (in which it
-    was delivered; 0 where the run ended before), time (ns, of `event`, else of `first`). A message that had not come up
-    by the end of the run is not there. Raises as `causes`.
+    Columns: message (its number), kind, sender, receiver, first (the event in which it first stands), event (in which
+    it was delivered; 0 where the run ended before), time (ns, of `event`, else of `first`). A message that had not come
+    up by the end of the run is not there. Raises as `causes`.
     """
     made = causes_of(branch, study)
     frame = pandas.DataFrame(made.effects(event), columns=["message", "kind", "sender", "receiver", "first", "event"])

@@ -4,14 +4,15 @@ Numbers of messages rise by one as messages are sent, in the order of the events
 first one after which the next number is above m; that is how a `rewind` tells it. A bundle has no such counters, but it
 says enough to know almost every sender without them:
 
-- A trader has one wakeup waiting at a time, and each wakeup of it that is delivered sends its next, as the last of what it
+- A trader has one wakeup waiting at a time, and each wakeup of it that is delivered sends its next, as the last of what
+it
   sends. So the next wakeup with a higher number ends what was sent with a question or a cancel.
 - The exchange stamps each reply with the time at which it handled the order, and a match has its number in the feed.
 - Each question is answered by one quote.
 - What a trader orders, it orders as it hears a quote.
 
-Where more than one event could have sent a message, the neighbours in number say between which events it was sent; where
-that leaves two, the program is asked (`counters`).
+Where more than one event could have sent a message, the neighbours in number say between which events it was sent;
+where that leaves two, the program is asked (`counters`).
 """
 
 from __future__ import annotations
@@ -31,7 +32,8 @@ Counters = Callable[[list[int]], list[int]]     # of events: the next message's 
 
 
 def opening_time(branch: Branch) -> int:
-    """The time of a branch's opening, nanoseconds past midnight: that of the System Event with which its feed begins."""
+    """The time of a branch's opening, nanoseconds past midnight: that of the System Event with which its feed
+    begins."""
     head = branch.bundle.frames.records(numpy.array([branch.part.branch + 1]), layouts.FEED_HEAD)[0]
     return (int(head["time_upper"]) << 32) + int(head["time_lower"])
 
@@ -42,7 +44,8 @@ class Senders:
     Attributes, a row a message, by number: numbers, sender, receiver, letter (of its body), size (of its body, bytes),
     first (the event in which it first stands), delivered (the event in which it is delivered, 0 where it is not), event
     (the one during which it was sent: OPENING where it stood at the opening, EDIT where an edit injected it, UNKNOWN
-    where only the program could tell), fork (where an edit injected it, the event after which that edit was made; else 0).
+    where only the program could tell), fork (where an edit injected it, the event after which that edit was made; else
+    0).
     """
 
     def __init__(self, branch: Branch, counters: Counters | None = None) -> None:
@@ -88,7 +91,8 @@ class Senders:
     # ------------------------------------------------------------ one kind after another
 
     def _injected(self) -> None:
-        """What edits injected: at each fork so many numbers as there are edits `inject`, the last ones before it goes on."""
+        """What edits injected: at each fork so many numbers as there are edits `inject`, the last ones before it goes
+        on."""
         edits = self.branch.edits
         events = edits["event"].to_numpy()[(edits["kind"] == "inject").to_numpy()]
         forks, counts = numpy.unique(events, return_counts=True)
@@ -127,13 +131,14 @@ class Senders:
         matches, events = trades["match"].to_numpy(), trades["event"].to_numpy()
         if len(matches) == 0:
             return
-        place = numpy.minimum(numpy.searchsorted(matches, self._field(rows, layouts.EXECUTED, "match")), len(matches) - 1)
+        place = numpy.minimum(numpy.searchsorted(matches, self._field(rows, layouts.EXECUTED, "match")),
+                              len(matches) - 1)
         self.event[rows] = events[place]
 
     def _replies(self) -> None:
         """Other replies: the event at the exchange at the time that they are stamped with, of an order of their token
-        and agent: an Enter for what answers it, a Cancel for what a trader asked for. Of several replies to one token in
-        one nanosecond each has its own order, in turn; where there are more orders than replies, it is left open."""
+        and agent: an Enter for what answers it, a Cancel for what a trader asked for. Of several replies to one token
+        in one nanosecond each has its own order, in turn; where there are more orders than replies, it is left open."""
         for layout, size, orders in ((layouts.ACCEPTED, 66, 49), (layouts.REJECTED, 24, 49), (layouts.CANCELED, 28, 49),
                                      (layouts.CANCELED, 28, 19)):
             rows = numpy.flatnonzero(self._is("o", size))
@@ -163,7 +168,8 @@ class Senders:
         rows = numpy.flatnonzero(self._is("i", size) & (self.delivered > 0))
         return rows[numpy.argsort(self.delivered[rows])]
 
-    def _tokens(self, rows: numpy.ndarray, layout: numpy.dtype, times: numpy.ndarray, agents: numpy.ndarray) -> list[bytes]:
+    def _tokens(self, rows: numpy.ndarray, layout: numpy.dtype, times: numpy.ndarray,
+                agents: numpy.ndarray) -> list[bytes]:
         """A key of each message: its time, agent and token."""
         frames = self.branch.bundle.frames
         table = numpy.zeros((len(rows), 30), numpy.uint8)
@@ -208,8 +214,8 @@ class Senders:
                 self.event[own] = keys[begin:stop] & ((1 << 40) - 1)
 
     def _bounds(self, rows: numpy.ndarray) -> tuple[numpy.ndarray, numpy.ndarray]:
-        """Between which events messages were sent: those of the nearest lower and higher number that are known. A message
-        is never sent in or after the event in which it first stands."""
+        """Between which events messages were sent: those of the nearest lower and higher number that are known. A
+        message is never sent in or after the event in which it first stands."""
         known = numpy.flatnonzero(self.event >= 0)
         place = numpy.searchsorted(known, rows)
         events = numpy.concatenate([[0], self.event[known], [len(self.times)]])
@@ -232,13 +238,16 @@ class Senders:
     def _could(self, row: int, low: int, high: int) -> list[int]:
         """The events from `low` to `high` that the sender of a message received."""
         agent = self.sender[row]
-        receivers = numpy.flatnonzero((self.receiver == agent) & (self.delivered >= max(low, 1)) & (self.delivered <= high))
+        receivers = numpy.flatnonzero((self.receiver == agent) & (self.delivered >= max(low, 1)) & (self.delivered
+                                                                                                    <= high))
         return sorted(self.delivered[receivers].tolist())
 
     def _counters(self, events: list[int]) -> list[int]:
         if self.counters is None:
-            raise StudyNeededError(f"which event sent a message of branch {self.branch.name} is told by the program alone, since an "
-                             "edit injected messages: give the study too, as in causes(branch, event, study=study)")
+            raise StudyNeededError(f"which event sent a message of branch {self.branch.name} is told by the program "
+                                   "alone, "
+                                   "since an edit injected messages: give the study too, as in causes(branch, event, "
+                                   "study=study)")
         out = []
         for begin in range(0, len(events), ASKED_AT_ONCE):
             out += self.counters(events[begin:begin + ASKED_AT_ONCE])

@@ -77,8 +77,10 @@ def test_each_message_was_sent_between_the_states_around_its_cause(course: Cours
         if not len(senders.numbers):
             continue
         rows = course.sample(numpy.arange(len(senders.numbers)), -(-CAUSES // len(course.bundle.branches)))
-        events = {event for row in rows for event in (senders.event[row] - 1, senders.event[row], senders.fork[row]) if event >= 0}
-        after = {event: state.closing.counts["next_message"] for event, state in course.states(name, sorted(events)).items()}
+        events = {event for row in rows for event in (senders.event[row] - 1, senders.event[row], senders.fork[row])
+                  if event >= 0}
+        after = {event: state.closing.counts["next_message"] for event,
+                 state in course.states(name, sorted(events)).items()}
         for row in rows:
             number, event, fork = (int(column[row]) for column in (senders.numbers, senders.event, senders.fork))
             if event == OPENING:
@@ -158,7 +160,8 @@ def tick_size(program: str, tmp_path_factory: pytest.TempPathFactory) -> biqsolu
     """The bundle of an example with 10,000 events a branch."""
     root = Path(__file__).resolve().parents[2]
     path = tmp_path_factory.mktemp("tick_size") / "tick_size.bundle"
-    path.write_bytes(subprocess.run([program, "run", "examples/tick_size.toml"], cwd=root, check=True, capture_output=True).stdout)
+    path.write_bytes(subprocess.run([program, "run", "examples/tick_size.toml"], cwd=root, check=True,
+                                    capture_output=True).stdout)
     return biqsolur.read(path)
 
 

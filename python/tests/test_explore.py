@@ -1,4 +1,5 @@
-"""The explorer's server: what it answers against the program's own bytes, what it refuses, and what it leaves behind."""
+"""The explorer's server: what it answers against the program's own bytes, what it refuses, and what it leaves
+behind."""
 
 from __future__ import annotations
 
@@ -65,7 +66,8 @@ class Explored:
 
 
 @pytest.fixture(scope="module", params=SEEDS)
-def explored(request: pytest.FixtureRequest, program: str, tmp_path_factory: pytest.TempPathFactory) -> Iterator[Explored]:
+def explored(request: pytest.FixtureRequest, program: str,
+             tmp_path_factory: pytest.TempPathFactory) -> Iterator[Explored]:
     folder = tmp_path_factory.mktemp(f"explored{request.param}")
     study, series = studies.make_study(request.param)
     (folder / "study.toml").write_text(studies.toml(study))
@@ -105,11 +107,13 @@ def check_books(stocks: list[dict], state: biqsolur.State) -> None:
             row[name] for name in ("state", "last", "matched", "offset", "live")]
         assert shown["fees"] == money(row["fees"])
         orders = state.closing.orders[state.closing.orders.stock == row["stock"]].to_dict("records")
-        for side, levels, count in (("B", shown["bids"], shown["bid_levels"]), ("S", shown["asks"], shown["ask_levels"])):
+        for side, levels, count in (("B", shown["bids"], shown["bid_levels"]),
+                                    ("S", shown["asks"], shown["ask_levels"])):
             prices = sorted({order["price"] for order in orders if order["side"] == side}, reverse=side == "B")
             assert count == len(prices) and [level["price"] for level in levels] == prices[:40]
             for level in levels:
-                check_queue(level, [order for order in orders if (order["side"], order["price"]) == (side, level["price"])])
+                check_queue(level, [order for order in orders if (order["side"], order["price"])
+                                    == (side, level["price"])])
 
 
 def check_queue(level: dict, orders: list[dict]) -> None:
@@ -139,23 +143,28 @@ def check_waiting(shown: dict, state: biqsolur.State) -> None:
     assert shown["waiting_count"] == len(rows)
     assert [[row[name] for name in names] for row in shown["waiting"]] == rows[:500]
     for row in shown["waiting"]:
-        frame = {"order": state.waiting_orders, "reply": state.waiting_replies, "quote": state.waiting_quotes}.get(row["kind"])
+        frame = {"order": state.waiting_orders, "reply": state.waiting_replies,
+                 "quote": state.waiting_quotes}.get(row["kind"])
         assert row["words"] and (frame is None or len(frame))
 
 
 def test_the_cut_study_has_the_bytes_of_the_whole_one(explored: Explored) -> None:
-    """All frames of a state but `b`, which has the branch's number, are those of the whole study; and the bytes that the
-    page hands out are the whole study's own."""
+    """All frames of a state but `b`, which has the branch's number, are those of the whole study; and the bytes that
+    the page hands out are the whole study's own."""
     run = explored.served.explorer.run
     targets = explored.targets()
     for (name, event), whole in zip(targets, explored.states(targets)):
         cut = run.state(name, event)
-        first, other = (state.frames.raw[state.frames.offset(state.part.counts):state.frames.offset(state.part.end)].tobytes()
-                        for state in (whole, cut))
-        assert first == other
+        assert closing_bytes(whole) == closing_bytes(cut)
     name, event = targets[-1]
     assert explored.served.take("state", branch=name, event=event) == explored.output(
         "rewind", "--", "study.toml", f"{name}:{event}")
+
+
+def closing_bytes(state: biqsolur.State) -> bytes:
+    """The bytes of a state without its `b` frame."""
+    frames = state.frames
+    return frames.raw[frames.offset(state.part.counts):frames.offset(state.part.end)].tobytes()
 
 
 def test_an_event_is_told_as_the_bundle_has_it(explored: Explored) -> None:
@@ -171,7 +180,8 @@ def test_an_event_is_told_as_the_bundle_has_it(explored: Explored) -> None:
         assert what["fee"] == str(row.fee)
         assert b"".join(bytes.fromhex(field["bytes"]) for field in what["fields"]) == bytes.fromhex(what["bytes"])
         trades = branch.trades[branch.trades.event == event]
-        assert [[one["price"], one["shares"], one["match"]] for one in what["trades"]] == trades[["price", "shares", "match"]].values.tolist()
+        assert [[one["price"], one["shares"], one["match"]] for one in what["trades"]] == trades[["price", "shares",
+                "match"]].values.tolist()
 
 
 def test_every_event_has_words(explored: Explored) -> None:
@@ -193,7 +203,8 @@ def test_rules_in_force_are_those_that_trades_and_orders_kept(explored: Explored
     for name, view in run.views.items():
         branch = view.branch
         edited = set(branch.edits.event.tolist())
-        matched = branch.trades.groupby("event").agg(shares=("shares", "sum"), fees=("fees", "sum"), stock=("stock", "first"))
+        matched = branch.trades.groupby("event").agg(shares=("shares", "sum"), fees=("fees", "sum"),
+                                                     stock=("stock", "first"))
         for event, row in matched.iterrows():
             if event not in edited:
                 stock = rules_at(run.table, view, event)["stocks"][row.stock]
@@ -233,7 +244,8 @@ def test_events_of_a_stock(explored: Explored) -> None:
         view = explored.served.explorer.run.views[name]
         named = {row.event: row.symbol for row in branch.orders[branch.orders.kind == "enter"].itertuples()}
         named |= {row.event: row.symbol for row in branch.quotes.itertuples()}
-        for row in branch.events[~branch.events.put_back & ~branch.events.kind.isin(["reply", "question"])].itertuples():
+        for row in branch.events[~branch.events.put_back & ~branch.events.kind.isin(["reply",
+                                                                                     "question"])].itertuples():
             symbol = named.get(row.number, traders[row.sender or row.receiver])
             number = view.symbols.index(symbol) if symbol in view.symbols else -1
             assert view.stocks[row.number - 1] == number
@@ -314,7 +326,8 @@ def test_the_series_of_a_branch_are_those_of_the_package(example: Served) -> Non
     picture = example.ask("timeline", branch="root", stock=0, begin=begin, end=end, points=4000)
     top = branch.top()
     top = top[(top.time >= begin) & (top.time <= end) & (top.bid > 0) & (top.ask > 0)]
-    assert picture["mid"]["y"][1:] == ((top.bid + top.ask) / 20000).tolist() and picture["mid"]["x"][1:] == top.time.tolist()
+    assert picture["mid"]["y"][1:] == ((top.bid
+                                        + top.ask) / 20000).tolist() and picture["mid"]["x"][1:] == top.time.tolist()
     assert picture["spread"]["y"][1:] == ((top.ask - top.bid) / 10000).tolist()
     trades = branch.trades[(branch.trades.time >= begin) & (branch.trades.time <= end)]
     assert picture["trades"]["x"] == trades.time.tolist() and picture["trades"]["shares"] == trades.shares.tolist()
@@ -422,7 +435,8 @@ def test_the_five_minutes_of_the_document(program: str) -> None:
         behind = {row["link"]: row["event"] for row in reversed(why["causes"]) if row["depth"] == 2}
         assert (behind["sent during"], behind["ask set by"]) == (4990, 4863)
         assert sorted(row["event"] for row in why["effects"]) == [4993, 4994, 4995]
-        served.change("fork", name="wider", parent="root", at=4992, edits=[{"kind": "tick", "stock": "ABM", "bands": [["0.00", "0.05"]]}])
+        served.change("fork", name="wider", parent="root", at=4992,
+                      edits=[{"kind": "tick", "stock": "ABM", "bands": [["0.00", "0.05"]]}])
         compared = served.ask("compare", branch="wider")
         assert compared["difference"] == 5032 and "at 49.90" in compared["ours"] and "at 49.94" in compared["theirs"]
         measures = {row["name"]: (row["theirs"], row["ours"]) for row in compared["measures"]}
@@ -475,9 +489,11 @@ def test_a_fork_at_a_time_makes_a_study_of_version_2(program: str) -> None:
     ({"name": "Wide!", "parent": "root", "at": 10, "edits": []}, "name"),
     ({"name": "x", "parent": "wide", "at": 10, "edits": []}, "at"),
     ({"name": "x", "parent": "root", "at": 10, "edits": [{"kind": "silence", "agent": 99}]}, "agent"),
-    ({"name": "x", "parent": "root", "at": 10, "edits": [{"kind": "tick", "stock": "ABM", "bands": [["0.00", "-1"]]}]}, "tick"),
+    ({"name": "x", "parent": "root", "at": 10, "edits": [{"kind": "tick", "stock": "ABM", "bands": [["0.00", "-1"]]}]},
+     "tick"),
 ])
-def test_a_refused_fork_is_told_in_a_sentence_and_changes_nothing(example: Served, table: dict[str, Any], words: str) -> None:
+def test_a_refused_fork_is_told_in_a_sentence_and_changes_nothing(example: Served, table: dict[str, Any],
+                                                                  words: str) -> None:
     before = example.take("study")
     status, answer = example.post("change", kind="fork", **table)
     assert status == 422 and answer["kind"] == "StudyRefused" and isinstance(answer["rule"], int)
@@ -503,10 +519,12 @@ def test_what_makes_no_sense_is_a_bad_request(example: Served, table: dict[str, 
 @pytest.mark.parametrize("table, words", [
     ({"kind": "fork", "name": "wide", "parent": "root", "at": 1, "edits": []}, "there is a branch 'wide' already"),
     ({"kind": "fork", "name": "x", "parent": "nobody", "at": 1, "edits": []}, "there is no branch 'nobody'"),
-    ({"kind": "fork", "name": "x", "parent": "root", "at": 1, "edits": [{"kind": "fee", "stock": "ABM", "add": "much", "take": "1"}]},
+    ({"kind": "fork", "name": "x", "parent": "root", "at": 1,
+      "edits": [{"kind": "fee", "stock": "ABM", "add": "much", "take": "1"}]},
      "add"),
     ({"kind": "fork", "name": "x", "parent": "root", "at": 1, "edits": [
-        {"kind": "inject", "agent": 1, "after": 0, "order": {"what": "cancel", "token": "a b", "shares": "1"}}]}, "token"),
+        {"kind": "inject", "agent": 1, "after": 0, "order": {"what": "cancel", "token": "a b", "shares": "1"}}]},
+        "token"),
 ])
 def test_what_the_package_refuses_is_told_as_it_says_it(example: Served, table: dict[str, Any], words: str) -> None:
     status, answer = example.post("change", table)
@@ -519,7 +537,8 @@ def test_a_session_over_the_opened_study_gives_the_same_state(program: str, tmp_
         served.change("fork", name="mine", parent="wide", at=6000, edits=NINE_EDITS[:2])
         served.change("change", branch="same", edits=[NINE_EDITS[6]])
         (tmp_path / "script.toml").write_bytes(served.take("session", branch="mine", event=7000))
-        answers = subprocess.run([program, "session", str(EXAMPLE), "script.toml"], cwd=tmp_path, check=True, capture_output=True).stdout
+        answers = subprocess.run([program, "session", str(EXAMPLE), "script.toml"], cwd=tmp_path, check=True,
+                                 capture_output=True).stdout
         state = served.take("state", branch="mine", event=7000)
         assert answers.startswith(state[:-5])        # behind the state stands the end of the rewind
         served.change("remove", branch="same")
@@ -531,8 +550,10 @@ def test_another_tab_is_told_that_the_study_changed(program: str) -> None:
     with Served(EXAMPLE, program) as served:
         old = served.explorer.tag
         served.change("fork", name="one", parent="root", at=100, edits=[])
-        for status, answer in (served.get("state", tag=old, branch="root", event=5), served.get("timeline", tag=old, begin=0, end=9),
-                               served.post("change", kind="remove", branch="wide", tag=old), served.post("step", by=-1, tag=old)):
+        for status, answer in (served.get("state", tag=old, branch="root", event=5),
+                               served.get("timeline", tag=old, begin=0, end=9),
+                               served.post("change", kind="remove", branch="wide", tag=old),
+                               served.post("step", by=-1, tag=old)):
             assert status == 409 and answer["kind"] == "Stale" and answer["tag"] == old + 1
 
 
@@ -541,7 +562,8 @@ def test_another_tab_is_told_that_the_study_changed(program: str) -> None:
 def slow_program(tmp_path: Path, program: str) -> Path:
     """A program that accepts studies, and whose runs last until they are ended; it writes who it is."""
     script = tmp_path / "slow"
-    script.write_text(f'#!/bin/sh\ncase "$*" in *check*) exec {program} "$@" ;; esac\necho $$ >{tmp_path}/pid\nexec sleep 1000\n')
+    script.write_text(f'#!/bin/sh\ncase "$*" in *check*) exec {program} "$@" ;; esac\necho $$ >{tmp_path}/pid\nexec '
+                      'sleep 1000\n')
     script.chmod(0o755)
     return script
 
@@ -599,7 +621,8 @@ def test_an_end_of_the_explorer_ends_the_program(tmp_path: Path, program: str) -
 def test_a_program_that_ends_otherwise_is_told_and_can_be_run_again(tmp_path: Path, program: str) -> None:
     script = tmp_path / "once"
     script.write_text(f'#!/bin/sh\ncase "$*" in *check*) exec {program} "$@" ;; esac\n'
-                      f'if [ -e {tmp_path}/again ]; then exec {program} "$@"; fi\ntouch {tmp_path}/again\necho out of memory >&2\nexit 10\n')
+                      f'if [ -e {tmp_path}/again ]; then exec {program} "$@"; fi\ntouch {tmp_path}/again\necho out of '
+                      'memory >&2\nexit 10\n')
     script.chmod(0o755)
     with Served(EXAMPLE, str(script)) as served:
         status = served.get("status")[1]
@@ -631,7 +654,8 @@ def test_the_server_ends_while_a_request_hangs(program: str) -> None:
     with Served(EXAMPLE, program) as served:
         with socket.create_connection(("127.0.0.1", served.port), timeout=LONGEST) as half, \
                 socket.create_connection(("127.0.0.1", served.port), timeout=LONGEST):
-            half.sendall(f"POST /{TOKEN}/api/change HTTP/1.1\r\nHost: 127.0.0.1:{served.port}\r\nContent-Length: 9\r\n\r\n{{".encode())
+            half.sendall(f"POST /{TOKEN}/api/change HTTP/1.1\r\nHost: 127.0.0.1:{served.port}\r\nContent-Length: "
+                         f"9\r\n\r\n{{".encode())
             served.ask("status")
             served.end()
 
@@ -659,21 +683,25 @@ def requested(served: Served, line: str, *headers: str, host: str | None = None)
     return status_of(raw(served, "\r\n".join(lines).encode()))
 
 
-@pytest.mark.parametrize("path", ["/", "/api/study", "/wrong/api/study", "//", f"/{TOKEN[:-1]}/", f"/{TOKEN}x/", "/page/main.js",
+@pytest.mark.parametrize("path", ["/", "/api/study", "/wrong/api/study", "//", f"/{TOKEN[:-1]}/", f"/{TOKEN}x/",
+                                  "/page/main.js",
                                   "/../etc/passwd", f"/x/{TOKEN}/"])
 def test_no_secret_word_no_answer(example: Served, path: str) -> None:
     assert requested(example, f"GET {path} HTTP/1.1") == 403
 
 
 @pytest.mark.parametrize("path", [
-    "page/../../../../etc/passwd", "../etc/passwd", "page/%2e%2e/%2e%2e/etc/passwd", "page/..%2f..%2fserver.py", "page/server.py",
-    "page//etc/passwd", "page/", "page/index.html/", "api/nothing", "etc/passwd", "api/../api/study/x", "page/%00", "page/main.js%00"])
+    "page/../../../../etc/passwd", "../etc/passwd", "page/%2e%2e/%2e%2e/etc/passwd", "page/..%2f..%2fserver.py",
+    "page/server.py",
+    "page//etc/passwd", "page/", "page/index.html/", "api/nothing", "etc/passwd", "api/../api/study/x", "page/%00",
+    "page/main.js%00"])
 def test_a_path_that_climbs_or_is_nowhere_is_404(example: Served, path: str) -> None:
     assert requested(example, f"GET /{TOKEN}/{path} HTTP/1.1") == 404
 
 
 @pytest.mark.parametrize("headers, host, status", [
-    (["Origin: http://evil.example"], None, 403), (["Origin: null"], None, 403), (["Origin: https://127.0.0.1"], None, 403),
+    (["Origin: http://evil.example"], None, 403), (["Origin: null"], None, 403),
+    (["Origin: https://127.0.0.1"], None, 403),
     ([], "evil.example", 403), ([], "127.0.0.1", 403), ([], "127.0.0.1:1", 403), ([], None, 200)])
 def test_a_foreign_origin_or_host_is_403(example: Served, headers: list[str], host: str | None, status: int) -> None:
     assert requested(example, f"GET /{TOKEN}/api/status HTTP/1.1", *headers, host=host) == status
@@ -707,8 +735,10 @@ def test_a_body_that_is_no_table_is_400(example: Served, body: bytes) -> None:
     ("state", {"branch": "root", "event": 1, "agent": 33}, 400), ("state", {"branch": "root"}, 400),
     ("timeline", {"begin": 5, "end": 5}, 400), ("timeline", {"begin": 0, "end": 9, "stock": 1}, 400),
     ("find", {"branch": "root", "event": 1, "kind": "luck"}, 422), ("compare", {"branch": "root"}, 400),
-    ("take", {"what": "all", "event": 1}, 400), ("why", {"branch": "root", "event": 10**9}, 404), ("state", {"tag": "", "event": 1}, 400)])
-def test_a_question_with_wrong_words_is_told_why(example: Served, name: str, words: dict[str, Any], status: int) -> None:
+    ("take", {"what": "all", "event": 1}, 400), ("why", {"branch": "root", "event": 10**9}, 404),
+    ("state", {"tag": "", "event": 1}, 400)])
+def test_a_question_with_wrong_words_is_told_why(example: Served, name: str, words: dict[str, Any],
+                                                 status: int) -> None:
     found, answer = example.get(name, **words)
     assert found == status and answer["error"] and "Traceback" not in answer["error"]
 
@@ -737,8 +767,10 @@ def test_the_page_refers_to_nothing_outside(example: Served) -> None:
 def test_the_command_prints_its_address_and_ends_with_ctrl_c(program: str, tmp_path: Path) -> None:
     """A real start: the page is there, and after an interrupt there is no process, no file and no traceback."""
     environment = {**os.environ, "PYTHONPATH": str(ROOT / "python"), "TMPDIR": str(tmp_path)}
-    words = [sys.executable, "-m", "biqsolur", "explore", str(EXAMPLE), "--no-browser", "--program", program, "--workers", "1"]
-    process = subprocess.Popen(words, stdout=subprocess.PIPE, stderr=subprocess.PIPE, text=True, env=environment, start_new_session=True)
+    words = [sys.executable, "-m", "biqsolur", "explore", str(EXAMPLE), "--no-browser", "--program", program,
+             "--workers", "1"]
+    process = subprocess.Popen(words, stdout=subprocess.PIPE, stderr=subprocess.PIPE, text=True, env=environment,
+                               start_new_session=True)
     try:
         process.stdout.readline()
         address = process.stdout.readline().strip()

@@ -1,4 +1,5 @@
-"""The explorer's page in a real browser: its flows by keyboard and mouse, at two widths, with checks of names and contrast."""
+"""The explorer's page in a real browser: its flows by keyboard and mouse, at two widths, with checks of names and
+contrast."""
 
 from __future__ import annotations
 
@@ -14,7 +15,8 @@ from explored import LONGEST, Served, wait_until
 
 CHROMIUM, DRIVER = shutil.which("chromium"), shutil.which("chromedriver")
 selenium = pytest.importorskip("selenium", reason="there is no python3-selenium: the page is not tried in a browser")
-pytestmark = [pytest.mark.browser, pytest.mark.skipif(not (CHROMIUM and DRIVER), reason="there is no chromium with its driver")]
+pytestmark = [pytest.mark.browser, pytest.mark.skipif(not (CHROMIUM and DRIVER),
+                                                      reason="there is no chromium with its driver")]
 
 ROOT = Path(__file__).resolve().parents[2]
 EXAMPLE = ROOT / "examples" / "tick_size.toml"
@@ -35,7 +37,8 @@ class Page:
         """Waits until an expression of the page holds."""
         from selenium.common.exceptions import JavascriptException
         from selenium.webdriver.support.ui import WebDriverWait
-        WebDriverWait(self.driver, LONGEST, 0.05, [JavascriptException]).until(lambda driver: self.script(text, *words), text)
+        waiting = WebDriverWait(self.driver, LONGEST, 0.05, [JavascriptException])
+        waiting.until(lambda driver: self.script(text, *words), text)
 
     def open(self, served: Served, place: str = "branch=root&event=4990") -> None:
         """Opens the page anew at a place, and waits until all of it is drawn."""
@@ -98,7 +101,8 @@ def started(folder: Path) -> Any:
     for attempt in range(3):
         options = webdriver.ChromeOptions()
         options.binary_location = CHROMIUM
-        for word in ("--headless=new", "--no-sandbox", "--disable-gpu", "--disable-dev-shm-usage", "--window-size=1400,1000",
+        for word in ("--headless=new", "--no-sandbox", "--disable-gpu", "--disable-dev-shm-usage",
+                     "--window-size=1400,1000",
                      f"--user-data-dir={folder / str(attempt)}", "--no-first-run", "--disable-extensions"):
             options.add_argument(word)
         options.set_capability("goog:loggingPrefs", {"browser": "ALL"})
@@ -139,7 +143,8 @@ def test_what_the_page_shows_is_what_the_server_answers(page: Page, served: Serv
         state = served.ask("state", branch=branch, event=event, agent=2)
         page.wait("document.querySelector('#ladders caption')?.textContent.endsWith(arguments[0])", branch)
         page.wait("document.querySelector('#panel-trader h3')?.textContent === 'maker 2'")
-        rows = page.script("[...document.querySelectorAll('#ladders tr.ask, #ladders tr.bid')].map(row => row.innerText.split('\\t'))")
+        rows = page.script("[...document.querySelectorAll('#ladders tr.ask, #ladders tr.bid')]"
+                           ".map(row => row.innerText.split('\\t'))")
         shown = [[cell.strip().replace(",", "") for cell in row[:3]] for row in rows]
         book = state["stocks"][0]
         price = [f"{level['price'] / 10000:.2f}" for level in (*book["asks"][::-1], *book["bids"])]
@@ -158,7 +163,8 @@ def test_keys_walk_through_the_events(page: Page, served: Served) -> None:
     page.open(served, "branch=wide&event=5000&stock=0&agent=5")
     page.free()
     view = served.explorer.run.views["wide"]
-    steps = [(Keys.ARROW_RIGHT, 5001), (Keys.ARROW_LEFT, 5000), ("d", view.branch.first_difference), ("t", None), ("a", None), ("s", None),
+    steps = [(Keys.ARROW_RIGHT, 5001), (Keys.ARROW_LEFT, 5000), ("d", view.branch.first_difference), ("t", None),
+             ("a", None), ("s", None),
              ("T", None), (Keys.HOME, 0), (Keys.END, view.count), ("S", None), ("A", None)]
     for key, event in steps:
         if event is None:
@@ -176,14 +182,17 @@ def test_why_leads_from_a_trade_to_the_order_behind_it(page: Page, served: Serve
     page.free()
     page.keys("w")
     page.at(chain[0]["event"])
-    bid = next(row for row in served.ask("why", branch="wide", event=chain[0]["event"])["causes"] if row["link"] == "bid set by")
+    bid = next(row for row in served.ask("why", branch="wide", event=chain[0]["event"])["causes"] if row["link"]
+               == "bid set by")
     page.wait("[...document.querySelectorAll('#why li')].some(item => item.textContent.includes('bid set by'))")
-    page.script("[...document.querySelectorAll('#why li')].find(item => item.textContent.includes('bid set by')).querySelector('button').click()")
+    page.script("[...document.querySelectorAll('#why li')].find(item => item.textContent.includes('bid set "
+                "by')).querySelector('button').click()")
     page.at(bid["event"])
 
 
 def test_five_minutes_by_keyboard_alone(page: Page, served: Served, program: str, tmp_path: Path) -> None:
-    """A trade, its fork with another tick, the difference; and the study taken along gives the branch, byte for byte."""
+    """A trade, its fork with another tick, the difference; and the study taken along gives the branch, byte for "
+    "byte."""
     from selenium.webdriver.common.keys import Keys
     page.open(served, "branch=root&event=4990&stock=0&agent=1")
     page.free()
@@ -238,8 +247,7 @@ def test_each_of_the_nine_edits_has_a_form_that_is_accepted(page: Page, served: 
     for number, kind in enumerate(kinds):
         if number:
             page.click("#fork-form .edit-part ~ .quiet, #fork-form > .quiet")
-        page.script("(parts => { const select = parts[parts.length - 1].querySelector('[name=kind]'); select.value = arguments[0]; "
-                    "select.dispatchEvent(new Event('change')); })(document.querySelectorAll('#fork-form .edit-part'))", kind)
+        page.script(CHOOSE_KIND, kind)
     page.script("document.querySelector('#fork-form [name=name]').value = 'nine'")
     page.click("#fork-form [type=submit]")
     page.wait("document.getElementById('branch').value === 'nine' || document.getElementById('fork-error').textContent")
@@ -293,7 +301,8 @@ def test_the_parent_stands_beside_its_branch_at_the_same_time(page: Page, served
     page.wait("document.querySelectorAll('#ladders caption').length === 2")
     time = served.ask("state", branch="wide", event=6000)["time"]
     event = served.ask("at", branch="root", time=time)["event"]
-    assert page.script("[...document.querySelectorAll('#ladders caption')][1].textContent").replace(",", "").endswith(f"event {event}")
+    caption = page.script("[...document.querySelectorAll('#ladders caption')][1].textContent")
+    assert caption.replace(",", "").endswith(f"event {event}")
 
 
 def test_a_reload_and_a_link_open_at_the_same_place(page: Page, served: Served) -> None:
@@ -356,19 +365,22 @@ def test_the_tabs_are_worked_by_arrows(page: Page, served: Served) -> None:
 NAMES = """
 (() => {
   const bad = [];
-  const shown = item => item.getClientRects().length > 0;
-  const nameOf = item => item.getAttribute('aria-label') || [...(item.labels || [])].map(label => label.textContent).join('') ||
-    item.title || item.textContent.trim();
-  for (const item of document.querySelectorAll('button, a, input, select, textarea, summary, progress, [role=tab], [role=region], [role=img]'))
-    if (shown(item) && !nameOf(item).trim()) bad.push('no name: ' + item.outerHTML.slice(0, 90));
-  const ids = [...document.querySelectorAll('[id]')].map(item => item.id).filter(id => !/^[0-9a-f]{6}|^(clip|legend|leg|xy|g)/.test(id));
+  const all = selector => [...document.querySelectorAll(selector)];
+  const told = item => item.outerHTML.slice(0, 90);
+  const labels = item => [...(item.labels || [])].map(label => label.textContent).join('');
+  const nameOf = item => item.getAttribute('aria-label') || labels(item) || item.title || item.textContent.trim();
+  const named = 'button, a, input, select, textarea, summary, progress, [role=tab], [role=region], [role=img]';
+  for (const item of all(named))
+    if (item.getClientRects().length && !nameOf(item).trim()) bad.push('no name: ' + told(item));
+  const ids = all('[id]').filter(item => !item.closest('svg')).map(item => item.id);
   for (const id of ids) if (ids.indexOf(id) !== ids.lastIndexOf(id)) bad.push('twice: ' + id);
-  for (const item of document.querySelectorAll('[aria-labelledby], [aria-controls], [aria-describedby], label[for]'))
-    for (const name of ['aria-labelledby', 'aria-controls', 'aria-describedby', 'for'])
-      if (item.getAttribute(name) && !document.getElementById(item.getAttribute(name))) bad.push(name + ' leads nowhere: ' + item.outerHTML.slice(0, 90));
-  for (const table of document.querySelectorAll('table')) if (!table.caption || !table.querySelector('th')) bad.push('a table without caption');
+  for (const name of ['aria-labelledby', 'aria-controls', 'aria-describedby', 'for'])
+    for (const item of all(`[${name}]`))
+      if (!document.getElementById(item.getAttribute(name))) bad.push(name + ' leads nowhere: ' + told(item));
+  for (const table of all('table'))
+    if (!table.caption || !table.querySelector('th')) bad.push('a table without caption');
   if (document.documentElement.lang !== 'en' || !document.title) bad.push('no language or title');
-  if (document.documentElement.scrollWidth > innerWidth) bad.push('wider than the window: ' + document.documentElement.scrollWidth);
+  if (document.documentElement.scrollWidth > innerWidth) bad.push('wider than the window');
   return bad;
 })()
 """
@@ -376,8 +388,9 @@ NAMES = """
 CONTRAST = """
 (() => {
   const parse = text => (text.match(/[\\d.]+/g) || []).map(Number);
-  const part = value => { const share = value / 255; return share <= 0.03928 ? share / 12.92 : ((share + 0.055) / 1.055) ** 2.4; };
-  const light = ([red, green, blue]) => 0.2126 * part(red) + 0.7152 * part(green) + 0.0722 * part(blue);
+  const part = share => share <= 0.03928 ? share / 12.92 : ((share + 0.055) / 1.055) ** 2.4;
+  const weights = [0.2126, 0.7152, 0.0722];
+  const light = colour => weights.reduce((sum, weight, at) => sum + weight * part(colour[at] / 255), 0);
   const ground = item => {
     for (let at = item; at; at = at.parentElement) {
       const colour = parse(getComputedStyle(at).backgroundColor);
@@ -389,18 +402,28 @@ CONTRAST = """
   for (const item of document.querySelectorAll('body *')) {
     if (item.closest('svg, [disabled], option') || !item.getClientRects().length) continue;
     if (![...item.childNodes].some(node => node.nodeType === 3 && node.textContent.trim())) continue;
-    const [one, other] = [light(parse(getComputedStyle(item).color)), light(ground(item))].sort((a, b) => b - a);
-    const ratio = (one + 0.05) / (other + 0.05);
+    const lights = [light(parse(getComputedStyle(item).color)), light(ground(item))].sort((a, b) => b - a);
+    const ratio = (lights[0] + 0.05) / (lights[1] + 0.05);
     if (ratio < 4.5) bad.push(ratio.toFixed(2) + ': ' + item.outerHTML.slice(0, 90));
   }
   return bad;
 })()
 """
 
+CHOOSE_KIND = """
+(kind => {
+  const parts = document.querySelectorAll('#fork-form .edit-part');
+  const select = parts[parts.length - 1].querySelector('[name=kind]');
+  select.value = kind;
+  select.dispatchEvent(new Event('change'));
+})(arguments[0])
+"""
+
 
 @pytest.mark.parametrize("width", WIDTHS)
 def test_names_and_contrast_at_two_widths(page: Page, served: Served, width: int) -> None:
-    """Each control has a name, each reference leads somewhere, each text has a contrast of 4.5 at least, nothing is cut."""
+    """Each control has a name, each reference leads somewhere, each text has a contrast of 4.5 at least, and nothing is
+    cut off."""
     page.driver.set_window_size(width, 1000)
     try:
         page.open(served, "branch=wide&event=5145")

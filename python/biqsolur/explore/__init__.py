@@ -1,1 +1,2 @@
-"""The explorer: a study's market in a browser of this machine, with a time line that can be stopped, looked into and forked."""
+"""The explorer: a study's market in a browser of this machine, with a time line that can be stopped, looked into and
+forked."""

@@ -1,4 +1,5 @@
-"""The questions that the page asks, each a function of the explorer and the words of the address, and what it may do."""
+"""The questions that the page asks, each a function of the explorer and the words of the address, and what it may
+do."""
 
 from __future__ import annotations
 
@@ -66,7 +67,8 @@ def study(explorer: Explorer, words: Words) -> Table:
         }
     out["branches"] = [branch_table(run, name) for name in run.bundle.branches]
     out["agents"] = [{"agent": agent, "name": run.people.name(agent), "kind": kind,
-                      "stock": int(run.people.stock_of_agent[agent]), "group": (run.people.entries[agent] or {}).get("group")}
+                      "stock": int(run.people.stock_of_agent[agent]),
+                      "group": (run.people.entries[agent] or {}).get("group")}
                      for agent, kind in enumerate(run.people.kinds)]
     out["text"] = run.study.to_text()
     return out
@@ -80,7 +82,8 @@ def branch_table(run: Run, name: str) -> Table:
     difference = branch.first_difference
     return {
         "name": name, "parent": branch.parent, "fork": branch.fork, "count": view.count,
-        "at": entry.get("at"), "when": entry.get("when"), "edits": [edit_words(view, edit) for edit in entry.get("edit", [])],
+        "at": entry.get("at"), "when": entry.get("when"),
+        "edits": [edit_words(view, edit) for edit in entry.get("edit", [])],
         "fork_time": view.time_of(min(branch.fork, view.count)), "end_time": view.time_of(view.count),
         "end": branch.closing.counts["end"], "difference": difference,
         "difference_time": view.time_of(min(difference, view.count)) if difference else None,
@@ -143,8 +146,8 @@ def at(explorer: Explorer, words: Words) -> Table:
 
 
 def why(explorer: Explorer, words: Words) -> Table:
-    """The causes of an event as a chain, and what came of it, in words; `waiting`: how many of the messages that it sent
-    had not come up by the end."""
+    """The causes of an event as a chain, and what came of it, in words; `waiting`: how many of the messages that it
+    sent had not come up by the end."""
     run = run_of(explorer, words)
     view = run.view(words.get("branch", "root"))
     event = view.check(number(words, "event"))
@@ -193,7 +196,8 @@ def take(explorer: Explorer, words: Words) -> Download:
     branch = run.view(words.get("branch", "root")).branch.name
     event = run.view(branch).check(number(words, "event"))
     if what == "session":
-        return Download(f"{stem}.session.toml", session_script(explorer.history[0][1], run.study, branch, event).encode(), "application/toml")
+        script = session_script(explorer.history[0][1], run.study, branch, event)
+        return Download(f"{stem}.session.toml", script.encode(), "application/toml")
     if what == "state":
         return Download(f"{stem}.{branch}.{event}.states", run.state_bytes(branch, event))
     raise BadRequest("what can be taken is study, bundle, report, session or state")

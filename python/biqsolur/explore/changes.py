@@ -41,7 +41,8 @@ def with_message(edit: Table) -> Table:
     message: Message = Cancel(wanted(order, "token", str), shares)
     if order.get("what") != "cancel":
         message = Enter(wanted(order, "token", str), wanted(order, "side", str), shares, wanted(order, "symbol", str),
-                        price(wanted(order, "price", str)), whole(order, "time_in_force"), display=wanted(order, "display", str))
+                        price(wanted(order, "price", str)), whole(order, "time_in_force"),
+                        display=wanted(order, "display", str))
     return {name: value for name, value in edit.items() if name != "order"} | {"message": message.hex()}
 
 

@@ -32,8 +32,8 @@ SECONDS_TO_END = 1.0        # that answers under way get when the explorer ends
 
 
 class Server(uvicorn.Server):
-    """A server that ends soon when it is to end: it first ends what its answers wait for, and then waits for no connection
-    for long, since a browser holds some on which it asks nothing."""
+    """A server that ends soon when it is to end: it first ends what its answers wait for, and then waits for no
+    connection for long, since a browser holds some on which it asks nothing."""
 
     explorer: Explorer
 
@@ -52,7 +52,8 @@ class Server(uvicorn.Server):
 def make_server(explorer: Explorer, token: str, opened: Callable[[], None] = lambda: None) -> Server:
     """The server of an explorer, which has not begun; `opened` is called when the page is asked for."""
     config = uvicorn.Config(
-        make_app(explorer, token, opened), log_level="critical", access_log=False, server_header=False, date_header=False,
+        make_app(explorer, token, opened), log_level="critical", access_log=False, server_header=False,
+        date_header=False,
         lifespan="off", ws="none", timeout_keep_alive=5)
     server = Server(config)
     server.explorer = explorer
@@ -116,7 +117,8 @@ def serve(explorer: Explorer, port: int, browser: bool) -> None:
         address = f"http://{HERE}:{listening.getsockname()[1]}/{token}/"
         explorer.open()
         with door(address) as file:
-            print(f"The explorer of {explorer.name} is at\n    {address}\nfor this machine alone; Ctrl-C ends it.", flush=True)
+            print(f"The explorer of {explorer.name} is at\n    {address}\nfor this machine alone; Ctrl-C ends it.",
+                  flush=True)
             server = make_server(explorer, token, lambda: file.unlink(missing_ok=True))
             if browser:
                 threading.Thread(target=webbrowser.open, args=(file.as_uri(),), daemon=True).start()

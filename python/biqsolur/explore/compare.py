@@ -52,7 +52,8 @@ def numbers(branch: Branch, after: int) -> dict[str, float | None]:
 
 
 def labelled(number: str, unit: str) -> tuple[str, int]:
-    """What a measure's number is called on the page, and by what it is divided: prices and money are shown in dollars."""
+    """What a measure's number is called on the page, and by what it is divided: prices and money are shown in
+    dollars."""
     name = number.replace("_", " ")
     for small, scale in ((PRICE, 10_000), (MONEY, 1_000_000)):
         if unit.startswith(small):

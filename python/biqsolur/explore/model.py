@@ -58,7 +58,8 @@ class Explorer:
             self._idle()
             if self.run is None:
                 self.failure = None
-                self._start(f"open {self.name}", self.source, lambda study: self.history.append((f"open {self.name}", study)))
+                self._start(f"open {self.name}", self.source,
+                            lambda study: self.history.append((f"open {self.name}", study)))
 
     def change(self, kind: str, table: Table) -> None:
         """Begins the run of a changed study, which becomes the version that is looked at once it has ended. Raises
@@ -174,8 +175,8 @@ class Explorer:
             return out
 
     def share(self, seconds: float, guess: float) -> float:
-        """How far the run is, from 0 to 1. Most of a bundle is written at the end of its simulation: until then it is told
-        by the clock, and half at most."""
+        """How far the run is, from 0 to 1. Most of a bundle is written at the end of its simulation: until then it is
+        told by the clock, and half at most."""
         written = min(0.99, self.job["bytes"] / max(1, self.job["expected"]))
         return max(written, 0.5 * seconds / (seconds + max(0.1, guess)))
 

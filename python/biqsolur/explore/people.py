@@ -1,4 +1,5 @@
-"""Who takes part in a study: names for its agents, the parameters that each begins with, and the rules of its stocks."""
+"""Who takes part in a study: names for its agents, the parameters that each begins with, and the rules of its
+stocks."""
 
 from __future__ import annotations
 

@@ -18,11 +18,12 @@ Table = dict[str, Any]
 
 
 def rules_at(study: Table, view: View, event: int) -> Table:
-    """The rules after an event of a branch: `stocks` (bands, add, take, each a table), `base` and `jitter` (nanoseconds,
-    a row a sender's group), `exchange`, and `agents` (the parameters of each trader, from number 1)."""
+    """The rules after an event of a branch: `stocks` (bands, add, take, each a table), `base` and `jitter`
+    (nanoseconds, a row a sender's group), `exchange`, and `agents` (the parameters of each trader, from number 1)."""
     people = view.people
     rules: Table = {
-        "stocks": [{name: copy.deepcopy(stock[name]) for name in ("symbol", "bands", "add", "take")} for stock in study["stock"]],
+        "stocks": [{name: copy.deepcopy(stock[name]) for name in ("symbol", "bands", "add", "take")}
+                   for stock in study["stock"]],
         "base": copy.deepcopy(study["latency"]["base"]),
         "jitter": copy.deepcopy(study["latency"]["jitter"]),
         "exchange": dict(study["exchange"]),

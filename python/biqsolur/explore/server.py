@@ -31,7 +31,8 @@ MOST_BODY = 1_000_000       # bytes of what a page may send
 POLICY = ("default-src 'none'; script-src 'self'; style-src 'self' 'unsafe-inline'; img-src 'self' data: blob:; "
           "connect-src 'self'; base-uri 'none'; form-action 'none'; frame-ancestors 'none'")
 HEADERS = {
-    b"content-security-policy": POLICY.encode(), b"x-content-type-options": b"nosniff", b"referrer-policy": b"no-referrer",
+    b"content-security-policy": POLICY.encode(), b"x-content-type-options": b"nosniff",
+    b"referrer-policy": b"no-referrer",
     b"cache-control": b"no-store", b"cross-origin-resource-policy": b"same-origin",
     b"cross-origin-opener-policy": b"same-origin",
 }
@@ -118,8 +119,8 @@ def answer(content: Any, status: int = 200) -> Response:
 
 
 def fault(error: Exception, explorer: Explorer) -> Response:
-    """An error of the package as an answer: its sentence, of a refusal without where it was found; its rule and place where
-    it has them."""
+    """An error of the package as an answer: its sentence, of a refusal without where it was found; its rule and place
+    where it has them."""
     status = next(status for kind, status in STATUSES if isinstance(error, kind))
     more = {name: getattr(error, name) for name in ("rule", "place") if isinstance(getattr(error, name, None), int)}
     return said(status, str(error), kind=type(error).__name__, tag=explorer.tag, **more)
@@ -206,6 +207,7 @@ def make_app(explorer: Explorer, token: str, opened: Callable[[], None] = lambda
         Route("/{token}/api/{name}", question, methods=["GET"]),
         Route("/{token}/api/{name}", action, methods=["POST"]),
     ]
-    app = Starlette(routes=routes, exception_handlers={404: nothing, 405: nothing, TooLong: too_long, Exception: failed})
+    app = Starlette(routes=routes, exception_handlers={404: nothing, 405: nothing, TooLong: too_long,
+                                                       Exception: failed})
     app.router.redirect_slashes = False
     return Guard(app, token)

@@ -1,5 +1,5 @@
-"""Series over time, made small for a picture: of each stretch that a pixel stands for, the first, least, greatest and last
-value, so that the picture is the one that all points would give."""
+"""Series over time, made small for a picture: of each stretch that a pixel stands for, the first, least, greatest and
+last value, so that the picture is the one that all points would give."""
 
 from __future__ import annotations
 
@@ -98,7 +98,8 @@ class Timeline:
         }
 
     def value(self, stock: int, begin: int, end: int, points: int) -> Table | None:
-        """The value that the stock's traders see (dollars); None where it cannot be made, as without the package for it."""
+        """The value that the stock's traders see (dollars); None where it cannot be made, as without the package for
+        it."""
         if stock not in self.values:
             try:
                 frame = self.view.branch.value(self.view.symbols[stock])
@@ -117,4 +118,5 @@ def volume(times: numpy.ndarray, shares: numpy.ndarray, begin: int, end: int, ba
     width = max(1, -(-(end + 1 - begin) // bars))
     inside = (times >= begin) & (times <= end)
     sums = numpy.bincount((times[inside] - begin) // width, weights=shares[inside], minlength=bars)
-    return {"x": [begin + place * width for place in range(len(sums))], "y": sums.astype(numpy.int64).tolist(), "width": width}
+    return {"x": [begin + place * width for place in range(len(sums))], "y": sums.astype(numpy.int64).tolist(),
+            "width": width}

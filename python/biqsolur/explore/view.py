@@ -63,7 +63,8 @@ class View:
     def check(self, event: int) -> int:
         """The event, where the branch has it; 0 is the opening."""
         if not 0 <= event <= self.count:
-            raise NoSuchEvent(f"branch {self.branch.name} has the events 1 to {self.count}, and 0 is its opening; not {event}")
+            raise NoSuchEvent(f"branch {self.branch.name} has the events 1 to {self.count}, and 0 is its opening; "
+                              f"not {event}")
         return event
 
     def time_of(self, event: int) -> int:
@@ -85,7 +86,8 @@ class View:
         -1 where a message names a symbol that is no stock's."""
         heads = self.heads
         traders = numpy.where(heads["sender"] == 0, heads["receiver"], heads["sender"])
-        out = self.people.stock_of_agent[numpy.minimum(traders, len(self.people.stock_of_agent) - 1)].astype(numpy.int16)
+        out = self.people.stock_of_agent[numpy.minimum(traders,
+                                                       len(self.people.stock_of_agent) - 1)].astype(numpy.int16)
         sizes = self.branch.bundle.frames.sizes[self.frames] - layouts.EVENT.itemsize
         for size in (2, 31):
             rows = numpy.flatnonzero(sizes == size)
@@ -111,7 +113,8 @@ class View:
         rows = self._found(kind, number)
         place = numpy.searchsorted(rows, event, side="right") if forward else numpy.searchsorted(rows, event) - 1
         if not 0 <= place < len(rows):
-            raise NoSuchEvent(f"no such event {'after' if forward else 'before'} event {event} of branch {self.branch.name}")
+            raise NoSuchEvent(f"no such event {'after' if forward else 'before'} event {event} of branch "
+                              f"{self.branch.name}")
         return int(rows[place])
 
     def _found(self, kind: str, number: int) -> numpy.ndarray:

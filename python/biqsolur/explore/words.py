@@ -17,7 +17,8 @@ FIELDS: dict[tuple[str, int], list[tuple[int, int, str, str]]] = {
     ("q", 31): [(0, 2, "stock", "stock"), (2, 1, "trading state", "state"), (3, 4, "bid", "price"),
                 (7, 8, "bid shares", "number"), (15, 4, "ask", "price"), (19, 8, "ask shares", "number"),
                 (27, 4, "last price", "price")],
-    ("i", 49): [(0, 1, "type", "letter"), (1, 14, "token", "text"), (15, 1, "side", "side"), (16, 4, "shares", "number"),
+    ("i", 49): [(0, 1, "type", "letter"), (1, 14, "token", "text"), (15, 1, "side", "side"),
+                (16, 4, "shares", "number"),
                 (20, 8, "symbol", "text"), (28, 4, "price", "price"), (32, 4, "time in force", "force"),
                 (36, 4, "firm", "text"), (40, 1, "display", "display"), (41, 1, "capacity", "letter"),
                 (42, 1, "intermarket sweep", "letter"), (43, 4, "minimum quantity", "number"),
@@ -28,24 +29,26 @@ FIELDS: dict[tuple[str, int], list[tuple[int, int, str, str]]] = {
                 (24, 4, "shares", "number"), (28, 8, "symbol", "text"), (36, 4, "price", "price"),
                 (40, 4, "time in force", "force"), (44, 4, "firm", "text"), (48, 1, "display", "display"),
                 (49, 8, "reference", "number"), (57, 1, "capacity", "letter"), (58, 1, "intermarket sweep", "letter"),
-                (59, 4, "minimum quantity", "number"), (63, 1, "cross type", "letter"), (64, 1, "order state", "letter"),
+                (59, 4, "minimum quantity", "number"), (63, 1, "cross type", "letter"),
+                (64, 1, "order state", "letter"),
                 (65, 1, "BBO weight", "letter")],
     ("o", 28): [(0, 1, "type", "letter"), (1, 8, "handled", "time"), (9, 14, "token", "text"),
                 (23, 4, "shares that went", "number"), (27, 1, "reason", "reason")],
     ("o", 40): [(0, 1, "type", "letter"), (1, 8, "handled", "time"), (9, 14, "token", "text"),
                 (23, 4, "shares", "number"), (27, 4, "price", "price"), (31, 1, "liquidity", "liquidity"),
                 (32, 8, "match", "number")],
-    ("o", 24): [(0, 1, "type", "letter"), (1, 8, "handled", "time"), (9, 14, "token", "text"), (23, 1, "reason", "reason")],
+    ("o", 24): [(0, 1, "type", "letter"), (1, 8, "handled", "time"), (9, 14, "token", "text"),
+                (23, 1, "reason", "reason")],
 }
 MEANINGS = {
     "state": {"T": "trading", "H": "halted"}, "side": {"B": "buy", "S": "sell"},
     "display": {"Y": "shown", "N": "hidden"},
     "liquidity": {"A": "rested in the book", "R": "met a resting order"},
     "reason": {"U": "its trader asked for it", "I": "it was good for this instant alone", "H": "the stock is halted",
-               "S": "there is no such stock", "X": "the price is not allowed", "O": "the order is not one that is taken"},
+               "S": "there is no such stock", "X": "the price is not allowed",
+               "O": "the order is not one that is taken"},
     "force": {"0": "this instant alone", "99998": "the day", "99999": "the day"},
 }
-FEED_WORDS = {"A": "rests", "E": "is executed", "X": "is canceled in part", "D": "leaves the book", "P": "a hidden order trades"}
 
 
 def clock(time: int) -> str:
@@ -120,10 +123,11 @@ def message_words(view: View, letter: str, body: bytes, sender: int, receiver: i
         return f"the quote of {values['stock']} to {name(receiver)}: {quote_words(values)}"
     if letter == "i" and len(body) == 49:
         hidden = "hidden " if values["display"] == "N" else ""
-        return (f"the {hidden}order of {name(sender)} to {values['side']} {int(values['shares']):,} {values['symbol']} at "
-                f"{dollars(int(values['price']))}")
+        return (f"the {hidden}order of {name(sender)} to {values['side']} {int(values['shares']):,} {values['symbol']} "
+                f"at {dollars(int(values['price']))}")
     if letter == "i":
-        return f"the cancel of {name(sender)} for its order {values['token']}, of which {values['shares that are to stay']} stay"
+        return (f"the cancel of {name(sender)} for its order {values['token']}, of which "
+                f"{values['shares that are to stay']} stay")
     return f"the reply to {name(receiver)} that {reply_words(body, values)}"
 
 
@@ -143,9 +147,11 @@ def reply_words(body: bytes, values: dict[str, str]) -> str:
     if letter == "A":
         return f"{token} was accepted under the reference {values['reference']}"
     if letter == "E":
-        return f"{values['shares']} shares of {token} traded at {dollars(int(values['price']))} (match {values['match']})"
+        return (f"{values['shares']} shares of {token} traded at {dollars(int(values['price']))} (match "
+                f"{values['match']})")
     if letter == "C":
-        return f"{values['shares that went']} shares of {token} were canceled: {MEANINGS['reason'].get(values['reason'], '')}"
+        return (f"{values['shares that went']} shares of {token} were canceled: "
+                f"{MEANINGS['reason'].get(values['reason'], '')}")
     if letter == "J":
         return f"{token} was rejected: {MEANINGS['reason'].get(values['reason'], '')}"
     return "the market speaks of itself"
@@ -170,7 +176,8 @@ def told_by_feed(view: View, event: int) -> list[str]:
     """What came of an order, as phrases: its trades, its rest, its cancel."""
     out = []
     for trade in trades_of(view, event):
-        out.append(f"{trade['shares']:,} trade at {dollars(trade['price'])} with {resting_name(view, trade['resting'])}")
+        whom = resting_name(view, trade["resting"])
+        out.append(f"{trade['shares']:,} trade at {dollars(trade['price'])} with {whom}")
     for kind, fields in feed_of(view, event):
         if kind == "A":
             out.append(f"{fields['shares']:,} rest at {dollars(fields['price'])} (reference {fields['reference']})")

@@ -10,7 +10,8 @@ const FIRST_MEASURES = 12;
 
 // `does` has: pick(name), send(kind, table, place of an error), context(), go(branch, event).
 export function showBranches(study, chosen, people, does) {
-  fill("branch-list", el("ul", { class: "tree" }, study.branches.map((branch, place) => item(study, branch, place, chosen, people, does))));
+  fill("branch-list", el("ul", { class: "tree" }, study.branches.map((branch, place) => item(study, branch, place,
+    chosen, people, does))));
 }
 
 function depth(study, branch) {
@@ -28,11 +29,13 @@ function item(study, branch, place, chosen, people, does) {
       changeForm(does.context(), branch, does.send, () => box.replaceChildren()))),
     button("Remove", `Remove ${branch.name}`, () => does.send("remove", { branch: branch.name })),
   ];
-  return el("li", { style: `margin-left:${depth(study, branch) * 1.2}em`, class: branch.name === chosen ? "chosen" : "" },
+  return el("li", { style: `margin-left:${depth(study, branch) * 1.2}em`,
+    class: branch.name === chosen ? "chosen" : "" },
     el("span", { class: "swatch", style: `background:${colour(place)}`, "aria-hidden": "true" }),
     link(branch.name, () => does.pick(branch.name), { "aria-current": branch.name === chosen ? "true" : null }), " ",
     el("span", { class: "where" }, where), " ", tools,
-    branch.edits.length > 0 && el("ul", { class: "edits" }, branch.edits.map(edit => el("li", {}, editWords(edit, people)))), box);
+    branch.edits.length > 0 && el("ul", { class: "edits" }, branch.edits.map(edit => el("li", {}, editWords(edit,
+      people)))), box);
 }
 
 function button(text, label, act) {
@@ -40,9 +43,11 @@ function button(text, label, act) {
 }
 
 function renameForm(branch, box, does) {
-  const name = el("input", { value: branch.name, maxlength: 32, "aria-label": `New name of ${branch.name}`, autocomplete: "off" });
+  const name = el("input", { value: branch.name, maxlength: 32, "aria-label": `New name of ${branch.name}`,
+    autocomplete: "off" });
   const form = el("form", { class: "change-form" }, name, el("button", { type: "submit" }, "Rename"),
-    button("Leave it", "Leave the name", () => box.replaceChildren()), el("p", { class: "error", id: "change-error", role: "alert" }));
+    button("Leave it", "Leave the name", () => box.replaceChildren()), el("p", { class: "error", id: "change-error",
+      role: "alert" }));
   form.onsubmit = event => {
     event.preventDefault();
     does.send("rename", { branch: branch.name, name: name.value.trim() }, "change-error");
@@ -62,14 +67,16 @@ export async function showCompared(study, chosen, does) {
   const found = await ask("compare", { tag: study.tag, branch: chosen });
   const first = found.difference === 0 ? el("p", {}, `${chosen} differs from ${branch.parent} in no event.`) :
     el("div", {},
-      el("p", {}, "The first difference is ", link(`event ${whole(found.difference)}`, () => does.go(chosen, found.difference)),
+      el("p", {}, "The first difference is ", link(`event ${whole(found.difference)}`, () => does.go(chosen,
+        found.difference)),
         `, ${clock(found.time)}:`),
       el("dl", { class: "differs" },
         [[chosen, found.ours], [branch.parent, found.theirs]].map(([name, words]) =>
           el("div", {}, el("dt", {}, name), el("dd", {}, words || "has no such event")))));
   fill("compare", el("h3", {}, `${chosen} beside ${branch.parent}`), first,
     measures("Measures of the events behind the fork", branch, found.measures.slice(0, FIRST_MEASURES)),
-    found.measures.length > FIRST_MEASURES && el("details", {}, el("summary", {}, `${found.measures.length - FIRST_MEASURES} measures more`),
+    found.measures.length > FIRST_MEASURES && el("details", {}, el("summary", {},
+      `${found.measures.length - FIRST_MEASURES} measures more`),
       measures("More measures of the events behind the fork", branch, found.measures.slice(FIRST_MEASURES))));
 }
 

@@ -4,8 +4,9 @@ import { byId, clock, el, fee, fill, priceInput, spanInput, whole } from "./form
 
 const KINDS = [
   ["tick", "tick: the price steps of a stock"], ["fee", "fee: what a trade costs each side"], ["halt", "halt a stock"],
-  ["resume", "resume a stock"], ["latency", "latency between two groups"], ["agent", "agent: one parameter of a trader"],
-  ["silence", "silence a trader"], ["inject", "inject an order or a cancel of a trader"], ["series", "series: move a stock's value"],
+  ["resume", "resume a stock"], ["latency", "latency between two groups"],
+  ["agent", "agent: one parameter of a trader"], ["silence", "silence a trader"],
+  ["inject", "inject an order or a cancel of a trader"], ["series", "series: move a stock's value"],
 ];
 const MOST_EDITS = 16;
 const SPANS = ["every", "wobble", "delay", "pause"];
@@ -30,7 +31,8 @@ function input(name, value, properties = {}) {
 }
 
 function select(name, options, value) {
-  return el("select", { name }, options.map(([key, text]) => el("option", { value: key, selected: String(key) === String(value) }, text)));
+  return el("select", { name }, options.map(([key, text]) => el("option", { value: key,
+    selected: String(key) === String(value) }, text)));
 }
 
 // What the fields of one edit begin with: what holds at the cursor, or the edit that is changed.
@@ -46,14 +48,17 @@ function fieldsOf(kind, context, edit, again) {
   const traderField = field("trader", select("agent", traders, trader));
   switch (kind) {
     case "tick": return [stockField, field("ticks", input("bands", (edit.bands || rule.bands).map(([from, tick]) =>
-      `${priceInput(from)}: ${priceInput(tick)}`).join(", ")), "from a price: the tick from it on, in dollars; the first from 0.00")];
-    case "fee": return [stockField, field("fee to add", input("add", fee(edit.add ?? rule.add)), "dollars a share; below 0 it is paid out"),
+      `${priceInput(from)}: ${priceInput(tick)}`).join(", ")),
+        "from a price: the tick from it on, in dollars; the first from 0.00")];
+    case "fee": return [stockField, field("fee to add", input("add", fee(edit.add ?? rule.add)),
+      "dollars a share; below 0 it is paid out"),
       field("fee to take", input("take", fee(edit.take ?? rule.take)), "dollars a share")];
     case "halt": case "resume": return [stockField];
     case "latency": {
       const [from, to] = [edit.from ?? 0, edit.to ?? 0];
       return [field("from", select("from", groups, from)), field("to", select("to", groups, to)),
-        field("least time under way", input("base", spanInput(edit.base ?? state.rules.base[from][to])), "such as 50us or 2ms"),
+        field("least time under way", input("base", spanInput(edit.base ?? state.rules.base[from][to])),
+          "such as 50us or 2ms"),
         field("and at most so much more", input("jitter", spanInput(edit.jitter ?? state.rules.jitter[from][to])))];
     }
     case "agent": {
@@ -70,7 +75,8 @@ function fieldsOf(kind, context, edit, again) {
     }
     case "silence": return [traderField];
     case "inject": return injectFields(edit, symbols, symbol, traderField, rule);
-    case "series": return [stockField, field("move its value by", input("offset", priceInput(edit.offset ?? 0)), "dollars, down with a minus")];
+    case "series": return [stockField, field("move its value by", input("offset", priceInput(edit.offset ?? 0)),
+      "dollars, down with a minus")];
     default: return [];
   }
 }
@@ -86,7 +92,8 @@ function injectFields(edit, symbols, symbol, traderField, rule) {
     return [traderField, field("so much later", input("after", spanInput(edit.after ?? 0))),
       field("message", input("message", edit.message), "an OUCH message in hexadecimal digits")];
   }
-  return [traderField, field("so much later", input("after", spanInput(edit.after ?? 0)), "such as 0ns or 5ms; it has no latency"),
+  return [traderField, field("so much later", input("after", spanInput(edit.after ?? 0)),
+    "such as 0ns or 5ms; it has no latency"),
     field("what", select("what", [["enter", "a new order"], ["cancel", "a cancel"]], order.what)),
     field("token", input("token", order.token || "MINE1"), "1 to 14 letters and digits; of a cancel the order's"),
     field("side", select("side", [["B", "buy"], ["S", "sell"]], order.side)),
@@ -102,20 +109,24 @@ function editOf(part) {
   const value = name => part.querySelector(`[name="${name}"]`)?.value;
   const kind = value("kind");
   switch (kind) {
-    case "tick": return { kind, stock: value("stock"), bands: value("bands").split(",").map(pair => pair.split(":").map(text => text.trim())) };
+    case "tick": return { kind, stock: value("stock"),
+      bands: value("bands").split(",").map(pair => pair.split(":").map(text => text.trim())) };
     case "fee": return { kind, stock: value("stock"), add: value("add").trim(), take: value("take").trim() };
     case "halt": case "resume": return { kind, stock: value("stock") };
-    case "latency": return { kind, from: Number(value("from")), to: Number(value("to")), base: value("base").trim(), jitter: value("jitter").trim() };
+    case "latency": return { kind, from: Number(value("from")), to: Number(value("to")), base: value("base").trim(),
+      jitter: value("jitter").trim() };
     case "agent": {
       const text = value("value").trim();
       const timed = SPANS.includes(value("name")) || PRICES.includes(value("name"));
-      return { kind, agent: Number(value("agent")), name: value("name"), value: timed || !/^-?\d+$/.test(text) ? text : Number(text) };
+      return { kind, agent: Number(value("agent")), name: value("name"),
+        value: timed || !/^-?\d+$/.test(text) ? text : Number(text) };
     }
     case "silence": return { kind, agent: Number(value("agent")) };
     case "inject": {
       const common = { kind, agent: Number(value("agent")), after: value("after").trim() };
       if (value("message") !== undefined) return { ...common, message: value("message").trim() };
-      const order = Object.fromEntries(["what", "token", "side", "shares", "symbol", "price", "time_in_force", "display"].map(name =>
+      const order = Object.fromEntries(["what", "token", "side", "shares", "symbol", "price", "time_in_force",
+        "display"].map(name =>
         [name, value(name).trim()]));
       return { ...common, order };
     }
@@ -130,7 +141,8 @@ function editPart(context, edit) {
   const draw = current => {
     const kind = select("kind", KINDS, current.kind);
     kind.addEventListener("change", () => { draw({ kind: kind.value }); part.querySelector('[name="kind"]').focus(); });
-    part.replaceChildren(el("legend", {}, "Edit"), field("what changes", kind), ...fieldsOf(current.kind, context, current, draw),
+    part.replaceChildren(el("legend", {}, "Edit"), field("what changes", kind),
+      ...fieldsOf(current.kind, context, current, draw),
       el("button", { type: "button", class: "quiet", onclick: () => part.remove() }, "Leave this edit out"));
   };
   draw(edit);
@@ -159,7 +171,8 @@ export function forkForm(context, send) {
   const timed = siblings.some(branch => branch.when !== null);
   const parts = el("div", {}, editPart(context, { kind: "tick" }));
   const name = input("name", freeName(study, "fork"), { maxlength: 32, required: true });
-  const stop = select("stop", [["at", `after event ${whole(state.event)}`], ["when", `at ${clock(state.time)} (studies of version 2)`]],
+  const stop = select("stop", [["at", `after event ${whole(state.event)}`], ["when",
+    `at ${clock(state.time)} (studies of version 2)`]],
     timed ? "when" : "at");
   fill("fork-form",
     el("p", {}, `A new branch of ${parent.name}. Everything before it is the same, to the last byte.`),
@@ -169,7 +182,8 @@ export function forkForm(context, send) {
   byId("fork-form").onsubmit = event => {
     event.preventDefault();
     const where = stop.value === "at" ? { at: state.event } : { when: state.time };
-    send("fork", { name: name.value.trim(), parent: parent.name, ...where, edits: [...parts.children].map(editOf) }, "fork-error");
+    send("fork", { name: name.value.trim(), parent: parent.name, ...where, edits: [...parts.children].map(editOf) },
+      "fork-error");
   };
 }
 

@@ -34,7 +34,9 @@ function fraction(rest, size) {
 
 // A length of time (ns) as a form's field has it.
 export function spanInput(time) {
-  for (const [unit, size] of [["s", 1e9], ["ms", 1e6], ["us", 1e3]]) if (time && time % size === 0) return `${time / size}${unit}`;
+  for (const [unit, size] of [["s", 1e9], ["ms", 1e6], ["us", 1e3]]) {
+    if (time && time % size === 0) return `${time / size}${unit}`;
+  }
   return `${time}ns`;
 }
 
@@ -79,7 +81,8 @@ export function byId(id) {
 }
 
 export function fill(id, ...children) {
-  byId(id).replaceChildren(...children.flat().filter(child => child !== null && child !== undefined && child !== false));
+  byId(id).replaceChildren(...children.flat().filter(child => child !== null && child !== undefined &&
+    child !== false));
 }
 
 // A table of rows with a heading of each column: [heading, "number" or "", cell of a row].

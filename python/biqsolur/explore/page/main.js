@@ -8,7 +8,8 @@ import { ladder, queueWords, showAgents, showEvent, showRules, showTrader, showW
 import { TimeLine, colour } from "./timeline.js";
 import { showWhy } from "./why.js";
 
-const page = { study: null, branch: "root", event: 0, stock: 0, agent: 1, shown: [], state: null, asked: 0, playing: 0 };
+const page = { study: null, branch: "root", event: 0, stock: 0, agent: 1, shown: [], state: null, asked: 0,
+  playing: 0 };
 const timeLine = new TimeLine((branch, time) => pickTime(branch, time), failed);
 const people = { name: agent => page.study?.agents[agent]?.name ?? `agent ${agent}` };
 
@@ -66,9 +67,10 @@ function showRunning(status) {
   if (!status.running) return;
   const share = status.share || 0;
   const most = status.events ? `, at most ${whole(status.events)} events` : "";
-  const rest = status.seconds > 1 && share > 0 ? `, about ${Math.max(1, Math.round(status.seconds * (1 - share) / share))} more` :
-    `, about ${Math.max(1, Math.round(status.guess))} in all`;
-  byId("running-text").textContent = `The program runs: ${status.label}${most}. ${status.seconds.toFixed(0)} seconds so far${rest}.`;
+  const left = Math.max(1, Math.round(status.seconds * (1 - share) / Math.max(share, 0.01)));
+  const rest = status.seconds > 1 ? `, about ${left} more` : `, about ${Math.max(1, Math.round(status.guess))} in all`;
+  byId("running-text").textContent = `The program runs: ${status.label}${most}. ${status.seconds.toFixed(0)} ` +
+    `seconds so far${rest}.`;
   byId("running-share").value = share;
 }
 
@@ -108,7 +110,8 @@ async function send(kind, table, errorPlace) {
 
 async function goFork(branch) {
   if (!page.shown.includes(branch.name)) page.shown.push(branch.name);
-  const event = branch.difference && branch.difference <= branch.count ? branch.difference : Math.min(branch.fork, branch.count);
+  const event = branch.difference && branch.difference <= branch.count ? branch.difference : Math.min(branch.fork,
+    branch.count);
   await go(branch.name, event);
   drawShown();
   await timeLine.open(page.study, page.shown, page.stock);
@@ -164,9 +167,12 @@ function drawTools() {
     byId(id).disabled = label === null;
     byId(id).title = label === null ? "" : `${id}: ${label}`;
   }
-  fill("stock", study.symbols.map((symbol, stock) => el("option", { value: stock, selected: stock === page.stock }, symbol)));
-  fill("branch", study.branches.map(branch => el("option", { value: branch.name, selected: branch.name === page.branch }, branch.name)));
-  fill("agent", study.agents.map(agent => el("option", { value: agent.agent, selected: agent.agent === page.agent }, agent.name)));
+  fill("stock", study.symbols.map((symbol, stock) => el("option", { value: stock, selected: stock === page.stock },
+    symbol)));
+  fill("branch", study.branches.map(branch => el("option", { value: branch.name,
+    selected: branch.name === page.branch }, branch.name)));
+  fill("agent", study.agents.map(agent => el("option", { value: agent.agent, selected: agent.agent === page.agent },
+    agent.name)));
   byId("take-study").href = address("take", { tag: study.tag, what: "study" });
   byId("take-bundle").href = address("take", { tag: study.tag, what: "bundle" });
   byId("take-report").href = address("take", { tag: study.tag, what: "report" });
@@ -176,7 +182,8 @@ function drawTools() {
 function drawShown() {
   const { study } = page;
   const boxes = study.branches.map((branch, place) => el("label", {},
-    el("input", { type: "checkbox", value: branch.name, checked: page.shown.includes(branch.name), onchange: changeShown }),
+    el("input", { type: "checkbox", value: branch.name, checked: page.shown.includes(branch.name),
+      onchange: changeShown }),
     el("span", { class: "swatch", style: `background:${colour(place)}`, "aria-hidden": "true" }), branch.name));
   fill("shown", el("legend", {}, "Shown"), boxes);
 }
@@ -220,7 +227,8 @@ function drawMoment() {
   byId("agent").value = page.agent;
   byId("event").value = page.event;
   byId("clock").value = clock(state.time);
-  byId("what-title").textContent = page.event ? `Event ${whole(page.event)} of ${whole(branchTable().count)}` : "The opening";
+  byId("what-title").textContent = page.event ? `Event ${whole(page.event)} of ${whole(branchTable().count)}` :
+    "The opening";
   showEvent(state, people);
   showTrader(state, people, study.symbols);
   showAgents(state, people, study.symbols, chooseAgent);
@@ -229,12 +237,14 @@ function drawMoment() {
   showBranches(study, page.branch, people, does);
   if (!page.playing) forkForm(context(), send);
   timeLine.moveCursor(state.time);
-  byId("take-session").href = address("take", { tag: study.tag, what: "session", branch: page.branch, event: page.event });
+  byId("take-session").href = address("take", { tag: study.tag, what: "session", branch: page.branch,
+    event: page.event });
+  const bytes = address("take", { tag: study.tag, what: "state", branch: page.branch, event: page.event });
   fill("provenance", el("span", {}, "What stands here is the program's own answer to "),
     el("code", {}, `./abides rewind ${study.name} ${page.branch}:${page.event}`),
-    el("span", {}, ", which is proved to be the state of the full run. The explorer asks it of the study cut to this branch and its " +
-      "ancestors, so that it comes sooner: that this gives the same state is tested, and not proved. "),
-    el("a", { href: address("take", { tag: study.tag, what: "state", branch: page.branch, event: page.event }), download: true }, "its bytes"));
+    el("span", {}, ", which is proved to be the state of the full run. The explorer asks it of the study cut to " +
+      "this branch and its ancestors, so that it comes sooner: that this gives the same state is tested, and not " +
+      "proved. "), el("a", { href: bytes, download: true }, "its bytes"));
 }
 
 async function drawLadders(asked) {
@@ -254,7 +264,8 @@ async function drawLadders(asked) {
   const event = page.event <= branchTable().fork ? page.event : at.event;
   const other = await ask("state", { tag: study.tag, branch: parent, event });
   if (asked !== page.asked) return;
-  fill("ladders", own, ladder(other, page.stock, `${study.symbols[page.stock]} in ${parent}, event ${whole(event)}`, chosen, page.agent));
+  const title = `${study.symbols[page.stock]} in ${parent}, event ${whole(event)}`;
+  fill("ladders", own, ladder(other, page.stock, title, chosen, page.agent));
 }
 
 function context() {
@@ -294,7 +305,8 @@ async function find(kind, way = "on") {
   stopPlaying();
   try {
     const from = kind === "difference" ? 0 : page.event;
-    const found = await ask("find", { tag: page.study.tag, branch: page.branch, event: from, kind, way, agent: page.agent, stock: page.stock });
+    const { branch, agent, stock } = page;
+    const found = await ask("find", { tag: page.study.tag, branch, event: from, kind, way, agent, stock });
     await go(page.branch, found.event);
   } catch (error) { failed(error); }
 }
@@ -391,8 +403,9 @@ function tabKey(event) {
 const KEYS = {
   ArrowLeft: event => move(event.shiftKey ? -10 : -1), ArrowRight: event => move(event.shiftKey ? 10 : 1),
   t: () => find("trade"), T: () => find("trade", "back"), a: () => find("agent"), A: () => find("agent", "back"),
-  s: () => find("stock"), S: () => find("stock", "back"), d: () => find("difference"), p: () => play(), w: () => cause(),
-  f: () => byId("fork-form").querySelector("input")?.focus(), u: () => byId("undo").click(), r: () => byId("redo").click(),
+  s: () => find("stock"), S: () => find("stock", "back"), d: () => find("difference"),
+  p: () => play(), w: () => cause(), f: () => byId("fork-form").querySelector("input")?.focus(),
+  u: () => byId("undo").click(), r: () => byId("redo").click(),
   Home: () => goSafe(page.branch, 0), End: () => goSafe(page.branch, branchTable().count),
 };
 
@@ -430,8 +443,12 @@ function listen() {
   byId("zoom-cursor").addEventListener("click", () => timeLine.around(page.state.time));
   byId("play").addEventListener("click", play);
   byId("take-link").addEventListener("click", copyLink);
-  for (const one of document.querySelectorAll("[data-go]")) one.addEventListener("click", () => move(one.dataset.go === "on" ? 1 : -1));
-  for (const one of document.querySelectorAll("[data-find]")) one.addEventListener("click", () => find(one.dataset.find));
+  for (const one of document.querySelectorAll("[data-go]")) {
+    one.addEventListener("click", () => move(one.dataset.go === "on" ? 1 : -1));
+  }
+  for (const one of document.querySelectorAll("[data-find]")) {
+    one.addEventListener("click", () => find(one.dataset.find));
+  }
   window.addEventListener("hashchange", () => {
     if (!page.study) return;
     readPlace();

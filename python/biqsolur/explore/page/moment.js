@@ -7,7 +7,8 @@ const LEVELS = 12;
 // What the event was, with its bytes decoded.
 export function showEvent(state, people) {
   const what = state.what;
-  const way = what.number ? `, message ${whole(what.message)} from ${people.name(what.sender)} to ${people.name(what.receiver)}` : "";
+  const ends = `from ${people.name(what.sender)} to ${people.name(what.receiver)}`;
+  const way = what.number ? `, message ${whole(what.message)} ${ends}` : "";
   const rows = [];
   if (what.number && !what.put_back) rows.push([`${people.name(what.receiver)} is busy until`, clock(what.busy_until)]);
   if (what.number && what.fee !== "0") rows.push(["fees of both sides", `${fee(Number(what.fee))} dollars`]);
@@ -16,15 +17,18 @@ export function showEvent(state, people) {
     el("p", { class: "words" }, what.words),
     el("p", { class: "hint" }, clock(what.time) + way),
     state.edits.map(edit => el("p", { class: "edit" }, `Edit of ${edit.branch}: ${editWords(edit, people)}.`)),
-    rows.length > 0 && el("dl", { class: "pairs" }, rows.map(([name, value]) => el("div", {}, el("dt", {}, name), el("dd", {}, value)))),
-    what.fields.length > 0 && el("details", { open }, el("summary", {}, `its ${what.bytes.length / 2} bytes, decoded`), bytesTable(what)));
+    rows.length > 0 && el("dl", { class: "pairs" }, rows.map(([name, value]) => el("div", {}, el("dt", {}, name),
+      el("dd", {}, value)))),
+    what.fields.length > 0 && el("details", { open }, el("summary", {}, `its ${what.bytes.length / 2} bytes, decoded`),
+      bytesTable(what)));
 }
 
 function bytesTable(what) {
   return el("div", { class: "scroll", tabindex: 0, role: "region", "aria-label": "Fields of the message" },
     table("Fields of the message", [
       ["offset", "number", field => field.offset], ["field", "", field => field.name],
-      ["value", "", field => field.meaning && field.meaning !== field.value ? `${field.value} (${field.meaning})` : field.value],
+      ["value", "", field => field.meaning && field.meaning !== field.value ? `${field.value} (${field.meaning})` :
+        field.value],
       ["bytes", "mono", field => field.bytes],
     ], what.fields));
 }
@@ -36,7 +40,8 @@ export function editWords(edit, people) {
     case "fee": return `fees of ${stock} become ${fee(edit.add)} to add and ${fee(edit.take)} to take, dollars a share`;
     case "halt": return `${stock} halts`;
     case "resume": return `${stock} trades again`;
-    case "latency": return `from group ${edit.from} to group ${edit.to} a message takes ${span(edit.base)} and up to ${span(edit.jitter)} more`;
+    case "latency": return `from group ${edit.from} to group ${edit.to} a message takes ${span(edit.base)} and up ` +
+      `to ${span(edit.jitter)} more`;
     case "agent": return `${edit.name} of ${people.name(edit.agent)} becomes ${parameterText(edit.name, edit.value)}`;
     case "silence": return `${people.name(edit.agent)} falls silent`;
     case "inject": return `${edit.words} comes ${span(edit.after)} later`;
@@ -67,13 +72,16 @@ export function ladder(state, stock, title, choose, chosen) {
   const asks = book.asks.slice(0, LEVELS).reverse().map(level => row(level, "ask"));
   const bids = book.bids.slice(0, LEVELS).map(level => row(level, "bid"));
   const last = el("tr", { class: "last" }, el("td", { colspan: 4 },
-    `${book.state === "T" ? "trading" : "HALTED"}, last ${price(book.last) || "none"}, ${whole(book.matched)} shares traded`));
+    `${book.state === "T" ? "trading" : "HALTED"}, last ${price(book.last) || "none"}, ${whole(book.matched)} ` +
+      `shares traded`));
   return el("div", { class: "scroll", tabindex: 0, role: "region", "aria-label": `Book of ${title}` },
     el("table", { class: "ladder" },
       el("caption", {}, title),
-      el("thead", {}, el("tr", {}, ["bid shares", "price", "ask shares", "orders (agent:shares) in the order in which they trade"].map(text =>
+      el("thead", {}, el("tr", {}, ["bid shares", "price", "ask shares",
+        "orders (agent:shares) in the order in which they trade"].map(text =>
         el("th", { scope: "col" }, text)))),
-      el("tbody", {}, more(book.ask_levels), asks.length ? asks : none("no ask"), last, bids.length ? bids : none("no bid"),
+      el("tbody", {}, more(book.ask_levels), asks.length ? asks : none("no ask"), last,
+        bids.length ? bids : none("no bid"),
         more(book.bid_levels))));
 }
 
@@ -82,7 +90,8 @@ function none(text) {
 }
 
 function more(levels) {
-  return levels > LEVELS ? el("tr", {}, el("td", { colspan: 4, class: "none" }, `and ${whole(levels - LEVELS)} levels more`)) : null;
+  return levels > LEVELS ? el("tr", {}, el("td", { colspan: 4, class: "none" },
+    `and ${whole(levels - LEVELS)} levels more`)) : null;
 }
 
 function shares(level) {
@@ -93,15 +102,18 @@ function orderMark(order, level, side, choose, chosen) {
   const mine = order.agent === chosen;
   return el("button", {
     type: "button", class: `order${mine ? " mine" : ""}${order.hidden ? " hidden-order" : ""}`,
-    "aria-label": `${order.hidden ? "hidden " : ""}order ${order.reference} of agent ${order.agent}, ${order.open} shares`,
+    "aria-label": `${order.hidden ? "hidden " : ""}order ${order.reference} of agent ${order.agent}, ${order.open} ` +
+      `shares`,
     onclick: () => choose(order, level, side),
   }, `${order.hidden ? "◌" : ""}${order.agent}:${whole(order.open)}`);
 }
 
 export function queueWords(order, level, side, people) {
   const place = order.before === 0 ? "is the first to trade at its price" :
-    `trades after ${whole(order.before)} ${order.before === 1 ? "order" : "orders"} with ${whole(order.ahead)} shares at its price`;
-  return `Order ${order.reference} of ${people.name(order.agent)} (${order.token}), ${whole(order.open)} of ${whole(order.intended)} shares ` +
+    `trades after ${whole(order.before)} ${order.before === 1 ? "order" : "orders"} with ${whole(order.ahead)} ` +
+      `shares at its price`;
+  return `Order ${order.reference} of ${people.name(order.agent)} (${order.token}), ${whole(order.open)} of ` +
+    `${whole(order.intended)} shares ` +
     `open at ${price(level.price)}${order.hidden ? ", hidden" : ""}, ${place}.`;
 }
 
@@ -114,7 +126,8 @@ export function showTrader(state, people, symbols) {
     ["kind", trader.kind + (trader.silenced ? ", silenced" : "")], ["settled cash", `${trader.cash} dollars`],
     ["settled position", trader.positions.map((number, stock) => `${whole(number)} ${symbols[stock]}`).join(", ")],
     ["cash that it knows of", `${trader.own_cash} dollars`], ["position that it knows of", whole(trader.own_position)],
-    ["busy until", clock(trader.own_time)], ["order tokens given", whole(trader.tokens)], ["draws made", whole(trader.draws)],
+    ["busy until", clock(trader.own_time)], ["order tokens given", whole(trader.tokens)], ["draws made",
+      whole(trader.draws)],
     ["quotes heard", whole(trader.quotes)], ["orders in its own list", whole(trader.orders)],
   ];
   fill("panel-trader",
@@ -123,7 +136,8 @@ export function showTrader(state, people, symbols) {
     table("Its parameters", [["parameter", "", pair => pair[0]], ["value", "number", pair => parameterText(...pair)]],
       Object.entries(trader.parameters)),
     table("Its resting orders", [
-      ["order", "", order => `${order.reference}${order.hidden ? " (hidden)" : ""}`], ["side", "", order => order.side === "B" ? "buy" : "sell"],
+      ["order", "", order => `${order.reference}${order.hidden ? " (hidden)" : ""}`], ["side", "",
+        order => order.side === "B" ? "buy" : "sell"],
       ["open", "number", order => whole(order.open)], ["price", "number", order => price(order.price)],
       ["shares before it", "number", order => whole(order.ahead)],
     ], trader.resting),
@@ -137,7 +151,8 @@ export function showAgents(state, people, symbols, choose) {
     ["orders", "number", row => whole(row.orders)], ["quotes", "number", row => whole(row.quotes)],
     ["", "", row => row.silenced ? "silenced" : ""],
   ];
-  fill("panel-agents", table("Settled cash in dollars, positions in shares, orders in its own list, quotes heard", columns, state.agents));
+  fill("panel-agents", table("Settled cash in dollars, positions in shares, orders in its own list, quotes heard",
+    columns, state.agents));
 }
 
 function waitingTable(caption, rows, people) {
@@ -166,9 +181,11 @@ export function showRules(state) {
     ], state.stocks),
     table("Latency: from the group of the row to that of the column", [
       ["group", "", group => String(group)],
-      ...groups.map(to => [String(to), "number", from => `${span(state.rules.base[from][to])} + up to ${span(state.rules.jitter[from][to])}`]),
+      ...groups.map(to => [String(to), "number", from =>
+        `${span(state.rules.base[from][to])} + up to ${span(state.rules.jitter[from][to])}`]),
     ], groups),
-    el("p", {}, `The exchange is in group ${state.rules.exchange.group} and takes ${span(state.rules.exchange.delay)} for a message. ` +
+    el("p", {}, `The exchange is in group ${state.rules.exchange.group} and takes ` +
+      `${span(state.rules.exchange.delay)} for a message. ` +
       `The run ${end}; ${whole(counts.orders)} orders were accepted, ${whole(counts.matches)} matches made, ` +
       `${whole(counts.ignored_enters + counts.ignored_cancels)} messages ignored, ${whole(counts.dropped)} dropped.`));
 }

@@ -44,7 +44,8 @@ export class TimeLine {
     const points = Math.max(200, Math.min(1500, this.frame.clientWidth));
     try {
       const pictures = await Promise.all(this.shown.map(branch => ask("timeline", {
-        tag: this.study.tag, branch, stock: this.stock, begin: Math.max(0, begin), end: Math.max(end, begin + 1), points,
+        tag: this.study.tag, branch, stock: this.stock, begin: Math.max(0, begin), end: Math.max(end, begin + 1),
+          points,
       })));
       if (asked !== this.asked) return;
       this.data = new Map(this.shown.map((branch, place) => [branch, pictures[place]]));
@@ -61,7 +62,8 @@ export class TimeLine {
   traces() {
     const out = [];
     for (const [name, data] of this.data) {
-      const line = { color: colour(this.place(name)), width: 1.5, shape: "hv", dash: DASHES[this.place(name) % DASHES.length] };
+      const line = { color: colour(this.place(name)), width: 1.5, shape: "hv",
+        dash: DASHES[this.place(name) % DASHES.length] };
       const common = { name, legendgroup: name, showlegend: false, hoverinfo: "skip" };
       if (data.value) {
         out.push({ ...common, type: "scatter", mode: "lines", ...data.value, yaxis: "y",
@@ -69,7 +71,8 @@ export class TimeLine {
       }
       out.push({ ...common, type: "scatter", mode: "lines", ...data.mid, yaxis: "y", line, connectgaps: false });
       out.push({ ...common, type: "scatter", mode: "markers", x: data.trades.x, y: data.trades.y, yaxis: "y",
-        marker: { color: colour(this.place(name)), size: 4, opacity: 0.55, symbol: this.place(name) % 2 ? "x-thin-open" : "circle" } });
+        marker: { color: colour(this.place(name)), size: 4, opacity: 0.55,
+          symbol: this.place(name) % 2 ? "x-thin-open" : "circle" } });
       out.push({ ...common, type: "scatter", mode: "lines", ...data.spread, yaxis: "y2", line, connectgaps: false });
       out.push({ ...common, type: "scatter", mode: "lines", x: data.volume.x, y: data.volume.y, yaxis: "y3", line });
     }
@@ -90,8 +93,10 @@ export class TimeLine {
       out.push({ type: "scatter", mode: "lines+markers", x: [begin, branch.end_time], y: [row, row], yaxis: "y4", line,
         marker: { size: 6, color: colour(place) }, showlegend: false, hoverinfo: "skip" });
       if (branch.difference_time !== null) {
-        out.push({ type: "scatter", mode: "markers", x: [branch.difference_time], y: [row], yaxis: "y4", hoverinfo: "skip",
-          marker: { symbol: "triangle-up", size: 12, color: colour(place), line: { color: "#fff", width: 1 } }, showlegend: false });
+        out.push({ type: "scatter", mode: "markers", x: [branch.difference_time], y: [row], yaxis: "y4",
+          hoverinfo: "skip",
+          marker: { symbol: "triangle-up", size: 12, color: colour(place), line: { color: "#fff", width: 1 } },
+            showlegend: false });
       }
     }
     return out;
@@ -103,21 +108,26 @@ export class TimeLine {
 
   draw() {
     const names = this.study.branches.map(branch => branch.name);
-    const axis = (title, row, more = {}) => ({ title: { text: title, font: { size: 12 } }, domain: row, fixedrange: true,
+    const axis = (title, row, more = {}) => ({ title: { text: title, font: { size: 12 } }, domain: row,
+      fixedrange: true,
       gridcolor: "#e2e2dd", zeroline: false, automargin: false, ...more });
     const times = ticks(this.range);
     const layout = {
       height: this.height(), margin: { l: MARGIN.left, r: MARGIN.right, t: MARGIN.top, b: MARGIN.bottom },
-      paper_bgcolor: "#fff", plot_bgcolor: "#fff", font: { family: "inherit", size: 12, color: "#222" }, dragmode: "zoom",
-      xaxis: { range: this.range, tickvals: times.values, ticktext: times.texts, gridcolor: "#e2e2dd", zeroline: false, anchor: "free",
+      paper_bgcolor: "#fff", plot_bgcolor: "#fff", font: { family: "inherit", size: 12, color: "#222" },
+        dragmode: "zoom",
+      xaxis: { range: this.range, tickvals: times.values, ticktext: times.texts, gridcolor: "#e2e2dd", zeroline: false,
+        anchor: "free",
         position: 0 },
       yaxis: axis("dollars", ROWS.mid, { tickformat: ".4~f" }),
       yaxis2: axis("spread", ROWS.spread, { rangemode: "tozero", nticks: 4 }),
       yaxis3: axis("shares", ROWS.volume, { rangemode: "tozero", nticks: 4 }),
-      yaxis4: axis("", ROWS.tree, { tickvals: names.map((_, place) => -place), ticktext: names.map(short), range: [-names.length + 0.4, 0.6],
+      yaxis4: axis("", ROWS.tree, { tickvals: names.map((_, place) => -place), ticktext: names.map(short),
+        range: [-names.length + 0.4, 0.6],
         showgrid: false }),
     };
-    globalThis.Plotly.react(this.plot, this.traces(), layout, { displayModeBar: false, responsive: false, doubleClick: false });
+    globalThis.Plotly.react(this.plot, this.traces(), layout, { displayModeBar: false, responsive: false,
+      doubleClick: false });
     if (!this.listens) {
       this.plot.on("plotly_relayout", change => this.zoomed(change));
       this.plot.on("plotly_doubleclick", () => { this.show(this.whole); return false; });
@@ -169,7 +179,8 @@ export class TimeLine {
     if (share < 0 || share > 1) return;
     const height = this.height() - MARGIN.top - MARGIN.bottom;
     const up = 1 - (event.clientY - box.top - MARGIN.top) / height;
-    const branch = up >= 0 && up <= ROWS.tree[1] ? this.study.branches[treeRow(up, this.study.branches.length)] : undefined;
+    const branch = up >= 0 && up <= ROWS.tree[1] ? this.study.branches[treeRow(up,
+      this.study.branches.length)] : undefined;
     this.pick(branch ? branch.name : null, Math.round(this.range[0] + share * (this.range[1] - this.range[0])));
   }
 
