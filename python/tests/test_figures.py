@@ -158,7 +158,7 @@ def drawn(path):
 
 
 PAGES = ["README.md", *sorted(str(path.relative_to(HOME)) for path in (HOME / "docs").glob("*.md"))]
-PICTURE = re.compile(r"!\[[^\]]+\]\(((?:docs/)?pictures/([^)]+))\)")
+PICTURE = re.compile(r"!\[[^\]]+\]\(((?:docs/)?pictures/([^)]+\.svg))\)")
 
 
 def shown():
@@ -189,6 +189,6 @@ def test_a_picture_of_the_docs_is_what_its_command_draws(page, link, name, words
 
 def test_each_picture_of_the_docs_is_shown_with_its_command():
     names = {name for _, _, name, words in SHOWN if words}
-    assert names == {path.name for path in (HOME / "docs" / "pictures").iterdir()} and len(names) >= 3
+    assert names == {path.name for path in (HOME / "docs" / "pictures").glob("*.svg")} and len(names) >= 3
     for page in PAGES:
-        assert (HOME / page).read_text().count("pictures/") == sum(page == one[0] for one in SHOWN), page
+        assert len(re.findall(r"pictures/[^)]+\.svg\)", (HOME / page).read_text())) == sum(page == one[0] for one in SHOWN), page
