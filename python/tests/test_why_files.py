@@ -548,7 +548,8 @@ def test_files_that_cannot_be_written(why, folder, monkeypatch):
     (folder / "inner").mkdir()
     assert why("inner", None, "--write")[1] == "inner is a folder, and is to be a file"
     assert why("study.toml/out", None, "--write")[1] == "study.toml is no folder, so out can't be written there"
-    assert "the device that is always full" in why("/dev/full", None, "--write")[1]
+    if os.path.exists("/dev/full"):
+        assert "the device that is always full" in why("/dev/full", None, "--write")[1]
     os.mkfifo(folder / "pipe")
     assert why("pipe", None, "--write")[1] == "pipe is a named pipe: its reader ended before"
     assert "`| head` does" in why("-", None, "--write")[1]
