@@ -62,9 +62,9 @@ def test_a_lambda_and_a_frame(program, tmp_path):
 
 def test_a_refused_study_is_an_error_before_anything_runs(program, tmp_path):
     refused = small_study().with_("agent.noise.size", 0)
-    with pytest.raises(errors.InputError, match="29"):
+    with pytest.raises(biqsolur.StudyRefused) as fault:
         biqsolur.map(refused, 2, lambda bundle: (tmp_path / "ran").touch(), 1, program=program)
-    assert not (tmp_path / "ran").exists()
+    assert fault.value.rule == 29 and not (tmp_path / "ran").exists()
 
 
 def test_a_function_that_raises_is_told_with_its_key(program):
