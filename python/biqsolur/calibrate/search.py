@@ -31,7 +31,7 @@ def search(calibration: Calibration, evaluator: Evaluator, objective: Objective)
     own = numpy.array([parameter.place(value)
                        for parameter, value in zip(calibration.parameters, calibration.own_values)])
     differential_evolution(distances, [(0.0, 1.0)] * count, maxiter=calibration.generations, popsize=calibration.population,
-                           seed=calibration.seed, init="sobol", x0=own, polish=False, updating="deferred", vectorized=True,
+                           seed=calibration.seed, init="latinhypercube", x0=own, polish=False, updating="deferred", vectorized=True,
                            tol=0.0, atol=0.0)
 
 
