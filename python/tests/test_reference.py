@@ -147,13 +147,3 @@ def test_the_answers_of_the_page(monkeypatch, capsys):
     questions(monkeypatch)
     command = "PYTHONPATH=python python3 examples/reference_questions.py"
     assert block_below(COUNTERFACTUALS, command) == capsys.readouterr().out.splitlines()
-
-
-@pytest.mark.long
-def test_the_calibration_of_the_page(tmp_path, program, capsys, monkeypatch):
-    monkeypatch.chdir(ROOT)
-    config = tmp_path / "calibration.yaml"
-    config.write_text((ROOT / "examples" / "calibration.yaml").read_text().replace("out/calibration", str(tmp_path / "out")))
-    assert main(["calibrate", str(config), "--program", program]) == 0
-    told = capsys.readouterr().out.splitlines()[:-1]
-    assert block_below(REALISM, "python3 -m biqsolur calibrate examples/calibration.yaml") == told

@@ -45,16 +45,20 @@ class Surface:
     """The mean moments as full quadratic functions of the places, fitted to the points nearest to the best one.
 
     coefficients: shape (terms, moments). center: the best point's places. places: of the points it was fitted to.
+    residual: the variance of the points' means about the fit, a number a moment: what the fit doesn't know adds to the
+    squared standard errors by which a distance is measured.
     """
 
     coefficients: numpy.ndarray
     center: numpy.ndarray
     places: numpy.ndarray
+    residual: numpy.ndarray
 
     def distance(self, places: numpy.ndarray, objective: Objective) -> float:
         """The objective at places, by the fitted moments."""
         means = terms_of((places - self.center)[None, :]) @ self.coefficients
-        return float((objective.weights * (means[0] - objective.targets)**2).sum())
+        weights = 1 / (1 / objective.weights + self.residual)
+        return float((weights * (means[0] - objective.targets)**2).sum())
 
 
 def terms_of(steps: numpy.ndarray) -> numpy.ndarray:
@@ -65,8 +69,8 @@ def terms_of(steps: numpy.ndarray) -> numpy.ndarray:
 
 
 def surface_of(calibration: Calibration, known: Mapping[Values, Moments], objective: Objective) -> Surface | None:
-    """The surface over the evaluated points that have all moments: of those nearest to the best, four times as many as
-    there are terms, or half of all where that is more. None where they are fewer than twice the terms."""
+    """The surface over the evaluated points that have all moments: of those nearest to the best, three times as many as
+    there are terms, or a third of all where that is more. None where they are fewer than twice the terms."""
     points = [(values, numpy.array(moments).mean(axis=0)) for values, moments in known.items()
               if math.isfinite(objective.distance(moments))]
     count = len(calibration.parameters)
@@ -77,9 +81,11 @@ def surface_of(calibration: Calibration, known: Mapping[Values, Moments], object
     means = numpy.array([mean for _, mean in points])
     distances = (objective.weights * (means - objective.targets)**2).sum(axis=1)
     center = places[distances.argmin()]
-    near = numpy.argsort(((places - center)**2).sum(axis=1), kind="stable")[:max(4 * terms, len(points) // 2)]
-    fitted = numpy.linalg.lstsq(terms_of(places[near] - center), means[near], rcond=None)[0]
-    return Surface(fitted, center, places[near])
+    near = numpy.argsort(((places - center)**2).sum(axis=1), kind="stable")[:max(3 * terms, len(points) // 3)]
+    rows = terms_of(places[near] - center)
+    fitted = numpy.linalg.lstsq(rows, means[near], rcond=None)[0]
+    residual = ((means[near] - rows @ fitted)**2).sum(axis=0) / (len(near) - terms)
+    return Surface(fitted, center, places[near], residual)
 
 
 def places_of(parameters: tuple[Parameter, ...], values: Values) -> list[float]:
