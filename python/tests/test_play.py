@@ -1,6 +1,7 @@
 """Strategies in Python: the study that comes out sends the same orders, and the policy knew no more than its trader."""
 
 import random
+import tempfile
 
 import numpy
 import pandas
@@ -192,6 +193,25 @@ def test_a_program_that_writes_no_bundle(wrote, tmp_path):
     stub.chmod(0o755)
     with pytest.raises(biqsolur.InputError, match="no bundle"):
         run_last(MARKET, program=stub)
+
+
+def test_a_killed_run_and_an_interrupt_leave_nothing(tmp_path, monkeypatch):
+    """Neither a file nor an error without a name."""
+    stub, folder = tmp_path / "program", tmp_path / "temporary"
+    stub.write_text("#!/bin/sh\nprintf abc\nkill -9 $$\n")
+    stub.chmod(0o755)
+    folder.mkdir()
+    monkeypatch.setattr(tempfile, "tempdir", str(folder))
+    with pytest.raises(biqsolur.InputError, match="signal 9|SIGKILL|killed"):
+        run_last(MARKET, program=stub)
+    assert list(folder.iterdir()) == []
+
+    def interrupted(*_):
+        raise KeyboardInterrupt
+    monkeypatch.setattr("biqsolur.running.ended", interrupted)
+    with pytest.raises(KeyboardInterrupt):
+        run_last(MARKET)
+    assert list(folder.iterdir()) == []
 
 
 def changed_market(change):
