@@ -1,4 +1,4 @@
-"""What does it cost to buy 1,000 shares at once, and in forty parts? In the checkout: python3 examples/twap_against_block.py"""
+"""What does it cost to buy 1,000 shares at once, and what in forty parts?"""
 from pathlib import Path
 
 import biqsolur

@@ -23,8 +23,9 @@ MOST_EVENTS = 4_000_000     # of all branches together, with the root
 class Moment:
     """The state in which a branch stands once all has come that is due by a time.
 
-    branch: its run up to there. events: how many it had. time: that of its last event, or of the opening, in nanoseconds past
-    midnight; an edit's `after` counts from it. end: "Closed" where the run went on but for the time, else why it ended before.
+    branch: its run up to there. events: how many it had. time: that of its last event, or of the opening, in
+    nanoseconds past midnight; an edit's `after` counts from it. end: "Closed" where the run went on but for the time,
+    else why it ended before.
     """
 
     branch: Branch
@@ -55,7 +56,8 @@ def begun(prefix: Study, by_events: list[Table], time: int, running: dict[str, A
 
 def inject_edits(trader: int, sends: Iterable[tuple[int, str]], state_time: int) -> list[Table]:
     """Edits that send messages (hexadecimal digits) which are due at these times, in a state of this time (ns)."""
-    return [{"kind": "inject", "agent": trader, "after": due - state_time, "message": message} for due, message in sends]
+    return [{"kind": "inject", "agent": trader, "after": due - state_time, "message": message}
+            for due, message in sends]
 
 
 def room_fault(study: Study, branches: int) -> str | None:
@@ -66,8 +68,8 @@ def room_fault(study: Study, branches: int) -> str | None:
         return f"that makes {count} branches, and a study has at most {MOST_BRANCHES}"
     if (count + 1) * table["events"] > MOST_EVENTS:
         return (f"with {count} branches and the root, `events` may be at most {MOST_EVENTS // (count + 1)}, since all "
-                f"together have at most {MOST_EVENTS:,}; the study says {table['events']}: with_(\"events\", ...) lowers it, "
-                "as far as the market's run allows")
+                f"together have at most {MOST_EVENTS:,}; the study says {table['events']}: with_(\"events\", ...) "
+                "lowers it, as far as the market's run allows")
     return None
 
 
@@ -80,9 +82,11 @@ def trader_fault(study: Study, trader: object) -> str | None:
 
 
 def siblings_fault(study: Study, parent: str) -> str | None:
-    """Why no branch may leave a parent at a time, or None: branches of one parent leave all at times or all after events."""
-    others = [branch["name"] for branch in study.to_dict().get("branch", []) if branch["parent"] == parent and "at" in branch]
+    """Why no branch may leave a parent at a time, or None: branches of one parent leave all at times or all after
+    events."""
+    branches = study.to_dict().get("branch", [])
+    others = [branch["name"] for branch in branches if branch["parent"] == parent and "at" in branch]
     if not others:
         return None
-    return (f"{', '.join(map(repr, others))} leave {parent!r} after a number of events, and branches of one parent leave it "
-            f"all so or all at times: begin with study.only({parent!r})")
+    return (f"{', '.join(map(repr, others))} leave {parent!r} after a number of events, and branches of one parent "
+            f"leave it all so or all at times: begin with study.only({parent!r})")

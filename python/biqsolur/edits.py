@@ -67,8 +67,8 @@ class Tick(Edit):
 
 @dataclass(frozen=True)
 class Fee(Edit):
-    """Replaces a stock's fees, of the resting order (add) and of the one that meets it (take): dollars a share as a text
-    or Decimal, or whole millionths of a dollar a share. A negative fee is paid to the trader."""
+    """Replaces a stock's fees, of the resting order (add) and of the one that meets it (take): dollars a share as a
+    text or Decimal, or whole millionths of a dollar a share. A negative fee is paid to the trader."""
 
     KIND: ClassVar[str] = "fee"
     stock: str
@@ -108,8 +108,9 @@ class Latency(Edit):
 
 @dataclass(frozen=True)
 class AgentParameter(Edit):
-    """Replaces a parameter of a trader. agent: its number, from 1. name: `every`, `wobble`, `delay`, or one of its kind's
-    own but for `short` and `long`. value: a time, a price (with four decimals) or shares, as the parameter is."""
+    """Replaces a parameter of a trader. agent: its number, from 1. name: `every`, `wobble`, `delay`, or one of its
+    kind's own but for `short` and `long`. value: a time, a price (with four decimals) or shares, as the parameter
+    is."""
 
     KIND: ClassVar[str] = "agent"
     agent: int
@@ -148,8 +149,8 @@ class Inject(Edit):
 
 @dataclass(frozen=True)
 class SeriesOffset(Edit):
-    """Adds to a stock's value from then on. offset: a difference of prices, which may be negative; it comes on top of those
-    of edits before."""
+    """Adds to a stock's value from then on. offset: a difference of prices, which may be negative; it comes on top of
+    those of edits before."""
 
     KIND: ClassVar[str] = "series"
     stock: str
@@ -168,7 +169,8 @@ def message_digits(message: object) -> str:
         return bytes(message).hex()
     if isinstance(message, str) and HEXADECIMAL.fullmatch(message):
         return message
-    raise StudyError(f"{message!r} is no order; give biqsolur.ouch.Enter or Cancel, bytes, or lower-case hexadecimal digits")
+    raise StudyError(
+        f"{message!r} is no order; give biqsolur.ouch.Enter or Cancel, bytes, or lower-case hexadecimal digits")
 
 
 def edit_of(table: Mapping[str, Any]) -> Edit:

@@ -81,7 +81,8 @@ FIELDS: dict[str, dict[str, Kind]] = {
     "agent": {
         "kind": text, "group": whole, "stock": text, "first": nanoseconds, "every": duration, "wobble": duration,
         "delay": duration, "cash": money, "count": whole, "spread": duration, "size": whole, "noise": price,
-        "margin": price, "short": whole, "long": whole, "half": price, "step": price, "levels": whole, "pause": duration,
+        "margin": price, "short": whole, "long": whole, "half": price, "step": price, "levels": whole,
+        "pause": duration,
     },
     "branch": {"name": text, "parent": text, "at": whole, "when": nanoseconds, "edit": TABLES + "edit"},
     "edit": {

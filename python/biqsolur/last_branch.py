@@ -1,7 +1,8 @@
 """The last branch of a study's run, read without the others.
 
-A chain of branches has its whole run in the last one, while the bundle holds each of them from the opening to its end. A
-strategy asks for nothing but the last one, once for each decision; to find the frames of the others would cost most of it.
+A chain of branches has its whole run in the last one, while the bundle holds each of them from the opening to its end.
+A strategy asks for nothing but the last one, once for each decision; to find the frames of the others would cost most
+of it.
 """
 
 from __future__ import annotations
@@ -21,8 +22,8 @@ NO_PARENT = b"\xff\xff"
 
 
 def run_last(study: Study, workers: int = 1, *, program: str | PathLike[str] | None = None) -> Bundle:
-    """Runs a study and gives a bundle of its last branch alone, under its name, as if it were a root. Nothing is kept in
-    the cache. Raises what `biqsolur.run` raises."""
+    """Runs a study and gives a bundle of its last branch alone, under its name, as if it were a root. Nothing is kept
+    in the cache. Raises what `biqsolur.run` raises."""
     from biqsolur.running import command, workers_words, written_bundle
     with command("run", study, program, *workers_words(workers)) as (call, _), \
             tempfile.NamedTemporaryFile(prefix="biqsolur-", suffix=".bundle") as file:
@@ -37,8 +38,8 @@ def run_last(study: Study, workers: int = 1, *, program: str | PathLike[str] | N
 
 
 def branch_alone(data: mmap.mmap, name: bytes, number: int) -> bytes:
-    """A bundle of the last branch, of this name and number: its frames between a header and an end of one branch. What is
-    no bundle gives bytes that are none."""
+    """A bundle of the last branch, of this name and number: its frames between a header and an end of one branch. What
+    is no bundle gives bytes that are none."""
     wanted, size = bytes([len(name)]) + name, (10 + len(name)).to_bytes(2, "big")
     place = data.rfind(wanted)
     while place >= 0:

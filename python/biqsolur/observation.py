@@ -22,8 +22,8 @@ PRICE_UNITS, MONEY_UNITS = 10_000, 1_000_000    # of a dollar
 class Quote:
     """The displayed best prices of a stock, as the trader was last told them; they may have changed since.
 
-    time: when it heard them, ns past midnight. state: "T" trades, "H" is halted. bid, ask, last: prices with four implied
-    decimals, 0 where there is none. bid_shares, ask_shares: displayed at the best price.
+    time: when it heard them, ns past midnight. state: "T" trades, "H" is halted. bid, ask, last: prices with four
+    implied decimals, 0 where there is none. bid_shares, ask_shares: displayed at the best price.
     """
 
     time: int
@@ -84,10 +84,10 @@ class Given:
 class Observation:
     """What a trader knows at a decision.
 
-    decision: its number, from 1. time: now; open, close: the market's hours; all in ns past midnight. trader: its number.
-    symbol: its stock, of which it asks quotes. book: the last quote it heard, None before the first. orders: its own open
-    orders, in the order given. account: cash and positions by the replies heard. replies: those heard since the last
-    decision, in order.
+    decision: its number, from 1. time: now; open, close: the market's hours; all in ns past midnight. trader: its
+    number. symbol: its stock, of which it asks quotes. book: the last quote it heard, None before the first. orders:
+    its own open orders, in the order given. account: cash and positions by the replies heard. replies: those heard
+    since the last decision, in order.
 
     `buy`, `sell` and `cancel` make orders for the policy to return; `as_vector` gives numbers for a learner.
     """
@@ -105,8 +105,9 @@ class Observation:
     tokens: Iterator[str] = field(repr=False, compare=False)
 
     # What `as_vector` gives, in order. Seconds, dollars and shares; 0 where there is no such price.
-    VECTOR = ("seconds_since_open", "seconds_to_close", "quote_age_seconds", "halted", "bid", "bid_shares", "ask", "ask_shares",
-              "last", "position", "cash", "open_to_buy", "open_to_sell")
+    VECTOR = (
+        "seconds_since_open", "seconds_to_close", "quote_age_seconds", "halted", "bid", "bid_shares", "ask",
+        "ask_shares", "last", "position", "cash", "open_to_buy", "open_to_sell")
 
     @property
     def position(self) -> int:
@@ -114,8 +115,8 @@ class Observation:
         return self.account.positions.get(self.symbol, 0)
 
     def buy(self, shares: int, price: object, **more: object) -> Enter:
-        """An order to buy the trader's stock: `price` as a whole number with four decimals, a text or Decimal of dollars.
-        `more` goes to `Enter`: time_in_force=0 takes what is there at once, symbol another stock."""
+        """An order to buy the trader's stock: `price` as a whole number with four decimals, a text or Decimal of
+        dollars. `more` goes to `Enter`: time_in_force=0 takes what is there at once, symbol another stock."""
         return self._enter("B", shares, price, more)
 
     def sell(self, shares: int, price: object, **more: object) -> Enter:
@@ -123,12 +124,13 @@ class Observation:
         return self._enter("S", shares, price, more)
 
     def cancel(self, order: OpenOrder | Enter, shares: int = 0) -> Cancel:
-        """Asks that an order be lowered to so many shares in all, those already executed among them; 0 takes it away."""
+        """Asks that an order be lowered to so many shares in all, those already executed among them; 0 takes it
+        away."""
         return Cancel((order.order if isinstance(order, OpenOrder) else order).token, shares)
 
     def _enter(self, side: str, shares: int, price: object, more: Mapping[str, object]) -> Enter:
-        return Enter(**{"token": next(self.tokens), "side": side, "shares": shares, "symbol": self.symbol, "price": price,
-                        **more})    # type: ignore[arg-type]
+        fields = {"token": next(self.tokens), "side": side, "shares": shares, "symbol": self.symbol, "price": price}
+        return Enter(**{**fields, **more})      # type: ignore[arg-type]
 
     def as_vector(self) -> numpy.ndarray[Any, numpy.dtype[numpy.float64]]:
         """The observation as floating-point numbers, of the shape (13,), named by `VECTOR`."""
@@ -137,9 +139,10 @@ class Observation:
             (self.time - book.time) / SECOND, float(book.state != "T"), book.bid / PRICE_UNITS, book.bid_shares,
             book.ask / PRICE_UNITS, book.ask_shares, book.last / PRICE_UNITS)
         mine = [order for order in self.orders if order.order.symbol == self.symbol]
+        waiting = (sum(order.open for order in mine if order.order.side == side) for side in "BS")
         return numpy.array([
             (self.time - self.open) / SECOND, (self.close - self.time) / SECOND, *told, self.position,
-            self.account.cash / MONEY_UNITS, *(sum(order.open for order in mine if order.order.side == side) for side in "BS"),
+            self.account.cash / MONEY_UNITS, *waiting,
         ], dtype=numpy.float64)
 
     def worth(self) -> float:
@@ -177,11 +180,13 @@ class Ledger:
     """A trader's open orders and account, from what it sent and heard."""
 
     def __init__(self, cash: int, given: list[Given], sent: list[Sent]) -> None:
-        """cash: what it had at the opening (millionths of a dollar). given: the strategy's orders; sent: as `own_messages`,
-        of which the trader's own rule may have sent some too: such an order is known once a reply about it is heard."""
+        """cash: what it had at the opening (millionths of a dollar). given: the strategy's orders; sent: as
+        `own_messages`, of which the trader's own rule may have sent some too: such an order is known once a reply about
+        it is heard."""
         self.cash = cash
         self.positions: dict[str, int] = {}
-        self.replies = [(one.event, Heard(one.time, one.message)) for one in sent if not one.is_order]  # type: ignore[arg-type]
+        self.replies = [(one.event, Heard(one.time, one.message))
+                         for one in sent if not one.is_order]  # type: ignore[arg-type]
         self.entered = {order.token: OpenOrder(order, order.shares, False, time)
                         for time, order in ((one.time, one.message) for one in sent if one.is_order)
                         if isinstance(order, Enter)}

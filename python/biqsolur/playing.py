@@ -19,8 +19,8 @@ from itertools import count
 from os import PathLike
 from typing import Any
 
-from biqsolur.chains import (EDITS_OF_A_BRANCH, MOST_BRANCHES, MOST_EVENTS, inject_edits, moment_of, room_fault, siblings_fault,
-                             trader_fault)
+from biqsolur.chains import (EDITS_OF_A_BRANCH, MOST_BRANCHES, MOST_EVENTS, inject_edits,
+                             moment_of, room_fault, siblings_fault, trader_fault)
 from biqsolur.errors import PlayError, PolicyError, StudyError
 from biqsolur.fields import Table
 from biqsolur.observation import Given, Ledger, Observation, last_quote, own_messages
@@ -35,9 +35,9 @@ Policy = Callable[[Observation], Iterable[Order] | None]
 def play(study: AnyStudy, trader: int, policy: Policy, every: object = "1s", **settings: Any) -> Study:
     """Plays a policy to the close and gives the study with its orders; its last branch is the run with all of them.
 
-    policy: takes an Observation and returns orders (`observation.buy(...)`, `sell`, `cancel`, or `biqsolur.ouch.Enter` and
-    `Cancel`), none of them or None. The settings are those of Game. Raises PlayError, also where the market ends before
-    the last decision by its limit of events, PolicyError where the policy raises or gives what is no order, and
+    policy: takes an Observation and returns orders (`observation.buy(...)`, `sell`, `cancel`, or `biqsolur.ouch.Enter`
+    and `Cancel`), none of them or None. The settings are those of Game. Raises PlayError, also where the market ends
+    before the last decision by its limit of events, PolicyError where the policy raises or gives what is no order, and
     StudyRefused.
     """
     game = Game(study, trader, every, **settings)
@@ -46,8 +46,9 @@ def play(study: AnyStudy, trader: int, policy: Policy, every: object = "1s", **s
         game.give(asked(policy, observation))
         observation = game.observe()
     if game.asked < len(game.times):
-        raise PlayError(f"the market ended by its limit of {game.table['events']} events, before decision {game.asked + 1} at "
-                        f"{clock_text(game.times[game.asked])}: raise `events`, or say an earlier `end`")
+        raise PlayError(
+            f"the market ended by its limit of {game.table['events']} events, before decision {game.asked + 1} at "
+            f"{clock_text(game.times[game.asked])}: raise `events`, or say an earlier `end`")
     return game.study
 
 
@@ -67,13 +68,13 @@ class Game:
     `reset` and `step` are those of a gym environment (Farama's Gymnasium): a step takes orders and gives (observation,
     reward, terminated, truncated, info). The reward is by how many dollars `observation.worth()` rose.
 
-    trader: its number, from 1. every: the time between two decisions; start: the first one, `every` after the open where
-    nothing is said; end: no decision later than it, or the close. delay: from a decision until its orders come to the
-    exchange; where nothing is said, the trader's delay and the base latency of its group to the exchange's, without
+    trader: its number, from 1. every: the time between two decisions; start: the first one, `every` after the open
+    where nothing is said; end: no decision later than it, or the close. delay: from a decision until its orders come to
+    the exchange; where nothing is said, the trader's delay and the base latency of its group to the exchange's, without
     jitter. branch: which one is played; only it and those on the way to it are kept. most: how many branches the
-    decisions may take, one for each with orders, two where it gives more than 16, and so on; where nothing is said, as many
-    as the study has room for, which is to be one for each decision time or 255. name: the branches are
-    NAME-1, NAME-2, ... The study gets version 2. `running` goes to `biqsolur.run` (workers, program).
+    decisions may take, one for each with orders, two where it gives more than 16, and so on; where nothing is said, as
+    many as the study has room for, which is to be one for each decision time or 255. name: the branches are NAME-1,
+    NAME-2, ... The study gets version 2. `running` goes to `biqsolur.run` (workers, program).
     """
 
     def __init__(self, study: AnyStudy, trader: int, every: object = "1s", *, start: object = None, end: object = None,
@@ -86,7 +87,8 @@ class Game:
         if fault is not None:
             raise PlayError(fault)
         self.table = self.base.to_dict()
-        self.plain = Study._made(self.table, None, self.base.folder)    # without a text, which would be written anew each time
+        # without a text, which would be written anew each time
+        self.plain = Study._made(self.table, None, self.base.folder)
         self.entry = entry_of(self.table, trader)
         self.delay = way_to_exchange(self.table, self.entry, trader) if delay is None else duration(delay)
         self.times = decision_times(self.table, every, start, end, self.delay)
@@ -94,12 +96,14 @@ class Game:
         self.first_branch = branch
         taken = next((known for known in self.base.branches if known.startswith(f"{name}-")), None)
         if taken is not None:
-            raise PlayError(f"the study has the branch {taken!r} already; give the branches another `name` than {name!r}")
+            raise PlayError(
+                f"the study has the branch {taken!r} already; give the branches another `name` than {name!r}")
         self.used_before = tokens_sent(self.table, trader)
         self._begin()
 
     def _most(self, most: int | None) -> int:
-        """How many branches may be made; PlayError where the study has no room for one at each decision, or for `most`."""
+        """How many branches may be made; PlayError where the study has no room for one at each decision, or for
+        `most`."""
         before = len(self.table.get("branch", []))
         room = MOST_BRANCHES - before
         if most is not None and (type(most) is not int or most < 0):
@@ -107,7 +111,8 @@ class Game:
         wanted = min(len(self.times), room) if most is None else most
         fault = room_fault(self.base, wanted)
         if fault is not None:
-            raise PlayError(f"with up to {wanted} decisions that give orders: {fault}. Or say how many there are by `most`")
+            raise PlayError(
+                f"with up to {wanted} decisions that give orders: {fault}. Or say how many there are by `most`")
         return min(room, MOST_EVENTS // self.table["events"] - 1 - before) if most is None else most
 
     def _begin(self) -> None:
@@ -132,8 +137,8 @@ class Game:
     # ------------------------------------------------------------ decision by decision
 
     def observe(self) -> Observation | None:
-        """Goes to the next decision time and tells what the trader knows there. None where no decision is left, or where
-        the market ended before, by its limit of events or a full queue."""
+        """Goes to the next decision time and tells what the trader knows there. None where no decision is left, or
+        where the market ended before, by its limit of events or a full queue."""
         if self.over or self.asked == len(self.times):
             self.over = True
             return None
@@ -155,15 +160,16 @@ class Game:
         self.state_time, self.events = moment.time, moment.events
         self.observation = Observation(
             decision, time, self.table["open"], self.table["close"], self.trader, self.entry["stock"],
-            last_quote(moment.branch, self.trader), ledger.orders, ledger.account, replies, tokens_of(decision, self.used_before))
+            last_quote(moment.branch, self.trader), ledger.orders, ledger.account, replies,
+            tokens_of(decision, self.used_before))
         return self.observation
 
     def give(self, orders: Iterable[Order]) -> None:
-        """Sends orders at the decision that was last observed. Raises PolicyError for what is no order and for a token that
-        was used, PlayError where they take more branches than there may be."""
+        """Sends orders at the decision that was last observed. Raises PolicyError for what is no order and for a token
+        that was used, PlayError where they take more branches than there may be."""
         observation = self.observation
         if observation is None or self.over:
-            raise PlayError("no decision is open: look first by observe() or reset(), and begin anew where the game is over")
+            raise PlayError("no decision is open: look first by observe() or reset(), which begins anew")
         orders = list(orders)
         used = self.used_before | {one.order.token for one in self.given if isinstance(one.order, Enter)}
         for order in orders:
@@ -173,9 +179,10 @@ class Game:
                                   f"decision {observation.decision}, {clock_text(observation.time)}: {fault}")
         needed = -(-len(orders) // EDITS_OF_A_BRANCH)
         if len(self.branches) + needed > self.most:
-            raise PlayError(f"decision {observation.decision}, {clock_text(observation.time)}: its orders make more than "
-                            f"{self.most} branches, the most there may be (255 in a study): decide less often, or give orders "
-                            "at fewer decisions")
+            raise PlayError(
+                f"decision {observation.decision}, {clock_text(observation.time)}: its orders make more than "
+                f"{self.most} branches, the most there may be (255 in a study): decide less often, or give orders "
+                "at fewer decisions")
         self._send(observation.time, orders)
 
     def _send(self, time: int, orders: list[Order]) -> None:
@@ -191,8 +198,8 @@ class Game:
     # ------------------------------------------------------------ as a gym environment
 
     def reset(self, *, seed: int | None = None, options: object = None) -> tuple[Observation, dict[str, Any]]:
-        """Begins anew, and gives (the first observation, {}). The market's chance is the study's key: `seed` and `options`
-        are taken for the sake of the interface and change nothing."""
+        """Begins anew, and gives (the first observation, {}). The market's chance is the study's key: `seed` and
+        `options` are taken for the sake of the interface and change nothing."""
         self._begin()
         observation = self.observe()
         if observation is None:
@@ -200,9 +207,9 @@ class Game:
         return observation, {}
 
     def step(self, orders: Iterable[Order]) -> tuple[Observation, float, bool, bool, dict[str, Any]]:
-        """Sends orders and goes on to the next decision, behind the last one to the close: (observation, reward in dollars,
-        terminated, truncated, {}). terminated: no decision is left; truncated: the market ended before by a limit, and
-        the observation is the last one."""
+        """Sends orders and goes on to the next decision, behind the last one to the close: (observation, reward in
+        dollars, terminated, truncated, {}). terminated: no decision is left; truncated: the market ended before by a
+        limit, and the observation is the last one."""
         before = self.observation
         self.give(orders)
         assert before is not None
@@ -228,8 +235,8 @@ def entry_of(table: Table, trader: int) -> Table:
 
 
 def way_to_exchange(table: Table, entry: Table, trader: int) -> int:
-    """How long a trader's order takes without jitter, in nanoseconds: its delay and the base latency of its group to the
-    exchange's, as the played branch's edits leave them."""
+    """How long a trader's order takes without jitter, in nanoseconds: its delay and the base latency of its group to
+    the exchange's, as the played branch's edits leave them."""
     delay, ends = entry.get("delay", 0), (entry["group"], table["exchange"]["group"])
     base = table["latency"]["base"][ends[0]][ends[1]]
     for edit in (edit for branch in table.get("branch", []) for edit in branch.get("edit", [])):
@@ -253,17 +260,20 @@ def decision_times(table: Table, every: object, start: object, end: object, dela
     except StudyError as error:
         raise PlayError(str(error)) from None
     if not table["open"] <= first <= last:
-        raise PlayError(f"the first decision would be at {clock_text(first)}; the hours are {clock_text(table['open'])} to "
-                        f"{clock_text(table['close'])}, and the last decision whose orders come in time is at "
-                        f"{clock_text(max(0, last))}")
+        raise PlayError(
+            f"the first decision would be at {clock_text(first)}; the hours are {clock_text(table['open'])} to "
+            f"{clock_text(table['close'])}, and the last decision whose orders come in time is at "
+            f"{clock_text(max(0, last))}")
     return range(first, last + 1, step)
 
 
 def tokens_sent(table: Table, trader: int) -> set[str]:
     """The tokens of the orders that edits send in a trader's name."""
     edits = [edit for branch in table.get("branch", []) for edit in branch.get("edit", [])]
-    messages = [bytes.fromhex(edit["message"]) for edit in edits if (edit["kind"], edit.get("agent")) == ("inject", trader)]
-    return {decode(message).token for message in messages if message[:1] == Enter.TYPE.encode()}   # type: ignore[attr-defined]
+    messages = [bytes.fromhex(edit["message"]) for edit in edits if (
+        edit["kind"], edit.get("agent")) == ("inject", trader)]
+    # type: ignore[attr-defined]
+    return {decode(message).token for message in messages if message[:1] == Enter.TYPE.encode()}
 
 
 def tokens_of(decision: int, used: set[str]) -> Iterator[str]:
@@ -274,7 +284,7 @@ def tokens_of(decision: int, used: set[str]) -> Iterator[str]:
 def order_fault(order: object, used: set[str]) -> str | None:
     """What is wrong with an order of a policy, or None; the token of an Enter joins the used ones."""
     if not isinstance(order, (Enter, Cancel)):
-        return f"{order!r} is no order; give biqsolur.ouch.Enter or Cancel, as observation.buy, sell and cancel make them"
+        return f"{order!r} is no order; give ouch.Enter or Cancel, as observation.buy, sell and cancel make them"
     if isinstance(order, Enter):
         if order.token in used:
             return f"the token {order.token!r} was used by an order before, and the exchange ignores a second one"

@@ -40,8 +40,9 @@ def price_text(number: int) -> str:
 
 def scaled(value: object, decimals: int, what: str, text_example: str, number_example: str) -> int:
     """An exact number of dollars in units of its last decimal."""
-    wanted = (f"write dollars as a text (\"{text_example}\") or a Decimal, or the whole number {number_example} with its "
-              f"{decimals} implied decimals")
+    wanted = (
+        f"write dollars as a text (\"{text_example}\") or a Decimal, or the whole number {number_example} with its "
+        f"{decimals} implied decimals")
     if isinstance(value, bool):
         raise PriceError(f"{value!r} is no {what}; {wanted}")
     if isinstance(value, Integral):

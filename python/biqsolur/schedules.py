@@ -15,7 +15,8 @@ from operator import itemgetter
 from os import PathLike
 from typing import Any
 
-from biqsolur.chains import EDITS_OF_A_BRANCH, MOST_BRANCHES, inject_edits, moment_of, room_fault, siblings_fault, trader_fault
+from biqsolur.chains import (
+    EDITS_OF_A_BRANCH, MOST_BRANCHES, inject_edits, moment_of, room_fault, siblings_fault, trader_fault)
 from biqsolur.edits import message_digits
 from biqsolur.errors import ScheduleError, StudyError
 from biqsolur.fields import Table
@@ -26,19 +27,20 @@ MOST_ORDERS = EDITS_OF_A_BRANCH * MOST_BRANCHES
 ENTER_START, TOKEN_END = "4f", 2 * 15   # in digits: an Enter's first byte; its token follows
 
 
-def schedule(study: Study | str | PathLike[str] | Mapping[str, Any], trader: int, orders: Iterable[tuple[object, object]], *, parent: str = "root",
-             name: str = "schedule", **running: Any) -> Study:
+def schedule(study: Study | str | PathLike[str] | Mapping[str, Any], trader: int,
+             orders: Iterable[tuple[object, object]], *, parent: str = "root", name: str = "schedule",
+             **running: Any) -> Study:
     """The study with a chain of branches that sends these orders in the name of a trader (a number from 1).
 
     orders: up to 4,080 pairs of a time of day (whole nanoseconds, "9:30:00.5", Timedelta) and an order
     (`biqsolur.ouch.Enter` or `Cancel`, bytes, or hexadecimal digits), the times within the hours. They may stand in any
     order: they are sorted by time, and those of one time stay in the order given. They come to the exchange at their
-    times, without latency. The branches are called NAME-1, NAME-2 and so on; they begin at `parent`, and the last has all
-    orders. The study gets version 2.
+    times, without latency. The branches are called NAME-1, NAME-2 and so on; they begin at `parent`, and the last has
+    all orders. The study gets version 2.
 
-    The chain is of this study's run: where something else is changed, change it first and make the schedule then. An order
-    that is later than the market's end by its limit of events never comes. `running` goes to `biqsolur.run` (workers, program). Raises ScheduleError, which says which order is wrong, and
-    StudyRefused.
+    The chain is of this study's run: where something else is changed, change it first and make the schedule then. An
+    order that is later than the market's end by its limit of events never comes. `running` goes to `biqsolur.run`
+    (workers, program). Raises ScheduleError, which says which order is wrong, and StudyRefused.
     """
     study = study if isinstance(study, Study) else Study(study)
     study.check(running.get("program"))
@@ -72,8 +74,9 @@ def sends_of(study: Study, orders: Iterable[tuple[object, object]]) -> list[tupl
             raise ScheduleError(f"{place}: {pair!r} is no pair of a time and an order") from None
         if not table["open"] <= moment <= table["close"]:
             side = "before the open" if moment < table["open"] else "after the close"
-            raise ScheduleError(f"{place}: {clock_text(moment)} is {side}; the hours are {clock_text(table['open'])} to "
-                                f"{clock_text(table['close'])}")
+            raise ScheduleError(
+                f"{place}: {clock_text(moment)} is {side}; the hours are {clock_text(table['open'])} to "
+                f"{clock_text(table['close'])}")
         if message.startswith(ENTER_START) and tokens.setdefault(message[2:TOKEN_END], number) != number:
             raise ScheduleError(f"{place}: its token is that of order {tokens[message[2:TOKEN_END]]}, and the exchange "
                                 "ignores an order whose token its trader has used")
@@ -93,8 +96,9 @@ def state_time(study: Study, parent: str, first: int, running: dict[str, Any]) -
     except StudyError as error:
         raise ScheduleError(f"the first order: {error}") from None
     if moment.end in ("EventLimit", "QueueFull"):
-        raise ScheduleError(f"the run of {parent!r} ends at {clock_text(moment.time)} ({moment.end}), before the first order, "
-                            f"at {clock_text(first)}")
+        raise ScheduleError(
+            f"the run of {parent!r} ends at {clock_text(moment.time)} ({moment.end}), before the first order, "
+            f"at {clock_text(first)}")
     return moment.time
 
 

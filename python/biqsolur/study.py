@@ -23,7 +23,8 @@ from typing import Any
 from biqsolur.edits import Edit, edit_of
 from biqsolur.errors import StudyError, StudySyntaxError
 from biqsolur.fields import Table, plain_table
-from biqsolur.study_changes import changed_table, changed_text, text_with_agent, text_with_branches, text_without_branches
+from biqsolur.study_changes import (
+    changed_table, changed_text, text_with_agent, text_with_branches, text_without_branches)
 from biqsolur.times import clock_text, nanoseconds
 from biqsolur.toml_text import study_text
 
@@ -39,7 +40,8 @@ class Study:
     made, else the study's own folder; None where the study names no such file.
     """
 
-    def __init__(self, source: str | os.PathLike[str] | Mapping[str, Any], folder: str | os.PathLike[str] | None = None) -> None:
+    def __init__(self, source: str | os.PathLike[str] | Mapping[str, Any],
+                 folder: str | os.PathLike[str] | None = None) -> None:
         if isinstance(source, Mapping):
             self._set(plain_table("study", source), None, folder, None)
         elif isinstance(source, str) and "\n" in source:
@@ -48,7 +50,8 @@ class Study:
             text = text_of_file(Path(source))
             self._set(table_of(text, Path(source)), text, folder, Path(source))
         else:
-            raise StudyError(f"{source!r} is of the type {type(source).__name__}; a study is made from a path, text or dict")
+            raise StudyError(
+                f"{source!r} is of the type {type(source).__name__}; a study is made from a path, text or dict")
 
     @classmethod
     def read(cls, path: str | os.PathLike[str], folder: str | os.PathLike[str] | None = None) -> Study:
@@ -63,8 +66,9 @@ class Study:
     @classmethod
     def from_dict(cls, table: Mapping[str, Any], folder: str | os.PathLike[str] | None = None) -> Study:
         """The study of a dict with the keys of docs/FORMATS.md. Times may be texts such as "9:30:00.5" or Timedelta,
-        lengths of time texts such as "250ms", prices and money texts or Decimals of dollars, the key a number, and edits
-        those of `biqsolur.edits`. Raises StudyError for an unknown key and a value of a wrong type; a float always is."""
+        lengths of time texts such as "250ms", prices and money texts or Decimals of dollars, the key a number, and
+        edits those of `biqsolur.edits`. Raises StudyError for an unknown key and a value of a wrong type; a float
+        always is."""
         if not isinstance(table, Mapping):
             raise StudyError(f"{table!r} is of the type {type(table).__name__}, and is to be a dict")
         return cls(table, folder)
@@ -149,9 +153,9 @@ class Study:
         return Study._made(table, text, self.folder)
 
     def with_agent(self, kind: str, **keys: Any) -> Study:
-        """The study with one more agent entry, behind the others, so that all numbers of traders stay: its traders have the
-        next ones. `keys` are those of an entry in docs/FORMATS.md; where nothing is said, the stock is the first, the group
-        that of the exchange, and the first wakeup is at the open.
+        """The study with one more agent entry, behind the others, so that all numbers of traders stay: its traders have
+        the next ones. `keys` are those of an entry in docs/FORMATS.md; where nothing is said, the stock is the first,
+        the group that of the exchange, and the first wakeup is at the open.
 
             study.with_agent("watcher", every="1s")
         """
@@ -173,8 +177,9 @@ class Study:
         StudyError: none or both of `after` and `at`, a name that is taken, no such parent.
         """
         if (after is None) == (at is None):
-            raise StudyError("a branch leaves its parent after a number of events (after=5000) or at a time (at=\"9:41\"): "
-                             "give one of the two")
+            raise StudyError(
+                "a branch leaves its parent after a number of events (after=5000) or at a time (at=\"9:41\"): "
+                "give one of the two")
         if name in self.branches:
             raise StudyError(f"there is a branch {name!r} already; a branch has a name of its own")
         self._known(parent)
@@ -189,7 +194,8 @@ class Study:
         self._branch(name)
         children = [branch.get("name", "") for branch in self._tables("branch") if branch.get("parent") == name]
         if children:
-            raise StudyError(f"the branch {name!r} has branches of its own, to be taken away first: {', '.join(children)}")
+            raise StudyError(
+                f"the branch {name!r} has branches of its own, to be taken away first: {', '.join(children)}")
         return self._with_only({*self.branches} - {name})
 
     def only(self, branch: str) -> Study:
@@ -213,7 +219,7 @@ class Study:
         """
         table, moment = self.only(branch).to_dict(), nanoseconds(time)
         if type(table.get("open")) is not int or type(table.get("close")) is not int:
-            raise StudyError("the study has no hours: `open` and `close` are whole numbers of nanoseconds past midnight")
+            raise StudyError("the study has no hours: `open` and `close` are nanoseconds past midnight")
         if not table["open"] <= moment <= table["close"]:
             raise StudyError(f"{clock_text(moment)} is outside the hours, {clock_text(table['open'])} to "
                              f"{clock_text(table['close'])}")
@@ -233,12 +239,13 @@ class Study:
             return self
         for branch in self._tables("branch"):
             if any(is_hidden_order(edit) for edit in branch.get("edit", [])):
-                raise StudyError(f"the branch {branch.get('name')!r} injects a hidden order (display N), which version 1 rejects "
-                                 "and version 2 takes: say which is meant by with_(\"version\", 2) first, or leave it out")
+                raise StudyError(
+                    f"the branch {branch.get('name')!r} injects a hidden order (display N), which version 1 rejects "
+                    "and version 2 takes: say which is meant by with_(\"version\", 2) first, or leave it out")
         return self.with_("version", 2)
 
     def schedule(self, trader: int, orders: Sequence[tuple[object, object]], **settings: Any) -> Study:
-        """The study with a chain of branches that sends these orders in a trader's name: `biqsolur.schedules.schedule`."""
+        """The study with a chain of branches that sends these orders for a trader: `biqsolur.schedules.schedule`."""
         from biqsolur.schedules import schedule
         return schedule(self, trader, orders, **settings)
 
@@ -268,7 +275,8 @@ class Study:
         return next(branch for branch in self._tables("branch") if branch.get("name") == name)
 
     def _tables(self, key: str) -> list[Table]:
-        """The tables of an array, none where the study has none. Raises StudyError where it has something else there."""
+        """The tables of an array, none where the study has none. Raises StudyError where it has something else
+        there."""
         tables = self._table.get(key, [])
         if isinstance(tables, list) and all(isinstance(table, dict) for table in tables):
             return tables
@@ -338,7 +346,8 @@ def series_folder(name: object, path: Path | None) -> Path | None:
 
 
 def count_of(entry: Mapping[str, Any]) -> int:
-    """How many traders an agent entry makes; what is no number makes none, and more than there may be count as too many."""
+    """How many traders an agent entry makes; what is no number makes none, and more than there may be count as too
+    many."""
     count = entry.get("count", 1)
     return min(count, MOST_TRADERS + 1) if type(count) is int else 0
 
@@ -346,4 +355,6 @@ def count_of(entry: Mapping[str, Any]) -> int:
 def is_hidden_order(edit: Mapping[str, Any]) -> bool:
     """Whether an edit injects an Enter with display N."""
     message = edit.get("message")
-    return isinstance(message, str) and message[:2] == b"O".hex() and message[HIDDEN_OFFSET:HIDDEN_OFFSET + 2] == b"N".hex()
+    if not isinstance(message, str):
+        return False
+    return message[:2] == b"O".hex() and message[HIDDEN_OFFSET:HIDDEN_OFFSET + 2] == b"N".hex()

@@ -72,7 +72,8 @@ def entry_number(entries: Any, kind: str, part: str | int) -> int:
         name = NAMES_OF_ENTRIES.get(kind, "kind")
         found = [number for number, entry in enumerate(entries) if isinstance(entry, dict) and entry.get(name) == part]
     if len(found) != 1:
-        raise StudyError(f"{len(found) or 'no'} entries are {part!r}; they have the numbers from 0 to {len(entries) - 1}")
+        raise StudyError(
+            f"{len(found) or 'no'} entries are {part!r}; they have the numbers from 0 to {len(entries) - 1}")
     return found[0]
 
 

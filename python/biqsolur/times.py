@@ -54,7 +54,7 @@ def clock_time(text: str) -> int:
     """A time of day from hours, minutes and, where they stand there, seconds with up to nine decimals."""
     match = CLOCK.fullmatch(text.strip())
     if match is None:
-        raise TimeError(f"{text!r} is no time of day; write \"9:30\" or \"9:30:00.5\", or nanoseconds as a whole number")
+        raise TimeError(f"{text!r} is no time of day; write \"9:30\" or \"9:30:00.5\", or nanoseconds as a number")
     hours, minutes, seconds = int(match[1]), int(match[2]), int(match[3] or 0)
     if hours > 23 or minutes > 59 or seconds > 59:
         raise TimeError(f"{text!r} is no time of day; the last one is \"23:59:59.999999999\"")
@@ -65,7 +65,8 @@ def length_of_time(text: str) -> int:
     """A length of time from a number and its unit, which has to come to whole nanoseconds."""
     match = LENGTH.fullmatch(text.strip())
     if match is None:
-        raise TimeError(f"{text!r} is no length of time; write a number and one of the units {', '.join(UNITS)}, as in \"1.5s\"")
+        raise TimeError(
+            f"{text!r} is no length of time; write a number and one of the units {', '.join(UNITS)}, as in \"1.5s\"")
     whole, fraction, unit = match[1], match[2] or "", UNITS[match[3]]
     count, rest = divmod(int(whole + fraction) * unit, 10 ** len(fraction))
     if rest:

@@ -1,7 +1,7 @@
 """The examples in Python: each runs from any folder, and prints what it printed when it was written.
 
-What an example prints hangs on the program and the package alone, so another line is a change to be looked at. Add an example by
-its name and its lines.
+What an example prints hangs on the program and the package alone, so another line is a change to be looked at. Add an
+example by its name and its lines.
 """
 
 import runpy

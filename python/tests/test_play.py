@@ -76,7 +76,8 @@ def taker(observation):
 def replayed(study, trader):
     """The run with all orders, and of each of the trader's injected messages (time of its first event, bytes)."""
     branch = run(study).branches[study.branches[-1]]
-    messages = [edit.message for name in study.branches[1:] for edit in study.edits(name) if isinstance(edit, biqsolur.Inject)]
+    edits = [edit for name in study.branches[1:] for edit in study.edits(name)]
+    messages = [edit.message for edit in edits if isinstance(edit, biqsolur.Inject)]
     first = {}
     for sent in sent_messages(branch._source, branch._event_frames()):
         if sent.trader == trader and sent.is_order and sent.data.hex() in messages:
@@ -102,7 +103,8 @@ def test_the_outcome_gives_the_same_orders(policy, delay):
 
 
 def test_replies_within_the_nanosecond():
-    """Without any latency an order is answered at the time of its decision, behind it: the next decision is told so, once."""
+    """Without any latency an order is answered at the time of its decision, behind it: the next decision is told so,
+    once."""
     market = MARKET.with_("latency", {"base": [[0, 0], [0, 0]], "jitter": [[0, 0], [0, 0]]}).with_("exchange.delay", 0)
     recorded = Recorded(buyer)
     branch, _ = replayed(play(market, WATCHER, recorded, every="1500ms"), WATCHER)
@@ -118,7 +120,8 @@ def test_a_busy_trader_has_not_heard_yet():
     """What was put back, as the trader was still at work, is no part of what it knows."""
     market = MARKET.with_("agent.watcher.delay", "40ms")
     recorded = Recorded(buyer)
-    branch, _ = replayed(play(market, WATCHER, recorded, every="11ms", start="9:30:01.005", end="9:30:01.1", delay=0), WATCHER)
+    study = play(market, WATCHER, recorded, every="11ms", start="9:30:01.005", end="9:30:01.1", delay=0)
+    branch, _ = replayed(study, WATCHER)
     events = branch.events
     put_back = events[(events.receiver == WATCHER) & events.put_back]
     assert any(((put_back.time <= seen.time) & (put_back.busy_until > seen.time)).any() for seen in recorded.seen)
@@ -136,13 +139,14 @@ def check_observations(branch, seen):
         assert (observation.book is None) == (len(heard) == 0)
         if len(heard):
             last = heard.iloc[-1]
-            assert [getattr(observation.book, name) for name in ("time", "bid", "bid_shares", "ask", "ask_shares", "last", "state")] \
-                == [last[name] for name in ("time", "bid", "bid_shares", "ask", "ask_shares", "last", "state")]
+            for name in ("time", "bid", "bid_shares", "ask", "ask_shares", "last", "state"):
+                assert getattr(observation.book, name) == last[name]
         known = replies[replies.time <= observation.time]
         assert len(observation.replies) == (known.time > before).sum()
         assert [one.time for one in observation.replies] == known.time[known.time > before].tolist()
         traded = known[known.kind == "executed"]
-        signs = numpy.array([1 if orders[branch.bundle.tokens.text(token)].side == "B" else -1 for token in traded.token], int)
+        sides = [orders[branch.bundle.tokens.text(token)].side for token in traded.token]
+        signs = numpy.array([1 if side == "B" else -1 for side in sides], int)
         assert observation.position == int((signs * traded.shares).sum())
         assert observation.account.cash == -100 * int((signs * traded.shares * traded.price).sum())
         before = observation.time
@@ -240,7 +244,8 @@ def test_what_the_trader_cannot_know(change):
 def test_hidden_orders_are_not_seen():
     """A hidden order behind the best bid changes nothing that is told."""
     table = MARKET.with_("latency.jitter", [[0, 0], [0, 0]]).in_version_2().to_dict()
-    hidden = {"kind": "inject", "agent": 1, "after": 0, "message": Enter("H", "B", 500, "ABM", "49.50", display="N").hex()}
+    order = Enter("H", "B", 500, "ABM", "49.50", display="N")
+    hidden = {"kind": "inject", "agent": 1, "after": 0, "message": order.hex()}
     books = []
     for edit in ([hidden], []):
         table["branch"] = [{"name": "quiet", "parent": "root", "when": table["open"], "edit": edit}]
@@ -294,7 +299,8 @@ def test_the_delay_is_the_traders_own():
     assert Game(slow, WATCHER).delay == 10_000 and Game(MARKET, WATCHER).delay == 50_000
     edited = MARKET.branch("far", at="9:30:01", edits=[
         biqsolur.Latency(1, 0, "20us"), biqsolur.AgentParameter(WATCHER, "delay", "1us"), biqsolur.Latency(0, 1, "1s")])
-    assert Game(edited, WATCHER, branch="far", start="9:30:02").delay == 21_000 and Game(edited, WATCHER).delay == 50_000
+    assert Game(edited, WATCHER, branch="far", start="9:30:02").delay == 21_000
+    assert Game(edited, WATCHER).delay == 50_000
 
 
 def test_vectors_name_their_numbers():
@@ -302,7 +308,8 @@ def test_vectors_name_their_numbers():
     game = Game(MARKET, WATCHER, "2s")
     observation, info = game.reset()
     vector = dict(zip(Observation.VECTOR, observation.as_vector()))
-    assert observation.as_vector().shape == (len(Observation.VECTOR),) and observation.as_vector().dtype == numpy.float64
+    assert observation.as_vector().shape == (len(Observation.VECTOR),)
+    assert observation.as_vector().dtype == numpy.float64
     assert info == {} and vector["seconds_since_open"] == 2 and vector["seconds_to_close"] == 10
     assert vector["bid"] == observation.book.bid / 10_000 and vector["ask_shares"] == observation.book.ask_shares
     assert 0 <= vector["quote_age_seconds"] < 0.5 and vector["halted"] == 0 and vector["position"] == 0
@@ -323,7 +330,8 @@ def test_a_game_is_a_gym_environment():
             rewards.append(reward)
             assert not truncated and info == {}
         assert game.study == played and len(rewards) == 3
-        assert observation.time == MARKET.to_dict()["close"] and sum(rewards) == pytest.approx(observation.worth() - start)
+        assert observation.time == MARKET.to_dict()["close"]
+        assert sum(rewards) == pytest.approx(observation.worth() - start)
         with pytest.raises(PlayError, match="no decision is open"):
             game.step([])
 
@@ -380,13 +388,18 @@ def test_bad_answers_of_a_policy(answer, words):
     (lambda: play(MARKET, 8, buyer), "no trader 8; the study has the traders 1 to 7"),
     (lambda: play(MARKET, WATCHER, buyer, every="soon"), "'soon' is no length of time"),
     (lambda: play(MARKET, WATCHER, buyer, every=0), "at least a nanosecond"),
-    (lambda: play(MARKET, WATCHER, buyer, every="20s"), "first decision would be at 9:30:20; the hours are 9:30:00 to 9:30:12"),
+    (lambda: play(MARKET, WATCHER, buyer, every="20s"),
+     "first decision would be at 9:30:20; the hours are 9:30:00 to 9:30:12"),
     (lambda: play(MARKET, WATCHER, buyer, start="9:29"), "first decision would be at 9:29:00"),
-    (lambda: play(MARKET, WATCHER, buyer, every="10ms"), "with up to 255 decisions.*`events` may be at most 15625.*by `most`"),
+    (lambda: play(MARKET, WATCHER, buyer, every="10ms"),
+     "with up to 255 decisions.*`events` may be at most 15625.*by `most`"),
     (lambda: play(MARKET, WATCHER, buyer, most=0.5), "most: 0.5 is no number of branches"),
-    (lambda: play(MARKET, WATCHER, buyer, every="2s", most=2), r"decision 3, 9:30:06: its orders make more than 2 branches"),
-    (lambda: play(MARKET.branch("a", after=400), WATCHER, buyer, branch="a"), "decision 1: at 9:30:01 the branch 'a' has not begun.*later `start`"),
-    (lambda: play(MARKET.branch("a", at="9:30:09"), WATCHER, buyer, branch="a"), "decision 1: at 9:30:01 the branch 'a' has not begun"),
+    (lambda: play(MARKET, WATCHER, buyer, every="2s", most=2),
+     r"decision 3, 9:30:06: its orders make more than 2 branches"),
+    (lambda: play(MARKET.branch("a", after=400), WATCHER, buyer, branch="a"),
+     "decision 1: at 9:30:01 the branch 'a' has not begun.*later `start`"),
+    (lambda: play(MARKET.branch("a", at="9:30:09"), WATCHER, buyer, branch="a"),
+     "decision 1: at 9:30:01 the branch 'a' has not begun"),
     (lambda: play(MARKET, WATCHER, buyer, branch="none"), "no branch 'none'"),
 ])
 def test_games_that_cannot_be(do, words):
@@ -396,7 +409,8 @@ def test_games_that_cannot_be(do, words):
 
 
 def test_a_strategy_behind_another():
-    """Played on the branch that a first strategy ended with, it goes on with that one's account; no token comes twice."""
+    """Played on the branch that a first strategy ended with, it goes on with that one's account; no token comes
+    twice."""
     first = play(MARKET, WATCHER, buyer, every="3s", end="9:30:06")
     assert first.branches == ["root", "play-1", "play-2"]
     with pytest.raises(PlayError, match="the branch 'play-1' already; give the branches another `name`"):

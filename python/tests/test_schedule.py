@@ -38,20 +38,23 @@ def random_orders(chance, study, count):
     orders, time = [], table["open"]
     for number in range(count):
         time = chance.choice([time, chance.randint(table["open"], table["close"])])
-        orders.append((time, enter(number, chance.choice("BS"), chance.randint(1, 50), max(1, price // 100 * 100), study.symbols[0])))
+        side, shares = chance.choice("BS"), chance.randint(1, 50)
+        orders.append((time, enter(number, side, shares, max(1, price // 100 * 100), study.symbols[0])))
         if chance.random() < 0.2:
-            orders.append((min(time + chance.randint(0, 10**6), table["close"]), Cancel(f"Q{number}", chance.randint(0, 5))))
+            later = min(time + chance.randint(0, 10**6), table["close"])
+            orders.append((later, Cancel(f"Q{number}", chance.randint(0, 5))))
     return orders
 
 
 @pytest.mark.parametrize("seed", [seed for seed in range(60) if studies.make_study(seed)[1] is None][:16])
 def test_orders_come_at_their_times(seed):
-    """Over random studies and lists of orders: each message has its first event at its own nanosecond, those of one time in
-    the order given, and before the first order the events are the root's."""
+    """Over random studies and lists of orders: each message has its first event at its own nanosecond, those of one
+    time in the order given, and before the first order the events are the root's."""
     chance = random.Random(seed)
     study = Study(studies.make_study(seed)[0]).with_("events", 15_000)
     hours = study.to_dict()
-    study = study.until(min(hours["close"], hours["open"] + 40 * hours["agent"][0]["every"]))   # so that no limit ends it
+    # short, so that no limit ends it
+    study = study.until(min(hours["close"], hours["open"] + 40 * hours["agent"][0]["every"]))
     trader = chance.randint(1, len(study.traders))
     orders = random_orders(chance, study, chance.choice([1, 16, 17, 40]))
     made = study.schedule(trader, orders, workers=1)
@@ -65,7 +68,8 @@ def test_orders_come_at_their_times(seed):
     events = [came[trader, order.to_bytes()][1] for _, order in wanted]
     assert events == sorted(events)
     first = next(event for event in branch.events.itertuples() if event.sender == trader and event.number == events[0])
-    shared = [(event.number, event.time, event.message) for event in root.events.itertuples() if event.number < first.number]
+    shared = [(event.number, event.time, event.message)
+              for event in root.events.itertuples() if event.number < first.number]
     assert shared == [(event.number, event.time, event.message) for event in branch.events.itertuples()][:len(shared)]
     assert bundle.branches[made.branches[1]].first_difference == first.number
 
@@ -74,8 +78,9 @@ def test_times_in_each_way_and_in_any_order():
     """Texts, numbers and Timedelta; the list is sorted by time, and what has one time stays as given."""
     import pandas
     study = Study.read(TICK_SIZE).only("root")
-    orders = [("9:31", enter(1)), (34_230_000_000_000, enter(2)), (pandas.Timedelta(hours=9, minutes=30, seconds=30), enter(3)),
-              ("9:30:00", enter(0).to_bytes()), ("9:31", Cancel("Q1").hex())]
+    orders = [("9:31", enter(1)), (34_230_000_000_000, enter(2)),
+              (pandas.Timedelta(hours=9, minutes=30, seconds=30), enter(3)), ("9:30:00", enter(0).to_bytes()),
+              ("9:31", Cancel("Q1").hex())]
     made = study.schedule(3, orders)
     [branch] = made.to_dict()["branch"]
     assert [edit["message"] for edit in branch["edit"]] == [
@@ -118,21 +123,28 @@ STUDY = Study.read(TICK_SIZE).only("root")
     (lambda: STUDY.schedule(0, [("9:31", enter(1))]), "no trader 0"),
     (lambda: STUDY.schedule("maker", [("9:31", enter(1))]), "no trader 'maker'"),
     (lambda: STUDY.schedule(1, []), "no orders"),
-    (lambda: STUDY.schedule(1, [("9:31", enter(1)), ("9:29", enter(2))]), r"order 1 \(counted from 0\): 9:29:00 is before the open"),
-    (lambda: STUDY.schedule(1, [("9:32:00.1", enter(2))]), "9:32:00.1 is after the close; the hours are 9:30:00 to 9:32:00"),
+    (lambda: STUDY.schedule(1, [("9:31", enter(1)), ("9:29", enter(2))]),
+     r"order 1 \(counted from 0\): 9:29:00 is before the open"),
+    (lambda: STUDY.schedule(1, [("9:32:00.1", enter(2))]),
+     "9:32:00.1 is after the close; the hours are 9:30:00 to 9:32:00"),
     (lambda: STUDY.schedule(1, [(34_200.5, enter(2))]), "order 0.*floating-point"),
     (lambda: STUDY.schedule(1, [("soon", enter(2))]), "order 0.*no time of day"),
     (lambda: STUDY.schedule(1, [("9:31", "buy")]), "order 0.*is no order"),
     (lambda: STUDY.schedule(1, [("9:31",)]), "no pair of a time and an order"),
     (lambda: STUDY.schedule(1, [enter(1)]), "no pair of a time and an order"),
     (lambda: STUDY.schedule(1, [("9:31", enter(1)), ("9:31", enter(1, "S"))]), "order 1.*its token is that of order 0"),
-    (lambda: Study.read(TICK_SIZE).schedule(1, [("9:31", enter(1))]), r"'wide', 'same' leave 'root' after a number.*only\('root'\)"),
-    (lambda: STUDY.with_("events", 1_000_000).schedule(1, [("9:31", enter(n)) for n in range(64)]), "`events` may be at most 800000"),
-    (lambda: STUDY.with_("events", 100).schedule(1, [("9:31", enter(1))]), "the run of 'root' ends at 9:30:.*EventLimit.*9:31"),
+    (lambda: Study.read(TICK_SIZE).schedule(1, [("9:31", enter(1))]),
+     r"'wide', 'same' leave 'root' after a number.*only\('root'\)"),
+    (lambda: STUDY.with_("events", 1_000_000).schedule(1, [("9:31", enter(n)) for n in range(64)]),
+     "`events` may be at most 800000"),
+    (lambda: STUDY.with_("events", 100).schedule(1, [("9:31", enter(1))]),
+     "the run of 'root' ends at 9:30:.*EventLimit.*9:31"),
     (lambda: STUDY.schedule(1, [("9:31", enter(1))], parent="none"), "no branch 'none'"),
-    (lambda: STUDY.branch("a", after=8000).schedule(1, [("9:30:05", enter(1))], parent="a"), "'a' has not begun.*8000 events"),
+    (lambda: STUDY.branch("a", after=8000).schedule(1, [("9:30:05", enter(1))], parent="a"),
+     "'a' has not begun.*8000 events"),
     (lambda: STUDY.branch("a", at="9:31").schedule(1, [("9:30:05", enter(1))], parent="a"), "'a' has not begun.*9:31"),
-    (lambda: STUDY.schedule(1, [("9:31", enter(1))]).schedule(1, [("9:31", enter(2))]), "branch 'schedule-1' already.*another `name`"),
+    (lambda: STUDY.schedule(1, [("9:31", enter(1))]).schedule(1, [("9:31", enter(2))]),
+     "branch 'schedule-1' already.*another `name`"),
 ])
 def test_bad_schedules(do, words):
     """Each says which order it is, and what would do."""

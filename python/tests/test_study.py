@@ -35,7 +35,8 @@ def study():
 
 
 def test_a_read_study_is_written_and_runs_as_it_was(market, tmp_path):
-    """Over random studies: the text stays byte for byte, and the study of the dict is equal and gives the same bundle."""
+    """Over random studies: the text stays byte for byte, and the study of the dict is equal and gives the same
+    bundle."""
     read = Study.read(market.folder / "study.toml")
     read.write(tmp_path / "read.toml")
     assert (tmp_path / "read.toml").read_bytes() == (market.folder / "study.toml").read_bytes()
@@ -85,8 +86,9 @@ def test_line_ends_and_a_byte_order_mark_stay(end, mark, tmp_path):
     (tmp_path / "study.toml").write_bytes(data)
     study = Study.read(tmp_path / "study.toml")
     assert study.to_text().encode() == data and study == Study(TICK_SIZE)
-    changed = study.with_("events", 19_999).branch("more", after=1, edits=[edits.Silence(1)]).with_agent("watcher", every=1) \
-        .with_("branch.wide.edit", [edits.Silence(1), edits.Silence(2)]).with_("exchange", {"group": 0, "delay": 1}).to_text()
+    study = study.with_("events", 19_999).branch("more", after=1, edits=[edits.Silence(1)])
+    study = study.with_agent("watcher", every=1).with_("branch.wide.edit", [edits.Silence(1), edits.Silence(2)])
+    changed = study.with_("exchange", {"group": 0, "delay": 1}).to_text()
     assert changed.startswith(mark + "# Question") and ("\r" in changed) == (end == "\r\n")
     assert changed.count("\n") == changed.count(end)
 
@@ -171,8 +173,10 @@ def test_paths_by_name(study):
     assert value(study.with_("stock.ABM.take", "0.005"))[0] == 5000
     assert value(study.with_("branch.wide.edit.0.bands.0.1", "0.02"))[1] == [[0, 200]]
     assert value(study.with_("agent.noise.size", 7))[2] == 7
-    assert study.with_("stocks.ABM.take", 1) == study.with_(["stock", 0, "take"], 1) == study.with_(("stock", "ABM", "take"), 1)
-    assert study.with_("branches.0.edits.0.bands", [("0", Decimal("0.02"))]) == study.with_("branch.wide.edit.0.bands.0.1", 200)
+    for path in ("stocks.ABM.take", ["stock", 0, "take"], ("stock", "ABM", "take")):
+        assert study.with_(path, 1) == study.with_("stock.0.take", 1)
+    wide = study.with_("branches.0.edits.0.bands", [("0", Decimal("0.02"))])
+    assert wide == study.with_("branch.wide.edit.0.bands.0.1", 200)
     assert study.with_("latency.base.1.0", "7us").to_dict()["latency"]["base"] == [[1000, 50000], [7000, 80000]]
     assert study.with_("stride", 500).to_dict()["stride"] == 500
     assert study.with_("branch.wide.edit", [edits.Halt("ABM")]).edits("wide") == [edits.Halt("ABM")]
@@ -201,7 +205,8 @@ def test_a_symbol_with_a_dot():
 
 def test_branches_come_and_go(study):
     """A branch is added behind the others, in text and table; taken away again the study says what it said."""
-    more = study.branch("fast", parent="wide", after=6000, edits=[edits.Latency(0, 1, "1us"), edits.Fee("ABM", "0.001", -200)])
+    made = [edits.Latency(0, 1, "1us"), edits.Fee("ABM", "0.001", -200)]
+    more = study.branch("fast", parent="wide", after=6000, edits=made)
     assert more.branches == ["root", "wide", "same", "fast"]
     assert more.to_text().startswith(study.to_text()) and tomllib.loads(more.to_text()) == more.to_dict()
     assert more.to_dict()["branch"][2] == {
@@ -232,7 +237,8 @@ def test_a_study_with_an_inline_array_of_branches():
     """Where a branch can't be put behind the text, the study is written anew."""
     table, _ = studies.make_study(0)
     table["branch"] = [{"name": "a", "parent": "root", "at": 3}]
-    inline = 'branch = [{ name = "a", parent = "root", at = 3 }]\n' + studies.toml({**table, "branch": []}).replace("branch = []\n", "")
+    rest = studies.toml({**table, "branch": []}).replace("branch = []\n", "")
+    inline = 'branch = [{ name = "a", parent = "root", at = 3 }]\n' + rest
     study = Study.from_text(inline)
     assert study == Study(table)
     for changed in (study.branch("b", after=4), study.without_branch("a"), study.with_("branch.a.at", 2)):
@@ -272,15 +278,15 @@ def test_values_of_a_dict_become_the_studys_own(study):
     """Times, lengths, prices, money and the key may be given as a reader thinks of them."""
     table = study.to_dict()
     table.update(key=0xA5, open="9:30", close=pandas.Timedelta(hours=9, minutes=32))
-    table["stock"][0].update(start="50", mean=Decimal("50.00"), bands=[("0", "0.01")], take="0.003", add=Decimal("-0.002"),
-                             every="1s", shock="0.02")
+    table["stock"][0].update(start="50", mean=Decimal("50.00"), bands=[("0", "0.01")], take="0.003",
+                             add=Decimal("-0.002"), every="1s", shock="0.02")
     table["agent"][0].update(first=datetime.time(9, 30), every="2s", spread="500ms", pause="100ns", half="0.02",
                              step=numpy.int64(100), size=numpy.uint16(200))
     table["latency"]["base"] = numpy.array([[1000, 50000], [50000, 80000]])
     table["branch"][0]["edit"] = [edits.Tick("ABM", [("0", "0.05")])]
     made = Study(table)
     assert made == study
-    assert {type(value) for value in (made.to_dict()["agent"][0]["size"], made.to_dict()["latency"]["base"][0][0])} == {int}
+    assert type(made.to_dict()["agent"][0]["size"]) is type(made.to_dict()["latency"]["base"][0][0]) is int
 
 
 @pytest.mark.parametrize("seed", range(3))
@@ -288,18 +294,20 @@ def test_times_of_day_and_their_words(seed):
     """Words of a time are read back as that time."""
     chance = random.Random(seed)
     for _ in range(300):
-        time = chance.randrange(0, times.LAST_OF_DAY + 1) // 10 ** chance.randrange(10) * 10 ** chance.randrange(3) % times.LAST_OF_DAY
+        time = chance.randrange(times.LAST_OF_DAY + 1) // 10 ** chance.randrange(10) * 10 ** chance.randrange(3)
+        time %= times.LAST_OF_DAY
         assert times.nanoseconds(times.clock_text(time)) == time == times.nanoseconds(pandas.Timedelta(time, "ns"))
         microseconds = time // 1000
         assert times.nanoseconds(datetime.timedelta(microseconds=microseconds)) == microseconds * 1000
-    assert times.nanoseconds("9:30:00.5") == 34_200_500_000_000 and times.nanoseconds("23:59:59.999999999") == times.LAST_OF_DAY
+    assert times.nanoseconds("9:30:00.5") == 34_200_500_000_000
+    assert times.nanoseconds("23:59:59.999999999") == times.LAST_OF_DAY
     assert times.clock_text(34_200_500_000_000) == "9:30:00.5"
 
 
 def test_lengths_of_time():
     """A number and a unit, exact to the nanosecond."""
-    cases = {"1s": 10**9, "1.5s": 1_500_000_000, "250ms": 250_000_000, "0.001us": 1, "20 µs": 20_000, "5min": 300 * 10**9,
-             "1h": 3600 * 10**9, "7ns": 7, "0.5h": 1800 * 10**9}
+    cases = {"1s": 10**9, "1.5s": 1_500_000_000, "250ms": 250_000_000, "0.001us": 1, "20 µs": 20_000,
+             "5min": 300 * 10**9, "1h": 3600 * 10**9, "7ns": 7, "0.5h": 1800 * 10**9}
     assert {text: times.duration(text) for text in cases} == cases
     assert times.duration(pandas.Timedelta("3ms4ns")) == 3_000_004 and times.duration(12) == 12
 
@@ -311,16 +319,18 @@ def test_prices_are_exact(seed):
     for _ in range(300):
         number = chance.randrange(-10**10, 10**10) // 10 ** chance.randrange(5)
         dollars = Decimal(number).scaleb(-4)
-        assert prices.price(dollars) == prices.price(format(dollars, "f")) == prices.price(prices.price_text(number)) == number
+        assert prices.price(dollars) == prices.price(format(dollars, "f")) == number
+        assert prices.price(prices.price_text(number)) == number
         assert prices.money(Decimal(number).scaleb(-6)) == number
         assert prices.price(dollars * 10 / 10) == number
-    assert prices.price_text(100_500) == "10.05" and prices.price_text(100_525) == "10.0525" and prices.price_text(-5) == "-0.0005"
+    assert [prices.price_text(number) for number in (100_500, 100_525, -5)] == ["10.05", "10.0525", "-0.0005"]
     assert prices.price(Decimal("1E+2")) == 1_000_000 and prices.price("10.050000") == 100_500
 
 
 EDITS = [
-    edits.Tick("ABM", [(0, 100), ("1", "0.05")]), edits.Fee("ABM", "0.001", -200), edits.Halt("ABM"), edits.Resume("ABM"),
-    edits.Latency(0, 1, "5us", 7), edits.AgentParameter(2, "every", "2s"), edits.AgentParameter(1, "half", "0.03"),
+    edits.Tick("ABM", [(0, 100), ("1", "0.05")]), edits.Fee("ABM", "0.001", -200), edits.Halt("ABM"),
+    edits.Resume("ABM"), edits.Latency(0, 1, "5us", 7), edits.AgentParameter(2, "every", "2s"),
+    edits.AgentParameter(1, "half", "0.03"),
     edits.Silence(3), edits.Inject(1, Cancel("T0001000000001"), after="1ms"), edits.SeriesOffset("ABM", "-0.50"),
 ]
 
@@ -486,26 +496,31 @@ def test_where_a_series_file_is_looked_for(tmp_path, monkeypatch):
 
 def test_names_of_the_package():
     """What a user reaches by the package itself."""
-    for name in ("Study", "Tick", "Fee", "Halt", "Resume", "Latency", "AgentParameter", "Silence", "Inject", "SeriesOffset",
-                 "play", "Game", "Observation", "StudyError", "PolicyError"):
+    for name in ("Study", "Tick", "Fee", "Halt", "Resume", "Latency", "AgentParameter", "Silence", "Inject",
+                 "SeriesOffset", "play", "Game", "Observation", "StudyError", "PolicyError"):
         assert getattr(biqsolur, name).__name__ == name
 
 
-@pytest.mark.parametrize("text", ["version = 1\n", "branch = 5\n", "agent = [1]\n", "[[branch]]\nat = 3\n", "[[agent]]\ncount = 'x'\n",
-                                  "[[branch]]\nname = 'a'\nparent = 'a'\nat = 1\n", "open = 'x'\nclose = 1.5\n", "[exchange]\n"])
+@pytest.mark.parametrize("text", [
+    "version = 1\n", "branch = 5\n", "agent = [1]\n", "[[branch]]\nat = 3\n", "[[agent]]\ncount = 'x'\n",
+    "[[branch]]\nname = 'a'\nparent = 'a'\nat = 1\n", "open = 'x'\nclose = 1.5\n", "[exchange]\n"])
 def test_a_study_that_is_none_is_never_an_error_without_a_name(text, tmp_path):
-    """Whatever a text of TOML says, each question is answered or ends with StudyError, and the program refuses the study."""
+    """Whatever a text of TOML says, each question is answered or ends with StudyError, and the program refuses the
+    study."""
     study = Study.from_text(text)
-    for ask in (lambda: study.branches, lambda: study.symbols, lambda: study.traders, lambda: repr(study), lambda: hash(study),
-                lambda: study.only("a"), lambda: study.until(5), lambda: study.until("9:30", "a"), lambda: study.without_branch("a"),
-                lambda: study.branch("b", after=1).branch("c", at="9:31"), lambda: study.with_agent("watcher"), lambda: study.edits("a"),
-                lambda: study.with_("agent.0.every", 5), lambda: study.with_("events", 5), lambda: study.with_series_found()):
+    for ask in (
+            lambda: study.branches, lambda: study.symbols, lambda: study.traders, lambda: repr(study),
+            lambda: hash(study), lambda: study.only("a"), lambda: study.until(5), lambda: study.until("9:30", "a"), lambda: study.edits("a"),
+            lambda: study.without_branch("a"), lambda: study.branch("b", after=1).branch("c", at="9:31"),
+            lambda: study.with_agent("watcher"), lambda: study.with_("agent.0.every", 5),
+            lambda: study.with_("events", 5), lambda: study.with_series_found()):
         try:
             ask()
         except StudyError as error:
             assert str(error)
     assert study.to_text() == text
-    for ask in (study.check, lambda: study.schedule(1, [("9:31", Cancel("A"))]), lambda: biqsolur.play(study, 1, lambda seen: None)):
+    for ask in (study.check, lambda: study.schedule(1, [("9:31", Cancel("A"))]),
+                lambda: biqsolur.play(study, 1, lambda seen: None)):
         with pytest.raises(biqsolur.StudyRefused) as caught:
             ask()
         assert (caught.value.rule, caught.value.sentence != "") == (1, True)
@@ -523,10 +538,12 @@ def test_a_trader_more(study):
     """It stands behind the others, with what it usually has; comments stay, and so do the numbers of the others."""
     for base in (study, study.only("root"), Study(study.to_dict())):
         more = base.with_agent("watcher", every="1s")
-        assert more.to_dict()["agent"][-1] == {"kind": "watcher", "group": 0, "stock": "ABM", "first": 34_200_000_000_000, "every": 10**9}
+        assert more.to_dict()["agent"][-1] == {
+            "kind": "watcher", "group": 0, "stock": "ABM", "first": 34_200_000_000_000, "every": 10**9}
         assert more.traders[:-1] == base.traders and more.traders[-1] == (33, "watcher", "watcher 33")
         assert more.to_dict() == {**base.to_dict(), "agent": more.to_dict()["agent"]}
-        assert tomllib.loads(more.to_text()) == more.to_dict() and ("# Question" in more.to_text()) == ("# Question" in base.to_text())
+        assert tomllib.loads(more.to_text()) == more.to_dict()
+        assert ("# Question" in more.to_text()) == ("# Question" in base.to_text())
         more.check()
     with pytest.raises(StudyError, match="agent 2: evry: no such key"):
         study.with_agent("watcher", evry="1s")
