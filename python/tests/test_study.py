@@ -510,7 +510,8 @@ def test_a_study_that_is_none_is_never_an_error_without_a_name(text, tmp_path):
     study = Study.from_text(text)
     for ask in (
             lambda: study.branches, lambda: study.symbols, lambda: study.traders, lambda: repr(study),
-            lambda: hash(study), lambda: study.only("a"), lambda: study.until(5), lambda: study.until("9:30", "a"), lambda: study.edits("a"),
+            lambda: hash(study), lambda: study.only("a"), lambda: study.until(5), lambda: study.until("9:30", "a"),
+            lambda: study.edits("a"),
             lambda: study.without_branch("a"), lambda: study.branch("b", after=1).branch("c", at="9:31"),
             lambda: study.with_agent("watcher"), lambda: study.with_("agent.0.every", 5),
             lambda: study.with_("events", 5), lambda: study.with_series_found()):
