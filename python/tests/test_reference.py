@@ -1,22 +1,24 @@
 """The reference market: its stored facts against the program, its kin, and the figures of docs/REALISM.md."""
 
-import json
 import re
 import runpy
-import subprocess
-import sys
 
 import pytest
+import scipy
 
 import biqsolur
 from biqsolur import facts
 from biqsolur.__main__ import main
+from biqsolur.calibrate import read_config
+from biqsolur.calibrate.evaluate import Evaluator
+from biqsolur.calibrate.journal import Journal
 from biqsolur.facts.judgement import short
 from conftest import ROOT
 
 STORED = ROOT / "docs" / "reference_facts.json"
 MARKET, STOCKS, QUESTIONS = (ROOT / "examples" / f"reference_{name}.toml" for name in ("market", "two_stocks", "questions"))
 REALISM, COUNTERFACTUALS = ((ROOT / "docs" / f"{name}.md").read_text() for name in ("REALISM", "COUNTERFACTUALS"))
+DRAWN_BY = "1.10.1"
 FEWEST = 9                  # facts of twelve
 RECOMPUTED = [101, 117]     # of the thirty keys, in the tests that take no minute
 
@@ -147,3 +149,36 @@ def test_the_answers_of_the_page(monkeypatch, capsys):
     questions(monkeypatch)
     command = "PYTHONPATH=python python3 examples/reference_questions.py"
     assert block_below(COUNTERFACTUALS, command) == capsys.readouterr().out.splitlines()
+
+
+def calibration(folder):
+    """The page's calibration, with another folder for what it writes."""
+    text = (ROOT / "examples" / "calibration.yaml").read_text().replace("out/calibration", str(folder / "out"))
+    (folder / "calibration.yaml").write_text(text)
+    return folder / "calibration.yaml"
+
+
+COMMAND = "python3 -m biqsolur calibrate examples/calibration.yaml"
+
+
+def test_the_moments_of_the_pages_calibration(tmp_path, program, monkeypatch):
+    """What was found there has the moments that stand there, and meets the targets; whichever way a search took to it."""
+    monkeypatch.chdir(ROOT)
+    config = read_config(calibration(tmp_path))
+    lines = [line.split() for line in block_below(REALISM, COMMAND)]
+    found, moments = lines[1:3], lines[4:6]
+    assert [row[0] for row in found] == [parameter.name for parameter in config.parameters]
+    evaluator = Evaluator(config, Journal(tmp_path / "journal.jsonl", config.mark), 2, program, False)
+    rows, = evaluator.moments([tuple(int(row[1]) for row in found)])
+    for target, said, values in zip(config.targets, moments, zip(*rows)):
+        assert said[:3] == [target.moment, short(target.value), short(sum(values) / len(values))]
+        assert float(said[3]) <= target.value <= float(said[5])
+
+
+@pytest.mark.long
+def test_the_calibration_of_the_page(tmp_path, program, capsys, monkeypatch):
+    if scipy.__version__ != DRAWN_BY:
+        pytest.skip(f"the page's search was drawn by scipy {DRAWN_BY}, and this is {scipy.__version__}")
+    monkeypatch.chdir(ROOT)
+    assert main(["calibrate", str(calibration(tmp_path)), "--program", program]) == 0
+    assert block_below(REALISM, COMMAND) == capsys.readouterr().out.splitlines()[:-1]
