@@ -427,6 +427,7 @@ def test_variables_of_git_change_nothing(checkout: Checkout) -> None:
     git = ["git", "-c", "user.name=a", "-c", "user.email=a@b", "-C", str(checkout.home)]
     for words in (["init", "-q"], ["add", "-A"], ["commit", "-qm", "first"]):
         subprocess.run([*git, *words], check=True, env=checkout.env, capture_output=True)
+    (checkout.home / "crates/base/notes").write_text("git does not track this\n")
     checkout.pack()
     nowhere = str(checkout.room / "nowhere")
     answer = checkout.call("run", GIT_DIR=nowhere, GIT_INDEX_FILE=nowhere, GIT_WORK_TREE=nowhere, GIT_PREFIX="crates/")
@@ -490,6 +491,19 @@ def test_where_nothing_starts_in_the_checkout_the_users_cache_serves(checkout: C
     assert answer.returncode == 1 and answer.stderr.startswith("abides: no leave to write a program in ")
     (checkout.home / "crates/base/src/lib.rt").write_text("other\n")
     assert checkout.call("--program").returncode == 1
+
+
+def test_a_stamp_in_the_users_cache_is_of_the_sources_themselves(checkout: Checkout, tmp_path: Path) -> None:
+    """Another checkout that takes the first one's place is older than the stamp, and still not mistaken for it."""
+    other = lay_checkout(tmp_path / "other", checkout.room)
+    (other.home / "crates/base/src/lib.rt").write_text("other\n")
+    other.pack(STUB.replace("printf '", "echo other; printf '"))
+    checkout.stub("chmod", '#!/bin/sh\ncase $2 in */out/*) exit 0 ;; esac\nexec /bin/chmod "$@"\n')
+    assert checkout.call("run").returncode == 0
+    checkout.home.rename(tmp_path / "before")
+    other.home.rename(checkout.home)
+    answer = checkout.call("run")
+    assert (answer.returncode, answer.stdout.splitlines()[0], answer.stderr) == (0, "other", RUNS)
 
 
 @pytest.fixture
