@@ -247,31 +247,37 @@ def test_columns_of_tables_that_differ(tmp_path):
     assert rows_of("all.csv") == [{"point": "0", "key": "x", "spread": ""}, {"point": "1", "key": "y,z", "spread": "3"}]
 
 
-def test_a_series_file_for_each_key(tmp_path, program):
-    """Each run reads the course of its key, and a report of it the same."""
-    from biqsolur import values
-    spec = "values.gbm(start=50, volatility=2)"
-    settings = configuration(tmp_path, program, keys=2, series=spec, batch=1, keep="bundles", grid={})
-    study = biqsolur.Study(STUDY).with_("events", 600).without_branch("same").with_("branch.wide.at", 300)
-    table = study.to_dict()
+def value_market():
+    """The table of a study whose stock's value comes from a file, with traders that are told it."""
+    table = biqsolur.Study(STUDY).with_("events", 2500).without_branch("same").with_("branch.wide.at", 300).to_dict()
     rule = ("start", "mean", "pull", "shock", "every")
     stock = {name: value for name, value in table["stock"][0].items() if name not in rule}
-    table |= {"stock": [stock | {"series": "rows"}], "series": "series.csv"}
-    table["agent"].append({**table["agent"][1], "kind": "value", "noise": 0, "margin": 0, "count": 3})
+    informed = {**table["agent"][1], "kind": "value", "noise": 0, "margin": 0, "count": 5}
+    return table | {"stock": [stock | {"series": "rows"}], "series": "series.csv", "agent": [*table["agent"], informed]}
+
+
+def test_a_series_file_for_each_key(tmp_path, program):
+    """Each run reads the course of its own key."""
+    from biqsolur import values
+    spec = "values.gbm(start=50, volatility=60)"
+    settings = configuration(tmp_path, program, keys=2, series=spec, batch=2, grid={})
+    table = value_market()
     (tmp_path / "base.toml").write_text(biqsolur.Study(table).to_text())
     carried_out(settings)
-    rows = {}
-    for number in (1, 2):
+
+    def by_hand_with(number, course):
         made = biqsolur.Study(table).with_("key", number)
         Path("series.csv").unlink(missing_ok=True)
-        values.write_series("series.csv", values.series_for(spec, f"{number:064x}", made))
+        values.write_series("series.csv", values.series_for(spec, f"{course:064x}", made))
         Path("byhand.toml").write_text(made.to_text())
-        rows[f"{number:064x}"] = subprocess.run([program, "table", "byhand.toml"], check=True, capture_output=True,
-                                                text=True).stdout.splitlines()[1:]
+        return subprocess.run([program, "table", "byhand.toml"], check=True, capture_output=True,
+                              text=True).stdout.splitlines()[1:]
+
     found = {}
     for row in rows_of("out/points.csv"):
         found.setdefault(row["key"], []).append(",".join(row[name] for name in run.TABLE_COLUMNS))
-    assert found == rows
+    assert found == {f"{number:064x}": by_hand_with(number, number) for number in (1, 2)}
+    assert by_hand_with(2, 1) != by_hand_with(2, 2), "the course says something, or nothing is compared"
 
 
 # ------------------------------------------------------------ what is refused
