@@ -259,7 +259,7 @@ def value_market():
 def test_a_series_file_for_each_key(tmp_path, program):
     """Each run reads the course of its own key."""
     from biqsolur import values
-    spec = "values.gbm(start=50, volatility=60)"
+    spec = "values.gbm(start=50, volatility=3)"
     settings = configuration(tmp_path, program, keys=2, series=spec, batch=2, grid={})
     table = value_market()
     (tmp_path / "base.toml").write_text(biqsolur.Study(table).to_text())
