@@ -19,6 +19,7 @@ import pandas
 
 from biqsolur import columns, layouts
 from biqsolur.bundle import Branch
+from biqsolur.closing import read_counts
 from biqsolur.errors import InputError
 from biqsolur.frames import records_at
 from biqsolur.messages import BODY_WORDS
@@ -165,7 +166,7 @@ def counters_of(branch: Branch, study: object) -> Counters | None:
 
     def ask(events: list[int]) -> list[int]:
         states = rewind(made, [(branch.name, event) for event in events]).states
-        return [int(state.closing.counts["next_message"]) for state in states]
+        return [int(read_counts(state.frames, state.part)["next_message"]) for state in states]
     return ask
 
 

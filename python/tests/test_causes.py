@@ -15,6 +15,7 @@ import studies
 import biqsolur
 from biqsolur.bundle import Branch
 from biqsolur.causing import ASK, BID, INJECTED, MET, OPENED, SENT, Causes
+from biqsolur.closing import read_counts
 from biqsolur.senders import EDIT, OPENING, UNKNOWN, Senders
 
 SEEDS = range(20)
@@ -52,11 +53,16 @@ class Course:
 
     def counters(self, branch: str) -> Callable[[list[int]], list[int]]:
         """The next message's number after events, as `Senders` asks for it."""
-        return lambda events: [state.closing.counts["next_message"] for state in self.states(branch, events).values()]
+        return lambda events: [next_message(state) for state in self.states(branch, events).values()]
 
     def sample(self, numbers: range | numpy.ndarray, count: int) -> list[int]:
         """Some of these numbers, rising."""
         return sorted(self.random.sample(list(map(int, numbers)), min(count, len(numbers))))
+
+
+def next_message(state: biqsolur.State) -> int:
+    """The number of the next message at a state."""
+    return int(read_counts(state.frames, state.part)["next_message"])
 
 
 @pytest.fixture(scope="module", params=SEEDS)
@@ -79,8 +85,7 @@ def test_each_message_was_sent_between_the_states_around_its_cause(course: Cours
         rows = course.sample(numpy.arange(len(senders.numbers)), -(-CAUSES // len(course.bundle.branches)))
         events = {event for row in rows for event in (senders.event[row] - 1, senders.event[row], senders.fork[row])
                   if event >= 0}
-        after = {event: state.closing.counts["next_message"] for event,
-                 state in course.states(name, sorted(events)).items()}
+        after = {event: next_message(state) for event, state in course.states(name, sorted(events)).items()}
         for row in rows:
             number, event, fork = (int(column[row]) for column in (senders.numbers, senders.event, senders.fork))
             if event == OPENING:

@@ -142,10 +142,10 @@ def check_waiting(shown: dict, state: biqsolur.State) -> None:
     rows = [[row[name] for name in names] for row in state.waiting.to_dict("records")]
     assert shown["waiting_count"] == len(rows)
     assert [[row[name] for name in names] for row in shown["waiting"]] == rows[:500]
-    for row in shown["waiting"]:
-        frame = {"order": state.waiting_orders, "reply": state.waiting_replies,
-                 "quote": state.waiting_quotes}.get(row["kind"])
-        assert row["words"] and (frame is None or len(frame))
+    known = {"order": state.waiting_orders, "reply": state.waiting_replies, "quote": state.waiting_quotes}
+    for kind, frame in known.items():
+        assert sum(1 for row in rows if row[4] == kind) == len(frame)
+    assert all(row["words"] for row in shown["waiting"])
 
 
 def test_the_cut_study_has_the_bytes_of_the_whole_one(explored: Explored) -> None:

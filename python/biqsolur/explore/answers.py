@@ -85,7 +85,7 @@ def branch_table(run: Run, name: str) -> Table:
         "at": entry.get("at"), "when": entry.get("when"),
         "edits": [edit_words(view, edit) for edit in entry.get("edit", [])],
         "fork_time": view.time_of(min(branch.fork, view.count)), "end_time": view.time_of(view.count),
-        "end": branch.closing.counts["end"], "difference": difference,
+        "end": branch.counts["end"], "difference": difference,
         "difference_time": view.time_of(min(difference, view.count)) if difference else None,
     }
 

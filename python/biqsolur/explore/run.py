@@ -7,6 +7,7 @@ from typing import Any, Callable
 
 from biqsolur.bundle import Bundle
 from biqsolur.causing import Causes
+from biqsolur.closing import read_counts
 from biqsolur.explore.engine import Engine
 from biqsolur.explore.people import People
 from biqsolur.explore.states import States, cut_study
@@ -16,6 +17,11 @@ from biqsolur.rewinds import Rewind, State
 from biqsolur.study import Study
 
 Table = dict[str, Any]
+
+
+def next_message(state: State) -> int:
+    """The number of the next message at a state."""
+    return int(read_counts(state.frames, state.part)["next_message"])
 
 
 class Run:
@@ -56,15 +62,15 @@ class Run:
     def counters(self, name: str, events: list[int]) -> list[int]:
         """The next message's number after each of these events, at most 64, of a branch."""
         rewind = self._ask(cut_study(self.table, name, max(events)), [(name, event) for event in events])
-        return [int(state.closing.counts["next_message"]) for state in rewind.states]
+        return [next_message(state) for state in rewind.states]
 
     def sent_by(self, view: View, event: int) -> int:
         """How many messages an event sent, those that its branch's edits injected right after it left out."""
         name = view.branch.name
-        after = self.state(name, event).closing.counts["next_message"]
+        after = next_message(self.state(name, event))
         if event == 0:
             return after - self._injected(view, 0)
-        return after - self.state(name, event - 1).closing.counts["next_message"] - self._injected(view, event)
+        return after - next_message(self.state(name, event - 1)) - self._injected(view, event)
 
     def _injected(self, view: View, event: int) -> int:
         edits = view.branch.edits
