@@ -320,6 +320,15 @@ def test_another_program_can_be_named(used: Checkout, tmp_path: Path) -> None:
     assert used.call("run", BIQSOLUR_PROGRAM=used.script()).stdout == f"{used.released}\nrun\n"
 
 
+def test_explore_becomes_the_packages_command(checkout: Checkout) -> None:
+    """By the first Python that has the packages, with the package of this checkout before others; no program is needed."""
+    checkout.stub("python3", '#!/bin/sh\n[ "$1" != -c ] || exit 0\nprintf "%s\\n" "$PYTHONPATH" "$@"\nexit 9\n')
+    answer = checkout.call("explore", "a b", "--port", "0", PYTHONPATH="/mine")
+    assert (answer.returncode, answer.stderr) == (9, "")
+    assert answer.stdout.splitlines() == [f"{checkout.home}/python:/mine", "-m", "biqsolur", "explore", "a b", "--port", "0"]
+    assert not checkout.out.exists()
+
+
 # Statuses, signals, streams
 
 FILE_WORDS = ["cross", "--workers", "4", "study", "B:E", "--", "SYM", "orders"]
