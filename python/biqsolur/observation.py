@@ -185,11 +185,10 @@ class Ledger:
         it is heard."""
         self.cash = cash
         self.positions: dict[str, int] = {}
-        self.replies = [(one.event, Heard(one.time, one.message))
-                         for one in sent if not one.is_order]  # type: ignore[arg-type]
-        self.entered = {order.token: OpenOrder(order, order.shares, False, time)
-                        for time, order in ((one.time, one.message) for one in sent if one.is_order)
-                        if isinstance(order, Enter)}
+        told = [(one, one.message) for one in sent]
+        self.replies = [(one.event, Heard(one.time, reply)) for one, reply in told if isinstance(reply, Reply)]
+        self.entered = {order.token: OpenOrder(order, order.shares, False, one.time)
+                        for one, order in told if isinstance(order, Enter)}
         self.known = {one.order.token: OpenOrder(one.order, one.order.shares, False, one.time)
                       for one in given if isinstance(one.order, Enter)}
         for _, heard in self.replies:

@@ -270,10 +270,9 @@ def decision_times(table: Table, every: object, start: object, end: object, dela
 def tokens_sent(table: Table, trader: int) -> set[str]:
     """The tokens of the orders that edits send in a trader's name."""
     edits = [edit for branch in table.get("branch", []) for edit in branch.get("edit", [])]
-    messages = [bytes.fromhex(edit["message"]) for edit in edits if (
-        edit["kind"], edit.get("agent")) == ("inject", trader)]
-    # type: ignore[attr-defined]
-    return {decode(message).token for message in messages if message[:1] == Enter.TYPE.encode()}
+    own = [edit for edit in edits if (edit["kind"], edit.get("agent")) == ("inject", trader)]
+    messages = [decode(bytes.fromhex(edit["message"])) for edit in own]
+    return {message.token for message in messages if isinstance(message, Enter)}
 
 
 def tokens_of(decision: int, used: set[str]) -> Iterator[str]:

@@ -111,7 +111,7 @@ def changed_text(text: str, places: Places, table: Table) -> str | None:
             holder = holder[place]
         if holder is document and is_section(str(last), value):
             if last in document:
-                del document[last]
+                del document[str(last)]
             return text_with_sections(mark + tomlkit.dumps(document), str(last), value, table)
         grouped = GROUPED.search(text) is not None
         lines = laid_out(last, value, grouped) if isinstance(last, str) else value_text(value, grouped)
