@@ -6,13 +6,13 @@ import biqsolur
 from biqsolur import measures
 from biqsolur.times import nanoseconds
 
-ASKED = [("same", "root", "10:00"), ("wide", "root", "10:00"), ("slow", "root", "10:00"), ("shock", "root", "10:00"),
-         ("resume", "shock", "10:05")]      # a branch, the one it is held against, and from when on
-
+TEN, STUDY = "10:00", Path(__file__).with_suffix(".toml")
+MEASURED = [("effective_spread", "effective_spread_bps"), ("realised_variance", "realised_volatility_bps")]
+ASKED = [*((name, "root", TEN) for name in ("same", "wide", "slow", "shock")), ("resume", "shock", "10:05")]
 
 def answers(bundle):
     out = {}
-    for measure, number in [("effective_spread", "effective_spread_bps"), ("realised_variance", "realised_volatility_bps")]:
+    for measure, number in MEASURED:
         for *pair, clock in ASKED:
             branches, asked = [bundle.branches[name] for name in pair], measures.NAMES[measure]
             after = [int((branch.events.time <= nanoseconds(clock)).sum()) for branch in branches]
@@ -21,5 +21,5 @@ def answers(bundle):
     return out
 
 
-for question, values in biqsolur.map(Path(__file__).with_suffix(".toml"), 10, answers).items():
+for question, values in biqsolur.map(STUDY, 10, answers).items():
     print(f"{question}: {values.mean():.2f} +- {2.262 * values.std() / 10 ** 0.5:.2f}")

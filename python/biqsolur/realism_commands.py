@@ -17,7 +17,7 @@ def add_commands(commands: Commands) -> None:
 
 def add_facts(commands: Commands) -> None:
     """The words of `facts`."""
-    words = commands.add_parser("facts", help="twelve stylised facts of a market, held against what the literature reports")
+    words = commands.add_parser("facts", help="twelve stylised facts of a market, held against reported ranges")
     words.add_argument("market", metavar="STUDY|BUNDLE|JSON", nargs="?",
                        help="a study, which runs under many keys, a bundle, or what --json wrote")
     words.add_argument("--lobster", metavar=("MESSAGE", "ORDERBOOK"), nargs=2, action="append", default=[],
@@ -35,9 +35,10 @@ def add_facts(commands: Commands) -> None:
 
 def add_values(commands: Commands) -> None:
     """The words of `values`."""
-    words = commands.add_parser("values", help="a series file by a random course, for a study whose stocks have series = rows")
+    words = commands.add_parser("values", help="a series file by a random course, for stocks with series = rows")
     words.add_argument("study", metavar="STUDY", help="whose hours and stocks are asked")
-    words.add_argument("course", metavar="COURSE", help='such as "gbm(start=100, volatility=0.3)"; also ou, garch, prices')
+    words.add_argument("course", metavar="COURSE",
+                       help='such as "gbm(start=100, volatility=0.3)"; also ou, garch, prices')
     words.add_argument("--key", metavar="KEY", help="a number or 64 hexadecimal digits; the study's own where not said")
     words.add_argument("-o", "--output", metavar="FILE", required=True, help="a file that is not there yet")
     words.set_defaults(run=run_values)
@@ -45,7 +46,7 @@ def add_values(commands: Commands) -> None:
 
 def add_calibrate(commands: Commands) -> None:
     """The words of `calibrate`."""
-    words = commands.add_parser("calibrate", help="finds the parameters of a study whose moments come nearest to targets")
+    words = commands.add_parser("calibrate", help="finds the parameters of a study with which moments meet targets")
     words.add_argument("config", metavar="CONFIG", help="what to search, in TOML or YAML (docs/REALISM.md)")
     words.add_argument("--processes", metavar="N", type=int, help="runs side by side, else one a processor")
     words.add_argument("--program", metavar="PATH", help="the program, where it is not ./abides of the checkout")

@@ -71,9 +71,9 @@ class Course:
 class GeometricBrownian(Course):
     """Geometric Brownian motion, with jumps where there are some (Merton 1976).
 
-    The logarithm of the price goes by (drift - volatility^2 / 2) dt + volatility dW, `drift` and `volatility` of a year.
-    Jumps come by a Poisson process, `jumps` a day on average, and each adds a normal number to the logarithm, of mean
-    `jump_mean` and standard deviation `jump_deviation`.
+    The logarithm of the price goes by (drift - volatility^2 / 2) dt + volatility dW, `drift` and `volatility` of a
+    year. Jumps come by a Poisson process, `jumps` a day on average, and each adds a normal number to the logarithm,
+    of mean `jump_mean` and standard deviation `jump_deviation`.
     """
 
     drift: float = 0.0
@@ -93,7 +93,8 @@ class GeometricBrownian(Course):
     def path(self, draws: numpy.random.RandomState, count: int) -> numpy.ndarray:
         years = self.step / SECOND / YEAR
         steps = max(count - 1, 0)
-        moves = (self.drift - self.volatility**2 / 2) * years + self.volatility * years**0.5 * draws.standard_normal(steps)
+        moves = (self.drift - self.volatility**2 / 2) * years
+        moves = moves + self.volatility * years**0.5 * draws.standard_normal(steps)
         number = draws.poisson(self.jumps * self.step / SECOND / DAY_SECONDS, steps)
         moves += number * self.jump_mean + numpy.sqrt(number) * self.jump_deviation * draws.standard_normal(steps)
         return self.start * numpy.exp(numpy.append(0.0, numpy.cumsum(moves)))[:count]
@@ -101,7 +102,8 @@ class GeometricBrownian(Course):
 
 @dataclass(frozen=True)
 class OrnsteinUhlenbeck(Course):
-    """A price that is drawn back to a mean (Uhlenbeck and Ornstein 1930), by its exact law over a step (Gillespie 1996).
+    """A price that is drawn back to a mean (Uhlenbeck and Ornstein 1930), by its exact law over a step (Gillespie
+    1996).
 
     `mean`: dollars, the start where it is not given. `half_life`: the time in which half of the distance to it is gone.
     `deviation`: the standard deviation over a long time, in dollars.
@@ -131,8 +133,8 @@ class OrnsteinUhlenbeck(Course):
 
 @dataclass(frozen=True)
 class Garch(Course):
-    """GARCH(1,1) (Bollerslev 1986): a step's variance is omega + alpha r^2 + beta times the variance before, r being the
-    return before, and the return a normal number of that variance.
+    """GARCH(1,1) (Bollerslev 1986): a step's variance is omega + alpha r^2 + beta times the variance before, r being
+    the return before, and the return a normal number of that variance.
 
     `volatility` is the one over a long time, of a year, which sets omega. `alpha` and `beta` are of one step; their sum
     is below 1.
@@ -166,9 +168,9 @@ class PriceFile(Course):
     """A user's own prices: a file of comma-separated values with a header, one price a row, `every` apart.
 
     `path_name`: the file. `column`: the column of prices in dollars. `block`: a key's course is made of blocks of so
-    many of the file's returns, each from a random place of the file, which begins anew where it ends (the circular block
-    bootstrap of Politis and Romano 1992), from the file's first price on; with 0 each key has the file's own prices,
-    which are rounded from their decimal digits, and the file's last price stays where it is too short.
+    many of the file's returns, each from a random place of the file, which begins anew where it ends (the circular
+    block bootstrap of Politis and Romano 1992), from the file's first price on; with 0 each key has the file's own
+    prices, which are rounded from their decimal digits, and the file's last price stays where it is too short.
     """
 
     path_name: str = ""
@@ -242,7 +244,8 @@ COURSE_TYPES = {"gbm": GeometricBrownian, "ou": OrnsteinUhlenbeck, "garch": Garc
 
 
 def course_of(spec: Course | str | Mapping) -> Course:
-    """A course from itself, from a text such as `values.gbm(start=100)`, or from a table such as {kind: gbm, start: 100}."""
+    """A course from itself, from a text such as `values.gbm(start=100)`, or from a table such as {kind: gbm, start:
+    100}."""
     if isinstance(spec, Course):
         return spec
     name, settings = call_of(spec) if isinstance(spec, str) else (spec.get("kind"), dict(spec))
@@ -280,8 +283,9 @@ def call_of(text: str) -> tuple[str, dict[str, object]]:
 def series_for(spec: Course | str | Mapping, key: str | int, study: object) -> pandas.DataFrame:
     """The rows of a study's series file under a key: symbol, time (ns past midnight), value (four implied decimals).
 
-    `spec` is a course, which each stock with series `rows` gets with draws of its own, or a table from symbol to course.
-    `study` is a Study, or its plain table: its hours and stocks are asked. Rows stand by symbol and then by time.
+    `spec` is a course, which each stock with series `rows` gets with draws of its own, or a table from symbol to
+    course. `study` is a Study, or its plain table: its hours and stocks are asked. Rows stand by symbol and then by
+    time.
     """
     table = study if isinstance(study, Mapping) else study.to_dict()
     symbols = [stock["symbol"] for stock in table["stock"] if stock.get("series") == "rows"]
@@ -311,7 +315,8 @@ def series_text(rows: pandas.DataFrame) -> str:
     """The series file of these rows, as the program reads it."""
     text = rows.to_csv(index=False, columns=["symbol", "time", "value"], lineterminator="\n")
     if len(text.encode()) > MOST_BYTES:
-        raise SeriesError(f"series: {len(text.encode()):,} bytes; the program takes {MOST_BYTES:,}: choose a longer `every`")
+        raise SeriesError(f"series: {len(text.encode()):,} bytes; the program takes {MOST_BYTES:,}: choose a longer "
+                          "`every`")
     return text
 
 

@@ -1,4 +1,5 @@
-"""Calibration: planted parameters are found again; the journal, the distance, the surface and its profiles, the errors."""
+"""Calibration: planted parameters are found again; the journal, the distance, the surface and its profiles, the
+errors."""
 
 import json
 import math
@@ -29,11 +30,11 @@ def agent(kind, every, **own):
 
 
 def market(margin, every):
-    """Ten minutes of value and noise traders: how far a price must be off, and how often noise comes."""
+    """Six minutes of value and noise traders: how far a price must be off, and how often noise comes."""
     return f"""version = 1
 key = "{5:064x}"
 open = {34_200 * SECOND}
-close = {34_800 * SECOND}
+close = {34_560 * SECOND}
 events = 60000
 exchange = {{ group = 0, delay = 1000 }}
 latency = {{ base = [[1000]], jitter = [[9000]] }}
@@ -54,9 +55,10 @@ every = {SECOND}
 def settings(folder, **more):
     """A configuration of the market from other values than the planted ones."""
     (folder / "start.toml").write_text(market(700, 6 * SECOND))
-    return {"study": str(folder / "start.toml"), "keys": 4, "output": str(folder / "out"), "generations": 3, "population": 5,
-            "parameters": {"agent.value.margin": [200, 900],
-                           "noise": {"paths": ["agent.noise.every"], "low": 4 * SECOND, "high": 30 * SECOND, "scale": "log"}},
+    return {"study": str(folder / "start.toml"), "keys": 4, "output": str(folder / "out"),
+            "generations": 3, "population": 5, "parameters": {"agent.value.margin": [200, 900],
+                           "noise": {"paths": ["agent.noise.every"], "low": 4 * SECOND, "high": 30 * SECOND,
+                                     "scale": "log"}},
             "targets": {"numbers": {"spread": 6.0}}, **more}
 
 
@@ -64,10 +66,12 @@ def settings(folder, **more):
 def planted(program, tmp_path_factory):
     """The configuration of a search for planted values, and its result. The targets come from keys of their own."""
     folder = tmp_path_factory.mktemp("planted")
-    known = calibration_of(settings(folder, keys=list(range(101, 109)), targets={"numbers": dict.fromkeys(MOMENT_NAMES, 1)}))
+    targets = {"numbers": dict.fromkeys(MOMENT_NAMES, 1)}
+    known = calibration_of(settings(folder, keys=list(range(101, 109)), targets=targets))
     runs = Runs(known, program, folder)
     rows = [runs.answer(json.dumps([PLANTED, key])) for key in known.keys]
-    numbers = {name: dict(zip(("value", "error"), mean_and_error(list(column)))) for name, column in zip(MOMENT_NAMES, zip(*rows))}
+    numbers = {name: dict(zip(("value", "error"), mean_and_error(list(column))))
+               for name, column in zip(MOMENT_NAMES, zip(*rows))}
     table = settings(folder, targets={"numbers": numbers})
     return table, calibrate(calibration_of(table), 1, program=program, progress=False)
 
@@ -124,7 +128,7 @@ def test_the_result_is_written_and_read(planted, tmp_path, program, capsys):
     (tmp_path / "config.yaml").write_text(json.dumps(table))        # each JSON is YAML
     assert main(["calibrate", str(tmp_path / "config.yaml"), "--processes", "1", "--program", program]) == 0
     heard = capsys.readouterr().out
-    assert heard.startswith(result.text()) and heard.endswith(f"written: study.toml, result.json and profile.csv in {folder}\n")
+    assert heard == result.text() + f"written: study.toml, result.json and profile.csv in {folder}\n"
 
 
 def test_a_study_gives_the_same_moments_under_the_same_keys_however_it_is_run(planted, program, tmp_path):
@@ -156,7 +160,8 @@ def test_the_weights_come_from_the_keys_and_from_the_targets_errors(tmp_path):
 
 def test_profiles_of_moments_that_are_linear_are_the_textbooks_ones(tmp_path):
     calibration = calibration_of(settings(tmp_path, parameters={
-        "agent.value.margin": [0, 1000], "agent.value.noise": [0, 1000]}, targets={"numbers": {"spread": 7, "depth": 1}}))
+        "agent.value.margin": [0, 1000], "agent.value.noise": [0, 1000]},
+        targets={"numbers": {"spread": 7, "depth": 1}}))
     objective = Objective(numpy.array([7.0, 1.0]), numpy.array([4.0, 1.0]))
     draws = numpy.random.RandomState(1)
     points = {tuple(map(int, pair)): [[pair[0] / 100 + pair[1] / 200, pair[1] / 100 - 4]] * 2
@@ -173,7 +178,8 @@ def test_profiles_of_moments_that_are_linear_are_the_textbooks_ones(tmp_path):
 
 
 def test_too_few_points_give_no_surface_and_a_parameter_that_nothing_tells_is_open(tmp_path):
-    calibration = calibration_of(settings(tmp_path, parameters={"agent.value.margin": [0, 1000], "agent.value.noise": [0, 1000]}))
+    parameters = {"agent.value.margin": [0, 1000], "agent.value.noise": [0, 1000]}
+    calibration = calibration_of(settings(tmp_path, parameters=parameters))
     objective = Objective(numpy.array([7.0]), numpy.array([4.0]))
     points = {(place, (place * 37) % 1001): [[place / 100]] * 2 for place in range(0, 1001, 25)}
     assert searching.surface_of(calibration, dict(list(points.items())[:11]), objective) is None
@@ -206,7 +212,8 @@ def test_a_run_that_fails_ends_the_search_and_leaves_no_line(tmp_path):
     (tmp_path / "fails").chmod(0o755)
     calibration = calibration_of(settings(tmp_path))
     journal = Journal(tmp_path / "journal.jsonl", calibration.mark)
-    with pytest.raises(CalibrationError, match="agent.value.margin = 700, noise = 6000000000, key 0+1: .* status 7: write failed"):
+    said = "agent.value.margin = 700, noise = 6000000000, key 0+1: .* status 7: write failed"
+    with pytest.raises(CalibrationError, match=said):
         Evaluator(calibration, journal, 1, str(tmp_path / "fails"), False).moments([(700, 6 * SECOND)])
     assert (tmp_path / "journal.jsonl").read_text().count("\n") == 1 and journal.known == {}
 
@@ -223,7 +230,8 @@ def test_the_journal_of_another_calibration(tmp_path):
         Journal(tmp_path / "journal.jsonl", "other")
 
 
-@pytest.mark.parametrize("text", ["no\n", "[]\n", '{"calibration": "m"}\n{"values": 5}\n', '{"calibration": "m"}\n{}\n'])
+@pytest.mark.parametrize("text", [
+    "no\n", "[]\n", '{"calibration": "m"}\n{"values": 5}\n', '{"calibration": "m"}\n{}\n'])
 def test_a_file_that_is_no_journal(tmp_path, text):
     (tmp_path / "journal.jsonl").write_text(text)
     with pytest.raises(CalibrationError, match="no journal"):
@@ -252,7 +260,8 @@ def test_an_empty_journal_is_begun(tmp_path):
     ({"targets": {}}, "none; give"), ({"targets": {"numbers": {"no": 1}}}, "no moment 'no'"),
     ({"targets": {"numbers": {"spread": "x"}}}, "a number is wanted"),
     ({"targets": {"numbers": {"spread": {"value": 1, "error": -1}}}}, "a number is wanted"),
-    ({"targets": {"from": "x.json"}}, "list of names"), ({"targets": {"from": [], "moments": ["spread"]}}, "list of pairs"),
+    ({"targets": {"from": "x.json"}}, "list of names"),
+    ({"targets": {"from": [], "moments": ["spread"]}}, "list of pairs"),
     ({"targets": {"other": 1}}, "targets: a table")])
 def test_what_no_calibration_is_made_of(tmp_path, change, said):
     with pytest.raises(CalibrationError, match=said):
@@ -297,7 +306,8 @@ def test_targets_come_from_facts_and_from_lobsters_files(planted, program, tmp_p
     names = ["spread", "orders_a_minute", "depth"]
     for days, error in ((1, 0), (2, 0)):        # two days that are one have no spread
         of_days = calibration_of(settings(tmp_path, targets={"from": [pair] * days, "moments": names})).targets
-        assert [target.value for target in of_days] == pytest.approx(moments_of(facts.tape_of_branch(branch), tuple(names)))
+        wanted = moments_of(facts.tape_of_branch(branch), tuple(names))
+        assert [target.value for target in of_days] == pytest.approx(wanted)
         assert all(target.error == pytest.approx(error, abs=1e-9) for target in of_days)
     with pytest.raises(CalibrationError, match="has no depth"):
         calibration_of(settings(tmp_path, targets={**source, "moments": ["depth"]}))

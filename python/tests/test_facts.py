@@ -1,4 +1,5 @@
-"""Facts: each number against a plain loop or a law that is known, the judgement over tapes, the command and its files."""
+"""Facts: each number against a plain loop or a law that is known, the judgement over tapes, the command and its
+files."""
 
 import json
 import math
@@ -110,7 +111,8 @@ def test_a_tape_of_lobsters_files_is_the_branchs_own(bundles, tmp_path):
             if not len(tape.time):
                 continue
             other = facts.tape_of_lobster(*pair)
-            for field in ("time", "kind", "reference", "shares", "price", "direction", "bid", "bid_shares", "ask", "ask_shares"):
+            for field in ("time", "kind", "reference", "shares", "price", "direction", "bid", "bid_shares", "ask",
+                          "ask_shares"):
                 assert getattr(tape, field).tolist() == getattr(other, field).tolist(), field
             assert same(facts.numbers_of(tape), facts.numbers_of(other))
             hidden += (tape.kind == HIDDEN).sum()
@@ -125,7 +127,8 @@ def same(first, second):
 @pytest.mark.parametrize("message, book, said", [
     ("34200.1,1,5,100,1000000,1\n", "1000100,50,1000000,100\n1,1,1,1\n", "1 rows and .* 2: they are not of one market"),
     ("34200.2,1,5,100,1000000,1\n34200.1,1,6,100,1000000,1\n", "1,1,1,1\n1,1,1,1\n", "row 2 is earlier"),
-    ("34200.1,1,5,100\n", "1,1,1,1\n", "6 columns of numbers"), ("time,type,a,b,c,d\n", "1,1,1,1\n", "6 columns of numbers"),
+    ("34200.1,1,5,100\n", "1,1,1,1\n", "6 columns of numbers"),
+    ("time,type,a,b,c,d\n", "1,1,1,1\n", "6 columns of numbers"),
     ("", "1,1,1,1\n", "is empty"), ("34200.1,1,5,100,1000000,1\n", "1,1,x,1\n", "4 columns of numbers")])
 def test_files_that_are_no_tape(tmp_path, message, book, said):
     (tmp_path / "m.csv").write_text(message)
@@ -135,8 +138,9 @@ def test_files_that_are_no_tape(tmp_path, message, book, said):
 
 
 def test_crosses_halts_and_empty_sides_of_lobsters_files(tmp_path):
-    (tmp_path / "m.csv").write_text("34200.000000001,7,0,0,-1,-1\n34200.5,1,5,100,1000000,1\n34201.25,6,-1,10,1000000,-1\n"
-                                    "34201.5,1,6,30,1000200,-1\n34203.123456789,4,6,30,1000200,-1\n")
+    (tmp_path / "m.csv").write_text("34200.000000001,7,0,0,-1,-1\n34200.5,1,5,100,1000000,1\n"
+                                    "34201.25,6,-1,10,1000000,-1\n34201.5,1,6,30,1000200,-1\n"
+                                    "34203.123456789,4,6,30,1000200,-1\n")
     (tmp_path / "o.csv").write_text("9999999999,0,-9999999999,0\n9999999999,0,1000000,100\n9999999999,0,1000000,100\n"
                                     "1000200,30,1000000,100\n9999999999,0,1000000,100\n")
     tape = facts.tape_of_lobster(tmp_path / "m.csv", tmp_path / "o.csv")
@@ -174,7 +178,8 @@ def plain_orders(tape):
     took = [(time, sign, sum(shares for _, _, shares in group))
             for (time, sign), group in groupby(rows, lambda row: row[:2])]
     resting, ended = {}, []
-    for time, kind, reference, shares in zip(tape.time.tolist(), tape.kind, tape.reference.tolist(), tape.shares.tolist()):
+    columns = (tape.time.tolist(), tape.kind, tape.reference.tolist(), tape.shares.tolist())
+    for time, kind, reference, shares in zip(*columns):
         if kind == ADDED:
             resting[reference] = [time, shares]
         elif kind in (REDUCED, DELETED, EXECUTED):
@@ -316,11 +321,13 @@ def test_a_fact_is_met_where_the_whole_interval_lies_in_the_range():
     assert made_facts(inside).met["volume_and_volatility"]
     across = [value - (inside[5] - number.low) for value in inside]
     assert number.low <= judgement.middle(across) and not made_facts(across).met["volume_and_volatility"]
-    assert made_facts(inside[:5]).met["volume_and_volatility"] and made_facts(inside[:5]).estimate("volume_10s").interval is None
+    few = made_facts(inside[:5])
+    assert few.met["volume_and_volatility"] and few.estimate("volume_10s").interval is None
     assert not made_facts([*inside[:4], math.nan]).met["volume_and_volatility"]
     assert not made_facts([math.nan] * 12).met["volume_and_volatility"]
     ranges = {"volume_10s": (0.0, 0.05)}
-    assert not made_facts(inside, ranges).met["volume_and_volatility"] and made_facts([0.01] * 9, ranges).met["volume_and_volatility"]
+    assert not made_facts(inside, ranges).met["volume_and_volatility"]
+    assert made_facts([0.01] * 9, ranges).met["volume_and_volatility"]
 
 
 def test_all_numbers_of_a_fact_have_to_be_in_their_ranges():
@@ -351,7 +358,7 @@ def measured(hour, program):
 def test_a_study_under_keys_is_measured_as_its_branch_is(hour, measured):
     alone = facts.of_branch(hour[1].branches["root"])
     for name, values in measured.numbers.items():
-        assert values[0] == alone.numbers[name][0] or (math.isnan(values[0]) and math.isnan(alone.numbers[name][0])), name
+        assert values[0] == alone.numbers[name][0], name
     assert measured.tapes == ("5", "6") and measured.numbers["spread"][0] != measured.numbers["spread"][1]
     assert not any(math.isnan(value) for values in measured.numbers.values() for value in values)
 
@@ -378,7 +385,8 @@ def test_the_command_tells_stored_facts_again(measured, tmp_path, capsys):
     assert "no curves" in capsys.readouterr().err and not (tmp_path / "p.html").exists()
 
 
-@pytest.mark.parametrize("text", ["", "[]", "{}", '{"facts": [{"numbers": [{"name": "spread"}]}]}', '{"facts": 5}', "\xff"])
+@pytest.mark.parametrize("text", [
+    "", "[]", "{}", '{"facts": [{"numbers": [{"name": "spread"}]}]}', '{"facts": 5}', "\xff"])
 def test_a_file_that_has_no_facts(tmp_path, text):
     (tmp_path / "facts.json").write_text(text, "latin1")
     with pytest.raises(FactsError, match="facts.json"):
@@ -395,8 +403,8 @@ def test_the_command_over_a_bundle_writes_table_json_and_page(hour, tmp_path, ca
     words = ["facts", hour[1].path, "--json", str(tmp_path / "f.json"), "--page", str(tmp_path / "f.html")]
     assert main(words) == 0
     said = capsys.readouterr().out
-    assert said.endswith(f"{json.loads((tmp_path / 'f.json').read_text())['met']} of 12 facts met: study.bundle, branch root, "
-                         "1 tape\n")
+    met = json.loads((tmp_path / "f.json").read_text())["met"]
+    assert said.endswith(f"{met} of 12 facts met: study.bundle, branch root, 1 tape\n")
     text = (tmp_path / "f.html").read_text()
     assert all(f'id="{words[0]}"' in text for words in page.PICTURES)
     own = text[:text.index("<script>")] + text[text.rindex("<script>"):]
@@ -422,7 +430,8 @@ def test_the_command_over_a_study_with_ranges_of_ones_own(hour, measured, progra
 
 @pytest.mark.parametrize("words, said", [
     ([], "name a study or a bundle"), (["{study}", "--lobster", "a", "b"], "one of both"),
-    (["{study}", "--keys", "no"], "--keys no"), (["{study}", "--keys", "9-3"], "--keys 9-3"), (["none.toml"], "none.toml"),
+    (["{study}", "--keys", "no"], "--keys no"), (["{study}", "--keys", "9-3"], "--keys 9-3"),
+    (["none.toml"], "none.toml"),
     (["{bundle}", "--branch", "no"], "no branch 'no'"), (["{bundle}", "--symbol", "no"], "no stock 'no'"),
     (["--lobster", "none", "none"], "none"), (["{bundle}", "--ranges", "{study}"], "no facts as")])
 def test_what_the_command_refuses(hour, words, said, capsys):

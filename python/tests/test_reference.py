@@ -16,7 +16,8 @@ from biqsolur.facts.judgement import short
 from conftest import ROOT
 
 STORED = ROOT / "docs" / "reference_facts.json"
-MARKET, STOCKS, QUESTIONS = (ROOT / "examples" / f"reference_{name}.toml" for name in ("market", "two_stocks", "questions"))
+MARKET, STOCKS, QUESTIONS = (
+    ROOT / "examples" / f"reference_{name}.toml" for name in ("market", "two_stocks", "questions"))
 REALISM, COUNTERFACTUALS = ((ROOT / "docs" / f"{name}.md").read_text() for name in ("REALISM", "COUNTERFACTUALS"))
 DRAWN_BY = "1.10.1"
 FEWEST = 9                  # facts of twelve
@@ -31,7 +32,8 @@ def block_below(text, command):
 
 def numbers_of(table):
     """Each number of stored facts, by name: its values by key."""
-    return {number["name"]: dict(zip(table["tapes"], number["values"])) for fact in table["facts"] for number in fact["numbers"]}
+    return {number["name"]: dict(zip(table["tapes"], number["values"]))
+            for fact in table["facts"] for number in fact["numbers"]}
 
 
 @pytest.fixture(scope="module")
@@ -132,14 +134,15 @@ def questions(monkeypatch, keys=None):
     path = ROOT / "examples" / "reference_questions.py"
     if keys is not None:
         real = biqsolur.map
-        monkeypatch.setattr(biqsolur, "map", lambda study, _, function: real(study, keys, function, processes=1), raising=False)
+        monkeypatch.setattr(biqsolur, "map", lambda study, _, function: real(study, keys, function, processes=1))
     return runpy.run_path(str(path), run_name="__main__")
 
 
 def test_the_questions_under_one_key(monkeypatch, capsys):
     questions(monkeypatch, keys=2)
     said = dict(line.split(": ") for line in capsys.readouterr().out.splitlines())
-    assert said["effective_spread_bps, same less root"] == said["realised_volatility_bps, same less root"] == "0.00 +- 0.00"
+    assert said["effective_spread_bps, same less root"] == "0.00 +- 0.00"
+    assert said["realised_volatility_bps, same less root"] == "0.00 +- 0.00"
     assert float(said["effective_spread_bps, wide less root"].split()[0]) > 3
     assert float(said["realised_volatility_bps, shock less root"].split()[0]) > 5
 
@@ -162,7 +165,8 @@ COMMAND = "python3 -m biqsolur calibrate examples/calibration.yaml"
 
 
 def test_the_moments_of_the_pages_calibration(tmp_path, program, monkeypatch):
-    """What was found there has the moments that stand there, and meets the targets; whichever way a search took to it."""
+    """What was found there has the moments that stand there, and meets the targets; whichever way a search took to
+    it."""
     monkeypatch.chdir(ROOT)
     config = read_config(calibration(tmp_path))
     lines = [line.split() for line in block_below(REALISM, COMMAND)]

@@ -21,8 +21,17 @@ series = "{series}"
 exchange = {{ group = 0, delay = 1000 }}
 latency = {{ base = [[1000]], jitter = [[0]] }}
 stock = [{{ symbol = "ABM", bands = [[0, 100]], add = 0, take = 0, series = "rows" }}]
-agent = [{{ kind = "value", group = 0, stock = "ABM", first = 34200000000000, every = 1000000000, size = 100, noise = 10,
- margin = 100, count = 5, spread = 1000 }}]
+[[agent]]
+kind = "value"
+group = 0
+stock = "ABM"
+first = 34200000000000
+every = 1000000000
+size = 100
+noise = 10
+margin = 100
+count = 5
+spread = 1000
 """
 
 
@@ -50,7 +59,8 @@ def test_each_stock_has_draws_of_its_own():
     first, second = (rows.value[rows.symbol == name].to_numpy() for name in "AC")
     assert not numpy.array_equal(first, second)
     each = values.series_for({"A": "gbm(start=100)", "C": {"kind": "ou", "start": 20}}, 7, study)
-    assert numpy.array_equal(each.value[each.symbol == "A"], first) and each.value[each.symbol == "C"].iloc[0] == 200_000
+    assert numpy.array_equal(each.value[each.symbol == "A"], first)
+    assert each.value[each.symbol == "C"].iloc[0] == 200_000
 
 
 def test_brownian_motion_has_its_drift_and_volatility():
@@ -69,7 +79,8 @@ def test_brownian_motion_is_a_plain_loop():
         level += (0.1 - 0.3**2 / 2) / year + 0.3 / math.sqrt(year) * normal
         level += number * -0.002 + math.sqrt(number) * 0.004 * size
         expected.append(100 * math.exp(level))
-    found = prices_of(values.gbm(start=100, drift=0.1, volatility=0.3, jumps=500, jump_mean=-0.002, jump_deviation=0.004), 3)
+    course = values.gbm(start=100, drift=0.1, volatility=0.3, jumps=500, jump_mean=-0.002, jump_deviation=0.004)
+    found = prices_of(course, 3)
     assert jumps.sum() > 40 and numpy.allclose(found, expected, rtol=0, atol=0.00006)
 
 
@@ -83,7 +94,8 @@ def test_a_price_is_drawn_back_to_its_mean():
 
 
 def test_garch_clusters_and_has_its_volatility():
-    moves = numpy.diff(numpy.log(prices_of(values.garch(start=10_000, volatility=0.5, alpha=0.2, beta=0.7, every="100ms"))))
+    course = values.garch(start=10_000, volatility=0.5, alpha=0.2, beta=0.7, every="100ms")
+    moves = numpy.diff(numpy.log(prices_of(course)))
     assert abs(moves.std() * math.sqrt(252 * 234_000) / 0.5 - 1) < 0.1
     squares = moves**2 - (moves**2).mean()
     assert (squares[1:] * squares[:-1]).mean() / squares.var() > 0.15
@@ -124,11 +136,13 @@ def test_the_program_takes_the_file_and_the_traders_follow_it(program, tmp_path)
 
 @pytest.mark.parametrize("spec, said", [
     ("gbm(start=-1)", "start = -1"), ("gbm(start='100')", "start = '100'"), ("foo(start=1)", "'foo' is no course"),
-    ("gbm(strt=1)", "no setting 'strt'"), ("gbm(100)", "named settings"), ("gbm(start=__import__('os'))", "named settings"),
+    ("gbm(strt=1)", "no setting 'strt'"), ("gbm(100)", "named settings"),
+    ("gbm(start=__import__('os'))", "named settings"),
     ("gbm", "named settings"), ("prices()", "path of a file"), ("garch(alpha=0.5, beta=0.5)", "below 1"),
     ("garch(alpha=-0.1)", "alpha"), ("gbm(every='1x')", "no length of time"), ("gbm(every=0)", "every = 0"),
     ("gbm(volatility=1e999)", "volatility"), ("ou(half_life='0s')", "half_life"), ("ou(deviation=-1)", "deviation"),
-    ("prices(path='x', block=-1)", "block"), ({"ABM": "gbm()", "Z": "gbm()"}, "'Z' is none"), ({"kind": "no"}, "'no' is no course"),
+    ("prices(path='x', block=-1)", "block"), ({"ABM": "gbm()", "Z": "gbm()"}, "'Z' is none"),
+    ({"kind": "no"}, "'no' is no course"),
     ({}, "'ABM' has none"), ("gbm(every='1ms')", "3,600,001 rows")])
 def test_what_no_series_can_be_made_of(spec, said):
     with pytest.raises(SeriesError, match=said.replace("(", r"\(")):

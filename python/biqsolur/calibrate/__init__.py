@@ -11,4 +11,7 @@ from biqsolur.calibrate.config import Calibration, Parameter, Target, calibratio
 from biqsolur.calibrate.moments import MOMENTS, moments_of
 from biqsolur.calibrate.result import Calibrated, calibrate
 
-__all__ = ["MOMENTS", "Calibrated", "Calibration", "Parameter", "Target", "calibrate", "calibration_of", "moments_of", "read_config"]
+__all__ = [
+    "MOMENTS", "Calibrated", "Calibration", "Parameter", "Target", "calibrate", "calibration_of", "moments_of",
+    "read_config",
+]

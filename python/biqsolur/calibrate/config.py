@@ -1,17 +1,18 @@
 """What a calibration is to find, read from a file of TOML or YAML.
 
     study = "market.toml"               # the study; its own values are the beginning, and its own key is not used
-    keys = 8                            # the keys 1 to 8 for each point, or a list of keys: the same random numbers for all
+    keys = 8                            # the keys 1 to 8 for each point, or a list of keys: common random numbers
     output = "out/calibration"          # the folder of the journal and of the result
-    branch = "root"                     # may be left out, as all that follow: `symbol` (the first stock), `generations` (20),
-    population = 15                     # points a generation and parameter (15), `seed` of the search (1)
+    branch = "root"                     # may be left out, as may what follows: `symbol` (the first stock)
+    generations = 20                    # and `seed` (of the search, 1)
+    population = 15                     # points a generation and parameter
 
-    [parameters]                        # paths of the study, as `Study.with_` takes them, with their ranges of whole numbers
+    [parameters]                        # paths of the study, as `Study.with_` takes them, with ranges of whole numbers
     "agent.value.margin" = [100, 900]
     every = { paths = ["agent.noise.every"], low = 1000000000, high = 60000000000, scale = "log" }
 
     [targets]
-    from = "facts.json"                 # of `biqsolur facts --json`, or LOBSTER's files: [["MESSAGE", "ORDERBOOK"], ...]
+    from = "facts.json"                 # of `biqsolur facts --json`, or files: [["MESSAGE", "ORDERBOOK"], ...]
     moments = ["spread", "hill_1s"]     # which of that source's moments
     numbers = { volatility_10s = 1.5, depth = { value = 300, error = 10 } }       # targets of your own
 """
@@ -40,7 +41,8 @@ FORMAT = 1      # of the journal
 
 @dataclass(frozen=True)
 class Parameter:
-    """A parameter: its name, the paths that it sets, the range of its whole numbers, and whether it is searched by ratios."""
+    """A parameter: its name, the paths that it sets, the range of its whole numbers, and whether it is searched by
+    ratios."""
 
     name: str
     paths: tuple[str, ...]
@@ -138,7 +140,8 @@ def value_at(table: Any, path: str) -> int:
 
 
 def read_config(path: str | Path) -> Calibration:
-    """The calibration of a file; its paths are looked for from the working folder. CalibrationError says what is wrong."""
+    """The calibration of a file; its paths are looked for from the working folder. CalibrationError says what is
+    wrong."""
     text = Path(path).read_text("utf-8")
     try:
         if Path(path).suffix in (".yaml", ".yml"):
@@ -165,11 +168,12 @@ def calibration_of(table: Any) -> Calibration:
     study = Study(table["study"])
     branch, symbol = table.get("branch", "root"), table.get("symbol")
     wanted(branch in study.branches, f"branch: the study has no {branch!r}; there are {', '.join(study.branches)}")
-    wanted(symbol is None or symbol in study.symbols, f"symbol: no stock {symbol!r}; there are {', '.join(study.symbols)}")
+    wanted(symbol is None or symbol in study.symbols,
+           f"symbol: no stock {symbol!r}; there are {', '.join(study.symbols)}")
     numbers = {name: whole(table, name, default, least) for name, default, least in
                (("generations", 20, 0), ("population", 15, 1), ("seed", 1, 0))}
-    out = Calibration(study, tuple(keys_of(table["keys"])), Path(str(table["output"])), parameters_of(table["parameters"]),
-                      targets_of(table["targets"]), branch, symbol, **numbers)
+    out = Calibration(study, tuple(keys_of(table["keys"])), Path(str(table["output"])),
+                      parameters_of(table["parameters"]), targets_of(table["targets"]), branch, symbol, **numbers)
     wanted(len(out.keys) > 1, "keys: two at least, since the weights of the moments come from how the keys differ")
     out.study_at(out.own_values)
     return out
@@ -189,9 +193,11 @@ def parameters_of(table: Any) -> tuple[Parameter, ...]:
     out = []
     for name, said in table.items():
         settings = said if isinstance(said, Mapping) else {"range": said}
-        low, high = settings.get("range", (settings.get("low"), settings.get("high"))) if good_range(settings) else (None, None)
+        ends = settings.get("range", (settings.get("low"), settings.get("high")))
+        low, high = ends if good_range(settings) else (None, None)
         plain = all(isinstance(end, int) and not isinstance(end, bool) for end in (low, high))
-        wanted(plain and low < high, f"parameters: {name}: a range is wanted, as in [100, 900]: two whole numbers that rise")
+        wanted(plain and low < high,
+               f"parameters: {name}: a range is wanted, as in [100, 900]: two whole numbers that rise")
         scale, paths = settings.get("scale", "linear"), settings.get("paths", [name])
         wanted(scale in ("linear", "log"), f"parameters: {name}: scale is linear or log")
         wanted(scale == "linear" or low > 0, f"parameters: {name}: a range searched by ratios (log) begins above 0")
@@ -239,15 +245,17 @@ def check_names(names: list[Any]) -> None:
 
 
 def targets_from(source: Any, names: tuple[str, ...]) -> list[Target]:
-    """Targets from the JSON of facts, or from LOBSTER's files of some days: means, with the standard errors of means."""
+    """Targets from the JSON of facts, or from LOBSTER's files of some days: means, with the standard errors of
+    means."""
     if isinstance(source, str):
         found = {number["name"]: number["values"] for fact in read_facts(source)["facts"] for number in fact["numbers"]}
         missing = [name for name in names if name not in found]
         wanted(not missing, f"targets: {source} has no {', '.join(missing)}: it has the numbers of the facts alone")
         values = [[math.nan if value is None else value for value in found[name]] for name in names]
     else:
-        pairs = isinstance(source, list) and source and all(isinstance(pair, list) and len(pair) == 2 for pair in source)
-        wanted(pairs, "targets: from: the JSON of facts, or a list of pairs of LOBSTER's files, is wanted")
+        pairs = isinstance(source, list) and source
+        wanted(pairs and all(isinstance(pair, list) and len(pair) == 2 for pair in source),
+               "targets: from: the JSON of facts, or a list of pairs of LOBSTER's files, is wanted")
         days = [moments_of(tape_of_lobster(message, orderbook), names) for message, orderbook in source]
         values = [list(column) for column in zip(*days)]
     for name, column in zip(names, values):

@@ -47,8 +47,9 @@ class Runs:
             if run.returncode == REFUSED:
                 return None
             if run.returncode:
-                raise CalibrationError(f"{self.words(values)}, key {key}: the program ended with status {run.returncode}: "
-                                       f"{run.stderr.decode('utf-8', 'replace').strip()}")
+                said = run.stderr.decode("utf-8", "replace").strip()
+                raise CalibrationError(f"{self.words(values)}, key {key}: the program ended with status "
+                                       f"{run.returncode}: {said}")
             branch = read(bundle).branches[self.calibration.branch]
             return moments_of(tape_of_branch(branch, self.calibration.symbol), self.calibration.moments)
         finally:
@@ -102,9 +103,9 @@ class Evaluator:
 class Objective:
     """The distance of a point's mean moments from the targets, in squared standard errors, summed over the moments.
 
-    weights: one over the squared standard error of each difference: that of the mean over the keys, as the study's own
-    values have it, and that of the target itself. So at the true values the distance is near a chi-squared number with a
-    degree for each moment (McFadden 1989, with a diagonal weight).
+    weights: one over the squared standard error of each difference: that of the mean over the keys, as the study's
+    own values have it, and that of the target itself. So at the true values the distance is near a chi-squared number
+    with a degree for each moment (McFadden 1989, with a diagonal weight).
     """
 
     targets: numpy.ndarray
@@ -120,14 +121,16 @@ class Objective:
 
 
 def objective_of(calibration: Calibration, own: Moments) -> Objective:
-    """The objective, from what the study's own values have under the keys. CalibrationError where they lack a moment."""
+    """The objective, from what the study's own values have under the keys. CalibrationError where they lack a
+    moment."""
     if not own:
-        raise CalibrationError("the program refuses the study at its own values, brought into the ranges of the parameters")
+        raise CalibrationError("the program refuses the study at its own values, brought into the parameters' ranges")
     table = numpy.array(own)
-    lacking = [target.moment for target, column in zip(calibration.targets, table.T) if not numpy.isfinite(column).all()]
+    lacking = [target.moment for target, column in zip(calibration.targets, table.T)
+               if not numpy.isfinite(column).all()]
     if lacking:
-        raise CalibrationError(f"the study's own values have no {lacking[0]} under each key: its weight can't be told; begin "
-                               "with other values, or take the moment away")
+        raise CalibrationError(f"the study's own values have no {lacking[0]} under each key: its weight can't be told; "
+                               "begin with other values, or take the moment away")
     values = numpy.array([target.value for target in calibration.targets])
     errors = numpy.array([target.error for target in calibration.targets])
     spread = numpy.maximum(table.var(axis=0, ddof=1) / len(table), (1e-6 * numpy.abs(values))**2 + 1e-18)

@@ -31,10 +31,11 @@ class Journal:
             found = first["calibration"]
             self.known = {tuple(line["values"]): numbers(line["moments"]) for line in lines}
         except (ValueError, KeyError, TypeError):
-            raise CalibrationError(f"{path}: no journal of a calibration; choose another `output`, or take it away") from None
+            raise CalibrationError(f"{path}: no journal of a calibration; choose another `output`, or take it "
+                                   "away") from None
         if found != mark:
-            raise CalibrationError(f"{path}: the journal of another calibration (another study, keys, moments or parameters); "
-                                   "choose another `output`, or take it away")
+            raise CalibrationError(f"{path}: the journal of another calibration (another study, keys, moments or "
+                                   "parameters); choose another `output`, or take it away")
         if not kept:
             self._append({"calibration": mark})
 

@@ -25,9 +25,9 @@ from biqsolur.study import Study
 class Calibrated:
     """What was found.
 
-    Attributes: calibration, values (of the parameters, in their order), distance (the objective there: squared standard
-    errors, summed over the moments), moments (there, a list a key), profiles (one a parameter; none where the points were
-    too few to fit a surface), points (how many were evaluated).
+    Attributes: calibration, values (of the parameters, in their order), distance (the objective there: squared
+    standard errors, summed over the moments), moments (there, a list a key), profiles (one a parameter; none where
+    the points were too few to fit a surface), points (how many were evaluated).
     """
 
     calibration: Calibration
@@ -43,8 +43,8 @@ class Calibrated:
         return self.calibration.study_at(self.values).with_("key", self.calibration.keys[0])
 
     def parameters(self) -> pandas.DataFrame:
-        """A row a parameter: parameter, value, low and high (the interval of 95 per cent by the profile, not-a-number where
-        there is none), told (whether both ends lie inside of what was searched), range_low, range_high."""
+        """A row a parameter: parameter, value, low and high (the interval of 95 per cent by the profile, not-a-number
+        where there is none), told (whether both ends lie inside of what was searched), range_low, range_high."""
         rows = []
         for number, (parameter, value) in enumerate(zip(self.calibration.parameters, self.values)):
             profile = self.profiles[number] if self.profiles else None
@@ -53,8 +53,8 @@ class Calibrated:
         return pandas.DataFrame(rows, columns=["parameter", "value", "low", "high", "told", "range_low", "range_high"])
 
     def moment_table(self) -> pandas.DataFrame:
-        """A row a moment: moment, target, target_error, mean (over the keys), low and high (the interval of 95 per cent of
-        that mean, by Student's law)."""
+        """A row a moment: moment, target, target_error, mean (over the keys), low and high (the interval of 95 per
+        cent of that mean, by Student's law)."""
         from scipy.stats import t
         table = numpy.array(self.moments)
         means, count = table.mean(axis=0), len(table)
@@ -87,15 +87,16 @@ class Calibrated:
             lines.append(f"{row.parameter:<32} {row.value:>14}  {interval:<28} {row.range_low} to {row.range_high}")
         lines.append(f"{'moment':<32} {'target':>14}  {'mean':<9} interval of 95 per cent")
         for row in self.moment_table().itertuples():
-            lines.append(f"{row.moment:<32} {short(row.target):>14}  {short(row.mean):<9} {short(row.low)} to {short(row.high)}")
+            interval = f"{short(row.low)} to {short(row.high)}"
+            lines.append(f"{row.moment:<32} {short(row.target):>14}  {short(row.mean):<9} {interval}")
         moments = len(self.calibration.targets)
         lines.append(f"distance {short(self.distance)} over {moments} moment{'' if moments == 1 else 's'}, "
                      f"{self.points} points under {len(self.calibration.keys)} keys each")
         return "\n".join(lines) + "\n"
 
     def write(self) -> None:
-        """Writes study.toml, result.json and profile.csv into the calibration's folder, each whole; those of an earlier end
-        of the same calibration are replaced."""
+        """Writes study.toml, result.json and profile.csv into the calibration's folder, each whole; those of an
+        earlier end of the same calibration are replaced."""
         folder = self.calibration.output
         replace(folder / "study.toml", self.study.to_text())
         replace(folder / "profile.csv", self.profile_table().to_csv(index=False, lineterminator="\n"))
@@ -118,8 +119,9 @@ def replace(path: Path, text: str) -> None:
 
 def calibrate(calibration: Calibration, processes: int | None = None, *, program: str | os.PathLike[str] | None = None,
               progress: bool | None = None) -> Calibrated:
-    """Searches, and tells what was found. The folder `output` is made where it is missing; it has the journal, so what an
-    interrupt ended goes on from there, and asks for the same points. Raises CalibrationError and StudyRefused."""
+    """Searches, and tells what was found. The folder `output` is made where it is missing; it has the journal, so
+    what an interrupt ended goes on from there, and asks for the same points. Raises CalibrationError and
+    StudyRefused."""
     calibration.study.check(program=program)
     calibration.output.mkdir(parents=True, exist_ok=True)
     journal = Journal(calibration.output / "journal.jsonl", calibration.mark)

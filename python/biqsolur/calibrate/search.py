@@ -30,9 +30,10 @@ def search(calibration: Calibration, evaluator: Evaluator, objective: Objective)
     count = len(calibration.parameters)
     own = numpy.array([parameter.place(value)
                        for parameter, value in zip(calibration.parameters, calibration.own_values)])
-    differential_evolution(distances, [(0.0, 1.0)] * count, maxiter=calibration.generations, popsize=calibration.population,
-                           seed=calibration.seed, init="latinhypercube", x0=own, polish=False, updating="deferred", vectorized=True,
-                           tol=0.0, atol=0.0)
+    differential_evolution(
+        distances, [(0.0, 1.0)] * count, maxiter=calibration.generations, popsize=calibration.population,
+        seed=calibration.seed, init="latinhypercube", x0=own, polish=False, updating="deferred", vectorized=True,
+        tol=0.0, atol=0.0)
 
 
 def values_at(calibration: Calibration, places: numpy.ndarray) -> Values:
@@ -95,11 +96,12 @@ def places_of(parameters: tuple[Parameter, ...], values: Values) -> list[float]:
 
 @dataclass(frozen=True)
 class Profile:
-    """How sharply a parameter is told: for each of its values the least distance over all other parameters, on the surface.
+    """How sharply a parameter is told: for each of its values the least distance over all other parameters, on the
+    surface.
 
     values and distances: shape (41,). low and high: the ends of the values around the least distance at which it has
-    risen by no more than 3.84; they are the interval of 95 per cent where the weights are right. told: whether both ends
-    lie inside of the part of the range that was looked at.
+    risen by no more than 3.84; they are the interval of 95 per cent where the weights are right. told: whether both
+    ends lie inside of the part of the range that was looked at.
     """
 
     parameter: Parameter

@@ -16,5 +16,7 @@ from biqsolur.facts.measure import of_branch, of_lobster, of_study
 from biqsolur.facts.page import write_page
 from biqsolur.facts.tape import Tape, tape_of_branch, tape_of_lobster
 
-__all__ = ["FACTS", "NUMBERS", "Estimate", "Facts", "Tape", "median_interval", "numbers_of", "of_branch", "of_lobster", "of_study",
-           "ranges_of", "read_facts", "tape_of_branch", "tape_of_lobster", "write_page"]
+__all__ = [
+    "FACTS", "NUMBERS", "Estimate", "Facts", "Tape", "median_interval", "numbers_of", "of_branch", "of_lobster",
+    "of_study", "ranges_of", "read_facts", "tape_of_branch", "tape_of_lobster", "write_page",
+]

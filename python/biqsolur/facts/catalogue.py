@@ -1,7 +1,8 @@
 """The twelve facts: what each measures on a tape, the range that the literature reports, and where.
 
-The ranges are of liquid US stocks, where not said otherwise, and are cited as they were recalled: look a number up before
-you quote it. Where a paper gives a direction and no number, the range is this package's, and its source says so.
+The ranges are of liquid US stocks, where not said otherwise, and are cited as they were recalled: look a number up
+before you quote it. Where a paper gives a direction and no number, the range is this package's, and its source says
+so.
 """
 
 from __future__ import annotations
@@ -55,8 +56,8 @@ class Subject:
 
 @dataclass(frozen=True)
 class Number:
-    """One number of a fact: its name, what it is in words, its unit (empty where it has none), the range that is reported
-    (both ends belong to it), and how it is measured."""
+    """One number of a fact: its name, what it is in words, its unit (empty where it has none), the range that is
+    reported (both ends belong to it), and how it is measured."""
 
     name: str
     words: str
@@ -146,30 +147,33 @@ FACTS = (
                lambda of: returns.excess_kurtosis(of.returns(1))),
         Number("hill_1s", "Hill index of the greatest twentieth of absolute one-second returns", "", 2, 5,
                lambda of: returns.hill_index(of.returns(1)))),
-        "Cont 2001: tail index above 2 and below 5, excess kurtosis of five-minute returns from 16 to 74; Gopikrishnan and "
-        "others 1998: index near 3. The range of the kurtosis begins at 3 by this package's choice."),
+        "Cont 2001: tail index above 2 and below 5, excess kurtosis of five-minute returns from 16 to 74; Gopikrishnan "
+        "and others 1998: index near 3. The range of the kurtosis begins at 3 by this package's choice."),
     Fact("tails_decline", "Tails decline with the horizon", (
         Number("kurtosis_60s_part", "excess kurtosis of one-minute returns as a part of that of one-second ones", "",
                -0.5, 0.5, decline),),
         "Cont 2001 (aggregational Gaussianity) gives a direction; that at most half is left is this package's."),
     Fact("no_autocorrelation", "No linear autocorrelation beyond the first lags", (
-        Number("returns_5_to_20s", "greatest absolute autocorrelation of one-second returns at the lags of 5 to 20 seconds",
-               "", 0, 0.1, lambda of: float(numpy.abs(returns.autocorrelations(of.returns(1), 20)[4:]).max())),
+        Number("returns_5_to_20s",
+               "greatest absolute autocorrelation of one-second returns at the lags of 5 to 20 seconds", "", 0, 0.1,
+               lambda of: float(numpy.abs(returns.autocorrelations(of.returns(1), 20)[4:]).max())),
         Number("returns_60s", "autocorrelation of one-minute returns at the first lag", "", -0.15, 0.15,
                lambda of: float(returns.autocorrelations(of.returns(60), 1)[0]))),
-        "Cont 2001: none beyond some minutes, and small negative ones at the first lags; the numbers are this package's."),
+        "Cont 2001: none beyond some minutes, and small negative ones at the first lags; the numbers are this "
+        "package's."),
     Fact("volatility_clusters", "Volatility comes in clusters", (
         Number("absolute_10s", "autocorrelation of absolute ten-second returns at the first lag", "", 0.1, 0.5,
                lambda of: float(of.clusters[0])),
         Number("absolute_60_to_100s", "mean of those at the lags of 60 to 100 seconds", "", 0.02, 0.4,
                lambda of: mean_of(of.clusters[5:10]))),
-        "Cont 2001 and Liu and others 1999: positive, decaying slowly, as a power of the lag with an exponent from 0.2 to 0.4."),
+        "Cont 2001 and Liu and others 1999: positive, decaying slowly, as a power of the lag with an exponent from 0.2 "
+        "to 0.4."),
     Fact("symmetry", "Gains and losses alike within the day", (
         Number("skewness_10s", "skewness of ten-second returns", "", -0.5, 0.5,
                lambda of: returns.skewness(of.returns(10))),
         Number("percentiles_10s", "their 95th percentile over the absolute 5th one", "", 0.8, 1.25, tails_ratio)),
-        "Plerou and others 1999: the two tails of intraday returns of US stocks have nearly the same exponent; the asymmetry "
-        "of Cont 2001 is that of days and of indices. The numbers are this package's."),
+        "Plerou and others 1999: the two tails of intraday returns of US stocks have nearly the same exponent; the "
+        "asymmetry of Cont 2001 is that of days and of indices. The numbers are this package's."),
     Fact("volume_and_volatility", "Volume and volatility go together", (
         Number("volume_10s", "correlation of shares traded and absolute return over ten seconds", "", 0.1, 0.8,
                volume_and_volatility),),
@@ -178,8 +182,8 @@ FACTS = (
         Number("signs_1", "autocorrelation of the signs of orders that take, at the first lag", "", 0.1, 0.7,
                lambda of: float(of.signs[0])),
         Number("signs_10", "that at lag 10", "", 0.03, 0.5, lambda of: float(of.signs[9]))),
-        "Lillo and Farmer 2004, Bouchaud and others 2004, Toth and others 2015: positive, decaying as a power of the lag with "
-        "an exponent near 0.5."),
+        "Lillo and Farmer 2004, Bouchaud and others 2004, Toth and others 2015: positive, decaying as a power of the "
+        "lag with an exponent near 0.5."),
     Fact("impact", "Impact is concave in the size", (
         Number("impact_exponent", "slope of log mean immediate impact on log size executed", "", 0.1, 0.7,
                lambda of: flow.impact_exponent(of.takes)),),
@@ -188,21 +192,23 @@ FACTS = (
         Number("spread", "mean spread over time", "basis points", 1, 5, mean_spread),
         Number("depth_dispersion", "standard deviation over mean of the shares at the best prices", "", 0.7, 2,
                depth_dispersion)),
-        "Angel, Harris and Spatt 2015: a few basis points in large stocks; Bouchaud, Mezard and Potters 2002: depth at the "
-        "best price follows a gamma law of an exponent near 0.7 to 0.8, that is a dispersion near 1.15."),
+        "Angel, Harris and Spatt 2015: a few basis points in large stocks; Bouchaud, Mezard and Potters 2002: depth at "
+        "the best price follows a gamma law of an exponent near 0.7 to 0.8, that is a dispersion near 1.15."),
     Fact("durations", "Times between trades are overdispersed", (
         Number("duration_dispersion", "standard deviation over mean of the times between orders that take", "", 1.1, 4,
                lambda of: flow.dispersion(flow.durations(of.takes))),),
-        "Engle and Russell 1998: above 1, near 1.3 in IBM; Ivanov and others 2004: as a Weibull law of a shape near 0.7, 1.5."),
+        "Engle and Russell 1998: above 1, near 1.3 in IBM; Ivanov and others 2004: as a Weibull law of a shape near "
+        "0.7, 1.5."),
     Fact("cancellations", "Most orders are canceled", (
         Number("canceled", "part of the orders that ended which a cancel ended", "", 0.8, 0.995, canceled_part),),
         "Hasbrouck and Saar 2009: 93 per cent at INET in 2004; Hautsch and Huang 2012: above 95 per cent at Nasdaq."),
     Fact("lifetimes", "Most orders live briefly, and some for long", (
-        Number("canceled_within_2s", "part of the canceled orders that go within two seconds", "", 0.2, 0.8, quick_cancels),
+        Number("canceled_within_2s", "part of the canceled orders that go within two seconds", "", 0.2, 0.8,
+               quick_cancels),
         Number("life_mean_over_median", "mean life of the orders that ended over the median one", "", 2, 1000,
                skewed_lives)),
-        "Hasbrouck and Saar 2009: 37 per cent within two seconds; Challet and Stinchcombe 2003: lives follow a power law. That "
-        "the mean is twice the median or more is this package's."),
+        "Hasbrouck and Saar 2009: 37 per cent within two seconds; Challet and Stinchcombe 2003: lives follow a power "
+        "law. That the mean is twice the median or more is this package's."),
 )
 
 NUMBERS = {number.name: number for fact in FACTS for number in fact.numbers}

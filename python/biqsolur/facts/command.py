@@ -40,7 +40,8 @@ def measured(words: argparse.Namespace) -> Facts:
         start = file.read(len(BUNDLE_START))
     if start[:1] == b"{":
         if words.page:
-            raise FactsError(f"{words.market}: the numbers of facts have no curves to draw: give --page where they are measured")
+            raise FactsError(f"{words.market}: the numbers of facts have no curves to draw: give --page where they are "
+                             "measured")
         return replace(Facts.from_dict(read_facts(words.market)), **({"ranges": ranges} if ranges else {}))
     if start == BUNDLE_START:
         return of_branch(biqsolur.read(words.market).branches[words.branch], words.symbol, ranges)

@@ -24,8 +24,9 @@ def median_interval(values: Sequence[float], confidence: float = CONFIDENCE) -> 
     """The interval between two order statistics that has the median of the values' law with this confidence at least,
     whatever that law is; None where the values are too few for one (fewer than six at 95 per cent).
 
-    A value that is missing (not-a-number) may be any: it counts as the least for the lower end and as the greatest for the
-    upper one. Source: Thompson 1936; each end leaves out at most half of what is not covered, by the binomial law.
+    A value that is missing (not-a-number) may be any: it counts as the least for the lower end and as the greatest
+    for the upper one. Source: Thompson 1936; each end leaves out at most half of what is not covered, by the binomial
+    law.
     """
     count, outside, ends = len(values), (1 - confidence) / 2, 0
     below = 0.0
@@ -77,8 +78,9 @@ class Estimate:
 class Facts:
     """The twelve facts of some tapes: of one study under many keys, of a branch, or of days of LOBSTER's files.
 
-    Attributes: of (what was measured, in words), tapes (what each is called: a key, or a file), numbers (by name a value a
-    tape), curves (a dict a tape, for pictures; may be empty), ranges (by name, those that are not the literature's).
+    Attributes: of (what was measured, in words), tapes (what each is called: a key, or a file), numbers (by name a
+    value a tape), curves (a dict a tape, for pictures; may be empty), ranges (by name, those that are not the
+    literature's).
     """
 
     of: str
@@ -102,8 +104,9 @@ class Facts:
         return {fact.name: self.is_met(fact) for fact in FACTS}
 
     def frame(self) -> pandas.DataFrame:
-        """A row a number: fact, number, unit, estimate (the median over the tapes), low and high (its 95 per cent interval,
-        not-a-number for fewer than six tapes), range_low and range_high, tapes (on how many it could be measured), met."""
+        """A row a number: fact, number, unit, estimate (the median over the tapes), low and high (its 95 per cent
+        interval, not-a-number for fewer than six tapes), range_low and range_high, tapes (on how many it could be
+        measured), met."""
         rows = []
         for fact in FACTS:
             for number in fact.numbers:
@@ -122,14 +125,16 @@ class Facts:
     def _plain(self, number: Number) -> dict[str, Any]:
         made = self.estimate(number.name)
         return {"name": number.name, "words": number.words, "unit": number.unit, "range": list(made.range),
-                "estimate": known(made.median), "interval": None if made.interval is None else [*map(known, made.interval)],
+                "estimate": known(made.median),
+                "interval": None if made.interval is None else [*map(known, made.interval)],
                 "met": made.met, "values": [*map(known, made.values)]}
 
     @classmethod
     def from_dict(cls, table: Mapping[str, Any]) -> Facts:
         """The facts that `to_dict` gave, without curves."""
         found = {number["name"]: number for fact in table["facts"] for number in fact["numbers"]}
-        numbers = {name: tuple(math.nan if value is None else value for value in found[name]["values"]) for name in NUMBERS}
+        numbers = {name: tuple(math.nan if value is None else value for value in found[name]["values"])
+                   for name in NUMBERS}
         ranges = {name: tuple(found[name]["range"]) for name in NUMBERS}
         return cls(table["of"], tuple(table["tapes"]), numbers, ranges=ranges)
 
@@ -178,8 +183,8 @@ def read_facts(path: str | Path) -> dict[str, Any]:
 
 
 def ranges_of(path: str | Path) -> dict[str, tuple[float, float]]:
-    """The ranges of somebody's own tapes, from the JSON of their facts: the least and the greatest value of each number.
-    FactsError where a number was measured on none of them."""
+    """The ranges of somebody's own tapes, from the JSON of their facts: the least and the greatest value of each
+    number. FactsError where a number was measured on none of them."""
     out = {}
     for fact in read_facts(path)["facts"]:
         for number in fact["numbers"]:

@@ -30,7 +30,8 @@ def facts_of(name: str, tapes: Sequence[str], answers: Sequence[Answer],
     return Facts(name, tuple(tapes), numbers, tuple(answer["curves"] for answer in answers), ranges or {})
 
 
-def of_branch(branch: Branch, symbol: str | None = None, ranges: Mapping[str, tuple[float, float]] | None = None) -> Facts:
+def of_branch(branch: Branch, symbol: str | None = None,
+              ranges: Mapping[str, tuple[float, float]] | None = None) -> Facts:
     """The facts of one branch: there is one tape, so no interval. `symbol`: a stock, the first one where not said."""
     name = Path(branch.bundle.path).name
     return facts_of(f"{name}, branch {branch.name}", [name], [answer_of(tape_of_branch(branch, symbol))], ranges)

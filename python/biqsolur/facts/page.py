@@ -16,8 +16,10 @@ from biqsolur.output import write_new
 
 POLICY = "default-src 'none'; script-src 'unsafe-inline'; style-src 'unsafe-inline'; img-src data: blob:"
 STYLE = """body { font: 16px/1.5 sans-serif; max-width: 72rem; margin: 1rem auto; padding: 0 1rem; color: #222 }
-table { border-collapse: collapse; width: 100% } th, td { text-align: left; padding: .25rem .6rem; border-bottom: 1px solid #ccc }
-td.number { text-align: right; font-variant-numeric: tabular-nums } tr.fact td { background: #f3f3f3; font-weight: bold }
+table { border-collapse: collapse; width: 100% }
+th, td { text-align: left; padding: .25rem .6rem; border-bottom: 1px solid #ccc }
+td.number { text-align: right; font-variant-numeric: tabular-nums }
+tr.fact td { background: #f3f3f3; font-weight: bold }
 .pictures { display: grid; grid-template-columns: repeat(auto-fit, minmax(22rem, 1fr)); gap: 1rem }
 figure { margin: 0 } figure div { height: 20rem } figcaption { font-size: 90% }"""
 # Name of the curve, title, abscissae, names of both axes, whether each is logarithmic, what it shows.
@@ -55,18 +57,19 @@ def page_text(facts: Facts) -> str:
     met = sum(facts.met.values())
     title = html.escape(f"{met} of {len(FACTS)} facts met: {facts.of}")
     places = "".join(f'<figure><h2>{html.escape(words[1])}</h2><div id="{words[0]}" role="img" '
-                     f'aria-label="{html.escape(words[7], quote=True)}"></div><figcaption>{html.escape(words[7])}</figcaption>'
-                     "</figure>" for words in PICTURES)
+                     f'aria-label="{html.escape(words[7], quote=True)}"></div>'
+                     f"<figcaption>{html.escape(words[7])}</figcaption></figure>" for words in PICTURES)
     drawn = data_script({words[0]: picture(facts, words) for words in PICTURES})
     return f"""<!doctype html><html lang="en"><meta charset="utf-8">
 <meta http-equiv="Content-Security-Policy" content="{html.escape(POLICY, quote=True)}"><title>{title}</title>
 <meta name="viewport" content="width=device-width"><style>{STYLE}</style><h1>{title}</h1>
-<p>Each number is the median over {len(facts.tapes)} tape{'' if len(facts.tapes) == 1 else 's'} with its interval of 95 per
-cent; a fact is met where the whole interval of each of its numbers lies in the range. In the pictures each tape is a thin line
-and their median a thick one. Pictures by plotly.js {html.escape(version)}.</p>
+<p>Each number is the median over {len(facts.tapes)} tape{'' if len(facts.tapes) == 1 else 's'} with its interval of
+95 per cent; a fact is met where the whole interval of each of its numbers lies in the range. In the pictures each tape
+is a thin line and their median a thick one. Pictures by plotly.js {html.escape(version)}.</p>
 {table(facts)}<div class="pictures">{places}</div>
 <script>{script}</script><script>const figures = {drawn};
-for (const name in figures) Plotly.newPlot(name, figures[name].data, figures[name].layout, {{responsive: true}});</script></html>
+for (const name in figures) Plotly.newPlot(name, figures[name].data, figures[name].layout, {{responsive: true}});
+</script></html>
 """
 
 
@@ -74,13 +77,15 @@ def table(facts: Facts) -> str:
     """The table of all numbers with their ranges and sources."""
     rows = []
     for fact in FACTS:
-        rows.append(f'<tr class="fact"><td colspan="4">{html.escape(fact.title)}<td>{"met" if facts.is_met(fact) else "not met"}')
+        met = "met" if facts.is_met(fact) else "not met"
+        rows.append(f'<tr class="fact"><td colspan="4">{html.escape(fact.title)}<td>{met}')
         for number in fact.numbers:
             made = facts.estimate(number.name)
             interval = "none" if made.interval is None else f"{short(made.interval[0])} to {short(made.interval[1])}"
             unit = f", {number.unit}" if number.unit else ""
-            rows.append(f'<tr><td>{html.escape(number.words + unit)}<td class="number">{short(made.median)}<td class="number">'
-                        f'{interval}<td class="number">{short(made.range[0])} to {short(made.range[1])}'
+            rows.append(f'<tr><td>{html.escape(number.words + unit)}<td class="number">{short(made.median)}'
+                        f'<td class="number">{interval}'
+                        f'<td class="number">{short(made.range[0])} to {short(made.range[1])}'
                         f'<td>{"yes" if made.met else "no"}')
         rows.append(f'<tr><td colspan="5"><small>{html.escape(fact.source)}</small>')
     return ("<table><thead><tr><th>Number<th>Median<th>Interval<th>Range reported<th>In it<tbody>" + "\n".join(rows)
@@ -91,19 +96,21 @@ def picture(facts: Facts, words: tuple[Any, ...]) -> dict[str, Any]:
     """Data and layout of one picture, as plotly.js takes them."""
     name, _, abscissae, across, up, across_log, up_log, _ = words
     curves = [numpy.array(curve[name], float) for curve in facts.curves]
-    halves = [(curve[:10], curve[10:]) if name == "impact" else (numpy.array(abscissae, float), curve) for curve in curves]
+    halves = [(curve[:10], curve[10:]) if name == "impact" else (numpy.array(abscissae, float), curve)
+              for curve in curves]
     lines = [line(x, y, "#9db8d2", 1) for x, y in halves]
     if len(halves) > 1:
         with numpy.errstate(all="ignore"):
-            lines.append(line(numpy.median([x for x, _ in halves], axis=0), numpy.median([y for _, y in halves], axis=0),
-                              "#0b3c6f", 3))
+            middle = [numpy.median(part, axis=0) for part in zip(*halves)]
+        lines.append(line(*middle, "#0b3c6f", 3))
     axes = {"xaxis": axis(across, across_log), "yaxis": axis(up, up_log)}
     return {"data": lines, "layout": {**axes, "showlegend": False, "margin": {"l": 60, "r": 10, "t": 10, "b": 45}}}
 
 
 def line(x: numpy.ndarray, y: numpy.ndarray, color: str, width: int) -> dict[str, Any]:
     """A line; a number that is not there is a gap."""
-    plain = [[float(f"{value:.6g}") if numpy.isfinite(value) else None for value in values.tolist()] for values in (x, y)]
+    plain = [[float(f"{value:.6g}") if numpy.isfinite(value) else None for value in values.tolist()]
+             for values in (x, y)]
     return {"x": plain[0], "y": plain[1], "mode": "lines", "line": {"color": color, "width": width}, "hoverinfo": "x+y"}
 
 

@@ -22,7 +22,8 @@ def returns(tape: Tape, seconds: int) -> numpy.ndarray:
 
 
 def excess_kurtosis(values: numpy.ndarray) -> float:
-    """The fourth central moment over the squared variance, less 3; 0 for a normal law. Not-a-number where all are equal."""
+    """The fourth central moment over the squared variance, less 3; 0 for a normal law. Not-a-number where all are
+    equal."""
     centred = values - values.mean() if len(values) else values
     variance = float((centred**2).mean()) if len(values) else 0.0
     return float((centred**4).mean() / variance**2 - 3) if variance > 0 else float("nan")
@@ -36,8 +37,8 @@ def skewness(values: numpy.ndarray) -> float:
 
 
 def hill_index(values: numpy.ndarray, tail: float = TAIL) -> float:
-    """Hill's (1975) estimate of the tail's exponent: k over the sum of log(x_i / x_(k+1)) of the k greatest values, where
-    k is the part `tail` of all. Not-a-number where fewer than ten values stand in the tail or it is flat."""
+    """Hill's (1975) estimate of the tail's exponent: k over the sum of log(x_i / x_(k+1)) of the k greatest values,
+    where k is the part `tail` of all. Not-a-number where fewer than ten values stand in the tail or it is flat."""
     ordered = numpy.sort(numpy.abs(values))[::-1]
     count = int(len(ordered) * tail)
     if count < 10 or ordered[count] <= 0:

@@ -104,8 +104,8 @@ def tape_of_branch(branch: Branch, symbol: str | None = None) -> Tape:
 
 def complete_rows(kind: numpy.ndarray, reference: numpy.ndarray, shares: numpy.ndarray, price: numpy.ndarray,
                   direction: numpy.ndarray) -> None:
-    """Gives each message of an order that rests the price and side of that order, and a delete the shares that were open.
-    The arrays are changed in place."""
+    """Gives each message of an order that rests the price and side of that order, and a delete the shares that were
+    open. The arrays are changed in place."""
     adds = numpy.flatnonzero(kind == ADDED)
     later = numpy.flatnonzero((kind == REDUCED) | (kind == DELETED) | (kind == EXECUTED))
     place = find_references(reference[later], reference[adds])
