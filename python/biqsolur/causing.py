@@ -20,7 +20,7 @@ import pandas
 from biqsolur import columns, layouts
 from biqsolur.bundle import Branch
 from biqsolur.closing import read_counts
-from biqsolur.errors import InputError
+from biqsolur.errors import InputError, StudyNeededError
 from biqsolur.frames import records_at
 from biqsolur.messages import BODY_WORDS
 from biqsolur.senders import EDIT, OPENING, UNKNOWN, Counters, Senders, opening_time
@@ -77,7 +77,8 @@ class Causes:
         row = int(self.senders.rows_of(numpy.array([head["message"]], numpy.int64))[0])
         sent = int(self.senders.event[row])
         if sent == UNKNOWN:
-            raise InputError(f"what sent the message of event {event} is told by the program alone: give the study too")
+            raise StudyNeededError(f"which event sent the message of event {event} is told by the program alone: give the "
+                                   "study too, as in causes(branch, event, study=study)")
         if sent == EDIT:
             out = [Link(event, INJECTED, int(self.senders.fork[row]))]
         else:

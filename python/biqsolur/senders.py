@@ -202,7 +202,8 @@ class Senders:
         end = numpy.searchsorted(keys, self._key(agents[rows], high), side="right")
         sure = end - first == 1
         self.event[rows[sure]] = keys[first[sure]] & ((1 << 40) - 1)
-        self._take_turns(rows[~sure], first[~sure], end[~sure], keys) if once else None
+        if once:
+            self._take_turns(rows[~sure], first[~sure], end[~sure], keys)
 
     def _take_turns(self, rows: numpy.ndarray, first: numpy.ndarray, end: numpy.ndarray, keys: numpy.ndarray) -> None:
         """Of messages with the same possible events, as many as these events, each has its own, in turn."""

@@ -31,10 +31,20 @@ def wait_until(holds: Callable[[], Any], what: str) -> Any:
     raise AssertionError(f"waited for {what} in vain")
 
 
-class Served:
-    """A served explorer, whose study is run already where it can be."""
+def slow_program(tmp_path: Path, program: str) -> Path:
+    """A program that accepts studies, and whose runs last until they are ended; it writes who it is."""
+    script = tmp_path / "slow"
+    script.write_text(f'#!/bin/sh\ncase "$*" in *check*) exec {program} "$@" ;; esac\necho $$ >{tmp_path}/pid\nexec '
+                      'sleep 1000\n')
+    script.chmod(0o755)
+    return script
 
-    def __init__(self, source: Callable[[], Study] | Path, program: str) -> None:
+
+class Served:
+    """A served explorer, whose study is run already where it can be; else, with `wait` false, its run may go on."""
+
+    def __init__(self, source: Callable[[], Study] | Path, program: str, wait: bool = True) -> None:
+        self.wait = wait
         read = source if callable(source) else lambda: Study.read(source)
         self.engine = Engine(Path(program), 1)
         self.explorer = Explorer(read, "study.toml", self.engine)
@@ -47,7 +57,8 @@ class Served:
         self.explorer.open()
         self.thread.start()
         wait_until(lambda: self.server.started, "the server")
-        self.idle()
+        if self.wait:
+            self.idle()
         return self
 
     def __exit__(self, *error: object) -> None:

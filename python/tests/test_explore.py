@@ -17,7 +17,7 @@ from typing import Any
 import numpy
 import pytest
 import studies
-from explored import LONGEST, TOKEN, Served, wait_until
+from explored import LONGEST, TOKEN, Served, slow_program, wait_until
 
 import biqsolur
 from biqsolur.explore.engine import Engine, Stopped
@@ -559,15 +559,6 @@ def test_another_tab_is_told_that_the_study_changed(program: str) -> None:
 
 # ---------------------------------------------------------------- runs that fail
 
-def slow_program(tmp_path: Path, program: str) -> Path:
-    """A program that accepts studies, and whose runs last until they are ended; it writes who it is."""
-    script = tmp_path / "slow"
-    script.write_text(f'#!/bin/sh\ncase "$*" in *check*) exec {program} "$@" ;; esac\necho $$ >{tmp_path}/pid\nexec '
-                      'sleep 1000\n')
-    script.chmod(0o755)
-    return script
-
-
 def is_running(pid: int) -> bool:
     """Whether a process of this number runs."""
     try:
@@ -578,13 +569,8 @@ def is_running(pid: int) -> bool:
 
 
 def test_a_run_can_be_stopped_and_leaves_no_process(tmp_path: Path, program: str) -> None:
-    served = Served(EXAMPLE, str(slow_program(tmp_path, program)))
-    served.idle_at_first = False
-    served.explorer.open()
-    served.thread.start()
-    try:
+    with Served(EXAMPLE, str(slow_program(tmp_path, program)), wait=False) as served:
         pid = int(wait_until(lambda: (tmp_path / "pid").exists() and (tmp_path / "pid").read_text().strip(), "the run"))
-        wait_until(lambda: served.server.started, "the server")
         status, answer = served.get("status")
         assert status == 200 and answer["running"] and answer["events"] == 60_000 and 0 <= answer["share"] < 1
         assert served.post("reopen")[0] == 409
@@ -594,8 +580,6 @@ def test_a_run_can_be_stopped_and_leaves_no_process(tmp_path: Path, program: str
         failure = served.get("status")[1]["failure"]
         assert failure == {"error": "the run was stopped", "stopped": True}
         assert served.get("study")[0] == 409
-    finally:
-        served.__exit__()
 
 
 def test_an_end_of_the_explorer_ends_the_program(tmp_path: Path, program: str) -> None:

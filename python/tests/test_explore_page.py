@@ -11,7 +11,7 @@ from pathlib import Path
 from typing import Any
 
 import pytest
-from explored import LONGEST, Served, wait_until
+from explored import LONGEST, Served, slow_program, wait_until
 
 CHROMIUM, DRIVER = shutil.which("chromium"), shutil.which("chromedriver")
 selenium = pytest.importorskip("selenium", reason="there is no python3-selenium: the page is not tried in a browser")
@@ -349,6 +349,28 @@ def test_a_run_that_failed_is_told_and_can_be_run_again(page: Page, program: str
         page.click("#alarm button")
         page.drawn()
         assert page.script("document.getElementById('alarm').hidden")
+
+
+def test_a_run_that_goes_on_is_told_and_can_be_stopped(page: Page, program: str, tmp_path: Path) -> None:
+    with Served(EXAMPLE, str(slow_program(tmp_path, program)), wait=False) as served:
+        page.driver.get("about:blank")
+        page.driver.get(served.address)
+        page.wait("document.getElementById('running-text').textContent.includes('at most 60,000 events')")
+        page.click("#running-stop")
+        page.wait("document.getElementById('alarm').textContent.includes('the run was stopped')")
+        page.wait("document.getElementById('running').hidden && document.querySelector('#alarm button')")
+
+
+def test_hidden_orders_are_marked(page: Page, program: str) -> None:
+    """1,812 shares to sell at 49.96 rest hidden in a branch of an example, and no share is shown at that price."""
+    with Served(ROOT / "examples" / "hidden.toml", program) as served:
+        page.open(served, "branch=hidden&event=1900&stock=0&agent=5")
+        page.wait("document.querySelectorAll('#ladders .hidden-order').length === 1")
+        assert page.text("#ladders .hidden-order") == "◌5:1,812"
+        row = page.script("document.querySelector('#ladders .hidden-order').closest('tr').innerText.split('\\t')")
+        assert [cell.strip() for cell in row[1:3]] == ["49.96", "0 + 1,812 hidden"]
+        page.click("#ladders .hidden-order")
+        page.wait("document.getElementById('queue').textContent.includes('hidden, is the first to trade at its price')")
 
 
 def test_the_tabs_are_worked_by_arrows(page: Page, served: Served) -> None:
