@@ -207,17 +207,17 @@ def price_impact(tape, stock, after, horizon, **_):
             "price_impact_by_shares": weighted([(row[2], row[3]) for row in found])}
 
 
-def displayed_depth(tape, stock, after, **_):
+def displayed_depth(tape, stock, after, levels, **_):
     spans = tape.spans(stock, after)
-    bid = weighted([(float(sum(shares for _, shares in bids[:5])), held) for bids, _, held in spans])
-    ask = weighted([(float(sum(shares for _, shares in asks[:5])), held) for _, asks, held in spans])
+    bid = weighted([(float(sum(shares for _, shares in bids[:levels])), held) for bids, _, held in spans])
+    ask = weighted([(float(sum(shares for _, shares in asks[:levels])), held) for _, asks, held in spans])
     return {"bid_depth": bid, "ask_depth": ask, "depth": bid + ask}
 
 
-def imbalance(tape, stock, after, **_):
+def imbalance(tape, stock, after, levels, **_):
     found = []
     for bids, asks, held in tape.spans(stock, after):
-        bought, sold = (side[0][1] if side else 0 for side in (bids, asks))
+        bought, sold = (sum(shares for _, shares in side[:levels]) for side in (bids, asks))
         if bought + sold:
             found.append(((bought - sold) / (bought + sold), held))
     return {"imbalance": weighted(found), "imbalance_absolute": weighted([(abs(value), held) for value, held in found])}
@@ -290,29 +290,28 @@ def self_correlation(values, lag=1):
     return math.fsum(pairs) / square if pairs and square > 0 else NAN
 
 
-def autocorrelation(tape, stock, after, interval, **_):
+def autocorrelation(tape, stock, after, interval, lag, **_):
     values = returns(tape, stock, after, interval)
-    return {"autocorrelation_returns": self_correlation(values),
-            "autocorrelation_absolute": self_correlation([abs(value) for value in values]),
-            "autocorrelation_signs": self_correlation([float(trade[3]) for trade in tape.own_trades(stock, after)])}
+    return {"autocorrelation_returns": self_correlation(values, lag),
+            "autocorrelation_absolute": self_correlation([abs(value) for value in values], lag),
+            "autocorrelation_signs": self_correlation([float(trade[3]) for trade in tape.own_trades(stock, after)], lag)}
 
 
 def roll_spread(tape, stock, after, **_):
     prices = [trade[4] for trade in tape.own_trades(stock, after)]
     changes = [two - one for one, two in zip(prices, prices[1:])]
     now, last = changes[1:], changes[:-1]
-    if not now:
+    if len(now) < 2:
         return {"roll_spread": NAN}
     covariance = fmean((x - fmean(now)) * (y - fmean(last)) for x, y in zip(now, last))
     return {"roll_spread": 2 * math.sqrt(-covariance) if covariance <= 0 else NAN}
 
 
 def flows(tape, stock, after, interval):
-    """(signed shares, dollars, move, part) of each interval; the first one has its own start too."""
+    """(signed shares, dollars, move, part) of each interval, without its start and with its end."""
     points, found = grid(tape, after, interval), []
-    for place, (one, two) in enumerate(zip(points, points[1:])):
-        inside = [trade for trade in tape.own_trades(stock, after)
-                  if one < trade[1] <= two or (place == 0 and trade[1] == one)]
+    for one, two in zip(points, points[1:]):
+        inside = [trade for trade in tape.own_trades(stock, after) if one < trade[1] <= two]
         before, behind = (mid_of(*tape.at(stock, point)[3:]) for point in (one, two))
         found.append((sum(trade[3] * trade[5] for trade in inside),
                       sum(trade[4] * trade[5] for trade in inside) / 10_000,

@@ -33,6 +33,7 @@ class Measured:
             self.tapes[branch.name] = (branch, tape, plain_measures.lives(tape))
         span = market.study["close"] - market.study["open"]
         self.interval, self.horizon = max(1, span // 40), max(1, span // 60)
+        self.levels, self.lag = 1 + market.study["events"] % 6, 1 + market.study["events"] % 4
 
     def pairs(self):
         """(branch, tape, lives, after) for the root from the opening on, and for the last branch from its fork on."""
@@ -73,7 +74,8 @@ def named(branch, stock, numbers):
 def test_measures_are_those_of_plain_loops(measured):
     for branch, tape, found, after in measured.pairs():
         for name in set(measures.NAMES) - set(OF_AGENTS):
-            settings = {"after": after, "horizon": measured.horizon, "interval": measured.interval}
+            settings = {"after": after, "horizon": measured.horizon, "interval": measured.interval,
+                        "levels": measured.levels, "lag": measured.lag}
             measure = measures.NAMES[name]
             own = {key: value for key, value in settings.items() if key in measure.takes}
             expected = {}
@@ -81,6 +83,77 @@ def test_measures_are_those_of_plain_loops(measured):
                 numbers = getattr(plain_measures, name)(tape, stock, **settings, found=found)
                 expected |= named(branch, stock, numbers)
             same(measure.compute(branch, **own), expected)
+
+
+@each_market
+def test_data_frames_over_intervals_are_those_of_plain_loops(measured):
+    """Realised variances, correlations at lags up to more than a series has, and the flows of each interval."""
+    for branch, tape, _, after in measured.pairs():
+        plots = measures.signature_plot(branch, [measured.interval, 7 * measured.interval], after=after)
+        lags = measures.autocorrelations(branch, 45, interval=measured.interval, after=after)
+        assert len(plots) == 2 * len(branch.symbols) and len(lags) == 45 * len(branch.symbols)
+        traded = measures.trade_flows(branch, measured.interval, after=after)
+        for stock in range(len(branch.symbols)):
+            series = {length: plain_measures.returns(tape, stock, after, length) for length in plots.interval.unique()}
+            for row in plots[plots.stock == stock].itertuples():
+                known = [value for value in series[row.interval] if not math.isnan(value)]
+                expected = math.fsum(value * value for value in known) if known else math.nan
+                assert row.returns == len(known) and branch.symbols[row.stock] == row.symbol
+                assert row.realised_variance == pytest.approx(expected, rel=1e-6, nan_ok=True)
+            moves, signs = series[measured.interval], [trade[3] for trade in tape.own_trades(stock, after)]
+            for row in lags[lags.stock == stock].itertuples():
+                expected = [plain_measures.self_correlation(values, row.lag)
+                            for values in (moves, [abs(move) for move in moves], signs)]
+                found = [row.returns, row.absolute, row.signs]
+                assert found == pytest.approx(expected, rel=1e-6, abs=1e-9, nan_ok=True)
+            own = traded[traded.stock == stock]
+            expected = plain_measures.flows(tape, stock, after, measured.interval)
+            assert own.start.tolist() == plain_measures.grid(tape, after, measured.interval)[:-1]
+            assert (own.bought - own.sold).tolist() == [flow for flow, _, _, _ in expected]
+            assert (own[["bought", "sold"]] >= 0).all().all()
+            for name, place in (("dollars", 1), ("move", 2), ("part", 3)):
+                assert own[name].tolist() == pytest.approx([row[place] for row in expected], rel=1e-9, nan_ok=True)
+
+
+@each_market
+def test_depths_are_those_after_each_event_that_changed_one(measured):
+    for branch, tape, _, _ in measured.pairs():
+        expected = []
+        for stock, moments in enumerate(tape.moments):
+            before = (0, 0)
+            for event, time, _, *sides in {moment[0]: moment for moment in moments}.values():
+                now = tuple(sum(shares for _, shares in side[:measured.levels]) for side in sides)
+                if now != before:
+                    expected.append((event, time, stock, *now))
+                before = now
+        found = measures.depths(branch, measured.levels)
+        assert list(found.itertuples(index=False, name=None)) == sorted(expected)
+        assert list(found) == ["event", "time", "stock", "bid_depth", "ask_depth"]
+
+
+@each_market
+def test_data_frames_of_orders_are_those_of_plain_loops(measured):
+    for branch, tape, found, after in measured.pairs():
+        frame, expected = measures.reaction_times(branch), []
+        for order in found:
+            quote = ([(0, -1)] + [(event, time) for event, time, agent, greatest in tape.quotes if agent ==
+                                  order["agent"] and event < order["event"] and greatest < order["message"]])[-1]
+            told = order.get("told", -1) if order["first_fill"] >= 0 else -1
+            expected.append([order["event"], order["agent"], order["stock"], *quote, order["time"],
+                             order["first_fill"], told])
+        assert list(frame) == ["event", "agent", "stock", "quote", "quoted", "arrived", "filled", "told"]
+        assert frame.values.tolist() == expected
+        groups = {}
+        for order in found:
+            if order["rested"] and order["event"] > after and not math.isnan(plain_measures.distance(order)):
+                groups.setdefault((order["stock"], plain_measures.distance(order)), []).append(order)
+        told = list(measures.fills_by_distance(branch, after=after).itertuples(index=False, name=None))
+        assert [row[:3] for row in told] == [(*key, len(groups[key])) for key in sorted(groups)]
+        for *key, _, filled, wait in told:
+            fills = [order for order in groups[tuple(key)] if order["executed"] > order["on_entry"]]
+            assert filled == pytest.approx(len(fills) / len(groups[tuple(key)]))
+            waits = [order["first_fill"] - order["time"] for order in fills]
+            assert wait == pytest.approx(plain_measures.middle(waits), nan_ok=True)
 
 
 @each_market
@@ -333,6 +406,8 @@ def test_more_is_refused_in_words(root, market, tmp_path):
         measures.queue_path(root, 987654)
     with pytest.raises(StudyNeededError, match="is not the study of"):
         measures.profits(root, Study.read(biqsolur_example("fees.toml")))
+    with pytest.raises(MeasureError, match="lags = 0: take 1 or more"):
+        measures.autocorrelations(root, 0)
     with pytest.raises(MeasureError, match="take one of mid, last, value"):
         measures.profits(root, Study(market.study, folder=market.folder), mark="guess")
 
@@ -397,7 +472,8 @@ def test_a_branch_that_begins_behind_its_parents_end_is_compared_from_there(prog
     """The parent has 57 events, and the branch leaves it at 150: what counts is what comes behind event 57."""
     study = Study.read(biqsolur_example("worked_market.toml"))
     sale = biqsolur.Inject(3, enter(b"LATE", b"S", 100, 99_700, 0, b"Y"))
-    bundle = biqsolur.run(study.branch("revived", parent="worked", after=150, edits=[sale]), program=program, cache=False)
+    study = study.branch("revived", parent="worked", after=150, edits=[sale])
+    bundle = biqsolur.run(study, program=program, cache=False)
     branch = bundle.branches["revived"]
     assert (branch.stop, branch.fork, len(branch.events)) == (150, 57, 58)
     frame = bundle.compare("effective_spread").set_index(["branch", "measure"])

@@ -116,6 +116,20 @@ def test_times_begin_with_the_event_and_not_behind_it(worked):
     assert worked.tape.window(rests - 1).length == 5 * 10**9 and before["two_sided"] == pytest.approx(4 / 5)
 
 
+def test_too_few_trades_and_returns_give_no_number(worked):
+    """The first three trades make one pair of changes, and a covariance of one pair is nothing; nor has a run of twenty
+    seconds a return over thirty. A lag may be longer than there are trades."""
+    trades = worked.trades.event.tolist()
+    roll = measures.NAMES["roll_spread"].compute
+    assert [math.isnan(roll(worked, after=trades[-place] - 1)["roll_spread"]) for place in (1, 2, 3, 4)] == [
+        True, True, True, False]
+    assert measures.signature_plot(worked, ["10s", "30s"])[["returns", "realised_variance"]].isna().values.tolist() == [
+        [False, False], [False, True]]
+    lags = measures.autocorrelations(worked, 40)
+    assert lags.signs.notna().tolist() == [lag < 6 for lag in range(1, 41)]
+    assert lags.returns.notna().tolist() == [lag <= 19 - 3 for lag in range(1, 41)]     # of the places 3 to 19
+
+
 def test_each_measure_names_its_units_and_what_it_is(numbers):
     for measure in measures.NAMES.values():
         assert measure.about.endswith(".") or len(measure.about) > 40

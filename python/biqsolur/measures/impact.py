@@ -27,9 +27,9 @@ def trade_flows(branch: Branch, interval: int | str = INTERVAL, *, after: int = 
     for number, steps, trades in per_stock(branch, None):
         trades = trades.since(after)
         points = window.grid(length)
-        # A trade at the very start of the window, behind the event `after`, belongs to the first interval.
-        which = numpy.maximum(numpy.searchsorted(points, trades.time, side="left") - 1, 0)
-        inside = which < len(points) - 1
+        # What a trade at the very start of the window moved is in the mid there already: it belongs to no interval.
+        which = numpy.searchsorted(points, trades.time, side="left") - 1
+        inside = (which >= 0) & (which < len(points) - 1)
         columns = {"bought": trades.shares * (trades.sign > 0), "sold": trades.shares * (trades.sign < 0),
                    "dollars": trades.price * trades.shares / 10_000}
         sums = {name: numpy.bincount(which[inside], values[inside], len(points) - 1)[:len(points) - 1]
@@ -48,7 +48,7 @@ def kyle_lambda(branch: Branch, *, interval: int | str = INTERVAL, after: int = 
         move_j = c + kyle_lambda * (bought_j - sold_j) + rest_j       (least squares over the intervals of a grid)
 
     in 0.0001 dollars a share; kyle_r2 is the part of the moves' variance that the line explains. Sources: Kyle (1985);
-    Hasbrouck (2009) estimates it from signed flow over short intervals.
+    Hasbrouck (2009) estimates it over intervals of five minutes, from the signed roots of the dollars traded.
     """
     numbers: dict[str, float] = {}
     flows = trade_flows(branch, interval, after=after)

@@ -51,7 +51,7 @@ def realised_variance(branch: Branch, *, interval: int | str = INTERVAL, after: 
 
 def signature_plot(branch: Branch, intervals: Sequence[int | str] = INTERVALS, *, after: int = 0) -> pandas.DataFrame:
     """The realised variance of each stock at several intervals: a row a stock and interval, with stock, symbol,
-    interval (ns), returns (how many are known) and realised_variance.
+    interval (ns), returns (how many are known) and realised_variance (not-a-number where none is).
 
     Where it rises as the interval gets shorter, prices bounce. Source: Andersen, Bollerslev, Diebold and Labys
     (2000).
@@ -62,7 +62,8 @@ def signature_plot(branch: Branch, intervals: Sequence[int | str] = INTERVALS, *
             length = duration(interval, "interval")
             returns = grid_returns(steps, window, length)
             known = returns[~numpy.isnan(returns)]
-            rows.append((number, branch.symbols[number], length, len(known), float(numpy.square(known).sum())))
+            variance = float(numpy.square(known).sum()) if len(known) else math.nan
+            rows.append((number, branch.symbols[number], length, len(known), variance))
     return pandas.DataFrame(rows, columns=["stock", "symbol", "interval", "returns", "realised_variance"])
 
 
@@ -74,7 +75,7 @@ def correlation_at(values: numpy.ndarray, lag: int) -> float:
     with x the mean of all known; not-a-number where there is no pair or nothing varies.
     """
     centred = values - mean(values)
-    products = centred[lag:] * centred[:len(values) - lag]
+    products = centred[lag:] * centred[:max(len(values) - lag, 0)]
     products = products[~numpy.isnan(products)]
     square = float(numpy.nansum(numpy.square(centred)))
     return float(products.sum()) / square if len(products) and square > 0 else math.nan
@@ -83,9 +84,12 @@ def correlation_at(values: numpy.ndarray, lag: int) -> float:
 def autocorrelations(branch: Branch, lags: int = LAGS, *, interval: int | str = INTERVAL,
                      after: int = 0) -> pandas.DataFrame:
     """Autocorrelations of each stock at the lags 1 to `lags`: a row a stock and lag, with stock, symbol, lag, returns
-    (log- returns of the mid over the grid), absolute (their absolute values) and signs (1 and -1 for the side of each
-    trade, in order). Source: Cont (2001): returns have next to none, absolute returns and signs keep theirs for long.
+    (log-returns of the mid over the grid), absolute (their absolute values) and signs (1 and -1 for the side of each
+    trade, in order); not-a-number where a series is no longer than its lag. Source: Cont (2001): returns have next to
+    none, absolute returns and signs keep theirs for long.
     """
+    if lags < 1:
+        raise MeasureError(f"lags = {lags}: take 1 or more")
     window, length, rows = tape_of(branch).window(after), duration(interval, "interval"), []
     for number, steps, trades in per_stock(branch, None):
         returns = grid_returns(steps, window, length)
@@ -121,13 +125,15 @@ def roll_spread(branch: Branch, *, after: int = 0, stock: int | str | None = Non
 
         roll_spread = 2 sqrt(-cov(d_i, d_(i-1))),   d_i: the change from one trade's price to the next one's
 
-    with the covariance of the n - 1 pairs divided by n - 1; not-a-number where it is above 0 (Roll's measure has no
-    answer then) or where there are fewer than three trades. In 0.0001 dollars. Source: Roll (1984).
+    with the covariance over the pairs of changes in a row, divided by their number; not-a-number where it is above 0
+    (Roll's measure has no answer then) or where there are fewer than two pairs, that is four trades, as nothing varies
+    then. In 0.0001 dollars. Source: Roll (1984).
     """
     numbers: dict[str, float] = {}
     for number, _, trades in per_stock(branch, stock):
         changes = numpy.diff(trades.since(after).price.astype(float))
         now, before = changes[1:], changes[:-1]
-        covariance = float(((now - now.mean()) * (before - before.mean())).mean()) if len(now) else math.nan
-        numbers |= named(branch, number, {"roll_spread": 2 * math.sqrt(-covariance) if covariance <= 0 else math.nan})
+        covariance = float(((now - now.mean()) * (before - before.mean())).mean()) if len(now) > 1 else math.nan
+        spread = 2 * math.sqrt(abs(covariance)) if covariance <= 0 else math.nan
+        numbers |= named(branch, number, {"roll_spread": spread})
     return numbers
