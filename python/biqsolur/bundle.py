@@ -222,8 +222,8 @@ class Branch:
         return first_difference(self.bundle.frames, self.part, self.bundle.branches[parent].part)
 
     def forget(self) -> None:
-        """Gives up the data frames that were made, and what the measures keep."""
-        for name in (*FRAME_NAMES, "closing", "tape"):
+        """Gives up the data frames that were made, and what measures and causes keep."""
+        for name in (*FRAME_NAMES, "closing", "tape", "_causes"):
             self.__dict__.pop(name, None)
 
     @property

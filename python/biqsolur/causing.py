@@ -172,9 +172,9 @@ def counters_of(branch: Branch, study: object) -> Counters | None:
 
 
 def causes_of(branch: Branch, study: object = None) -> Causes:
-    """The causes of a branch, made at the first call and kept with it."""
-    kept = branch.__dict__.get("_causes")
-    if kept is None:
+    """The causes of a branch, made at the first call and kept with it; made anew where only now a study is known."""
+    kept: Causes | None = branch.__dict__.get("_causes")
+    if kept is None or kept.counters is None and study is not None:
         kept = branch.__dict__["_causes"] = Causes(branch, counters_of(branch, study))
     return kept
 

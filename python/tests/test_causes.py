@@ -248,3 +248,12 @@ def test_an_injected_message_names_the_event_after_which_it_was_injected(course:
             link = causes.links(int(causes.senders.first[row]))[0]
             assert link.link == INJECTED
             assert injected_at(branch, link.event) > 0
+
+
+def test_causes_are_kept_with_the_branch_until_it_forgets(tick_size: biqsolur.Bundle) -> None:
+    from biqsolur.causing import causes_of
+    branch = tick_size.branches["same"]
+    assert causes_of(branch) is causes_of(branch)
+    kept = causes_of(branch)
+    branch.forget()
+    assert causes_of(branch) is not kept
