@@ -327,12 +327,13 @@ class Bundle:
         such as {"name": "realised_spread", "horizon": "1s"}, a function of a branch, or FILE.py:FUNCTION. `settings` go to
         each measure that takes them (`stock`, `study`, `horizon`, ...).
 
-        A row a branch and number: branch, measure (the number's name), value, parent (that of the parent), difference (value
-        less parent), unit. Of a branch and of its parent those events count that are numbered above the branch's `fork`, and
+        A row a branch and number: branch, measure (the number's name; where the measure is asked for with several
+        settings, those stand behind it, as `realised_spread(horizon=5s)`), value, parent (that of the parent), difference
+        (value less parent), unit. Of a branch and of its parent those events count that are numbered above the branch's `fork`, and
         the times from that of the event `fork`, which both have, to that of each one's own last event. The root counts from
-        the opening, and its parent is not-a-number. With parent=False all branches count from the opening (with `after`, behind
-        that event), and parent and difference are left out. A number that a run does not give is not-a-number. MeasureError where there is no such
-        measure or setting.
+        the opening, and its parent is not-a-number. With parent=False all branches count from the opening (with `after`,
+        behind that event), and parent and difference are left out. A number that a run does not give is not-a-number.
+        MeasureError where there is no such measure or setting.
         """
         from biqsolur.compare import compare
         return compare(self, measures, parent, **settings)

@@ -10,7 +10,7 @@ import pandas
 
 from biqsolur.errors import MeasureError
 from biqsolur.measures.agents import study_of
-from biqsolur.measures.registry import Measure, find
+from biqsolur.measures.registry import Measure, find, suffixes
 
 if TYPE_CHECKING:
     from biqsolur.bundle import Bundle
@@ -26,12 +26,12 @@ def compare(bundle: Bundle, wanted: Any, parent: bool = True, **settings: Any) -
     for branch in bundle.branches.values():
         other = bundle.branches[branch.parent] if parent and branch.parent is not None else None
         after = branch.fork if parent else 0
-        for measure in found:
+        for measure, suffix in zip(found, suffixes(found)):
             own = {"after": after, **{name: value for name, value in settings.items() if name in measure.takes}}
             numbers = measure.compute(branch, **own)
             others = measure.compute(other, **own) if other is not None else {}
-            rows += [(branch.name, name, numbers.get(name, numpy.nan), others.get(name, numpy.nan), measure.unit(name))
-                     for name in dict.fromkeys([*numbers, *others])]
+            rows += [(branch.name, name + suffix, numbers.get(name, numpy.nan), others.get(name, numpy.nan),
+                      measure.unit(name)) for name in dict.fromkeys([*numbers, *others])]
     frame = pandas.DataFrame(rows, columns=["branch", "measure", "value", "parent", "unit"])
     frame.insert(4, "difference", frame.value - frame.parent)
     return frame if parent else frame.drop(columns=["parent", "difference"])

@@ -144,4 +144,10 @@ def test_settings_that_are_named_with_a_measure_hold_until_others_are_given(work
     assert bound.compute(worked, horizon="6s") != bound.compute(worked)
     frame = worked.bundle.compare([{"name": "realised_spread", "horizon": "2s"}], parent=False)
     assert frame.value[frame.branch == "worked"].tolist()[0] == 350
+    several = ["effective_spread", {"name": "realizedSpread", "horizon": "2s"}, {"name": bound, "horizon": "1.5s"}, bound]
+    frame = worked.bundle.compare(several, parent=False)
+    frame = frame[(frame.branch == "worked") & frame.measure.str.startswith("realised_spread(")]
+    assert frame.measure.tolist() == [f"realised_spread(horizon={length})" for length in ("2s", "1.5s", "2s")]
+    assert frame.value.tolist()[::2] == [350, 350] and set(frame.unit) == {"0.0001 dollars"}
+    assert measures.NAMES["profit"].unit("profit_maker.A.B(horizon=1.5s)") == "0.000001 dollars"
     assert measures.find({"name": bound, "after": 30}).compute(worked) == bound.compute(worked, after=30)

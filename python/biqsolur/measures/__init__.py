@@ -19,7 +19,7 @@ from biqsolur.measures.latency import reaction_latency, reaction_times
 from biqsolur.measures.orders import (
     cancel_ratio, fill_probability, fills_by_distance, lives, order_fates, order_lifetime, queue_at_entry, queue_path,
     time_to_fill)
-from biqsolur.measures.registry import NAMES, Measure, find
+from biqsolur.measures.registry import NAMES, Measure, find, suffixes
 from biqsolur.measures.spreads import effective_spread, price_impact, quoted_spread, realised_spread, trade_spreads
 from biqsolur.measures.volatility import (
     autocorrelation, autocorrelations, realised_variance, roll_spread, signature_plot)
@@ -30,5 +30,5 @@ __all__ = [
     "inventory", "kyle_lambda", "lives", "maker_income", "order_fates", "order_flow_imbalance", "order_flows",
     "order_lifetime", "price_impact", "profit", "profits", "queue_at_entry", "queue_path", "quoted_spread",
     "reaction_latency", "reaction_times", "realised_spread", "realised_variance", "resiliency", "roll_spread",
-    "signature_plot", "time_to_fill", "trade_flows", "trade_spreads",
+    "signature_plot", "suffixes", "time_to_fill", "trade_flows", "trade_spreads",
 ]

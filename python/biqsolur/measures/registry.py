@@ -4,7 +4,7 @@ from __future__ import annotations
 
 import importlib.util
 import inspect
-from collections.abc import Callable, Mapping
+from collections.abc import Callable, Mapping, Sequence
 from dataclasses import dataclass, field
 from pathlib import Path
 from typing import TYPE_CHECKING, Any
@@ -43,9 +43,9 @@ class Measure:
         return [name for name in inspect.signature(self.function).parameters][1:]
 
     def unit(self, number: str) -> str:
-        """The unit of one of its numbers, which may have a kind of agents or the symbol of a stock behind it; ""
-        where it is not known."""
-        name = number.split(".")[0]
+        """The unit of one of its numbers, which may have a kind of agents, the symbol of a stock and settings in
+        parentheses behind it; "" where it is not known."""
+        name = number.partition("(")[0].partition(".")[0]
         return self.units.get(name) or self.units.get(name.rsplit("_", 1)[0], "")
 
     def compute(self, branch: Branch, **settings: Any) -> dict[str, float]:
@@ -136,6 +136,14 @@ def find(wanted: str | Mapping[str, Any] | Callable[..., Any] | Measure, folder:
     if known is None:
         raise MeasureError(f"no measure {wanted!r}; there are {', '.join(NAMES)}, and your own as FILE.py:FUNCTION")
     return known
+
+
+def suffixes(found: Sequence[Measure]) -> list[str]:
+    """What stands behind the names of each measure's numbers: its settings, as in `(horizon=5s)`, where another one is
+    called so too; so that the numbers of several horizons stay apart."""
+    names = [each.name for each in found]
+    words = [", ".join(f"{key}={value}" for key, value in each.settings.items()) for each in found]
+    return [f"({said})" if said and names.count(name) > 1 else "" for name, said in zip(names, words)]
 
 
 def with_settings(wanted: Mapping[str, Any], folder: str | Path) -> Measure:

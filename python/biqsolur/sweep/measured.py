@@ -7,12 +7,12 @@ import io
 import math
 import os
 import shutil
-from collections.abc import Iterator, Mapping
+from collections.abc import Iterator
 from pathlib import Path
 from typing import TYPE_CHECKING, Any
 
 from biqsolur.bundle import Branch, Bundle, read
-from biqsolur.measures import Measure, find
+from biqsolur.measures import Measure, find, suffixes
 from biqsolur.study import Study
 from biqsolur.sweep.plan import Plan, cell
 from biqsolur.sweep.run import OF_PARENT, REFUSED, TABLE_COLUMNS, column_of, refusal
@@ -25,7 +25,8 @@ Row = dict[str, Any]
 
 def measured_rows(plan: Plan, job: Job, output: Path) -> Iterator[Row]:
     """The rows of all runs of a job."""
-    wanted = [(find(entry, plan.folder), suffix) for entry, suffix in zip(plan.measures, suffixes(plan.measures))]
+    found = [find(entry, plan.folder) for entry in plan.measures]
+    wanted = list(zip(found, suffixes(found)))
     for point in job.points:
         start: Row = {"point": point}
         start |= {column_of(path): cell(value) for path, value in plan.points[point].values.items()}
@@ -71,17 +72,6 @@ def named(measure: Measure, branch: Branch, after: int, study: Study, before: st
     taken = set(TABLE_COLUMNS)
     return {f"{before}{'measure.' if name in taken else ''}{name}{suffix}": "" if math.isnan(value) else repr(value)
             for name, value in numbers.items()}
-
-
-def suffixes(measures: list[Any]) -> list[str]:
-    """What stands behind the names of each measure's numbers: its settings, where another one is called so too."""
-    names = [entry.get("name") if isinstance(entry, Mapping) else entry for entry in measures]
-    result = []
-    for entry, name in zip(measures, names):
-        settings = {key: value for key, value in entry.items() if key != "name"} if isinstance(entry, Mapping) else {}
-        words = ", ".join(f"{key}={value}" for key, value in settings.items())
-        result.append(f"({words})" if words and names.count(name) > 1 else "")
-    return result
 
 
 def kept_path(plan: Plan, output: Path, point: int, key: int) -> Path | None:
