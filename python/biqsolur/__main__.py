@@ -112,7 +112,8 @@ def run_cache(arguments: argparse.Namespace) -> int:
 
 
 def main(words: list[str] | None = None) -> int:
-    """Runs a command; what is wrong with what it was given is one line on standard error, status 1."""
+    """Runs a command; what is wrong with what it was given is one line on standard error, status 1, and so is an
+    interrupt, status 130."""
     arguments = parser().parse_args(words)
     try:
         return arguments.run(arguments)
@@ -122,6 +123,9 @@ def main(words: list[str] | None = None) -> int:
     except (biqsolur.InputError, OSError) as error:
         print(f"biqsolur: {error}", file=sys.stderr)
         return 1
+    except KeyboardInterrupt:
+        print("biqsolur: interrupted", file=sys.stderr)
+        return 130      # as a shell says it of a command that an interrupt ended
 
 
 if __name__ == "__main__":

@@ -218,6 +218,15 @@ def test_a_run_that_fails_ends_the_search_and_leaves_no_line(tmp_path):
     assert (tmp_path / "journal.jsonl").read_text().count("\n") == 1 and journal.known == {}
 
 
+def test_an_interrupt_is_one_line(tmp_path, capsys, monkeypatch):
+    def interrupted(*_, **__):
+        raise KeyboardInterrupt
+    (tmp_path / "c.yaml").write_text(json.dumps(settings(tmp_path)))
+    monkeypatch.setattr("biqsolur.calibrate.command.calibrate", interrupted)
+    assert main(["calibrate", str(tmp_path / "c.yaml")]) == 130
+    assert capsys.readouterr() == ("", "biqsolur: interrupted\n")
+
+
 def test_the_journal_of_another_calibration(tmp_path):
     mark = calibration_of(settings(tmp_path)).mark
     assert mark == calibration_of(settings(tmp_path, generations=9, population=2, seed=7, output="elsewhere")).mark

@@ -204,6 +204,16 @@ def test_returns_and_orders_are_those_of_plain_loops(bundles, hour):
     assert len(took) > 500 and len(ended) > 1_000
 
 
+def test_lives_by_hand():
+    """Of three orders one is canceled in two parts, as LOBSTER may tell it, one executed, and one stays."""
+    rows = [(1, ADDED, 7, 100), (2, ADDED, 8, 50), (3, REDUCED, 7, 40), (4, ADDED, 9, 10), (6, EXECUTED, 8, 50),
+            (11, REDUCED, 7, 60), (12, EXECUTED, 9, 4)]
+    time, kind, reference, shares = map(numpy.array, zip(*rows))
+    ones = numpy.ones(len(rows), numpy.int64)
+    lives = flow.lives(Tape("X", time * SECOND, kind, reference, shares, ones, ones, ones, ones, ones, ones))
+    assert (lives.added, lives.life.tolist(), lives.canceled.tolist()) == (3, [10.0, 4.0], [True, False])
+
+
 def test_spread_depth_and_volume_are_those_of_plain_loops(hour):
     tape = facts.tape_of_branch(hour[1].branches["root"])
     begin, end = tape.span
