@@ -112,8 +112,9 @@ def test_the_text_of_a_key():
 
 
 INTERRUPTED = """
-import os, pathlib, sys, time
+import os, pathlib, signal, sys, time
 import biqsolur
+signal.signal(signal.SIGINT, signal.default_int_handler)    # which a shell's job in the background has not
 def wait(bundle):
     pathlib.Path(sys.argv[1], f"{os.getpid()}.here").touch()
     time.sleep(10_000)

@@ -181,6 +181,27 @@ def test_a_job_that_is_ended_ends_its_program(tmp_path, program):
         going.wait()
 
 
+STARTED = """
+import os, signal, subprocess, sys
+from biqsolur.sweep import run
+class Popen(subprocess.Popen):
+    def __init__(self, *words, **settings):
+        super().__init__(*words, **settings)
+        os.kill(os.getpid(), signal.SIGTERM)        # before the caller knows the process
+        print(self.pid, flush=True)
+subprocess.Popen = Popen
+signal.signal(signal.SIGTERM, lambda number, frame: sys.exit(99))
+run.completed(["sleep", "10000"], subprocess.PIPE, ".", dict(os.environ))
+"""
+
+
+def test_a_signal_while_the_program_starts_leaves_none():
+    done = subprocess.run([sys.executable, "-c", STARTED], env={**os.environ, "PYTHONPATH": str(HOME / "python")},
+                          stdout=subprocess.PIPE, text=True, timeout=PATIENCE)
+    assert done.returncode == 99
+    wait_until(lambda: not is_there(int(done.stdout)))
+
+
 def wait_until(condition):
     """Waits for a condition, for two minutes at most."""
     end = time.monotonic() + PATIENCE

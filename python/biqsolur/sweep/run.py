@@ -11,6 +11,7 @@ import io
 import os
 import re
 import shutil
+import signal
 import subprocess
 import tempfile
 from collections.abc import Iterator
@@ -76,14 +77,33 @@ class Job:
         """Runs the program on the study of the moment: its status (0 or 5), what it wrote and its line."""
         working: str | Path = self.folder if self.plan.series is not None else self.plan.working
         try:
-            run = subprocess.run([self.plan.program, command, "--", str(self.study)], stdout=output,
-                                 stderr=subprocess.PIPE, cwd=working, env=self.environment, encoding="utf-8",
-                                 errors="replace")
+            run = completed([self.plan.program, command, "--", str(self.study)], output, working, self.environment)
         except OSError as fault:
             raise SweepError(f"the program can't be run: {self.plan.program}: {fault.strerror}") from None
         if run.returncode not in (0, REFUSED):
             raise RunFailed(run.stderr.strip() or f"the program ended with status {run.returncode}", run.returncode)
         return run.returncode, run.stdout or "", run.stderr
+
+
+def completed(words: list[str], output: Any, working: str | Path,
+              environment: dict[str, str]) -> subprocess.CompletedProcess[str]:
+    """Runs a program to its end, which comes with this process's own where a signal ends that: such signals wait until the
+    program's process is known, and it is killed before they go on."""
+    before = signal.pthread_sigmask(signal.SIG_BLOCK, (signal.SIGINT, signal.SIGTERM))
+    try:
+        process = subprocess.Popen(words, stdout=output, stderr=subprocess.PIPE, cwd=working, env=environment,
+                                   encoding="utf-8", errors="replace")
+    except OSError:
+        signal.pthread_sigmask(signal.SIG_SETMASK, before)
+        raise
+    with process:
+        try:
+            signal.pthread_sigmask(signal.SIG_SETMASK, before)
+            written, said = process.communicate()
+        except BaseException:
+            process.kill()
+            raise
+    return subprocess.CompletedProcess(words, process.returncode, written, said)
 
 
 def halves(plan: Plan, point: int) -> tuple[str, str]:
