@@ -19,10 +19,11 @@ import ast
 import hashlib
 import math
 import os
-from collections.abc import Mapping
+from collections.abc import Callable, Mapping
 from dataclasses import dataclass, fields
 from decimal import ROUND_HALF_EVEN, Decimal, InvalidOperation
 from pathlib import Path
+from typing import Any
 
 import numpy
 import pandas
@@ -219,27 +220,27 @@ class PriceFile(Course):
         return pandas.DataFrame({"symbol": symbol, "time": times, "value": exact})
 
 
-def gbm(**settings: object) -> GeometricBrownian:
+def gbm(**settings: Any) -> GeometricBrownian:
     """Geometric Brownian motion with jumps: start, every, drift, volatility, jumps, jump_mean, jump_deviation."""
     return GeometricBrownian(**settings)
 
 
-def ou(**settings: object) -> OrnsteinUhlenbeck:
+def ou(**settings: Any) -> OrnsteinUhlenbeck:
     """An Ornstein-Uhlenbeck process: start, every, mean, half_life, deviation."""
     return OrnsteinUhlenbeck(**settings)
 
 
-def garch(**settings: object) -> Garch:
+def garch(**settings: Any) -> Garch:
     """GARCH(1,1): start, every, volatility, alpha, beta."""
     return Garch(**settings)
 
 
-def prices(path: str | Path, **settings: object) -> PriceFile:
+def prices(path: str | Path, **settings: Any) -> PriceFile:
     """A user's own prices: path of the file, every, column, block."""
     return PriceFile(path_name=os.fspath(path), **settings)
 
 
-COURSES = {"gbm": gbm, "ou": ou, "garch": garch, "prices": prices}
+COURSES: dict[str, Callable[..., Course]] = {"gbm": gbm, "ou": ou, "garch": garch, "prices": prices}
 COURSE_TYPES = {"gbm": GeometricBrownian, "ou": OrnsteinUhlenbeck, "garch": Garch, "prices": PriceFile}
 
 
@@ -273,14 +274,15 @@ def call_of(text: str) -> tuple[str, dict[str, object]]:
         call = ast.parse(text.strip(), mode="eval").body
         if not isinstance(call, ast.Call) or call.args:
             raise ValueError
-        name = call.func.attr if isinstance(call.func, ast.Attribute) else call.func.id
+        called: Any = call.func
+        name = called.attr if isinstance(called, ast.Attribute) else called.id
         return name, {word.arg: ast.literal_eval(word.value) for word in call.keywords if word.arg}
     except (SyntaxError, ValueError, AttributeError):
         raise SeriesError(f"series: {text!r}: a call with named settings is wanted, as in values.gbm(start=100, "
                           'volatility=0.2, every="1s")') from None
 
 
-def series_for(spec: Course | str | Mapping, key: str | int, study: object) -> pandas.DataFrame:
+def series_for(spec: Course | str | Mapping, key: str | int, study: Any) -> pandas.DataFrame:
     """The rows of a study's series file under a key: symbol, time (ns past midnight), value (four implied decimals).
 
     `spec` is a course, which each stock with series `rows` gets with draws of its own, or a table from symbol to
@@ -356,7 +358,7 @@ def length_of_time(value: object) -> int:
         raise SeriesError(f"series: {fault}") from None
 
 
-def wanted_number(name: str, value: object, least: float, asked: str, above: bool = False) -> None:
+def wanted_number(name: str, value: Any, least: float, asked: str, above: bool = False) -> None:
     """Refuses a setting that is no finite number from `least` on, or above it."""
     plain = isinstance(value, (int, float)) and not isinstance(value, bool)
     wanted(plain and math.isfinite(value) and (value > least or (value == least and not above)), name, value, asked)

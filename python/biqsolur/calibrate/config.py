@@ -229,7 +229,8 @@ def targets_of(table: Any) -> tuple[Target, ...]:
     check_names(list(numbers))
     for name, said in numbers.items():
         settings = said if isinstance(said, Mapping) else {"value": said}
-        value, error = settings.get("value"), settings.get("error", 0)
+        value: Any = settings.get("value")
+        error: Any = settings.get("error", 0)
         wanted(is_number(value) and is_number(error) and error >= 0 and not set(settings) - {"value", "error"},
                f"targets: {name}: a number is wanted, or {{ value = 2.3, error = 0.1 }}")
         out.append(Target(name, float(value), float(error)))

@@ -17,8 +17,8 @@ BUNDLE_START = b"\0\x09h"           # the length of a bundle's header and its le
 
 def main(words: argparse.Namespace) -> int:
     """Measures, writes what is asked for, and tells the table."""
-    for path in filter(None, (words.json, words.page)):
-        if Path(path).exists():
+    for path in (words.json, words.page):
+        if path and Path(path).exists():
             raise biqsolur.OutputExistsError(f"{path} is there already; nothing was written")
     facts = measured(words)
     if words.json:

@@ -2,6 +2,8 @@
 
 from __future__ import annotations
 
+from typing import Any
+
 import numpy
 
 from biqsolur.facts import flow, returns
@@ -18,7 +20,7 @@ def curves_of(tape: Tape) -> dict[str, list[float]]:
     """The curves of a tape, by name: a list of numbers each, not-a-number where there is none."""
     subject = Subject(tape)
     with numpy.errstate(all="ignore"):
-        made = {
+        made: dict[str, Any] = {
             "kurtosis": [returns.excess_kurtosis(subject.returns(seconds)) for seconds in HORIZONS],
             "tail": tail_curve(subject.returns(1)),
             "returns": returns.autocorrelations(subject.returns(1), 30),

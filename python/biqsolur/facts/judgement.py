@@ -135,7 +135,7 @@ class Facts:
         found = {number["name"]: number for fact in table["facts"] for number in fact["numbers"]}
         numbers = {name: tuple(math.nan if value is None else value for value in found[name]["values"])
                    for name in NUMBERS}
-        ranges = {name: tuple(found[name]["range"]) for name in NUMBERS}
+        ranges = {name: (found[name]["range"][0], found[name]["range"][1]) for name in NUMBERS}
         return cls(table["of"], tuple(table["tapes"]), numbers, ranges=ranges)
 
     def to_json(self) -> str:

@@ -3,7 +3,6 @@
 from __future__ import annotations
 
 import html
-from collections.abc import Sequence
 from pathlib import Path
 from typing import Any
 
@@ -23,7 +22,7 @@ tr.fact td { background: #f3f3f3; font-weight: bold }
 .pictures { display: grid; grid-template-columns: repeat(auto-fit, minmax(22rem, 1fr)); gap: 1rem }
 figure { margin: 0 } figure div { height: 20rem } figcaption { font-size: 90% }"""
 # Name of the curve, title, abscissae, names of both axes, whether each is logarithmic, what it shows.
-PICTURES: tuple[tuple[str, str, Sequence[float], str, str, bool, bool, str], ...] = (
+PICTURES: tuple[tuple[str, str, Any, str, str, bool, bool, str], ...] = (
     ("kurtosis", "Tails and horizon", HORIZONS, "seconds", "excess kurtosis", True, False,
      "Excess kurtosis of mid-price returns by horizon."),
     ("tail", "The tail of one-second returns", PARTS, "part of the returns beyond", "standard deviations", True, True,
@@ -94,16 +93,16 @@ def table(facts: Facts) -> str:
 
 def picture(facts: Facts, words: tuple[Any, ...]) -> dict[str, Any]:
     """Data and layout of one picture, as plotly.js takes them."""
-    name, _, abscissae, across, up, across_log, up_log, _ = words
+    name, _, abscissae, across_name, up_name, across_log, up_log, _ = words
     curves = [numpy.array(curve[name], float) for curve in facts.curves]
     halves = [(curve[:10], curve[10:]) if name == "impact" else (numpy.array(abscissae, float), curve)
               for curve in curves]
     lines = [line(x, y, "#9db8d2", 1) for x, y in halves]
     if len(halves) > 1:
         with numpy.errstate(all="ignore"):
-            middle = [numpy.median(part, axis=0) for part in zip(*halves)]
-        lines.append(line(*middle, "#0b3c6f", 3))
-    axes = {"xaxis": axis(across, across_log), "yaxis": axis(up, up_log)}
+            across, up = (numpy.median(part, axis=0) for part in zip(*halves))
+        lines.append(line(across, up, "#0b3c6f", 3))
+    axes = {"xaxis": axis(across_name, across_log), "yaxis": axis(up_name, up_log)}
     return {"data": lines, "layout": {**axes, "showlegend": False, "margin": {"l": 60, "r": 10, "t": 10, "b": 45}}}
 
 

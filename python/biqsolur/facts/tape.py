@@ -5,6 +5,7 @@ All facts are measured on a tape, so that a simulated market and a real one go t
 
 from __future__ import annotations
 
+import os
 from array import array
 from dataclasses import dataclass
 from functools import cached_property
@@ -158,7 +159,7 @@ class BestOf:
         self.shares = levels[self.rank] if self.heap else 0
 
 
-def tape_of_lobster(message: str | Path, orderbook: str | Path) -> Tape:
+def tape_of_lobster(message: str | os.PathLike[str], orderbook: str | os.PathLike[str]) -> Tape:
     """The tape of LOBSTER's message file and orderbook file of one stock and day.
 
     Message rows: time (seconds past midnight, up to nine decimals), type, reference, shares, price, direction. Of the
@@ -182,7 +183,7 @@ def tape_of_lobster(message: str | Path, orderbook: str | Path) -> Tape:
     return Tape(Path(message).name, *(column[keep] for column in columns))
 
 
-def read_rows(path: str | Path, columns: int, kind: type) -> numpy.ndarray:
+def read_rows(path: str | os.PathLike[str], columns: int, kind: type) -> numpy.ndarray:
     """The first `columns` columns of a file of numbers without a header."""
     try:
         frame = pandas.read_csv(path, header=None, usecols=range(columns), dtype=kind)
