@@ -1,8 +1,8 @@
-"""Builds the package with the released program in it: biqsolur/bin/abides, unpacked from release/ and compared with its sum,
-and beside it the line of the kit that proved it.
+"""Builds the package with the released program in it: biqsolur/bin/abides, unpacked from release/ and compared with its
+sum, and beside it the line of the kit that proved it.
 
-A source distribution has the packed program in its folder `release`, a checkout beside this folder. What is said of the package
-stands in pyproject.toml.
+A source distribution has the packed program in its folder `release`, a checkout beside this folder. What is said of the
+package stands in pyproject.toml.
 """
 
 from __future__ import annotations

@@ -1,4 +1,4 @@
-"""The command `abides` of an installed package: it becomes the program, with the allocator's words that ./abides gives it."""
+"""The command `abides` of an installed package: it becomes the program, with the allocator's words as ./abides has them."""
 
 from __future__ import annotations
 

@@ -16,11 +16,14 @@ DEBIAN = {"snakemake": "snakemake"}
 
 
 def advice(error: ModuleNotFoundError) -> str:
-    """One line that names the package that wasn't found, and how to get it. A module of Biqsolur's own raises the error again."""
+    """One line that names the package that wasn't found, and how to get it.
+
+    Where it is a module of Biqsolur's own, the error is raised again.
+    """
     module = (error.name or "").split(".")[0]
     if module in ("", "biqsolur"):
         raise error
     extra = f"[{EXTRAS[module]}]" if module in EXTRAS else ""
     debian = DEBIAN.get(module, f"python3-{module}")
-    return (f"{sys.executable} has no package {module}: pip install 'biqsolur{extra}', or on Debian apt-get install {debian} "
-            "and /usr/bin/python3")
+    return (f"{sys.executable} has no package {module}: pip install 'biqsolur{extra}', or on Debian "
+            f"apt-get install {debian} and /usr/bin/python3")

@@ -1,7 +1,7 @@
 """What all tests share: the program, random studies that it ran, and a cache of their own.
 
-The markers `browser` (a page in a real browser) and `long` (minutes of a processor) name what `./test` leaves out unless it
-is asked. No test may hang: after LONGEST seconds it fails.
+The markers `browser` (a page in a real browser) and `long` (minutes of a processor) name what `./test` leaves out unless
+it is asked. No test may hang: after LONGEST seconds it fails.
 """
 
 from __future__ import annotations

@@ -1,7 +1,8 @@
 """What `./test` does: sees to the program, to Python's packages and to tools, and then runs all tests by tally.py.
 
-It needs nothing but Python 3.11 itself. Where packages are missing, pip installs what pyproject.toml asks for into a virtual
-environment in the user's cache; where pip reaches nothing, root gets them from Debian by apt-get. Each is said before.
+It needs nothing but Python 3.11 itself. Where packages are missing, pip installs what pyproject.toml asks for into a
+virtual environment in the user's cache; where pip reaches nothing, root gets them from Debian by apt-get. Each is said
+before.
 """
 
 from __future__ import annotations
@@ -16,12 +17,14 @@ from pathlib import Path
 TESTS = Path(__file__).resolve().parent
 ROOT = TESTS.parent.parent
 DEBIAN_PYTHON = "/usr/bin/python3"
-APT = ("apt-get", "-qq", "-o", "Acquire::Retries=0", "-o", "Acquire::http::Timeout=10", "-o", "Acquire::https::Timeout=10",
-       "-o", "DPkg::Lock::Timeout=60")
-PIP = ("-m", "pip", "install", "--quiet", "--disable-pip-version-check", "--no-input", "--retries", "0", "--timeout", "10")
+APT = ("apt-get", "-qq", "-o", "Acquire::Retries=0", "-o", "Acquire::http::Timeout=10",
+       "-o", "Acquire::https::Timeout=10", "-o", "DPkg::Lock::Timeout=60")
+PIP = ("-m", "pip", "install", "--quiet", "--disable-pip-version-check", "--no-input", "--retries", "0",
+       "--timeout", "10")
 LONGEST_INSTALL = 1800
-DESCRIPTION = """Runs the stored runs, the examples against their sums, and the tests of the Python package, over the program
-that ./abides would run. What fails is run again, alone; what passes then is named. The last line is
+LEVELS = ("browser", "proofs", "long")
+DESCRIPTION = """Runs the stored runs, the examples against their sums, and the tests of the Python package, over the
+program that ./abides would run. What fails is run again, alone; what passes then is named. The last line is
 `N passed, M failed, K skipped`. The status is 0 where nothing failed and nothing was left out for want of a tool."""
 
 
@@ -38,10 +41,11 @@ def options(words: list[str]) -> argparse.Namespace:
     parser.add_argument("--long", action="store_true", help="also the tests that take minutes of a processor")
     parser.add_argument("--all", action="store_true", help="all three")
     parser.add_argument("--no-install", action="store_true", help="install nothing")
-    parser.add_argument("--skip-missing", action="store_true", help="what can't be run for want of a tool is no failure")
+    parser.add_argument("--skip-missing", action="store_true", help="a tool that can't be had is no failure")
     parser.add_argument("pytest", nargs="*", metavar="WORD", help="words for pytest, behind --")
     asked = parser.parse_args(words)
-    asked.browser, asked.proofs, asked.long = (asked.all or level for level in (asked.browser, asked.proofs, asked.long))
+    for level in LEVELS:
+        setattr(asked, level, asked.all or getattr(asked, level))
     return asked
 
 
@@ -175,7 +179,7 @@ def main(words: list[str]) -> int:
         python, lacks = see_to_packages(asked.browser)
         left_out += lacks
     say(f"the program is {program}, Python is {python}")
-    flags = [f"--{name}" for name in ("browser", "proofs", "long", "skip-missing") if getattr(asked, name.replace("-", "_"))]
+    flags = [f"--{name}" for name in (*LEVELS, "skip-missing") if getattr(asked, name.replace("-", "_"))]
     missing = [word for name in left_out for word in ("--missing", name)]
     os.execv(python, [python, str(TESTS / "tally.py"), "--program", program, *flags, *missing, "--", *asked.pytest])
 

@@ -2,8 +2,8 @@
 
     python3 python/tests/needs.py [--browser] pip|debian|tools|debian-tools
 
-prints what is missing for the Python that runs it, a name a line, and nothing where all is there: packages as pip takes them
-or as Debian calls them, and the programs by their names or as Debian calls them. It needs nothing but Python 3.11 itself.
+prints what is missing for the Python that runs it, a name a line, and nothing where all is there: packages as pip takes
+them or as Debian calls them, and the programs by their names or as Debian calls them. It needs Python 3.11 alone.
 """
 
 from __future__ import annotations

@@ -2,12 +2,12 @@
 
     python3 python/tests/stored.py PROGRAM [--write]
 
-needs nothing but Python itself, and writes a line for each run that ended otherwise. With `--write` the sums of the examples,
-examples/SHA256SUMS, are made anew from what the program writes now.
+needs nothing but Python itself, and writes a line for each run that ended otherwise. With `--write` the sums of the
+examples, examples/SHA256SUMS, are made anew from what the program writes now.
 
-A case is a line of crates/study_cases/data/*.tsv, and crates/study_cases/stdout has how it ended: name, status (of a refused
-study with its rule and place), counted steps, size and sum of the output's bytes, and the text of output and note. The steps
-are known inside the program alone. A line of examples/SHA256SUMS is a sum, two blanks, and the words of the program.
+A case is a line of crates/study_cases/data/*.tsv, and crates/study_cases/stdout has how it ended: name, status (of a
+refused study with its rule and place), counted steps, size and sum of the output's bytes, and the text of output and note.
+The steps are known inside the program alone. A line of examples/SHA256SUMS is a sum, two blanks, and the words.
 """
 
 from __future__ import annotations
@@ -35,9 +35,9 @@ REFUSED = re.compile(rb"study refused: rule (\d+), place (\d+)\n")
 
 @dataclass(frozen=True)
 class Case:
-    """One run of the stored ones: its words, and the study `s` and the file `t`, each as bytes or by its name in the data.
+    """One run of the stored ones: its words, and the study `s` and the file `t`.
 
-    `failing` is the number of the read that fails, 0 where none does; `changes` are those of both files.
+    Each of the two is its bytes, or its name in the data. `failing` is the number of the read that fails, 0 where none does; `changes` are those of both files.
     """
 
     name: str
@@ -132,7 +132,8 @@ def stored() -> dict[str, bytes]:
         at = content.index(b"\n%s\t" % name.encode(), at) + 1
         starts.append(at)
     parts = [content[start:end] for start, end in zip(starts, [*starts[1:], len(content)], strict=True)]
-    return {name: re.sub(rb"^([^\t]*\t[^\t]*)\t\d+\t", rb"\1\t0\t", part) for name, part in zip(names, parts, strict=True)}
+    steps = re.compile(rb"^([^\t]*\t[^\t]*)\t\d+\t")
+    return {name: steps.sub(rb"\1\t0\t", part) for name, part in zip(names, parts, strict=True)}
 
 
 def stored_head() -> bytes:

@@ -1,10 +1,10 @@
 """Runs pytest over all tests, what failed once more and alone, and says how many passed, failed and were skipped.
 
-    python3 python/tests/tally.py --program PATH [--browser] [--long] [--skip-missing] [--missing NAME ...] [--root FOLDER]
-        [-- WORDS OF PYTEST]
+    python3 python/tests/tally.py --program PATH [--browser] [--long] [--skip-missing] [--missing NAME ...]
+        [--root FOLDER] [-- WORDS OF PYTEST]
 
-A test that fails beside others is run again by itself, at most twice: a machine under load may starve it. What passes then
-counts as passed, and is named. Where there is no pytest, the stored runs alone are run, by stored.py.
+A test that fails beside others is run again by itself, at most twice: a machine under load may starve it. What passes
+then counts as passed, and is named. Where there is no pytest, the stored runs alone are run, by stored.py.
 """
 
 from __future__ import annotations

@@ -30,8 +30,8 @@ def count(folder: Path, text: str, *words: str | Path) -> subprocess.CompletedPr
     """Runs the tally over one file of tests, and those among the words."""
     path = folder / "test_some.py"
     path.write_text(textwrap.dedent(text))
-    return subprocess.run([sys.executable, TESTS_FOLDER / "tally.py", "--program", "none", "--root", folder, *words, "--", path,
-                           "-n", "0"], capture_output=True, text=True, stdin=subprocess.DEVNULL)
+    line = [sys.executable, TESTS_FOLDER / "tally.py", "--program", "none", "--root", folder, *words, "--", path, "-n", "0"]
+    return subprocess.run(line, capture_output=True, text=True, stdin=subprocess.DEVNULL)
 
 
 def test_what_passes_when_run_again_is_named(tmp_path: Path) -> None:
@@ -67,7 +67,8 @@ def test_what_fails_each_time_has_failed(tmp_path: Path) -> None:
             assert False
     """)
     assert answer.returncode == 1 and answer.stdout.splitlines()[-1] == "0 passed, 2 failed, 0 skipped"
-    assert {line.rpartition("::")[2] for line in answer.stdout.splitlines() if line.startswith("failed: ")} == {"test_bad", "test_worse"}
+    failed = {line.rpartition("::")[2] for line in answer.stdout.splitlines() if line.startswith("failed: ")}
+    assert failed == {"test_bad", "test_worse"}
 
 
 def test_a_file_that_is_no_python_has_failed(tmp_path: Path) -> None:
@@ -101,7 +102,8 @@ def test_a_missing_tool_is_said_in_the_closing_line(tmp_path: Path) -> None:
     """And is a failure unless it is allowed."""
     for words, status in (((), 1), (("--skip-missing",), 0)):
         answer = count(tmp_path, "def test_good(): pass\n", "--missing", "tshark", *words)
-        assert (answer.returncode, answer.stdout.splitlines()[-1]) == (status, "1 passed, 0 failed, 0 skipped for want of tshark")
+        last = answer.stdout.splitlines()[-1]
+        assert (answer.returncode, last) == (status, "1 passed, 0 failed, 0 skipped for want of tshark")
 
 
 @pytest.mark.parametrize("level", ["browser", "long"])
@@ -122,7 +124,8 @@ def test_levels_are_left_out_unless_asked_for(tmp_path: Path, level: str) -> Non
 def test_the_number_of_workers_fits_the_machine(monkeypatch: pytest.MonkeyPatch) -> None:
     """At least one, also where nothing is known; at most as many as processors, the group's share, and memory allow."""
     monkeypatch.setattr(tally.os, "sched_getaffinity", lambda process: set(range(8)))
-    for share, memory, expected in ((math.inf, math.inf, 8), (2.5, math.inf, 3), (math.inf, 1e6, 1), (math.inf, 1.5e9, 2), (0.1, 1e12, 1)):
+    for share, memory, expected in ((math.inf, math.inf, 8), (2.5, math.inf, 3), (math.inf, 1e6, 1),
+                                    (math.inf, 1.5e9, 2), (0.1, 1e12, 1)):
         monkeypatch.setattr(tally, "quota", lambda share=share: share)
         monkeypatch.setattr(tally, "free_memory", lambda memory=memory: memory)
         assert tally.workers() == expected
@@ -143,8 +146,8 @@ def project(tmp_path: Path, monkeypatch: pytest.MonkeyPatch) -> None:
 def test_what_a_python_lacks(project: None, monkeypatch: pytest.MonkeyPatch) -> None:
     """Packages that aren't there or are too old, as pip and as Debian call them; programs that aren't on the path."""
     assert needs.missing("pip", False) == ["there_is_no_such_one>=3", "pytest>=9999", "snakemake_nope"]
-    assert needs.missing("debian", True) == ["python3-there_is_no_such_one", "python3-pytest", "python3-snakemake_nope",
-                                             "python3-seleniumx"]
+    assert needs.missing("debian", True) == ["python3-there_is_no_such_one", "python3-pytest",
+                                             "python3-snakemake_nope", "python3-seleniumx"]
     monkeypatch.setattr(needs.shutil, "which", lambda tool: None if tool in ("xz", "chromium") else f"/bin/{tool}")
     assert (needs.missing("tools", False), needs.missing("debian-tools", False)) == (["xz"], ["xz-utils"])
     assert needs.missing("tools", True) == ["xz", "chromium"]
@@ -193,7 +196,8 @@ def test_apt_installs_without_questions_and_recommendations(apt: Path, capsys: p
     assert words_of(apt)[2:] == ["update", "one unknown", "one", "unknown"]
 
 
-def test_apt_is_left_alone_where_it_cannot_serve(apt: Path, monkeypatch: pytest.MonkeyPatch, capsys: pytest.CaptureFixture) -> None:
+def test_apt_is_left_alone_where_it_cannot_serve(apt: Path, monkeypatch: pytest.MonkeyPatch,
+                                                 capsys: pytest.CaptureFixture) -> None:
     """Nothing to install, no archive in reach, no right to."""
     assert not everything.install_by_apt([]) and words_of(apt) == []
     (apt / "offline").touch()
@@ -204,8 +208,8 @@ def test_apt_is_left_alone_where_it_cannot_serve(apt: Path, monkeypatch: pytest.
 
 
 @pytest.mark.parametrize("xdg, home, expected", [
-    ("", "", None), ("relative", "", None), ("", "{}/home", "{}/home/.cache/biqsolur"), ("{}/xdg", "{}/home", "{}/xdg/biqsolur"),
-    ("/dev/null/x", "", None)])
+    ("", "", None), ("relative", "", None), ("", "{}/home", "{}/home/.cache/biqsolur"),
+    ("{}/xdg", "{}/home", "{}/xdg/biqsolur"), ("/dev/null/x", "", None)])
 def test_the_folder_of_the_virtual_environment(tmp_path: Path, monkeypatch: pytest.MonkeyPatch, xdg: str, home: str,
                                                expected: str | None) -> None:
     """The user's cache, or none where there is no such place."""
@@ -265,5 +269,6 @@ def test_the_script_hands_its_words_on(tmp_path: Path) -> None:
         (tmp_path / name).write_bytes((ROOT / name).read_bytes())
         (tmp_path / name).chmod(0o755)
     (tmp_path / "link").symlink_to("test")
-    answer = subprocess.run(["/bin/sh", "-c", '"$0" --browser "a b" <&-', tmp_path / "link"], capture_output=True, text=True)
+    line = ["/bin/sh", "-c", '"$0" --browser "a b" <&-', tmp_path / "link"]
+    answer = subprocess.run(line, capture_output=True, text=True)
     assert (answer.returncode, answer.stdout, answer.stderr) == (7, "['--browser', 'a b']\n", "")

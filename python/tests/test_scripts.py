@@ -43,7 +43,7 @@ RT = """#!/bin/sh
 echo called >>"$RT_CALLED"
 echo "rt: base proved"
 [ -z "${RT_WAITS-}" ] || { echo $$ >"$RT_CALLED.process"; read -r _ <"$RT_WAITS"; }
-[ -z "${RT_FAILS-}" ] || { echo '== abides_main'; echo 'src/main.rt:1: error: no'; echo 'rt: abides_main NOT PROVED'; exit 1; }
+[ -z "${RT_FAILS-}" ] || { printf '== abides_main\nsrc/main.rt:1: error: no\nrt: abides_main NOT PROVED\n'; exit 1; }
 mkdir -p crates/abides_main/out
 cp crates/abides_main/src/main.rt crates/abides_main/out/abides_main
 chmod +x crates/abides_main/out/abides_main
@@ -80,7 +80,8 @@ class Checkout:
         """The path of a script of the checkout."""
         return str(self.home / name)
 
-    def call(self, *words: str, script: str | None = None, cwd: Path | None = None, **env: str) -> subprocess.CompletedProcess:
+    def call(self, *words: str, script: str | None = None, cwd: Path | None = None,
+             **env: str) -> subprocess.CompletedProcess:
         """Runs a script to its end; its output as text."""
         return subprocess.run([script or self.script(), *words], cwd=cwd or self.room, env={**self.env, **env},
                               stdin=subprocess.DEVNULL, capture_output=True, text=True, timeout=LONGEST)
@@ -93,13 +94,16 @@ class Checkout:
     @contextmanager
     def started(self, *words: str, script: str | None = None, **env: str) -> Iterator[subprocess.Popen]:
         """Starts a script whose output can be read line by line; what still runs in the end is killed."""
-        process = subprocess.Popen(["env", "--default-signal=INT,QUIT", script or self.script(), *words], cwd=self.room, env={**self.env, **env},
-                                   stdin=subprocess.DEVNULL, stdout=subprocess.PIPE, stderr=subprocess.PIPE, text=True)
+        line = ["env", "--default-signal", script or self.script(), *words]
+        process = subprocess.Popen(line, cwd=self.room, env={**self.env, **env}, stdin=subprocess.DEVNULL,
+                                   stdout=subprocess.PIPE, stderr=subprocess.PIPE, text=True)
         try:
             yield process
         finally:
             process.kill()
-            process.communicate()
+            process.wait()
+            for stream in filter(None, (process.stdout, process.stderr)):
+                stream.close()
 
     def stub(self, name: str, text: str) -> None:
         """Puts a script on the path, before the system's."""
@@ -316,23 +320,26 @@ def test_another_program_can_be_named(used: Checkout, tmp_path: Path) -> None:
     assert answer.stderr == f"abides: running BIQSOLUR_PROGRAM, which nothing ties to these sources: {other}\n"
     assert used.call("--program", BIQSOLUR_PROGRAM="other one", cwd=tmp_path).stdout == f"{other}\n"
     answer = used.call("run", BIQSOLUR_PROGRAM=str(tmp_path))
-    assert (answer.returncode, answer.stderr) == (1, f"abides: BIQSOLUR_PROGRAM names no program that can be started: {tmp_path}\n")
+    assert answer.returncode == 1
+    assert answer.stderr == f"abides: BIQSOLUR_PROGRAM names no program that can be started: {tmp_path}\n"
     assert used.call("run", BIQSOLUR_PROGRAM=used.script()).stdout == f"{used.released}\nrun\n"
 
 
 def test_explore_becomes_the_packages_command(checkout: Checkout) -> None:
-    """By the first Python that has the packages, with the package of this checkout before others; no program is needed."""
+    """By the first Python that has the packages, with this checkout's package before others; no program is needed."""
     checkout.stub("python3", '#!/bin/sh\n[ "$1" != -c ] || exit 0\nprintf "%s\\n" "$PYTHONPATH" "$@"\nexit 9\n')
     answer = checkout.call("explore", "a b", "--port", "0", PYTHONPATH="/mine")
     assert (answer.returncode, answer.stderr) == (9, "")
-    assert answer.stdout.splitlines() == [f"{checkout.home}/python:/mine", "-m", "biqsolur", "explore", "a b", "--port", "0"]
+    words = ["-m", "biqsolur", "explore", "a b", "--port", "0"]
+    assert answer.stdout.splitlines() == [f"{checkout.home}/python:/mine", *words]
     assert not checkout.out.exists()
 
 
 # Statuses, signals, streams
 
 FILE_WORDS = ["cross", "--workers", "4", "study", "B:E", "--", "SYM", "orders"]
-FILES = {5: "study", 12: "orders --study study", 13: "study", 14: "study", 15: "B:E --study study", 16: "B:E --study study"}
+FILES = {5: "study", 12: "orders --study study", 13: "study", 14: "study",
+         15: "B:E --study study", 16: "B:E --study study"}
 
 
 @pytest.mark.parametrize("status", range(17))
@@ -362,7 +369,8 @@ def test_control_characters_of_a_name_are_not_repeated(used: Checkout) -> None:
     assert answer.stderr.splitlines()[-1].endswith("biqsolur why FILE")
 
 
-@pytest.mark.parametrize("number", [signal.SIGTERM, signal.SIGINT, signal.SIGHUP, signal.SIGQUIT, signal.SIGKILL, signal.SIGUSR1])
+@pytest.mark.parametrize("number", [signal.SIGTERM, signal.SIGINT, signal.SIGHUP, signal.SIGQUIT, signal.SIGKILL,
+                                    signal.SIGUSR1])
 def test_a_signal_ends_script_and_program(used: Checkout, number: signal.Signals) -> None:
     """The caller sees the signal, and the program is gone."""
     with used.started("run", STUB_FOREVER="yes") as process:
@@ -393,8 +401,8 @@ def test_closed_and_full_streams_build_nothing(checkout: Checkout, streams: str)
         seen = checkout.room / turn
         answer = checkout.in_shell(f'"$ABIDES" run {streams}; exit $?', SEEN=str(seen))
         assert answer.returncode == 7
-        closed = {"<&-": "0", ">&-": "1", "2>&-": "2"}
-        assert seen.read_text() == "".join(sorted({"0", "1", "2"} - {closed.get(word) for word in streams.split()})) + "\n"
+        closed = {number for word, number in (("<&-", "0"), (">&-", "1"), ("2>&-", "2")) if word in streams.split()}
+        assert seen.read_text() == "".join(sorted({"0", "1", "2"} - closed)) + "\n"
     assert checkout.rt_calls == 0 and checkout.released.exists()
 
 
@@ -449,8 +457,8 @@ def test_settings_of_xz_change_nothing(checkout: Checkout) -> None:
     assert (answer.returncode, answer.stderr) == (0, RUNS)
 
 
-TOOLS = ("sh", "readlink", "sha256sum", "cut", "sed", "cat", "mkdir", "mv", "rm", "chmod", "find", "sort", "xargs", "uname",
-         "tail", "touch", "setpriv", "env", "wc", "sleep")
+TOOLS = ("sh", "readlink", "sha256sum", "cut", "sed", "cat", "mkdir", "mv", "rm", "chmod", "find", "sort", "xargs",
+         "uname", "tail", "touch", "setpriv", "env", "wc", "sleep")
 
 
 @pytest.mark.parametrize("more", [("xz",), ("xz", "awk", "git"), ("dpkg-deb", "tar", "gzip")])
@@ -485,7 +493,8 @@ def test_a_folder_in_the_programs_place_is_said(checkout: Checkout, name: str) -
         checkout.released.unlink()
     answer = checkout.call("run")
     assert answer.returncode == 1
-    assert answer.stderr.splitlines()[-1].endswith(f"{checkout.out / name} is a folder in the program's place: remove it")
+    last = answer.stderr.splitlines()[-1]
+    assert last.endswith(f"{checkout.out / name} is a folder in the program's place: remove it")
 
 
 def test_where_nothing_starts_in_the_checkout_the_users_cache_serves(checkout: Checkout) -> None:
@@ -537,7 +546,8 @@ def test_a_checkout_without_leave_to_write(for_others: Path) -> None:
     words = [checkout.script(), "run"]
     answer = subprocess.run(words, env=checkout.env, capture_output=True, text=True, cwd="/", **user)
     assert (answer.returncode, answer.stdout) == (0, f"{home}/.cache/biqsolur/abides_release\nrun\n")
-    answer = subprocess.run(words, env={**checkout.env, "HOME": "/nonexistent"}, capture_output=True, text=True, cwd="/", **user)
+    checkout.env["HOME"] = "/nonexistent"
+    answer = subprocess.run(words, env=checkout.env, capture_output=True, text=True, cwd="/", **user)
     assert answer.returncode == 1 and answer.stderr.startswith("abides: no leave to write a program in ")
     for path in [checkout.home, *checkout.home.rglob("*")]:
         path.chmod(path.stat().st_mode | stat.S_IWUSR)
@@ -597,7 +607,8 @@ def test_a_failed_proof_is_told(checkout: Checkout) -> None:
     assert "src/main.rt:1: error: no" in (checkout.out / "prove.log").read_text()
 
 
-@pytest.mark.parametrize("lacking, said", [("rt", "there is no rt on the path"), ("home", "neither XDG_CACHE_HOME nor HOME")])
+@pytest.mark.parametrize("lacking, said", [("rt", "there is no rt on the path"),
+                                           ("home", "neither XDG_CACHE_HOME nor HOME")])
 def test_prove_says_what_it_lacks(checkout: Checkout, lacking: str, said: str) -> None:
     """One line, status 1."""
     (checkout.room / "bin/rt").unlink() if lacking == "rt" else checkout.env.pop("HOME")
@@ -625,10 +636,12 @@ def test_prove_says_what_it_is_at(waiting: Checkout) -> None:
     """Again and again, until rt is done; which crates come next is told too."""
     with waiting.started(script=waiting.script("prove"), PROVE_TELLS_EVERY="0.05") as process:
         assert process.stdout is not None
-        said = [line for line, _ in zip(iter(lambda: next(line for line in process.stdout if "at work for" in line), None), range(3))]
-        assert all(re.fullmatch(r"prove: at work for 0 min \d+ s, 1 of 2 crates done; now or next: abides_main \n", line)
-                   for line in said[1:])
         process_of_rt(waiting)
+        told = 0
+        for line in process.stdout:
+            told += bool(re.fullmatch(r"prove: at work for \d+ min \d+ s, 1 of 2 crates done; now or next: abides_main \n", line))
+            if told == 3:
+                break
         (waiting.room / "go").write_text("go\n")
         process.communicate(timeout=LONGEST)
         assert process.returncode == 0
@@ -656,7 +669,8 @@ def test_two_calls_do_not_prove_at_once(waiting: Checkout) -> None:
     with waiting.started(script=waiting.script("prove")) as process:
         process_of_rt(waiting)
         answer = prove(waiting)
-        assert (answer.returncode, answer.stderr) == (1, f"prove: another ./prove is at work on this clone (process {process.pid})\n")
+        assert answer.returncode == 1
+        assert answer.stderr == f"prove: another ./prove is at work on this clone (process {process.pid})\n"
         (waiting.room / "go").write_text("go\n")
         process.communicate(timeout=LONGEST)
         assert process.returncode == 0
@@ -688,8 +702,8 @@ def test_shellcheck_has_nothing_to_say() -> None:
     """Of any script of the repository."""
     if shutil.which("shellcheck") is None:
         pytest.skip("no shellcheck on the path (Debian: shellcheck)")
-    scripts = [ROOT / name for name in ("abides", "prove", "test", ".ci/run", "release/common.sh", "release/check", "release/make",
-                                        "release/sources-sum")]
+    scripts = [ROOT / name for name in ("abides", "prove", "test", ".ci/run", "release/common.sh", "release/check",
+                                        "release/make", "release/sources-sum")]
     answer = subprocess.run(["shellcheck", "-x", *scripts], capture_output=True, text=True, cwd=ROOT)
     assert (answer.returncode, answer.stdout) == (0, "")
 

@@ -24,7 +24,8 @@ STUDY = ROOT / "examples" / "tick_size.toml"
 
 def run_setup(folder: Path, *words: str) -> None:
     """Runs setup.py in a folder, without the user's settings."""
-    answer = subprocess.run([sys.executable, "setup.py", "-q", "--no-user-cfg", *words], cwd=folder, capture_output=True, text=True)
+    line = [sys.executable, "setup.py", "-q", "--no-user-cfg", *words]
+    answer = subprocess.run(line, cwd=folder, capture_output=True, text=True)
     assert answer.returncode == 0, answer.stderr
 
 
@@ -32,7 +33,8 @@ def run_setup(folder: Path, *words: str) -> None:
 def checkout(tmp_path_factory: pytest.TempPathFactory) -> Path:
     """What the wheel is made of, alone."""
     home = tmp_path_factory.mktemp("checkout")
-    shutil.copytree(PACKAGE, home / "python", ignore=shutil.ignore_patterns("tests", "__pycache__", "build", "*.egg-info"), symlinks=True)
+    others = shutil.ignore_patterns("tests", "__pycache__", "build", "*.egg-info")
+    shutil.copytree(PACKAGE, home / "python", ignore=others, symlinks=True)
     shutil.copytree(ROOT / "release", home / "release")
     shutil.copy(ROOT / "LICENSE", home)
     return home
@@ -150,7 +152,8 @@ def test_a_module_of_the_package_itself_is_no_missing_package() -> None:
 
 def test_a_command_that_misses_a_package_says_so_in_one_line(installed: Path) -> None:
     """Status 1, and no traceback."""
-    code = ("import sys; sys.modules['numpy'] = None; from biqsolur.__main__ import main; sys.exit(main(['csv', 'x', '-o', 'y']))")
+    code = ("import sys; sys.modules['numpy'] = None; from biqsolur.__main__ import main; "
+            "sys.exit(main(['csv', 'x', '-o', 'y']))")
     answer = in_python(installed, code)
     lines = answer.stderr.decode().splitlines()
     assert (answer.returncode, len(lines)) == (1, 1) and "has no package numpy: pip install 'biqsolur'" in lines[0]
