@@ -3,6 +3,7 @@
 import math
 
 import numpy
+import pandas
 import plain
 import plain_measures
 import pytest
@@ -259,6 +260,11 @@ def test_accounts_end_as_the_closing_has_them(measured):
     for branch, _, _, _ in measured.pairs():
         frame = measures.accounts(branch)
         assert (frame.cash == -100 * frame.price * frame.shares).all() and len(frame) == 2 * len(branch.trades)
+        held = {}
+        for pair in zip(*[frame.itertuples()] * 2):
+            for row in pair:
+                held[row.agent] = held.get(row.agent, 0) + row.cash
+            assert [row.balance for row in pair] == [held[row.agent] for row in pair]
         last = frame[frame.agent >= 0].drop_duplicates(["agent", "stock"], keep="last")
         for row in last.itertuples():
             if (branch.trades.resting >= 0).all():
@@ -479,6 +485,19 @@ def test_a_branch_that_begins_behind_its_parents_end_is_compared_from_there(prog
     frame = bundle.compare("effective_spread").set_index(["branch", "measure"])
     assert frame.value["revived", "effective_spread"] == 400        # twice from 9.99 to 9.97
     assert math.isnan(frame.parent["revived", "effective_spread"])
+
+
+@pytest.mark.parametrize("most", [10**17, 2**62])
+def test_sums_of_cash_stay_exact(most):
+    """Each group's own, also where they leave 64 bits."""
+    values = [most, -7, most - 1, 3, most, -most, 2**31, -(2**31), most, -1]
+    groups = [1, 1, 2, 2, 1, 2, 1, 2, 1, 2]
+    expected = [sum(value for value, of in zip(values[:place + 1], groups) if of == groups[place])
+                for place in range(10)]
+    found = measures.agents.running_sums(pandas.Series(groups), pandas.Series(values))
+    assert found.tolist() == expected
+    assert measures.agents.exact_sums(pandas.Series(groups), pandas.Series(values)) == {1: expected[8], 2: expected[9]}
+    assert found.dtype == (object if most == 2**62 else numpy.int64)
 
 
 def test_the_exchange_remembers_so_many_pairs_and_no_more():

@@ -99,8 +99,9 @@ def fees_of(branch: Branch, study: Study) -> tuple[numpy.ndarray, numpy.ndarray]
 def accounts(branch: Branch, study: object = None) -> pandas.DataFrame:
     """Each agent's side of each trade: two rows a trade, first of who came, then of who rested. Columns: event, time
     (ns), agent (-1: one whose hidden order traded, and who had not heard of it at the end), stock, shares (bought;
-    below 0 where sold), price, cash (what the trade adds to the cash, without fees), position (of the agent in the
-    stock after the whole trade).
+    below 0 where sold), price, cash (what the trade adds to the cash, without fees), position and balance (of the agent
+    after the whole trade: what it holds of the stock, and what all its trades until then added to its cash; Python's
+    whole numbers where 64 bits are not enough).
 
     With a study, also fee (what the agent pays; below 0 where it is paid).
     """
@@ -112,11 +113,14 @@ def accounts(branch: Branch, study: object = None) -> pandas.DataFrame:
     frame = pandas.DataFrame({
         "event": columns["event"], "time": columns["time"], "agent": agent, "stock": columns["stock"], "shares": shares,
         "price": columns["price"], "cash": -100 * columns["price"] * shares})
-    position = frame.groupby(["agent", "stock"]).shares.cumsum().to_numpy()
+    frame["position"] = frame.groupby(["agent", "stock"]).shares.cumsum()
+    frame["balance"] = running_sums(frame.agent, frame.cash)
     # Who trades with itself holds between the two rows what it holds behind them.
     itself = 2 * numpy.flatnonzero(agent[::2] == agent[1::2])
-    position[itself] = position[itself + 1]
-    frame["position"] = position
+    for name in ("position", "balance"):
+        values = frame[name].to_numpy().copy()
+        values[itself] = values[itself + 1]
+        frame[name] = values
     if study is not None:
         added, taken = fees_of(branch, study_of(branch, study, "fee"))
         frame["fee"] = numpy.column_stack([taken, added]).ravel()
@@ -168,6 +172,17 @@ def profits(branch: Branch, study: object = None, *, mark: str = "mid",
                              **{name: exact(values) for name, values in columns.items()}})
 
 
+def running_sums(groups: pandas.Series, values: pandas.Series) -> numpy.ndarray:
+    """The sum of each group's values until each row, exact: as Python's whole numbers where one leaves 64 bits."""
+    numbers = values.to_numpy()
+    halves = pandas.DataFrame({"upper": numbers >> 31, "lower": numbers & 0x7FFFFFFF})
+    sums = halves.groupby(groups.to_numpy()).cumsum()
+    upper, lower = sums.upper.to_numpy() + (sums.lower.to_numpy() >> 31), sums.lower.to_numpy() & 0x7FFFFFFF
+    if len(upper) and numpy.abs(upper).max() >= 1 << 31:
+        return exact([(high << 31) + low for high, low in zip(upper.tolist(), lower.tolist())])
+    return (upper << 31) + lower
+
+
 def exact_sums(groups: pandas.Series, values: pandas.Series) -> dict[int, int]:
     """The sum of the values of each group, as Python's whole numbers: halves of the numbers are summed apart, so that
     no sum leaves 64 bits."""
@@ -193,7 +208,8 @@ def profit(branch: Branch, *, study: object = None, mark: str = "mid",
 
         profit = cash - fees + sum over the stocks of 100 (position m - position' m')
 
-    with the positions and mids at the end and, with ', at the event `after`. In millionths of a dollar.
+    with the positions and mids at the end and, with ', at the event `after`. In millionths of a dollar. Source:
+    Hasbrouck and Sofianos (1993), who mark what specialists hold to the mid.
     """
     frame = profits(branch, study, mark=mark, after=after)
     kinds = kinds_of(study_of(branch, study, "profit"))
@@ -229,7 +245,7 @@ def inventory(branch: Branch, *, study: object = None,
 
         inventory = mean over the agents of (1 / T) * integral of |position(t)| dt
 
-    over the times behind the event `after`.
+    over the times behind the event `after`. Source: Hasbrouck and Sofianos (1993).
     """
     tape = tape_of(branch)
     kinds, window, frame = kinds_of(study_of(branch, study, "inventory")), tape.window(after), accounts(branch)

@@ -82,7 +82,8 @@ def displayed_depth(branch: Branch, *, levels: int = LEVELS, after: int = 0,
 
         bid_depth = sum(w_i B_i) / sum(w_i),   B_i: the shares at the best levels to buy; ask_depth likewise
 
-    A side that is empty counts as 0. depth is the sum of both.
+    A side that is empty counts as 0. depth is the sum of both. In shares. Source: Biais, Hillion and Spatt (1995), of
+    the best five levels.
     """
     numbers: dict[str, float] = {}
     window = tape_of(branch).window(after)
@@ -99,8 +100,8 @@ def imbalance(branch: Branch, *, levels: int = 1, after: int = 0, stock: int | s
         imbalance = sum(w_i (B_i - A_i) / (B_i + A_i)) / sum(w_i)
 
     over the best `levels` price levels of each side, where anything is displayed; from -1 to 1. imbalance_absolute is
-    the mean of its absolute value. R's highfrequency has the same ratio as `depthImbalanceDifference`, signed by the
-    trade.
+    the mean of its absolute value. `depthImbalanceDifference` in R's highfrequency is this ratio at each trade, with
+    the other sign and times the trade's side.
     """
     numbers: dict[str, float] = {}
     window = tape_of(branch).window(after)

@@ -74,6 +74,8 @@ def reaction_latency(branch: Branch, *, after: int = 0, stock: int | str | None 
         quote_to_order   from when the agent heard the quote that it answers to when the order came to the exchange
         order_to_fill    from then to its first execution, over the executed orders (0 of one that came and traded)
         fill_to_report   from the first execution to when the agent heard of it
+
+    Source: after Hasbrouck and Saar (2013), who see no agents and take the time from a quote to what follows it.
     """
     numbers: dict[str, float] = {}
     frame = reaction_times(branch)

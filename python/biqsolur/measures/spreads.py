@@ -125,8 +125,9 @@ def realised_spread(branch: Branch, *, horizon: int | str = HORIZON, after: int 
         realised_spread = mean(2 q_i (p_i - m'_i))
         realised_spread_by_shares = sum(n_i 2 q_i (p_i - m'_i)) / sum(n_i)
 
-    A trade whose horizon is behind the run's end is left out. Sources: Huang and Stoll (1996); by shares, with five
-    minutes, the "average realized spread" of 17 CFR 242.600(b); `realizedSpread` in R's highfrequency.
+    In 0.0001 dollars. A trade whose horizon is behind the run's end is left out. Sources: Huang and Stoll (1996); by
+    shares, with five minutes, the "average realized spread" of 17 CFR 242.600(b); `realizedSpread` in R's
+    highfrequency.
     """
     return horizon_numbers(branch, "realised", "realised_spread", horizon, after, stock)
 
