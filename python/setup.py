@@ -56,7 +56,6 @@ class BuildWithProgram(build_py):
         place.parent.mkdir(parents=True, exist_ok=True)
         place.write_bytes(program())
         place.chmod(0o755)
-        shutil.copyfile(release() / "KIT", place.with_name("KIT"))
         shutil.copyfile(release() / "KIT", place.parent / "KIT")
 
 

@@ -40,6 +40,11 @@ def checkout(tmp_path_factory: pytest.TempPathFactory) -> Path:
     return home
 
 
+def test_the_package_has_the_repositorys_licence() -> None:
+    """A file and no link: the gate takes no links."""
+    assert (PACKAGE / "LICENSE").read_text() == (ROOT / "LICENSE").read_text() and not (PACKAGE / "LICENSE").is_symlink()
+
+
 @pytest.fixture(scope="module")
 def wheel(checkout: Path) -> Path:
     """The wheel's file."""
