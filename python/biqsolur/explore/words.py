@@ -167,9 +167,11 @@ def consequence(view: View, event: int, head: dict[str, int], said: str) -> str:
     if letter in "qo":
         heard = said.replace(f" to {who}", "", 1).removeprefix("the reply that ")
         return f"{hearer} hears {heard if letter == 'q' else f'that {heard}'}."
-    told = told_by_feed(view, event) if letter == "i" else []
-    end = f": {'; '.join(told)}" if told else ""
-    return f"{said[0].upper()}{said[1:]} reaches the exchange{end}."
+    said = f"{said[0].upper()}{said[1:]} reaches the exchange"
+    if letter != "i":
+        return f"{said}."
+    told = told_by_feed(view, event)
+    return f"{said}: {'; '.join(told)}." if told else f"{said}, and the feed tells nothing of it."
 
 
 def told_by_feed(view: View, event: int) -> list[str]:
