@@ -219,6 +219,24 @@ def test_rules_in_force_are_those_that_trades_and_orders_kept(explored: Explored
     assert checked or not any(len(branch.trades) for branch in explored.bundle.branches.values())
 
 
+def test_a_dated_change_comes_before_an_edit_at_the_same_event(program: str) -> None:
+    """Both set the fees at one event: the branch that edits has the edit's, as its trades show, and the root the change's."""
+    with Served(EXAMPLE, program) as served:
+        times = served.explorer.run.views["root"].times
+        event = next(event for event in range(5001, 6000) if times[event - 1] > times[event - 2])
+        study = served.explorer.history[0][1].to_dict()
+    study["change"] = [{"time": int(times[event - 1]), "stock": "ABM", "kind": "fee", "add": 1000, "take": 2000}]
+    study["branch"] = [{"name": "own", "parent": "root", "at": event,
+                        "edit": [{"kind": "fee", "stock": "ABM", "add": 7, "take": 8}]}]
+    with Served(lambda: Study.from_dict(study), program) as served:
+        for branch, at, fees in (("root", event - 1, [-2000, 3000]), ("root", event, [1000, 2000]), ("own", event, [7, 8])):
+            stock = served.ask("state", branch=branch, event=at)["rules"]["stocks"][0]
+            assert [stock["add"], stock["take"]] == fees
+        trades = served.explorer.run.bundle.branches["own"].trades
+        later = trades[trades.event > event]
+        assert len(later) and (later.fees == 15 * later.shares).all()
+
+
 def test_searches_find_what_a_plain_loop_finds(explored: Explored) -> None:
     for name, branch in explored.bundle.branches.items():
         events = branch.events
