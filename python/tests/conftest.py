@@ -26,17 +26,25 @@ sys.path[:0] = [str(PACKAGE), str(Path(__file__).resolve().parent)]
 import studies  # noqa: E402
 
 SEEDS = range(60)
-MARKERS = ("browser: a page in a real browser (./test --browser)", "long: minutes of a processor (./test --all)")
+MARKERS = ("browser: a page in a real browser (./test --browser)", "long: minutes of a processor (./test --long)")
 LONGEST = 900
 
 
 def pytest_configure(config: pytest.Config) -> None:
     """Registers the markers; the first process makes the cache, and its workers use it."""
+    heed_signals()
     for marker in MARKERS:
         config.addinivalue_line("markers", marker)
     if "PYTEST_XDIST_WORKER" not in os.environ:
         config._own_cache = tempfile.mkdtemp(prefix="biqsolur-tests-")
         os.environ["XDG_CACHE_HOME"] = config._own_cache
+
+
+def heed_signals() -> None:
+    """Heeds what ends a command of a terminal: what a job in the background ignores, its children would ignore too."""
+    for number in (signal.SIGINT, signal.SIGQUIT, signal.SIGHUP):
+        if signal.getsignal(number) == signal.SIG_IGN:
+            signal.signal(number, signal.default_int_handler if number == signal.SIGINT else signal.SIG_DFL)
 
 
 def pytest_unconfigure(config: pytest.Config) -> None:

@@ -3,6 +3,7 @@ contrast."""
 
 from __future__ import annotations
 
+import importlib.util
 import json
 import shutil
 import subprocess
@@ -14,9 +15,9 @@ import pytest
 from explored import LONGEST, Served, slow_program, wait_until
 
 CHROMIUM, DRIVER = shutil.which("chromium"), shutil.which("chromedriver")
-selenium = pytest.importorskip("selenium", reason="there is no python3-selenium: the page is not tried in a browser")
-pytestmark = [pytest.mark.browser, pytest.mark.skipif(not (CHROMIUM and DRIVER),
-                                                      reason="there is no chromium with its driver")]
+pytestmark = [pytest.mark.browser,
+              pytest.mark.skipif(not (CHROMIUM and DRIVER), reason="there is no chromium with its driver"),
+              pytest.mark.skipif(importlib.util.find_spec("selenium") is None, reason="there is no python3-selenium")]
 
 ROOT = Path(__file__).resolve().parents[2]
 EXAMPLE = ROOT / "examples" / "tick_size.toml"
