@@ -388,15 +388,28 @@ def test_an_unknown_measure_is_refused(market, wanted, said):
 
 @one_market
 @pytest.mark.parametrize("name, settings, said", [
-    ("quoted_spread", {"after": -1}, "take 0 or more"), ("quoted_spread", {"stock": "NONE"}, "no stock 'NONE'"),
+    ("quoted_spread", {"after": -1}, "after = -1: take a whole number, 0 or more"),
+    ("quoted_spread", {"stock": "NONE"}, "no stock 'NONE'"),
     ("realised_spread", {"horizon": -5}, "horizon = -5"), ("realised_spread", {"horizon": "soon"}, "soon"),
-    ("realised_variance", {"interval": 0}, "interval = 0"), ("displayed_depth", {"levels": 0}, "at least one level"),
-    ("profit", {}, "needs the study"), ("autocorrelation", {"lag": 0}, "take 1 or more"),
+    ("realised_variance", {"interval": 0}, "interval = 0"), ("displayed_depth", {"levels": 0}, "levels = 0: take"),
+    ("imbalance", {"levels": 2.5}, "levels = 2.5: take a whole number, 1 or more"),
+    ("profit", {}, "needs the study"), ("autocorrelation", {"lag": 0}, "lag = 0: take a whole number, 1 or more"),
     ("effective_spread", {"colour": 1}, "has no setting 'colour'"),
 ])
 def test_a_setting_that_cannot_be_is_refused(root, name, settings, said):
     with pytest.raises(InputError, match=said):
         measures.NAMES[name].compute(root, **settings)
+
+
+@one_market
+@pytest.mark.parametrize("after", [-1, 2.5, "5", True])
+def test_events_are_whole_numbers_to_every_measure(root, market, after):
+    for measure in measures.NAMES.values():
+        with pytest.raises(MeasureError, match="after = .*: take a whole number, 0 or more"):
+            measure.compute(root, after=after, study=Study(market.study, folder=market.folder))
+    for frame in (measures.order_flows, measures.trade_flows, measures.signature_plot, measures.fills_by_distance):
+        with pytest.raises(MeasureError, match="after = "):
+            frame(root, after=after)
 
 
 @one_market
@@ -412,7 +425,7 @@ def test_more_is_refused_in_words(root, market, tmp_path):
         measures.queue_path(root, 987654)
     with pytest.raises(StudyNeededError, match="is not the study of"):
         measures.profits(root, Study.read(biqsolur_example("fees.toml")))
-    with pytest.raises(MeasureError, match="lags = 0: take 1 or more"):
+    with pytest.raises(MeasureError, match="lags = 0: take a whole number, 1 or more"):
         measures.autocorrelations(root, 0)
     with pytest.raises(MeasureError, match="take one of mid, last, value"):
         measures.profits(root, Study(market.study, folder=market.folder), mark="guess")

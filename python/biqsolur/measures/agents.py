@@ -18,7 +18,7 @@ import pandas
 from biqsolur.columns import exact
 from biqsolur.errors import MeasureError, StudyNeededError
 from biqsolur.measures.spreads import HORIZON, trade_spreads
-from biqsolur.measures.tape import tape_of
+from biqsolur.measures.tape import event_number, tape_of
 
 if TYPE_CHECKING:
     from biqsolur.bundle import Branch
@@ -156,10 +156,9 @@ def profits(branch: Branch, study: object = None, *, mark: str = "mid",
     known = study_of(branch, study, "profit")
     frame, kinds = accounts(branch, known), kinds_of(known)
     agents = [*range(1, branch.bundle.agents), *([-1] if (frame.agent == -1).any() else [])]
-    late = frame[frame.event > after]
+    late = frame[frame.event > event_number(after)]
     cash, fees = exact_sums(late.agent, late.cash), exact_sums(late.agent, late.fee)
     marked = dict.fromkeys(agents, 0)
-    tape_of(branch).window(after)       # which refuses an `after` below 0
     for sign, event in ((-1, after), (1, len(tape_of(branch).event_times))):
         for stock, own in frame[frame.event <= event].groupby("stock"):
             doubled = doubled_mark(branch, stock, event, mark, known)
@@ -230,7 +229,7 @@ def maker_income(branch: Branch, *, study: object = None,
     kinds = kinds_of(study_of(branch, study, "maker_income"))
     frame = trade_spreads(branch, horizon)
     frame["kind"] = branch.trades.resting.map(kinds)
-    frame = frame[(frame.event > after) & frame.realised.notna() & frame.impact.notna()]
+    frame = frame[(frame.event > event_number(after)) & frame.realised.notna() & frame.impact.notna()]
     numbers: dict[str, float] = {}
     for name, column in (("earned", "effective"), ("lost", "impact"), ("kept", "realised")):
         numbers |= by_kind(frame.assign(money=50 * frame.shares * frame[column]), kinds, name, "money")

@@ -10,8 +10,7 @@ import numpy
 import pandas
 
 from biqsolur.book import Side
-from biqsolur.errors import LevelsError
-from biqsolur.measures.tape import Steps, Trades, Window, duration, mean, named, per_stock, tape_of
+from biqsolur.measures.tape import Steps, Trades, Window, duration, mean, named, per_stock, tape_of, whole_number
 
 if TYPE_CHECKING:
     from biqsolur.bundle import Branch
@@ -25,8 +24,7 @@ HORIZON = 1_000_000_000         # ns
 def depths(branch: Branch, levels: int = LEVELS) -> pandas.DataFrame:
     """The displayed shares at the best `levels` price levels of each side, after each event that changed one of them:
     event, time (ns), stock, bid_depth, ask_depth (shares). Before a stock's first row both are 0."""
-    if levels < 1:
-        raise LevelsError(f"levels = {levels}: a book has at least one level")
+    levels = whole_number("levels", levels)
     return tape_of(branch).keep(f"depths {levels}", lambda of: make_depths(of, levels))
 
 

@@ -9,7 +9,7 @@ import pandas
 
 from biqsolur import layouts
 from biqsolur.measures.orders import entered, lives, median, pair_of
-from biqsolur.measures.tape import named, tape_of
+from biqsolur.measures.tape import event_number, named, tape_of
 
 if TYPE_CHECKING:
     from biqsolur.bundle import Branch
@@ -79,7 +79,7 @@ def reaction_latency(branch: Branch, *, after: int = 0, stock: int | str | None 
     """
     numbers: dict[str, float] = {}
     frame = reaction_times(branch)
-    frame = frame[frame.event > after]
+    frame = frame[frame.event > event_number(after)]
     for number in tape_of(branch).stocks(stock):
         own = frame[frame.stock == number]
         answers, filled = own[own.quote > 0], own[own.filled >= 0]

@@ -11,7 +11,7 @@ import pandas
 
 from biqsolur import columns, layouts
 from biqsolur.errors import MeasureError
-from biqsolur.measures.tape import Tape, named, tape_of
+from biqsolur.measures.tape import Tape, event_number, named, tape_of
 
 if TYPE_CHECKING:
     from biqsolur.bundle import Branch
@@ -312,7 +312,7 @@ def queue_path(branch: Branch, reference: int) -> pandas.DataFrame:
 def lives_of(branch: Branch, after: int, stock: int | str | None) -> list[tuple[int, pandas.DataFrame]]:
     """The lives of the orders that came behind the event `after`, stock by stock."""
     tape, frame = tape_of(branch), lives(branch)
-    frame = frame[frame.event > after]
+    frame = frame[frame.event > event_number(after)]
     return [(number, frame[frame.stock == number]) for number in tape.stocks(stock)]
 
 
@@ -420,7 +420,7 @@ def fills_by_distance(branch: Branch, *, after: int = 0) -> pandas.DataFrame:
     distance (0.0001 dollars behind the best displayed price of the order's own side when it came), orders (that came
     to rest), filled (the part executed at all while it rested) and wait (the median ns to the first execution of
     those that were)."""
-    frame = resting_fills(lives(branch)[lambda own: own.event > after])
+    frame = resting_fills(lives(branch)[lambda own: own.event > event_number(after)])
     frame = frame[frame.distance.notna()].assign(wait=frame.wait.where(frame.filled))
     groups = frame.groupby(["stock", "distance"])
     return pandas.DataFrame({"orders": groups.size(), "filled": groups.filled.mean(),

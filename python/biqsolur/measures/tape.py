@@ -11,6 +11,7 @@ from __future__ import annotations
 from collections.abc import Callable, Iterator
 from dataclasses import dataclass, field
 from functools import cached_property
+from numbers import Integral
 from typing import TYPE_CHECKING
 
 import numpy
@@ -101,7 +102,7 @@ class Trades:
 
     def since(self, after: int) -> Trades:
         """Those of the events numbered above `after`."""
-        first = int(numpy.searchsorted(self.event, after, side="right"))
+        first = int(numpy.searchsorted(self.event, event_number(after), side="right"))
         return Trades(*(getattr(self, name)[first:] for name in self.__dataclass_fields__))
 
 
@@ -193,9 +194,7 @@ class Tape:
 
     def window(self, after: int = 0) -> Window:
         """The events numbered above `after`. A branch with fewer events has an empty window at its end."""
-        moments = self.event_times
-        if after < 0:
-            raise MeasureError(f"after = {after}: events are numbered from 1, so take 0 or more")
+        moments, after = self.event_times, event_number(after)
         end = int(moments[-1]) if len(moments) else self.opening
         if after == 0:
             return Window(after, self.opening, end)
@@ -227,6 +226,18 @@ class TradingStates:
 def tape_of(branch: Branch) -> Tape:
     """The tape of a branch, which the branch keeps until it is told to `forget`."""
     return branch.tape
+
+
+def whole_number(name: str, value: object, least: int = 1) -> int:
+    """A setting that is a whole number, from `least` on. MeasureError where it is none."""
+    if not isinstance(value, Integral) or isinstance(value, bool) or value < least:
+        raise MeasureError(f"{name} = {value!r}: take a whole number, {least} or more")
+    return int(value)
+
+
+def event_number(after: object) -> int:
+    """The event behind which a measure counts; 0 is the opening."""
+    return whole_number("after", after, 0)
 
 
 def duration(value: object, name: str = "horizon") -> int:

@@ -13,8 +13,7 @@ from typing import TYPE_CHECKING
 import numpy
 import pandas
 
-from biqsolur.errors import MeasureError
-from biqsolur.measures.tape import Steps, Window, duration, mean, named, per_stock, tape_of
+from biqsolur.measures.tape import Steps, Window, duration, mean, named, per_stock, tape_of, whole_number
 
 if TYPE_CHECKING:
     from biqsolur.bundle import Branch
@@ -88,8 +87,7 @@ def autocorrelations(branch: Branch, lags: int = LAGS, *, interval: int | str = 
     trade, in order); not-a-number where a series is no longer than its lag. Source: Cont (2001): returns have next to
     none, absolute returns and signs keep theirs for long.
     """
-    if lags < 1:
-        raise MeasureError(f"lags = {lags}: take 1 or more")
+    lags = whole_number("lags", lags)
     window, length, rows = tape_of(branch).window(after), duration(interval, "interval"), []
     for number, steps, trades in per_stock(branch, None):
         returns = grid_returns(steps, window, length)
@@ -108,8 +106,7 @@ def autocorrelation(branch: Branch, *, lag: int = 1, interval: int | str = INTER
 
     Source: Cont (2001).
     """
-    if lag < 1:
-        raise MeasureError(f"lag = {lag}: take 1 or more")
+    lag = whole_number("lag", lag)
     numbers: dict[str, float] = {}
     window, length = tape_of(branch).window(after), duration(interval, "interval")
     for number, steps, trades in per_stock(branch, stock):
