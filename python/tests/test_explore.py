@@ -220,7 +220,8 @@ def test_rules_in_force_are_those_that_trades_and_orders_kept(explored: Explored
 
 
 def test_a_dated_change_comes_before_an_edit_at_the_same_event(program: str) -> None:
-    """Both set the fees at one event: the branch that edits has the edit's, as its trades show, and the root the change's."""
+    """Both set the fees at one event: the branch that edits has the edit's, as its trades show, and the root the
+    change's."""
     with Served(EXAMPLE, program) as served:
         times = served.explorer.run.views["root"].times
         event = next(event for event in range(5001, 6000) if times[event - 1] > times[event - 2])
@@ -229,7 +230,8 @@ def test_a_dated_change_comes_before_an_edit_at_the_same_event(program: str) -> 
     study["branch"] = [{"name": "own", "parent": "root", "at": event,
                         "edit": [{"kind": "fee", "stock": "ABM", "add": 7, "take": 8}]}]
     with Served(lambda: Study.from_dict(study), program) as served:
-        for branch, at, fees in (("root", event - 1, [-2000, 3000]), ("root", event, [1000, 2000]), ("own", event, [7, 8])):
+        for branch, at, fees in (("root", event - 1, [-2000, 3000]), ("root", event, [1000, 2000]),
+                                 ("own", event, [7, 8])):
             stock = served.ask("state", branch=branch, event=at)["rules"]["stocks"][0]
             assert [stock["add"], stock["take"]] == fees
         trades = served.explorer.run.bundle.branches["own"].trades
@@ -554,11 +556,12 @@ def test_a_session_over_the_opened_study_gives_the_same_state(program: str, tmp_
     with Served(EXAMPLE, program) as served:
         served.change("fork", name="mine", parent="wide", at=6000, edits=NINE_EDITS[:2])
         served.change("change", branch="same", edits=[NINE_EDITS[6]])
-        (tmp_path / "script.toml").write_bytes(served.take("session", branch="mine", event=7000))
-        answers = subprocess.run([program, "session", str(EXAMPLE), "script.toml"], cwd=tmp_path, check=True,
-                                 capture_output=True).stdout
-        state = served.take("state", branch="mine", event=7000)
-        assert answers.startswith(state[:-5])        # behind the state stands the end of the rewind
+        for branch in ("mine", "same"):
+            (tmp_path / "script.toml").write_bytes(served.take("session", branch=branch, event=7000))
+            words = [program, "session", str(EXAMPLE), "script.toml"]
+            answers = subprocess.run(words, cwd=tmp_path, check=True, capture_output=True).stdout
+            state = served.take("state", branch=branch, event=7000)
+            assert answers.startswith(state[:-5])        # behind the state stands the end of the rewind
         served.change("remove", branch="same")
         status, answer = served.get("take", what="session", branch="mine", event=7000)
         assert status == 422 and "takes no branch of its study away" in answer["error"]
