@@ -256,6 +256,43 @@ def test_profits_and_fees_add_up_to_nothing_and_to_the_closing(measured):
 
 
 @each_market
+def test_marked_profits_are_those_of_plain_loops(measured):
+    """What each agent has at the end, less what it had at the fork, each marked at the price of its own moment."""
+    for branch, tape, _, after in measured.pairs():
+        fees = iter(measures.accounts(branch, measured.study).fee)
+        sides = []
+        for (event, _, stock, sign, price, shares, aggressor, _), resting in zip(tape.trades, branch.trades.resting):
+            sides += [(agent, event, stock, way * shares, price, next(fees))
+                      for agent, way in ((aggressor, sign), (resting, -sign))]
+        for mark in ("mid", "last"):
+            for since in {0, after, middle_trade(tape)}:
+                frame = measures.profits(branch, measured.study, mark=mark, after=since).set_index("agent")
+                marks = {event: [doubled(tape, stock, event, mark) for stock in range(len(branch.symbols))]
+                         for event in (since, len(tape.times))}
+                for agent in frame.index:
+                    own = [side for side in sides if side[0] == agent]
+                    late = [side for side in own if side[1] > since]
+                    cash, paid = -sum(100 * side[3] * side[4] for side in late), sum(side[5] for side in late)
+                    first, last = (sum(50 * of[side[2]] * side[3] for side in own if side[1] <= event)
+                                   for event, of in marks.items()) if len(marks) == 2 else (0, 0)
+                    assert frame.loc[agent, ["cash", "fees", "marked", "profit"]].tolist() == [
+                        cash, paid, last - first, cash - paid + last - first]
+
+
+def middle_trade(tape):
+    """The event of the trade in the middle of a run, 0 where there is none."""
+    return tape.trades[len(tape.trades) // 2][0] if tape.trades else 0
+
+
+def doubled(tape, stock, event, mark):
+    """Twice the price at which a stock is marked after an event."""
+    mids = [bids[0][0] + asks[0][0] for number, _, _, bids, asks in {
+        moment[0]: moment for moment in tape.moments[stock]}.values() if number <= event and bids and asks]
+    prices = [trade[4] for trade in tape.own_trades(stock, 0) if trade[0] <= event]
+    return mids[-1] if mids and mark == "mid" else 2 * prices[-1] if prices else 0
+
+
+@each_market
 def test_accounts_end_as_the_closing_has_them(measured):
     for branch, _, _, _ in measured.pairs():
         frame = measures.accounts(branch)
@@ -277,7 +314,6 @@ def test_agents_measures_are_those_of_plain_loops(measured):
     for branch, tape, _, after in measured.pairs():
         income = measures.NAMES["maker_income"].compute(branch, study=measured.study, horizon=measured.horizon,
                                                         after=after)
-        held = measures.NAMES["inventory"].compute(branch, study=measured.study, after=after)
         names = [f"{name}_{kind}" for name in ("earned", "lost", "kept") for kind in kinds.values()]
         expected = dict.fromkeys(names, 0.0)
         resting = dict(zip(zip(branch.trades.event, branch.trades.match), branch.trades.resting))
@@ -290,7 +326,9 @@ def test_agents_measures_are_those_of_plain_loops(measured):
                     key = f"{name}_{kinds.get(agent, 'unknown')}"
                     expected[key] = expected.get(key, 0.0) + 50 * shares * value
         same(income, expected)
-        same(held, inventories(branch, tape, kinds, after))
+        for since in {after, middle_trade(tape)}:
+            held = measures.NAMES["inventory"].compute(branch, study=measured.study, after=since)
+            same(held, inventories(branch, tape, kinds, since))
 
 
 class PlainOne:
@@ -468,18 +506,19 @@ def test_fates_at_the_very_end_are_those_that_feed_and_closing_tell(program):
     assert measures.NAMES["order_fates"].compute(branch)["orders_unheard"] == 1
 
 
-@pytest.mark.parametrize("change, edit", [(True, False), (False, True), (True, True)])
+@pytest.mark.parametrize("change, edit", [(True, None), (False, 25), (True, 25), (False, 32), (True, 32)])
 def test_fees_change_with_the_very_event(program, change, edit):
-    """A dated change of fees at the nanosecond of a trade holds for it, an edit behind a trade's event does not."""
+    """A dated change of fees at the nanosecond of a trade holds for it, also where an edit stands right before its
+    event; an edit behind a trade's event does not."""
     table = Study.read(biqsolur_example("worked_market.toml")).to_dict()
     if change:
         table["change"] = [{"time": 34_209_000_000_000, "stock": "ABM", "kind": "fee", "add": 7, "take": 11}]
     study = Study(table)
     if edit:
-        study = study.branch("free", parent="worked", after=25, edits=[biqsolur.Fee("ABM", 0, 0)])
+        study = study.branch("free", parent="worked", after=edit, edits=[biqsolur.Fee("ABM", 0, 0)])
     branch = list(biqsolur.run(study, program=program, cache=False).branches.values())[-1]
     added, taken = measures.agents.fees_of(branch, study)
-    late = {(True, False): (7, 11), (False, True): (0, 0), (True, True): (7, 11)}[change, edit]
+    late = (7, 11) if change else (0, 0)
     rates = [(-2000, 3000)] * 3 + [late] * 3
     assert branch.trades.event.tolist()[:4] == [21, 25, 25, 33]
     assert list(zip(added // branch.trades.shares, taken // branch.trades.shares)) == rates
