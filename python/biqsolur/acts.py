@@ -100,6 +100,8 @@ def script_text(acts: Iterable[Act | Mapping[str, Any]]) -> str:
     tables = []
     for number, act in enumerate(acts):
         try:
+            if not isinstance(act, (Act, Mapping)):
+                raise RunError(f"{act!r} is no act; give one of biqsolur.acts, such as Values(\"wide\")")
             table = act.to_dict() if isinstance(act, Act) else dict(act)
             tables.append({key: plain_field(key, value) for key, value in table.items()})
         except (TypeError, ValueError) as error:

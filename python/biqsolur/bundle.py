@@ -378,11 +378,16 @@ def branch_name(frames: Frames, index: int) -> str:
 
 
 def read(path: str | Path) -> Bundle:
-    """Reads a bundle. Raises BundleError where the bytes are none, with the offset and the cause.
+    """Reads a bundle. Raises BundleError where the bytes are none, with the offset and the cause, and NoSuchFile or
+    ReadFailed, which are OSError too, where the file can't be read.
 
     The file is mapped: it has to stay as it is while the bundle is used.
     """
-    frames = read_frames(path)
+    try:
+        frames = read_frames(path)
+    except OSError as error:
+        from biqsolur.running import unread
+        raise unread(path, error) from None
     if len(frames.kinds) and frames.kinds[0] == ord("b"):
         raise BundleError(frames.path, 0, "this is a rewind, which `biqsolur.read_rewind` reads")
     if frames.raw[:len(TABLE_START)].tobytes() == TABLE_START:

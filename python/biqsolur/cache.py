@@ -79,6 +79,9 @@ def entry_path(folder: Path, key: str) -> Path:
 def kept_bundle(folder: Path, key: str) -> Bundle | None:
     """The bundle of a key, or None. A damaged entry is taken away."""
     path = entry_path(folder, key)
+    if not path.exists():
+        remove_entry(path)
+        return None
     try:
         bundle = read(path)
         fault = record_fault(bundle)

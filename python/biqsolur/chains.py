@@ -2,7 +2,7 @@
 
 from __future__ import annotations
 
-from collections.abc import Iterable
+from collections.abc import Iterable, Mapping, Sequence
 from dataclasses import dataclass
 from os import PathLike
 from typing import Any
@@ -17,6 +17,7 @@ from biqsolur.times import clock_text
 EDITS_OF_A_BRANCH = 16
 MOST_BRANCHES = 255
 MOST_EVENTS = 4_000_000     # of all branches together, with the root
+RUNNING = ("workers", "program")        # settings that go to `run_last` and `biqsolur.run`
 
 
 @dataclass(frozen=True)
@@ -70,6 +71,14 @@ def room_fault(study: Study, branches: int) -> str | None:
         return (f"with {count} branches and the root, `events` may be at most {MOST_EVENTS // (count + 1)}, since all "
                 f"together have at most {MOST_EVENTS:,}; the study says {table['events']}: with_(\"events\", ...) "
                 "lowers it, as far as the market's run allows")
+    return None
+
+
+def settings_fault(running: Mapping[str, Any], own: Sequence[str]) -> str | None:
+    """What is wrong with the settings that go to the runs of the program, or None; `own` names the other ones."""
+    for name in running:
+        if name not in RUNNING:
+            return f"there is no setting {name!r}; there are {', '.join([*own, *RUNNING])}"
     return None
 
 

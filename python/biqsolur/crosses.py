@@ -4,6 +4,7 @@ from __future__ import annotations
 
 import csv
 import io
+import operator
 import os
 from collections.abc import Callable, Iterable
 from dataclasses import dataclass
@@ -185,9 +186,16 @@ def order_row(order: Any, symbol: str, number: int) -> str:
         rest = (rest.side, rest.shares, rest.price)
     side, shares, limit = rest
     try:
-        return f"{int(trader)},{side},{int(shares)},{price(int(limit) if hasattr(limit, '__index__') else limit)}"
+        return f"{whole(trader)},{side},{whole(shares)},{price(int(limit) if hasattr(limit, '__index__') else limit)}"
     except (InputError, TypeError, ValueError) as error:
         raise RunError(f"order {number} (counted from 0): {error}") from None
+
+
+def whole(value: Any) -> int:
+    """A number of a trader, or of shares, of any type of whole numbers: a part of a share would be lost unseen."""
+    if isinstance(value, bool) or not hasattr(value, "__index__"):
+        raise RunError(f"{value!r} is of the type {type(value).__name__}; a trader and shares are whole numbers")
+    return operator.index(value)
 
 
 def split_order(order: Any, number: int) -> tuple[Any, Any]:

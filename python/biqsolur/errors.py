@@ -61,6 +61,10 @@ class OutputExistsError(InputError, FileExistsError):
     """What was to be written is there already. Nothing is ever overwritten."""
 
 
+class OutputFolderError(InputError, OSError):
+    """A file can't be made where it is to be: no such folder, or no leave to write there. Nothing was written."""
+
+
 class RunError(InputError):
     """What was asked of the program can't be: a number of workers, states to rewind to, orders of a cross, acts of a session."""
 

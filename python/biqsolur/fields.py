@@ -42,7 +42,10 @@ def draw_key(value: object) -> str:
         return f"{int(value):064x}"
     if isinstance(value, bytes) and len(value) == 32:
         return value.hex()
-    return text(value)
+    if isinstance(value, str):
+        return str(value)
+    raise StudyError(f"{value!r} is of the type {type(value).__name__}; a key is 64 hexadecimal digits as a text, or a "
+                     "whole number")
 
 
 def listed(value: Any, item: Callable[[object], Any]) -> list[Any]:

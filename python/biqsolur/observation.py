@@ -123,10 +123,11 @@ class Observation:
         """An order to sell, as `buy`."""
         return self._enter("S", shares, price, more)
 
-    def cancel(self, order: OpenOrder | Enter, shares: int = 0) -> Cancel:
-        """Asks that an order be lowered to so many shares in all, those already executed among them; 0 takes it
-        away."""
-        return Cancel((order.order if isinstance(order, OpenOrder) else order).token, shares)
+    def cancel(self, order: OpenOrder | Enter | str, shares: int = 0) -> Cancel:
+        """Asks that an order (or the one of this token) be lowered to so many shares in all, those already executed among
+        them; 0 takes it away."""
+        order = order.order if isinstance(order, OpenOrder) else order
+        return Cancel(order.token if isinstance(order, Enter) else order, shares)
 
     def _enter(self, side: str, shares: int, price: object, more: Mapping[str, object]) -> Enter:
         fields = {"token": next(self.tokens), "side": side, "shares": shares, "symbol": self.symbol, "price": price}

@@ -19,7 +19,7 @@ import re
 import struct
 from dataclasses import dataclass
 from decimal import Decimal
-from typing import ClassVar, Self
+from typing import TYPE_CHECKING, ClassVar, Self
 
 from biqsolur.errors import OuchError
 
@@ -197,8 +197,13 @@ class Enter(Order):
     cross: str = "N"
     customer: str = "N"
 
+    if TYPE_CHECKING:       # the dataclass's own, but for the price, which is taken in other types too
+        def __init__(self, token: str, side: str, shares: int, symbol: str, price: int | str | Decimal,
+                     time_in_force: int = 99_999, firm: str = "ABID", display: str = "Y", capacity: str = "P",
+                     sweep: str = "N", minimum: int = 0, cross: str = "N", customer: str = "N") -> None: ...
+
     def __post_init__(self) -> None:
-        if isinstance(self.price, (str, Decimal)):
+        if isinstance(self.price, (str, Decimal, float)):      # of which a float is refused, with what to write
             from biqsolur.prices import price
             object.__setattr__(self, "price", price(self.price))
         super().__post_init__()
@@ -330,6 +335,8 @@ MESSAGES: dict[str, type[Message]] = {kind.TYPE: kind for kind in KINDS}
 
 def decode(data: bytes) -> Message:
     """The message of these bytes, an order or a reply. Raises OuchError with the offset of what is wrong."""
+    if isinstance(data, str):
+        raise OuchError(f"{data[:40]!r} is a text, and is to be bytes: of digits, bytes.fromhex(digits)", 0)
     letter = bytes(data[:1]).decode("latin1")
     if letter not in MESSAGES:
         known = ", ".join(f"{kind} ({found.NAME})" for kind, found in MESSAGES.items())

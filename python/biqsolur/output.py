@@ -10,7 +10,7 @@ from collections.abc import Iterator
 from pathlib import Path
 from typing import BinaryIO
 
-from biqsolur.errors import OutputExistsError
+from biqsolur.errors import OutputExistsError, OutputFolderError
 
 PLAIN_NAME = re.compile(r"[A-Za-z0-9_-][A-Za-z0-9._-]*")
 
@@ -34,16 +34,27 @@ def refuse_existing(path: str | Path) -> None:
 @contextlib.contextmanager
 def new_file(path: str | Path) -> Iterator[BinaryIO]:
     """Opens a file that is not there yet. It stands under its name once all is written: the bytes are written to a file
-    beside it, of which nothing stays where writing fails or is interrupted. Raises OutputExistsError."""
+    beside it, of which nothing stays where writing fails or is interrupted. Raises OutputExistsError and
+    OutputFolderError."""
     path = Path(path)
     refuse_existing(path)
     beside = path.with_name(f".{path.name[:100]}.{secrets.token_hex(8)}.part")
     try:
-        with open(beside, "xb") as file:
+        with opened(beside, path) as file:
             yield file
         put_in_place(beside, path)
     finally:
-        beside.unlink(missing_ok=True)
+        with contextlib.suppress(NotADirectoryError):
+            beside.unlink(missing_ok=True)
+
+
+def opened(beside: Path, path: Path) -> BinaryIO:
+    """The file beside a path. Raises OutputFolderError, in words about that path, where it can't be there."""
+    try:
+        return open(beside, "xb")
+    except OSError as error:
+        from biqsolur.file_faults import write_fault
+        raise OutputFolderError(f"{path} can't be written: {write_fault(str(path)) or error.strerror}") from None
 
 
 def put_in_place(beside: Path, path: Path) -> None:

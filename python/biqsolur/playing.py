@@ -20,7 +20,7 @@ from os import PathLike
 from typing import Any
 
 from biqsolur.chains import (EDITS_OF_A_BRANCH, MOST_BRANCHES, MOST_EVENTS, inject_edits,
-                             moment_of, room_fault, siblings_fault, trader_fault)
+                             moment_of, room_fault, settings_fault, siblings_fault, trader_fault)
 from biqsolur.errors import PlayError, PolicyError, StudyError
 from biqsolur.fields import Table
 from biqsolur.observation import Given, Ledger, Observation, last_quote, own_messages
@@ -40,6 +40,8 @@ def play(study: AnyStudy, trader: int, policy: Policy, every: object = "1s", **s
     before the last decision by its limit of events, PolicyError where the policy raises or gives what is no order, and
     StudyRefused.
     """
+    if not callable(policy):
+        raise PlayError(f"{policy!r} is no policy: give a function that takes an Observation and returns a list of orders")
     game = Game(study, trader, every, **settings)
     observation = game.observe()
     while observation is not None:
@@ -55,11 +57,24 @@ def play(study: AnyStudy, trader: int, policy: Policy, every: object = "1s", **s
 def asked(policy: Policy, observation: Observation) -> list[Order]:
     """The orders that a policy answers with."""
     try:
-        return list(policy(observation) or ())
+        answer = policy(observation)
+        answer = list(answer) if isinstance(answer, Iterable) else answer
     except Exception as error:
         raise PolicyError(observation.decision, observation.time,
                           f"the policy failed at decision {observation.decision}, {clock_text(observation.time)}:\n"
                           f"{traceback.format_exc()}") from error
+    return listed(answer, observation)
+
+
+def listed(answer: object, observation: Observation) -> list[Any]:
+    """What a policy answered, as a list; None is none. Raises PolicyError."""
+    if answer is None:
+        return []
+    if not isinstance(answer, Iterable):
+        raise PolicyError(observation.decision, observation.time,
+                          f"decision {observation.decision}, {clock_text(observation.time)}: {answer!r} was given, and a "
+                          "list of orders is to be, or None")
+    return list(answer)
 
 
 class Game:
@@ -81,6 +96,9 @@ class Game:
                  delay: object = None, branch: str = "root", most: int | None = None, name: str = "play",
                  **running: Any) -> None:
         study = study if isinstance(study, Study) else Study(study)
+        fault = settings_fault(running, ("every", "start", "end", "delay", "branch", "most", "name"))
+        if fault is not None:
+            raise PlayError(fault)
         study.check(running.get("program"))
         self.base, self.trader, self.name, self.running = study.only(branch).in_version_2(), trader, name, running
         fault = trader_fault(study, trader) or siblings_fault(self.base, branch)
@@ -164,13 +182,13 @@ class Game:
             tokens_of(decision, self.used_before))
         return self.observation
 
-    def give(self, orders: Iterable[Order]) -> None:
-        """Sends orders at the decision that was last observed. Raises PolicyError for what is no order and for a token
+    def give(self, orders: Iterable[Order] | None) -> None:
+        """Sends orders, None for none, at the decision that was last observed. Raises PolicyError for what is no order and for a token
         that was used, PlayError where they take more branches than there may be."""
         observation = self.observation
         if observation is None or self.over:
             raise PlayError("no decision is open: look first by observe() or reset(), which begins anew")
-        orders = list(orders)
+        orders = listed(orders, observation)
         used = self.used_before | {one.order.token for one in self.given if isinstance(one.order, Enter)}
         for order in orders:
             fault = order_fault(order, used)
@@ -206,7 +224,7 @@ class Game:
             raise PlayError("the market ends before the first decision")
         return observation, {}
 
-    def step(self, orders: Iterable[Order]) -> tuple[Observation, float, bool, bool, dict[str, Any]]:
+    def step(self, orders: Iterable[Order] | None) -> tuple[Observation, float, bool, bool, dict[str, Any]]:
         """Sends orders and goes on to the next decision, behind the last one to the close: (observation, reward in
         dollars, terminated, truncated, {}). terminated: no decision is left; truncated: the market ended before by a
         limit, and the observation is the last one."""

@@ -259,9 +259,14 @@ def file_data(path: str | os.PathLike[str]) -> bytes:
         with open(path, "rb") as file:
             return file.read(MOST_BYTES + 1)
     except (OSError, ValueError) as error:      # a ValueError where the path has a zero byte
-        status, line = (6, "read failed") if isinstance(error, OSError) and not isinstance(error, FileNotFoundError) \
-            else (3, "no such file")
-        raise error_of(status, os.fsencode(f"{line}: {os.fspath(path)}\n"), Context([])) from None
+        raise unread(path, error) from None
+
+
+def unread(path: str | os.PathLike[str], error: Exception) -> ProgramError:
+    """The error for a file that can't be read: NoSuchFile or ReadFailed, with the line that the program has for it."""
+    status, line = (6, "read failed") if isinstance(error, OSError) and not isinstance(error, FileNotFoundError) \
+        else (3, "no such file")
+    return error_of(status, os.fsencode(f"{line}: {os.fspath(path)}\n"), Context([]))
 
 
 def study_of_data(data: bytes, name: str, path: Path | None) -> Given:
@@ -380,6 +385,8 @@ def rewind(study: AnyStudy, targets: Iterable[tuple[str, int]], workers: int = 1
 def pairs_of(targets: Iterable[tuple[str, int]]) -> list[tuple[str, int]]:
     """The pairs of a rewind, each once."""
     pairs: list[tuple[str, int]] = []
+    if not isinstance(targets, Iterable):
+        raise RunError(f"{targets!r} are no states: give a list of pairs of a branch and an event, [(\"wide\", 5000)]")
     for target in targets:
         if not isinstance(target, (tuple, list)) or len(target) != 2:
             raise RunError(f"{target!r} is no pair of a branch and an event, as (\"wide\", 5000) is")
@@ -428,7 +435,7 @@ def script_fault(error: ProgramError, data: bytes, given: Given) -> str:
     """What is wrong with a script."""
     from biqsolur.script_rules import explain_no_event, explain_script
     if isinstance(error, (ScriptRefused, ActRefused)):
-        return explain_script(data, error.status, error.act, given.table())
+        return explain_script(data, error.status, error.act, given.table()).removeprefix("the script: ")
     if isinstance(error, NoSuchEvent) and (match := re.fullmatch(r"act (\d+)", error.word)):
         return explain_no_event(data, int(match[1]), error.last)
     return ""
@@ -467,6 +474,8 @@ def session(study: AnyStudy, script: str | os.PathLike[str] | Iterable[Act], wor
 def audit(bundle: Bundle | str | os.PathLike[str], *, program: AnyProgram = None) -> Audit:
     """Asks whether each closing of a bundle is what the branch's feed tells. Raises BadBundle and AuditFailed."""
     which = program_of(program)
+    if not isinstance(bundle, (str, os.PathLike)) and not hasattr(bundle, "frames"):
+        raise RunError(f"{bundle!r} is no bundle: give one of biqsolur.run or biqsolur.read, or the path of one")
     name = plain_word(os.fspath(bundle) if isinstance(bundle, (str, os.PathLike)) else bundle.path, "path")
     answer = run_bytes("audit", "--", name, program=which.path)
     if answer.status == NoSuchFile.STATUS and not isinstance(bundle, (str, os.PathLike)):

@@ -16,7 +16,7 @@ from os import PathLike
 from typing import Any
 
 from biqsolur.chains import (
-    EDITS_OF_A_BRANCH, MOST_BRANCHES, inject_edits, moment_of, room_fault, siblings_fault, trader_fault)
+    EDITS_OF_A_BRANCH, MOST_BRANCHES, inject_edits, moment_of, room_fault, settings_fault, siblings_fault, trader_fault)
 from biqsolur.edits import message_digits
 from biqsolur.errors import ScheduleError, StudyError
 from biqsolur.fields import Table
@@ -43,6 +43,9 @@ def schedule(study: Study | str | PathLike[str] | Mapping[str, Any], trader: int
     (workers, program). Raises ScheduleError, which says which order is wrong, and StudyRefused.
     """
     study = study if isinstance(study, Study) else Study(study)
+    fault = settings_fault(running, ("parent", "name"))
+    if fault is not None:
+        raise ScheduleError(fault)
     study.check(running.get("program"))
     sends = sorted(sends_of(study, orders), key=itemgetter(0))
     fault = trader_fault(study, trader) or siblings_fault(study, parent)
@@ -63,6 +66,8 @@ def sends_of(study: Study, orders: Iterable[tuple[object, object]]) -> list[tupl
     """(time in nanoseconds, message in digits) of each order, all checked."""
     table, tokens = study.to_dict(), dict[str, int]()
     sends: list[tuple[int, str]] = []
+    if not isinstance(orders, Iterable):
+        raise ScheduleError(f"{orders!r} are no orders; give a list of pairs of a time and an order")
     for number, pair in enumerate(orders):
         place = f"order {number} (counted from 0)"
         try:

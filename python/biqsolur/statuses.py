@@ -88,7 +88,7 @@ class StudyRefused(ProgramError):
     place: int
 
 
-class ReadFailed(ProgramError):
+class ReadFailed(ProgramError, OSError):
     """Status 6: a file is there and can't be read: a folder, no permission, a loop of links."""
 
     STATUS = 6

@@ -55,7 +55,8 @@ class Study:
 
     @classmethod
     def read(cls, path: str | os.PathLike[str], folder: str | os.PathLike[str] | None = None) -> Study:
-        """The study of a file. Raises StudySyntaxError where it is no TOML 1.0, and OSError where it can't be read."""
+        """The study of a file. Raises StudySyntaxError where it is no TOML 1.0, and NoSuchFile or ReadFailed, which are
+        OSError too, where it can't be read."""
         return cls(Path(path), folder)
 
     @classmethod
@@ -184,6 +185,8 @@ class Study:
             raise StudyError(f"there is a branch {name!r} already; a branch has a name of its own")
         self._known(parent)
         stop: Table = {"at": after} if at is None else {"when": at}
+        if isinstance(edits, (Edit, Mapping)) or not isinstance(edits, Sequence):
+            raise StudyError(f"edits is {edits!r}, and is to be a list of edits, such as [Halt(\"ABM\")]")
         more: Table = {"edit": list(edits)} if edits else {}
         table = plain_table("branch", {"name": name, "parent": parent, **stop, **more}, f"branch {name!r}")
         study = self if at is None else self.in_version_2()
@@ -200,7 +203,6 @@ class Study:
 
     def only(self, branch: str) -> Study:
         """The study with this branch and those on the way to it alone; of "root", with no branch."""
-        self._known(branch)
         self._known(branch)
         parents = {str(entry.get("name", "")): str(entry.get("parent", "")) for entry in self._tables("branch")}
         line = {"root"}
@@ -314,8 +316,13 @@ class Study:
 
 
 def text_of_file(path: Path) -> str:
-    """The text of a file, line ends and a byte order mark as they stand."""
-    data = path.read_bytes()
+    """The text of a file, line ends and a byte order mark as they stand. Raises NoSuchFile, ReadFailed or
+    StudySyntaxError."""
+    try:
+        data = path.read_bytes()
+    except (OSError, ValueError) as error:      # a ValueError where the path has a zero byte
+        from biqsolur.running import unread
+        raise unread(path, error) from None
     try:
         return data.decode("utf-8")
     except UnicodeDecodeError:

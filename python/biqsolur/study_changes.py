@@ -31,7 +31,7 @@ def changed_table(study: Table, path: str | Sequence[str | int], value: object) 
     try:
         places = set_value(result, "study", parts, value)
     except StudyError as error:
-        raise type(error)(f"{shown}: {error}") from None
+        raise type(error)(f"{shown}: {str(error).removeprefix(f'{parts[-1]}: ')}") from None
     return places, result
 
 
@@ -73,8 +73,17 @@ def entry_number(entries: Any, kind: str, part: str | int) -> int:
         found = [number for number, entry in enumerate(entries) if isinstance(entry, dict) and entry.get(name) == part]
     if len(found) != 1:
         raise StudyError(
-            f"{len(found) or 'no'} entries are {part!r}; they have the numbers from 0 to {len(entries) - 1}")
+            f"{len(found) or 'no'} entries are {part!r}; they have the numbers from 0 to {len(entries) - 1}"
+            f"{names_in_order(entries, kind)}")
     return found[0]
+
+
+def names_in_order(entries: list[Any], kind: str) -> str:
+    """The names of entries, as the rest of a sentence about their numbers; nothing where one has none."""
+    names = [entry.get(NAMES_OF_ENTRIES[kind]) if isinstance(entry, dict) and kind in NAMES_OF_ENTRIES else None
+             for entry in entries[:20]]
+    more = ", ..." if len(entries) > len(names) else ""
+    return f", in order {', '.join(map(str, names))}{more}" if names and None not in names else ""
 
 
 def set_item(items: Any, parts: Sequence[str | int], value: object) -> Places:

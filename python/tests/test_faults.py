@@ -215,8 +215,10 @@ def test_wrong_questions(market, tmp_path):
         with pytest.raises(biqsolur.OutputExistsError, match="is there already; nothing was written"):
             write(there)
     assert list(there.iterdir()) == []
-    with pytest.raises(FileNotFoundError):
+    with pytest.raises(biqsolur.NoSuchFile, match=f"there is no {tmp_path}/none"):
         biqsolur.read(tmp_path / "none")
+    with pytest.raises(biqsolur.ReadFailed, match="is a folder"):
+        biqsolur.read(tmp_path)
 
 
 def test_each_reader_names_the_right_one(market, tmp_path):

@@ -8,7 +8,7 @@ import numpy
 import pytest
 
 import biqsolur
-from biqsolur import OuchError, ouch
+from biqsolur import OuchError, PriceError, ouch
 from biqsolur.ouch import Cancel, Enter, Executed, MESSAGES, decode, own_token
 
 ORDER = Enter(token="MINE1", side="B", shares=100, symbol="ABM", price=1_000_000)
@@ -99,7 +99,7 @@ def test_a_changed_byte_is_another_message_or_is_refused_at_its_field(letter):
     ({"shares": 2**32}, 16, "whole number"), ({"shares": 1.0}, 16, "whole number"),
     ({"shares": True}, 16, "whole number"),
     ({"shares": "1"}, 16, "whole number"), ({"symbol": "A B"}, 20, "without a space"), ({"symbol": ""}, 20, "1 to 8"),
-    ({"symbol": "NINECHARS"}, 20, "1 to 8"), ({"price": 10.5}, 28, "whole number"),
+    ({"symbol": "NINECHARS"}, 20, "1 to 8"), ({"price": -1}, 28, "whole number"),
     ({"price": None}, 28, "whole number"),
     ({"time_in_force": -5}, 32, "whole number"), ({"firm": "ABIDE"}, 36, "at most 4"),
     ({"firm": "AB "}, 36, "the last no space"),
@@ -111,6 +111,15 @@ def test_a_field_that_cannot_be(fields, offset, said):
     with pytest.raises(OuchError) as caught:
         dataclasses.replace(ORDER, **fields)
     assert caught.value.offset == offset and said in str(caught.value) and str(caught.value).startswith("Enter Order: ")
+
+
+def test_a_price_that_is_no_exact_one_says_what_to_write():
+    """A float, where a text or a Decimal of dollars is meant; a text in the place of bytes is named too."""
+    for price in (10.5, numpy.float64(10.0), "ten"):
+        with pytest.raises(PriceError, match="write dollars as a text"):
+            dataclasses.replace(ORDER, price=price)
+    with pytest.raises(OuchError, match="is a text, and is to be bytes"):
+        decode(ORDER.hex())
 
 
 def test_numbers_of_other_types():

@@ -374,8 +374,9 @@ def test_an_interrupt_goes_through():
 
 @pytest.mark.parametrize("answer, words", [
     (lambda observation: ["buy"], "decision 1, 9:30:01: 'buy' is no order"),
-    (lambda observation: 5, "(?s)the policy failed at decision 1.*not iterable"),
-    (lambda observation: [observation.buy(10, 50.0)], "(?s)decision 1.*Enter"),
+    (lambda observation: 5, "decision 1, 9:30:01: 5 was given, and a list of orders is to be, or None"),
+    (lambda observation: observation.buy(1, "40"), r"decision 1, 9:30:01: Enter\(.*was given, and a list"),
+    (lambda observation: [observation.buy(10, 50.0)], "(?s)decision 1.*50.0 is a floating-point number.*dollars as a text"),
     (lambda observation: [Enter("A", "B", 1, "ABM", "40"), Enter("A", "B", 2, "ABM", "40")], "token 'A' was used"),
 ])
 def test_bad_answers_of_a_policy(answer, words):
@@ -386,6 +387,8 @@ def test_bad_answers_of_a_policy(answer, words):
 
 @pytest.mark.parametrize("do, words", [
     (lambda: play(MARKET, 8, buyer), "no trader 8; the study has the traders 1 to 7"),
+    (lambda: play(MARKET, WATCHER, None), "None is no policy"),
+    (lambda: play(MARKET, WATCHER, buyer, when="9:31"), "no setting 'when'; there are every, start, end"),
     (lambda: play(MARKET, WATCHER, buyer, every="soon"), "'soon' is no length of time"),
     (lambda: play(MARKET, WATCHER, buyer, every=0), "at least a nanosecond"),
     (lambda: play(MARKET, WATCHER, buyer, every="20s"),

@@ -329,6 +329,12 @@ def test_statuses_are_told_by_errors_of_their_own(tmp_path, monkeypatch):
         assert (type(again), str(again), again.__dict__) == (type(error), str(error), error.__dict__)
 
 
+def test_a_script_is_named_once():
+    """The sentence of `why` begins with its name too."""
+    with pytest.raises(biqsolur.ScriptRefused, match="^the script: (?!the script)"):
+        biqsolur.session(TICK, "act = 1\n")
+
+
 def test_errors_say_what_to_do():
     said = {}
     for name, call in {
@@ -430,6 +436,12 @@ def test_a_program_that_cannot_be_started(tmp_path):
     (lambda: biqsolur.rewind(TICK, []), "there are 0 states"),
     (lambda: biqsolur.rewind(TICK, [("root", event) for event in range(65)]), "there are 65 states"),
     (lambda: biqsolur.rewind(TICK, ["root:5"]), "no pair"),
+    (lambda: biqsolur.rewind(TICK, None), "None are no states"),
+    (lambda: biqsolur.audit(5), "5 is no bundle"),
+    (lambda: biqsolur.audit(biqsolur.Study(TICK)), "is no bundle: give one of biqsolur.run"),
+    (lambda: biqsolur.cross(TICK, "root", 1, "ABM", [(1, "B", 100.5, "5.05")]), "order 0.*100.5 is of the type float"),
+    (lambda: biqsolur.cross(TICK, "root", 1, "ABM", [(1.5, "B", 100, "5.05")]), "order 0.*1.5 is of the type float"),
+    (lambda: biqsolur.session(TICK, [5]), "act 0.*5 is no act"),
     (lambda: biqsolur.rewind(TICK, [("root", -1)]), "-1 is no event"),
     (lambda: biqsolur.rewind(TICK, [("root", 1.0)]), "1.0 is no event"),
     (lambda: biqsolur.cross(TICK, "root", 1, "ABM", [Enter("A1", "B", 1, "XYZ", 100)]), "for XYZ, and the cross is of ABM"),

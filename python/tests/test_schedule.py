@@ -123,6 +123,8 @@ STUDY = Study.read(TICK_SIZE).only("root")
     (lambda: STUDY.schedule(0, [("9:31", enter(1))]), "no trader 0"),
     (lambda: STUDY.schedule("maker", [("9:31", enter(1))]), "no trader 'maker'"),
     (lambda: STUDY.schedule(1, []), "no orders"),
+    (lambda: STUDY.schedule(1, None), "None are no orders"),
+    (lambda: STUDY.schedule(1, [("9:31", enter(1))], worker=2), "no setting 'worker'; there are parent, name, workers"),
     (lambda: STUDY.schedule(1, [("9:31", enter(1)), ("9:29", enter(2))]),
      r"order 1 \(counted from 0\): 9:29:00 is before the open"),
     (lambda: STUDY.schedule(1, [("9:32:00.1", enter(2))]),

@@ -98,7 +98,7 @@ def test_writing_never_replaces_a_file(study, tmp_path):
     study.write(tmp_path / "study.toml")
     with pytest.raises(OutputExistsError, match="nothing was written"):
         study.with_("events", 5).write(tmp_path / "study.toml")
-    with pytest.raises(FileNotFoundError):
+    with pytest.raises(biqsolur.OutputFolderError, match=r"no/study\.toml can't be written: there is no .*/no$"):
         study.write(tmp_path / "no" / "study.toml")
     assert [path.name for path in tmp_path.iterdir()] == ["study.toml"]
     assert (tmp_path / "study.toml").read_text() == study.to_text()
@@ -424,7 +424,10 @@ def test_bad_values_of_a_dict(place, value, error, words):
 @pytest.mark.parametrize("do, words", [
     (lambda: READ.with_("", 5), "no such key: ''"),
     (lambda: READ.with_([], 5), "path is empty"),
-    (lambda: READ.with_("agent.5.size", 5), "agent.5.size: no entries are '5'; they have the numbers from 0 to 1"),
+    (lambda: READ.with_("agent.5.size", 5), "agent.5.size: no entries are '5'; they have the numbers from 0 to 1, in "
+                                            "order maker, noise"),
+    (lambda: READ.with_("close", 34260.5), "^close: 34260.5 is a floating-point"),
+    (lambda: READ.with_("key", 1.0), "^key: 1.0 is of the type float; a key is 64 hexadecimal digits"),
     (lambda: READ.with_("agent.maker", 5), "is a whole table"),
     (lambda: READ.with_("stock.XYZ.add", 5), "no entries are 'XYZ'"),
     (lambda: READ.with_("change.0.time", 5), "has no 'change'"),
@@ -439,6 +442,7 @@ def test_bad_values_of_a_dict(place, value, error, words):
     (lambda: READ.branch("new", parent="none", after=1), "no branch 'none'; there are root, wide, same"),
     (lambda: READ.branch("new", after=1.0), "after a number|no whole number"),
     (lambda: READ.branch("new", after=1, edits=["halt"]), "branch 'new': edit 0: this is a table"),
+    (lambda: READ.branch("new", after=1, edits=edits.Halt("ABM")), "is to be a list of edits"),
     (lambda: READ.without_branch("none"), "no branch 'none'"),
     (lambda: READ.without_branch("root"), "the root is the market itself"),
     (lambda: READ.branch("new", parent="wide", after=6000).without_branch("wide"), "branches of its own.*new"),
@@ -466,8 +470,12 @@ def test_no_toml_says_where(tmp_path):
     (tmp_path / "study.toml").write_bytes(b"version = 1\nopen = \xff\n")
     with pytest.raises(StudySyntaxError, match=r"study\.toml: line 2, column 8: byte 0xff"):
         Study.read(tmp_path / "study.toml")
-    with pytest.raises(FileNotFoundError):
+    with pytest.raises(biqsolur.NoSuchFile, match="there is no .*none.toml") as caught:
         Study.read(tmp_path / "none.toml")
+    assert isinstance(caught.value, FileNotFoundError)
+    with pytest.raises(biqsolur.ReadFailed, match="is a folder, and is to be a file") as caught:
+        Study.read(tmp_path)
+    assert isinstance(caught.value, OSError)
 
 
 # ---------------------------------------------------------------- the series file
@@ -492,6 +500,16 @@ def test_where_a_series_file_is_looked_for(tmp_path, monkeypatch):
     found = study.with_series_found()
     assert Path(found.to_dict()["series"]) == beside / table["series"] and found.series_path.read_text() == rows
     assert Study.read(TICK_SIZE).folder is None and Study.read(TICK_SIZE).series_path is None
+
+
+def test_type_checkers_see_the_names_of_the_package():
+    """Each name is imported for them from the module in which it is looked for when the package runs."""
+    import ast
+    tree = ast.parse(Path(biqsolur.__file__).read_text())
+    block = next(node for node in tree.body if isinstance(node, ast.If) and isinstance(node.body[0], ast.ImportFrom))
+    seen = {name.asname: line.module for line in block.body for name in line.names}
+    assert seen == {**{name: f"biqsolur.{home}" for name, home in biqsolur.HOMES.items()},
+                    **dict.fromkeys(biqsolur.MODULES, "biqsolur")}
 
 
 def test_names_of_the_package():
