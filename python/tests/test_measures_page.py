@@ -1,6 +1,7 @@
 """docs/MEASURES.md: each number on it comes out, by the package and by hand."""
 
 import doctest
+import inspect
 import math
 import re
 
@@ -130,9 +131,25 @@ def test_too_few_trades_and_returns_give_no_number(worked):
     assert lags.returns.notna().tolist() == [lag <= 19 - 3 for lag in range(1, 41)]     # of the places 3 to 19
 
 
+def test_inventories_begin_with_what_is_held_behind_the_event(worked):
+    """Behind EIGHT, at 9:30:09, agent 4 is 100 short, and was 150 long: eleven seconds are left, in which agent 1 gets
+    its 100 after five."""
+    found = measures.inventory(worked, study=STUDY, after=33)
+    assert found["inventory_watcher"] == pytest.approx((100 * 6 / 11 + 50 + 50 + 100) / 4)
+    assert found["inventory_most_watcher"] == 100
+
+
 def test_each_measure_names_its_units_and_what_it_is(numbers):
+    """And its formula, and who has it in the literature; counts of orders by their fates have nobody. The page has all
+    of these sources."""
+    sources = PAGE.read_text().partition("## Sources")[2]
     for measure in measures.NAMES.values():
         assert measure.about.endswith(".") or len(measure.about) > 40
+        about = " ".join(inspect.getdoc(measure.function).split())
+        cited = re.findall(r"([A-Z][a-z]+)(?: and [A-Z][a-z]+)? \((\d{4})\)", about)
+        assert " = " in about and (cited or measure.name == "order_fates"), measure.name
+        for author, year in cited:
+            assert re.search(rf"^- .*{author}.*\({year}\)", sources, re.MULTILINE), (author, year)
     for number in numbers:
         assert any(measure.unit(number) for measure in measures.NAMES.values()), number
 
@@ -144,7 +161,8 @@ def test_settings_that_are_named_with_a_measure_hold_until_others_are_given(work
     assert bound.compute(worked, horizon="6s") != bound.compute(worked)
     frame = worked.bundle.compare([{"name": "realised_spread", "horizon": "2s"}], parent=False)
     assert frame.value[frame.branch == "worked"].tolist()[0] == 350
-    several = ["effective_spread", {"name": "realizedSpread", "horizon": "2s"}, {"name": bound, "horizon": "1.5s"}, bound]
+    several = ["effective_spread", {"name": "realizedSpread", "horizon": "2s"}, {"name": bound, "horizon": "1.5s"},
+               bound]
     frame = worked.bundle.compare(several, parent=False)
     frame = frame[(frame.branch == "worked") & frame.measure.str.startswith("realised_spread(")]
     assert frame.measure.tolist() == [f"realised_spread(horizon={length})" for length in ("2s", "1.5s", "2s")]

@@ -98,8 +98,8 @@ def imbalance(branch: Branch, *, levels: int = 1, after: int = 0, stock: int | s
         imbalance = sum(w_i (B_i - A_i) / (B_i + A_i)) / sum(w_i)
 
     over the best `levels` price levels of each side, where anything is displayed; from -1 to 1. imbalance_absolute is
-    the mean of its absolute value. `depthImbalanceDifference` in R's highfrequency is this ratio at each trade, with
-    the other sign and times the trade's side.
+    the mean of its absolute value. Sources: Gould and Bonart (2016), of the best level; `depthImbalanceDifference` in
+    R's highfrequency is this ratio at each trade, with the other sign and times the trade's side.
     """
     numbers: dict[str, float] = {}
     window = tape_of(branch).window(after)

@@ -71,9 +71,11 @@ def first_told(branch: Branch, frame: pandas.DataFrame) -> numpy.ndarray:
 def reaction_latency(branch: Branch, *, after: int = 0, stock: int | str | None = None) -> dict[str, float]:
     """How long quote, order and fill are apart: medians, in ns, over the orders that came behind the event `after`.
 
-        quote_to_order   from when the agent heard the quote that it answers to when the order came to the exchange
-        order_to_fill    from then to its first execution, over the executed orders (0 of one that came and traded)
-        fill_to_report   from the first execution to when the agent heard of it
+        quote_to_order = median(arrived_i - quoted_i)   from when the agent heard the quote that it answers to when the
+                                                        order came to the exchange
+        order_to_fill = median(filled_i - arrived_i)    from then to its first execution, over the executed orders (0 of
+                                                        one that came and traded)
+        fill_to_report = median(told_i - filled_i)      from the first execution to when the agent heard of it
 
     Source: after Hasbrouck and Saar (2013), who see no agents and take the time from a quote to what follows it.
     """

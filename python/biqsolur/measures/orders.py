@@ -402,7 +402,11 @@ def fill_probability(branch: Branch, *, after: int = 0, stock: int | str | None 
 def time_to_fill(branch: Branch, *, after: int = 0, stock: int | str | None = None) -> dict[str, float]:
     """How long an order waits for its first execution: the median over the orders that were executed while they
     rested, and not already as they came, from when they came to then (ns); time_to_fill_improving, _at_touch, _behind
-    by the place of their price (see `fill_probability`). Source: Lo, MacKinlay and Zhang (2002).
+    by the place of their price (see `fill_probability`).
+
+        time_to_fill = median(first_fill_i - time_i)
+
+    Source: Lo, MacKinlay and Zhang (2002).
     """
     numbers: dict[str, float] = {}
     for number, own in lives_of(branch, after, stock):
@@ -430,7 +434,10 @@ def fills_by_distance(branch: Branch, *, after: int = 0) -> pandas.DataFrame:
 def queue_at_entry(branch: Branch, *, after: int = 0, stock: int | str | None = None) -> dict[str, float]:
     """How many shares are before an order when it comes to rest: the mean, over the orders that rested displayed, of
     the displayed shares at its price that came before it; queue_at_touch over those at the best price of their side.
-    In shares.
+
+        queue_at_entry = mean(ahead_i)
+
+    In shares, with `ahead` of `lives`. Source: Moallemi and Yuan (2016), of what a place in the queue is worth.
     """
     numbers: dict[str, float] = {}
     for number, own in lives_of(branch, after, stock):

@@ -72,8 +72,9 @@ def quoted_spread(branch: Branch, *, after: int = 0, stock: int | str | None = N
 
         quoted_spread = sum(w_i (a_i - b_i)) / sum(w_i),   w_i: for how long the prices a_i and b_i stood
 
-    quoted_spread_bps is that of 10,000 (a_i - b_i) / m_i; two_sided is the part of the trading time in which both sides
-    were displayed. Sources: Huang and Stoll (1996); `quotedSpread` in R's highfrequency is a_i - b_i of each quote.
+    in 0.0001 dollars. quoted_spread_bps is that of 10,000 (a_i - b_i) / m_i; two_sided is the part of the trading time
+    in which both sides were displayed. Sources: Huang and Stoll (1996); `quotedSpread` in R's highfrequency is
+    a_i - b_i of each quote.
     """
     numbers: dict[str, float] = {}
     window = tape_of(branch).window(after)
@@ -103,8 +104,9 @@ def effective_spread(branch: Branch, *, after: int = 0, stock: int | str | None 
         effective_spread = mean(2 q_i (p_i - m_i))
         effective_spread_by_shares = sum(n_i 2 q_i (p_i - m_i)) / sum(n_i),   n_i: the shares
 
-    effective_spread_bps is the mean of 10,000 times the spread over its mid. Sources: Bessembinder and Kaufman (1997);
-    by shares it is the "average effective spread" of 17 CFR 242.600(b); `effectiveSpread` in R's highfrequency.
+    in 0.0001 dollars. effective_spread_bps is the mean of 10,000 times the spread over its mid. Sources: Bessembinder
+    and Kaufman (1997); by shares it is the "average effective spread" of 17 CFR 242.600(b); `effectiveSpread` in R's
+    highfrequency.
     """
     numbers: dict[str, float] = {}
     for number, steps, trades in per_stock(branch, stock):
@@ -139,8 +141,8 @@ def price_impact(branch: Branch, *, horizon: int | str = HORIZON, after: int = 0
 
         price_impact = mean(2 q_i (m'_i - m_i))         price_impact_by_shares = sum(n_i 2 q_i (m'_i - m_i)) / sum(n_i)
 
-    Trade by trade it is effective less realised spread. Sources: Huang and Stoll (1996); Bessembinder and Kaufman
-    (1997); `priceImpact` in R's highfrequency is half of it.
+    In 0.0001 dollars. Trade by trade it is effective less realised spread. Sources: Huang and Stoll (1996);
+    Bessembinder and Kaufman (1997); `priceImpact` in R's highfrequency is half of it.
     """
     return horizon_numbers(branch, "impact", "price_impact", horizon, after, stock)
 
