@@ -6,8 +6,6 @@ import os
 import sys
 from pathlib import Path
 
-# As in release/common.sh: huge pages, and a mebibyte more each time than is needed (docs/PERFORMANCE.md).
-TUNABLES = "glibc.malloc.hugetlb=1:glibc.malloc.mmap_threshold=131072:glibc.malloc.top_pad=1048576"
 HELP = ("--help", "-h", "help")
 HERE = Path(__file__).resolve().parent
 
@@ -20,6 +18,7 @@ def main() -> int:
         return 0
     if words[0] == "--version":
         print(f"abides {(HERE / 'VERSION').read_text().strip()}")
+        print(f"kit: {(HERE / 'bin' / 'KIT').read_text().strip()}")
         return 0
     if words[0] in ("explore", "why"):
         from biqsolur.__main__ import main as package_main
@@ -31,7 +30,7 @@ def main() -> int:
 def become_program(words: list[str]) -> int:
     """Becomes the program; returns only where there is none, or where its path is all that is asked."""
     from biqsolur.errors import InputError
-    from biqsolur.program import find_program
+    from biqsolur.program import TUNABLES, find_program
 
     try:
         program = str(find_program())

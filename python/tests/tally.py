@@ -44,7 +44,7 @@ class Tally:
             self.ended[report.nodeid] = ("failed", report.when)
         elif report.skipped and before != "failed":
             self.ended[report.nodeid] = ("skipped", reason_of(report))
-        elif report.when == "call" and before != "failed":
+        elif report.when == "call":
             self.ended[report.nodeid] = ("passed", "")
 
     def pytest_collectreport(self, report: Any) -> None:

@@ -122,7 +122,8 @@ def test_its_command_helps(installed: Path) -> None:
     for words in ((), ("--help",), ("-h",), ("help",)):
         assert in_python(installed, ABIDES, *words).stdout == page
     version = (PACKAGE / "biqsolur/VERSION").read_text().strip()
-    assert in_python(installed, ABIDES, "--version").stdout.decode().startswith(f"abides {version}\n")
+    kit = (ROOT / "release/KIT").read_text().strip()
+    assert in_python(installed, ABIDES, "--version").stdout.decode() == f"abides {version}\nkit: {kit}\n"
 
 
 def test_a_wheel_can_be_made_of_the_source_distribution(checkout: Path) -> None:
