@@ -243,7 +243,7 @@ def test_profits_and_fees_add_up_to_nothing_and_to_the_closing(measured):
     start = [0] + [entry.get("cash", 0) for entry in measured.entry["agent"] for _ in range(entry.get("count", 1))]
     for branch, _, _, after in measured.pairs():
         for since in {0, after}:
-            for mark in ("mid", "last"):
+            for mark in ("mid", "last", "value"):
                 frame = measures.profits(branch, measured.study, mark=mark, after=since)
                 assert sum(frame.profit) + sum(frame.fees) == 0
         whole, closing = measures.profits(branch, measured.study), branch.closing

@@ -161,6 +161,10 @@ def test_settings_that_are_named_with_a_measure_hold_until_others_are_given(work
     assert bound.compute(worked, horizon="6s") != bound.compute(worked)
     frame = worked.bundle.compare([{"name": "realised_spread", "horizon": "2s"}], parent=False)
     assert frame.value[frame.branch == "worked"].tolist()[0] == 350
+    frame = worked.bundle.compare(["quoted_spread", "realised_spread"], parent=False, horizon="2s", after=25)
+    found = frame[frame.branch == "worked"].set_index("measure").value
+    assert found["realised_spread"] == 0                # of the trades behind SIX TWELVE's alone has a later mid
+    assert found["quoted_spread"] == measures.NAMES["quoted_spread"].compute(worked, after=25)["quoted_spread"]
     several = ["effective_spread", {"name": "realizedSpread", "horizon": "2s"}, {"name": bound, "horizon": "1.5s"},
                bound]
     frame = worked.bundle.compare(several, parent=False)
