@@ -50,6 +50,9 @@ def add_calibrate(commands: Commands) -> None:
     words.add_argument("config", metavar="CONFIG", help="what to search, in TOML or YAML (docs/REALISM.md)")
     words.add_argument("--processes", metavar="N", type=int, help="runs side by side, else one a processor")
     words.add_argument("--program", metavar="PATH", help="the program, where it is not ./abides of the checkout")
+    words.add_argument("--snakemake", metavar="OPTION", nargs=argparse.REMAINDER,
+                       help="points run by Snakemake, which takes all that stands behind this, as --profile slurm; "
+                            "--cores all where nothing does")
     words.set_defaults(run=run_calibrate)
 
 

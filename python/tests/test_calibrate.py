@@ -1,6 +1,7 @@
 """Calibration: planted parameters are found again; the journal, the distance, the surface and its profiles, the
 errors."""
 
+import importlib.util
 import json
 import math
 from pathlib import Path
@@ -12,6 +13,7 @@ import biqsolur
 from biqsolur import facts
 from biqsolur.__main__ import main
 from biqsolur.calibrate import MOMENTS, calibrate, calibration_of, moments_of, read_config
+from biqsolur.calibrate import __main__ as jobs_main
 from biqsolur.calibrate import search as searching
 from biqsolur.calibrate.config import mean_and_error
 from biqsolur.calibrate.evaluate import Evaluator, Objective, Runs, objective_of
@@ -194,6 +196,80 @@ def test_places_and_values_of_a_range(tmp_path):
     assert [every.value(place) for place in (0, 1)] == [4 * SECOND, 30 * SECOND]
     assert abs(every.value(0.5) - math.sqrt(4 * 30) * SECOND) <= 1
     assert all(abs(one.place(one.value(place)) - place) < 2e-3 for one in (margin, every) for place in (0.1, 0.4, 0.9))
+
+
+# ---------------------------------------------------------------- by Snakemake
+
+def small_search(folder):
+    """A search of a few points under two keys."""
+    return settings(folder, keys=2, generations=0, population=1, parameters={"agent.value.margin": [200, 900]})
+
+
+def jobs_one_by_one(folder, options):
+    """Does what a workflow does, in this process."""
+    assert options == ["--cores", "3"]
+    for number in range(len(json.loads((folder / "plan.json").read_text())["points"])):
+        jobs_main.write_point(str(folder / "plan.json"), number, str(folder / f"{number}.json"))
+
+
+def test_a_search_by_jobs_is_the_one_by_processes(program, tmp_path, monkeypatch, capsys):
+    """From the command's words to the journal; only Snakemake itself is left out."""
+    journals, said = [], []
+    monkeypatch.setattr("biqsolur.calibrate.jobs.run_workflow", jobs_one_by_one)
+    for name, words in (("near", ["--processes", "2"]), ("far", ["--snakemake", "--cores", "3"])):
+        output = tmp_path / name
+        (tmp_path / f"{name}.yaml").write_text(json.dumps({**small_search(tmp_path), "output": str(output)}))
+        assert main(["calibrate", str(tmp_path / f"{name}.yaml"), "--program", program, *words]) == 0
+        journals.append((output / "journal.jsonl").read_bytes())
+        said.append(capsys.readouterr().out.replace(str(output), ""))
+        assert sorted(path.name for path in output.iterdir()) == [
+            "journal.jsonl", "profile.csv", "result.json", "study.toml"]
+    assert journals[0] == journals[1] and journals[0].count(b"\n") > 4 and said[0] == said[1]
+
+
+@pytest.mark.skipif(importlib.util.find_spec("snakemake") is None, reason="snakemake is not installed")
+def test_points_by_snakemake_after_one_that_failed(program, tmp_path):
+    """A job that fails ends the search and leaves no line; the jobs that were done are not done again; a refused point
+    is told as such."""
+    (tmp_path / "program").write_text(f"""#!/bin/sh
+echo run >> {tmp_path}/runs
+if grep -q '^every = 6000000000' "$3" && [ ! -e {tmp_path}/failed ]; then
+    : > {tmp_path}/failed; echo write failed >&2; exit 7
+fi
+exec {program} "$@"
+""")
+    (tmp_path / "program").chmod(0o755)
+    calibration = calibration_of(settings(tmp_path, keys=2, parameters={"agent.noise.every": [0, 10 * SECOND]}))
+    points = [(5 * SECOND,), (0,), (6 * SECOND,)]
+    journal = Journal(tmp_path / "journal.jsonl", calibration.mark)
+    evaluator = Evaluator(calibration, journal, None, str(tmp_path / "program"), False,
+                          ["--cores", "1", "--keep-going"])
+    with pytest.raises(CalibrationError, match="(?s)Snakemake ended with status 1; .*snakemake.log"):
+        evaluator.moments(points)
+    log = next(calibration.output.glob("jobs/*/snakemake.log")).read_text()
+    assert f"agent.noise.every = {6 * SECOND}, key {1:064x}: the program ended with status 7: write failed" in log
+    assert journal.known == {} and len((tmp_path / "runs").read_text().split()) == 2 + 1 + 1
+    found = evaluator.moments(points)
+    assert found[1] == [] and len((tmp_path / "runs").read_text().split()) == 4 + 2
+    assert found == Evaluator(calibration, Journal(tmp_path / "other.jsonl", calibration.mark), 1, program,
+                              False).moments(points)
+    assert not (calibration.output / "jobs").exists()
+
+
+def test_a_workflow_that_answers_nothing(program, tmp_path, monkeypatch):
+    """As with Snakemake's option --dry-run."""
+    monkeypatch.setattr("biqsolur.calibrate.jobs.run_workflow", lambda folder, options: None)
+    with pytest.raises(CalibrationError, match="0.json is not there"):
+        calibrate(calibration_of(small_search(tmp_path)), program=program, progress=False, snakemake=["-n"])
+
+
+def test_snakemake_and_processes_are_one_of_both(tmp_path, monkeypatch, program, capsys):
+    (tmp_path / "c.yaml").write_text(json.dumps(small_search(tmp_path)))
+    assert main(["calibrate", str(tmp_path / "c.yaml"), "--processes", "2", "--snakemake"]) == 1
+    assert "one of both" in capsys.readouterr().err
+    monkeypatch.setattr("importlib.util.find_spec", lambda name: None)
+    assert main(["calibrate", str(tmp_path / "c.yaml"), "--program", program, "--snakemake"]) == 1
+    assert "has no package snakemake: pip install 'biqsolur[sweep]'" in capsys.readouterr().err
 
 
 # ---------------------------------------------------------------- what is refused, and what fails

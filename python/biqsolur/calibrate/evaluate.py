@@ -7,7 +7,7 @@ import math
 import os
 import subprocess
 import tempfile
-from collections.abc import Iterable
+from collections.abc import Iterable, Sequence
 from dataclasses import dataclass
 from pathlib import Path
 from typing import Any
@@ -16,6 +16,7 @@ import numpy
 
 from biqsolur.bundle import read
 from biqsolur.calibrate.config import Calibration
+from biqsolur.calibrate.jobs import moments_by_snakemake
 from biqsolur.calibrate.journal import Journal, Moments, Values
 from biqsolur.calibrate.moments import moments_of
 from biqsolur.errors import CalibrationError
@@ -69,34 +70,40 @@ class Evaluator:
     """
 
     def __init__(self, calibration: Calibration, journal: Journal, processes: int | None = None,
-                 program: str | os.PathLike[str] | None = None, progress: bool | None = None) -> None:
+                 program: str | os.PathLike[str] | None = None, progress: bool | None = None,
+                 snakemake: Sequence[str] | None = None) -> None:
         from tqdm import tqdm
         self.calibration, self.journal = calibration, journal
         self.asked: dict[Values, Moments] = {}
         self.processes = processes or os.cpu_count() or 1
-        self.program = program_path(program)
+        self.program, self.snakemake = program_path(program), snakemake
         self.bar = tqdm(unit="point", disable=None if progress is None else not progress,
                         total=(calibration.generations + 1) * calibration.population * len(calibration.parameters) + 2)
 
     def moments(self, points: list[Values]) -> list[Moments]:
         """The moments of each point under each key."""
         missing = [point for point in dict.fromkeys(points) if point not in self.journal.known]
-        keys, size = self.calibration.keys, max(1, self.processes)
+        size = self.processes if self.snakemake is None else max(1, len(missing))
         for start in range(0, len(missing), size):      # an interrupt loses at most the points under way
-            self._run(missing[start:start + size], keys)
+            part = missing[start:start + size]
+            for point, found in zip(part, self._run(part)):
+                self.journal.add(point, found)
         self.bar.update(len(points))
-        found = [self.journal.known[point] for point in points]
-        self.asked.update(zip(points, found))
-        return found
+        known = [self.journal.known[point] for point in points]
+        self.asked.update(zip(points, known))
+        return known
 
-    def _run(self, points: list[Values], keys: tuple[str, ...]) -> None:
+    def _run(self, points: list[Values]) -> list[Moments]:
+        """The moments of points that the journal does not know: by Snakemake, or by processes of this machine."""
+        if self.snakemake is not None:
+            return moments_by_snakemake(self.calibration, self.program, points, self.snakemake)
+        keys = self.calibration.keys
         items = [json.dumps([point, key]) for point in points for key in keys]
         with tempfile.TemporaryDirectory(prefix="biqsolur-calibrate-") as folder:
             task: Any = Runs(self.calibration, self.program, Path(folder))
             answers = all_answers(task, items, min(self.processes, len(items)), progress=False)
-        for place, point in enumerate(points):
-            rows = answers[place * len(keys):(place + 1) * len(keys)]
-            self.journal.add(point, [] if None in rows else rows)
+        parts = [answers[place * len(keys):(place + 1) * len(keys)] for place in range(len(points))]
+        return [[] if None in rows else rows for rows in parts]
 
 
 @dataclass(frozen=True)

@@ -42,14 +42,25 @@ class Journal:
     def add(self, values: Values, moments: Moments) -> None:
         """Notes a point."""
         self.known[values] = moments
-        plain = [[value if math.isfinite(value) else None for value in row] for row in moments]
-        self._append({"values": list(values), "moments": plain})
+        self._append({"values": list(values), "moments": plain_rows(moments)})
 
     def _append(self, line: dict[str, object]) -> None:
         with open(self.path, "a", encoding="utf-8") as file:
             file.write(json.dumps(line, separators=(",", ":")) + "\n")
 
 
+def plain_rows(moments: Moments) -> list[list[float | None]]:
+    """Moments for JSON, with None where one is missing."""
+    return [[value if math.isfinite(value) else None for value in row] for row in moments]
+
+
 def numbers(rows: list[list[float | None]]) -> Moments:
     """The moments of a line, with not-a-number where one is missing."""
     return [[math.nan if value is None else float(value) for value in row] for row in rows]
+
+
+def replace_file(path: Path, text: str) -> None:
+    """Writes a file whole: beside its place, and then renamed."""
+    beside = path.with_name(f".{path.name}.new")
+    beside.write_text(text, encoding="utf-8")
+    os.replace(beside, path)

@@ -5,6 +5,7 @@ from __future__ import annotations
 import json
 import math
 import os
+from collections.abc import Sequence
 from dataclasses import dataclass
 from pathlib import Path
 from typing import Any
@@ -14,7 +15,7 @@ import pandas
 
 from biqsolur.calibrate.config import Calibration
 from biqsolur.calibrate.evaluate import Evaluator, Objective, objective_of
-from biqsolur.calibrate.journal import Journal, Moments, Values
+from biqsolur.calibrate.journal import Journal, Moments, Values, replace_file
 from biqsolur.calibrate.search import Profile, least, profile_of, search, surface_of, values_at
 from biqsolur.errors import CalibrationError
 from biqsolur.facts.judgement import short
@@ -98,9 +99,9 @@ class Calibrated:
         """Writes study.toml, result.json and profile.csv into the calibration's folder, each whole; those of an
         earlier end of the same calibration are replaced."""
         folder = self.calibration.output
-        replace(folder / "study.toml", self.study.to_text())
-        replace(folder / "profile.csv", self.profile_table().to_csv(index=False, lineterminator="\n"))
-        replace(folder / "result.json", json.dumps(self.to_dict(), indent=1, allow_nan=False) + "\n")
+        replace_file(folder / "study.toml", self.study.to_text())
+        replace_file(folder / "profile.csv", self.profile_table().to_csv(index=False, lineterminator="\n"))
+        replace_file(folder / "result.json", json.dumps(self.to_dict(), indent=1, allow_nan=False) + "\n")
 
 
 def plain(value: Any) -> Any:
@@ -110,22 +111,15 @@ def plain(value: Any) -> Any:
     return value.item() if isinstance(value, numpy.generic) else value
 
 
-def replace(path: Path, text: str) -> None:
-    """Writes a file whole: beside its place, and then renamed."""
-    beside = path.with_name(f".{path.name}.new")
-    beside.write_text(text, encoding="utf-8")
-    os.replace(beside, path)
-
-
 def calibrate(calibration: Calibration, processes: int | None = None, *, program: str | os.PathLike[str] | None = None,
-              progress: bool | None = None) -> Calibrated:
+              progress: bool | None = None, snakemake: Sequence[str] | None = None) -> Calibrated:
     """Searches, and tells what was found. The folder `output` is made where it is missing; it has the journal, so
-    what an interrupt ended goes on from there, and asks for the same points. Raises CalibrationError and
-    StudyRefused."""
+    what an interrupt ended goes on from there, and asks for the same points. snakemake: its options, where it is to run
+    the points, on a cluster say, in place of `processes` of this machine. Raises CalibrationError and StudyRefused."""
     calibration.study.check(program=program)
     calibration.output.mkdir(parents=True, exist_ok=True)
     journal = Journal(calibration.output / "journal.jsonl", calibration.mark)
-    evaluator = Evaluator(calibration, journal, processes, program, progress)
+    evaluator = Evaluator(calibration, journal, processes, program, progress, snakemake)
     with evaluator.bar:
         objective = objective_of(calibration, evaluator.moments([calibration.own_values])[0])
         search(calibration, evaluator, objective)
