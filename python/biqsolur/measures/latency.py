@@ -30,15 +30,16 @@ def reaction_times(branch: Branch) -> pandas.DataFrame:
 def make_reactions(branch: Branch) -> pandas.DataFrame:
     """The same, made."""
     frame, orders = lives(branch), entered(branch)
-    quote, quoted = answered_quotes(branch, orders.agent, orders.message, orders.event)
+    quote, quoted = answered_quotes(branch, orders.agent, orders.message)
     return pandas.DataFrame({
         "event": orders.event, "agent": orders.agent, "stock": orders.stock, "quote": quote, "quoted": quoted,
         "arrived": orders.time, "filled": frame.first_fill.to_numpy(), "told": first_told(branch, frame)})
 
 
-def answered_quotes(branch: Branch, agents: numpy.ndarray, numbers: numpy.ndarray,
-                    events: numpy.ndarray) -> tuple[numpy.ndarray, numpy.ndarray]:
-    """For orders, by agent, number of the message and event of their coming, the event and the time of the quote."""
+def answered_quotes(branch: Branch, agents: numpy.ndarray,
+                    numbers: numpy.ndarray) -> tuple[numpy.ndarray, numpy.ndarray]:
+    """For orders, by agent and number of the message, the event and the time of the quote. Behind an order's own coming
+    no quote has a lower number, so it can't be one that was heard later."""
     frames, part = branch.bundle.frames, branch.part
     index = part.entries + numpy.flatnonzero(frames.kinds[part.entries:part.entries_end] == ord("e"))
     head = frames.records(index, layouts.EVENT)
@@ -50,8 +51,6 @@ def answered_quotes(branch: Branch, agents: numpy.ndarray, numbers: numpy.ndarra
     for agent in numpy.unique(agents):
         own, places = heard[receivers == agent], numpy.flatnonzero(agents == agent)
         last = numpy.searchsorted(sent_by[own], numbers[places], side="left") - 1
-        # An injected order may come before any of its agent's quotes.
-        last = numpy.minimum(last, numpy.searchsorted(head["number"][own], events[places]) - 1)
         there = last >= 0
         quote[places[there]] = head["number"][own[last[there]]]
         quoted[places[there]] = head["time"][own[last[there]]]
