@@ -21,6 +21,7 @@ from explored import LONGEST, TOKEN, Served, slow_program, wait_until
 
 import biqsolur
 from biqsolur.explore.engine import Engine, Stopped
+from biqsolur.explore.model import KEPT_RUNS
 from biqsolur.explore.states import States, cut_study, path_of
 from biqsolur.explore.timeline import kept_rows, step_rows, volume
 from biqsolur.explore.words import clock, dollars, money, sentence
@@ -568,14 +569,33 @@ def test_a_session_over_the_opened_study_gives_the_same_state(program: str, tmp_
 
 
 def test_another_tab_is_told_that_the_study_changed(program: str) -> None:
+    """What it asks is answered as its own version stands, with the number of the new one; what it wants done is not."""
     with Served(EXAMPLE, program) as served:
         old = served.explorer.tag
-        served.change("fork", name="one", parent="root", at=100, edits=[])
-        for status, answer in (served.get("state", tag=old, branch="root", event=5),
-                               served.get("timeline", tag=old, begin=0, end=9),
+        before = served.ask("state", branch="wide", event=6000)
+        served.change("change", branch="wide", edits=[{"kind": "halt", "stock": "ABM"}])
+        assert served.ask("state", tag=old, branch="wide", event=6000) == before | {"now": old + 1}
+        assert served.ask("state", branch="wide", event=5001) != served.ask("state", tag=old, branch="wide", event=5001)
+        for name, words in (("timeline", {"begin": 0, "end": 9}), ("why", {"event": 9}), ("at", {"event": 9})):
+            assert served.get(name, tag=old, **words)[0] == 200
+        for status, answer in (served.get("state", tag=old - 1, branch="root", event=5),
+                               served.get("state", tag=old + 2, branch="root", event=5),
                                served.post("change", kind="remove", branch="wide", tag=old),
                                served.post("step", by=-1, tag=old)):
             assert status == 409 and answer["kind"] == "Stale" and answer["tag"] == old + 1
+
+
+def test_only_the_last_versions_are_kept(program: str) -> None:
+    """Each undo and redo makes a version; a page that knows one of long ago is told so."""
+    with Served(EXAMPLE, program) as served:
+        old = served.explorer.tag
+        served.change("fork", name="one", parent="root", at=100, edits=[])
+        for number in range(KEPT_RUNS - 1):
+            assert served.get("at", tag=old, event=1)[0] == 200
+            assert served.post("step", by=1 if number % 2 else -1)[0] == 200
+            served.idle()
+        status, answer = served.get("at", tag=old, event=1)
+        assert status == 409 and answer["kind"] == "Stale" and answer["tag"] == old + KEPT_RUNS
 
 
 # ---------------------------------------------------------------- runs that fail

@@ -44,8 +44,8 @@ def number(words: Words, name: str, default: int | None = None) -> int:
 
 
 def run_of(explorer: Explorer, words: Words) -> Run:
-    """The run that is looked at, where the page knows it."""
-    return explorer.looked_at(number(words, "tag"))
+    """The run of the version that the page knows."""
+    return explorer.run_of(number(words, "tag"))
 
 
 def status(explorer: Explorer, words: Words) -> Table:
@@ -118,11 +118,12 @@ def agent_number(run: Run, words: Words) -> int:
 
 
 def state(explorer: Explorer, words: Words) -> Table:
-    """A state of a branch after an event; of an agent, where one is named, all that is its own."""
+    """A state of a branch after an event; of an agent, where one is named, all that is its own; `now` is the version
+    that is looked at, by which a page learns that another tab changed the study."""
     run = run_of(explorer, words)
     view = run.view(words.get("branch", "root"))
     found = run.state(view.branch.name, number(words, "event"))
-    out = moment(run.table, view, found)
+    out = moment(run.table, view, found) | {"now": explorer.tag}
     if "agent" in words:
         out["trader"] = trader_table(view, found, out["rules"], agent_number(run, words))
     return out

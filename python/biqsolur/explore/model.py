@@ -21,7 +21,8 @@ Table = dict[str, Any]
 
 
 class Stale(InputError):
-    """A question about a version of the study that is no longer looked at: another tab changed it."""
+    """Something to do with a version of the study that is no longer looked at, since another tab changed it; or a
+    question about one whose run is no longer at hand."""
 
 
 class Busy(InputError):
@@ -32,7 +33,8 @@ class Explorer:
     """The versions of one study, of which one is looked at.
 
     `tag` is the number of the version that is looked at; it rises with each change, undo and redo, so that a tab that
-    knows an older one is told. All methods may be called by several threads.
+    knows an older one is told. A question about an older one is answered by its own run while that is at hand: a page
+    cannot know at which moment the version changes behind what it asks. All methods may be called by several threads.
     """
 
     def __init__(self, source: Callable[[], Study], name: str, engine: Engine) -> None:
@@ -46,6 +48,7 @@ class Explorer:
         self.tag = 0
         self.run: Run | None = None
         self.runs: dict[str, Run] = {}
+        self.tagged: dict[int, Run] = {}
         self.worker: threading.Thread | None = None
         self.job: Table = {}
         self.failure: Table | None = None
@@ -146,6 +149,8 @@ class Explorer:
             self.runs[run.study.to_text()] = run
             while len(self.runs) > KEPT_RUNS:
                 del self.runs[next(iter(self.runs))]
+            self.tagged[self.tag] = run
+            self.tagged.pop(self.tag - KEPT_RUNS, None)
 
     def stop(self) -> None:
         """Stops the run that goes on."""
@@ -161,6 +166,11 @@ class Explorer:
             if tag is not None and tag != self.tag:
                 raise Stale("the study was changed meanwhile, perhaps in another tab")
             return self.run
+
+    def run_of(self, tag: int) -> Run:
+        """The run of a version that is looked at, or was a few changes ago. Raises Stale where it is not at hand."""
+        with self.lock:
+            return self.tagged.get(tag) or self.looked_at(tag)
 
     def status(self) -> Table:
         """Whether a run goes on, and how far it is; why the last one failed; which version is looked at."""

@@ -7,6 +7,7 @@ system is served but the page's own files, which are known by name.
 
 from __future__ import annotations
 
+import importlib.util
 import json
 import secrets
 from importlib import resources
@@ -38,6 +39,8 @@ HEADERS = {
 }
 KINDS = {"html": "text/html; charset=utf-8", "css": "text/css; charset=utf-8", "js": "text/javascript; charset=utf-8",
          "svg": "image/svg+xml"}
+DEBIAN_PACKAGES = Path("/usr/lib/python3/dist-packages")
+DEBIAN_PLOTLY = Path("/usr/share/python3-plotly/plotly.js")     # where Debian's package of plotly has its script
 STATUSES: list[tuple[type[Exception], int]] = [
     (Stale, 409), (Busy, 409), (NoSuchEvent, 404), (BadRequest, 400), (KeyError, 404), (InputError, 422)]
 
@@ -133,7 +136,14 @@ def page_files() -> dict[str, bytes]:
 
 
 def plotly_file() -> bytes:
-    """Plotly's script, as the installed package has it."""
+    """Plotly's script, as the installed package has it: read from its file where that lies at a usual place, since to
+    import the package takes longer than all else that the page waits for."""
+    package = importlib.util.find_spec("plotly")
+    for folder in map(Path, package.submodule_search_locations or [] if package else []):
+        debian = DEBIAN_PLOTLY if folder.parent == DEBIAN_PACKAGES else None
+        for path in filter(None, (folder / "package_data" / "plotly.min.js", debian)):
+            if path.is_file():
+                return path.read_bytes()
     from biqsolur.report_page import plotly_script
     return plotly_script()[0].encode()
 

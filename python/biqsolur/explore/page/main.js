@@ -31,8 +31,7 @@ function failed(error) {
   if (error instanceof Gone) {
     alarm(error.message);
   } else if (error instanceof Refusal && error.status === 409 && error.table.kind === "Stale") {
-    tell("The study was changed meanwhile, perhaps in another tab: this is how it stands now.");
-    openStudy().catch(failed);
+    changedElsewhere().catch(failed);
   } else if (error instanceof Refusal && error.status === 403) {
     alarm("This address is of an explorer that has ended: use the one that the explorer printed last.");
   } else if (error instanceof Refusal) {
@@ -43,6 +42,11 @@ function failed(error) {
   }
 }
 
+function changedElsewhere() {
+  tell("The study was changed meanwhile, in another tab: this is how it stands now.");
+  return openStudy();
+}
+
 function alarm(text) {
   byId("alarm").textContent = text;
   byId("alarm").hidden = false;
@@ -51,14 +55,14 @@ function alarm(text) {
 // ------------------------------------------------------------ the run
 
 async function follow() {
-  for (;;) {
+  for (let pause = 10; ; pause = Math.min(2 * pause, 120)) {
     const status = await ask("status");
     showRunning(status);
     if (!status.running) {
       if (status.failure) showFailure(status.failure);
       return status;
     }
-    await new Promise(resolve => setTimeout(resolve, 120));
+    await new Promise(resolve => setTimeout(resolve, pause));
   }
 }
 
@@ -200,6 +204,10 @@ async function go(branch, event) {
   const words = { tag: page.study.tag, branch, event, agent: page.agent };
   const state = await ask("state", words);
   if (asked !== page.asked) return;
+  if (isNewer(state.now)) {
+    await changedElsewhere();
+    return;
+  }
   const changed = branch !== page.branch || !page.state;
   Object.assign(page, { branch, event, state });
   drawMoment();
@@ -485,6 +493,11 @@ async function copyLink() {
   }
 }
 
+// Whether a version is one that another tab made. What this page changes itself it opens when its run has ended.
+function isNewer(tag) {
+  return tag > page.study.tag && !page.changing;
+}
+
 // Now and then: whether the explorer is still there, and whether another tab changed the study.
 const HEARTBEAT = 3000;
 let ended = false;
@@ -493,10 +506,7 @@ async function heartbeat() {
   if (ended || !page.study || document.hidden) return;
   try {
     const status = await ask("status");
-    if (status.ready && !status.running && status.tag !== page.study.tag && !page.changing) {
-      tell("The study was changed in another tab: this is how it stands now.");
-      await openStudy();
-    }
+    if (status.ready && !status.running && isNewer(status.tag)) await changedElsewhere();
   } catch (error) {
     ended = error instanceof Gone;
     failed(error);

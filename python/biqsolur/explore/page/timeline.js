@@ -1,6 +1,6 @@
 // The pictures over time, the tree of branches below them, and the cursor over all.
 
-import { ask } from "./api.js";
+import { Gone, ask } from "./api.js";
 import { byId, clock } from "./format.js";
 
 const MARGIN = { left: 74, right: 14, top: 8, bottom: 34 };
@@ -8,6 +8,21 @@ const COLOURS = ["#0b5394", "#b45309", "#0f766e", "#9d174d", "#4d4d4d", "#6d28d9
 const DASHES = ["solid", "dash", "dot", "dashdot", "longdash", "longdashdot"];
 const ROWS = { mid: [0.5, 1], spread: [0.34, 0.46], volume: [0.19, 0.3], tree: [0, 0.15] };
 const STEPS = [1, 2, 5];
+
+let plotly = null;
+
+// Waits for Plotly's script, which is begun only when the first picture's numbers are asked for: it takes the browser
+// long to read, and meanwhile the server answers.
+function plotlyThere() {
+  plotly ??= new Promise((resolve, reject) => {
+    const script = document.createElement("script");
+    script.src = "page/plotly.js";
+    script.onload = resolve;
+    script.onerror = () => { plotly = null; reject(new Gone()); };
+    document.head.append(script);
+  });
+  return plotly;
+}
 
 export function colour(place) {
   return COLOURS[place % COLOURS.length];
@@ -43,10 +58,11 @@ export class TimeLine {
     const [begin, end] = this.range.map(Math.round);
     const points = Math.max(200, Math.min(1500, this.frame.clientWidth));
     try {
-      const pictures = await Promise.all(this.shown.map(branch => ask("timeline", {
+      const numbers = Promise.all(this.shown.map(branch => ask("timeline", {
         tag: this.study.tag, branch, stock: this.stock, begin: Math.max(0, begin), end: Math.max(end, begin + 1),
           points,
       })));
+      const [pictures] = await Promise.all([numbers, plotlyThere()]);
       if (asked !== this.asked) return;
       this.data = new Map(this.shown.map((branch, place) => [branch, pictures[place]]));
       this.draw();
