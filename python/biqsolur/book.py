@@ -37,7 +37,7 @@ class Side:
 
     def top(self, levels: int) -> list[int]:
         """Price and shares of each of the best levels, 0 and 0 where there is none."""
-        out = []
+        out: list[int] = []
         for rank in self.ranks[:levels]:
             out += (self.sign * rank, self.shares[rank])
         return out + [0] * (2 * levels - len(out))

@@ -161,7 +161,7 @@ def part_for(limit: int) -> Iterator[tuple[Part, Path | None]]:
             raise OSError("no home is known")
     except OSError as error:
         folder = None
-        warn(error)
+        warn(error, 5)      # here, part_for, the context's __enter__, run, its caller
     with contextlib.ExitStack() as stack:
         if folder is None:
             part = temporary_part()
@@ -176,13 +176,13 @@ def finish(part: Part) -> None:
         part.path.unlink(missing_ok=True)
 
 
-def warn(error: OSError) -> None:
-    """Says, once in a process, that the cache can't be written."""
+def warn(error: OSError, level: int) -> None:
+    """Says, once in a process, that the cache can't be written; `level` leads to who called `run`."""
     global warned
     if not warned:
         warned = True
         warnings.warn(f"bundles are not kept in the cache: {error}. Set XDG_CACHE_HOME to a folder that may be "
-                      f"written, or {LIMIT_NAME}=0 for no cache", CacheWarning, stacklevel=6)
+                      f"written, or {LIMIT_NAME}=0 for no cache", CacheWarning, stacklevel=level)
 
 
 def temporary_part() -> Part:
@@ -206,7 +206,7 @@ def keep(folder: Path | None, key: str, part: Part, bundle: Bundle, record: Prov
         make_entry(folder, key, part, bundle, record)
         shrink(folder, limit)
     except OSError as error:
-        warn(error)
+        warn(error, 4)      # here, keep, run, its caller
         if part.path.exists():
             keep_for_now(part, bundle, record)
 

@@ -8,6 +8,7 @@ from __future__ import annotations
 
 from collections.abc import Iterator
 from dataclasses import dataclass
+from typing import Any
 
 import numpy
 
@@ -23,7 +24,7 @@ LETTER, TEXT, ALNUM = 1, 2, 4
 CLASSES = numpy.zeros(256, numpy.uint8)
 CLASSES[0x20:0x7F] |= LETTER
 CLASSES[0x21:0x7F] |= TEXT
-for first, last in ("09", "AZ", "az"):
+for first, last in (("0", "9"), ("A", "Z"), ("a", "z")):
     CLASSES[ord(first):ord(last) + 1] |= ALNUM
 
 ONE_LETTER = {"side": b"BS", "order state": b"LD", "trading state": b"HPQT"}
@@ -68,14 +69,14 @@ def field_faults(table: numpy.ndarray, fields: list[tuple[int, int, str]]) -> nu
 
 
 # Frames of what a cross or a session writes, which no bundle has: size, fields.
-SPECIAL = {
+SPECIAL: dict[str, tuple[int, list[Any]]] = {
     "f": (layouts.CROSS_PART.itemsize, [(1, 1, "side")]), "k": (layouts.CROSS_PRICE.itemsize, []),
     "v": (layouts.VALUE.itemsize, []),
 }
 
 
 def layouts_of_frames(stocks: int | None,
-                      special: str = "") -> Iterator[tuple[str, int, list[tuple[int, int, bytes]], list]]:
+                      special: str = "") -> Iterator[tuple[str, int, list[tuple[int, bytes]], list[Any]]]:
     """Each kind of frame of fixed size: letter, size, bytes that stand at an offset (offset, those allowed), fields."""
     yield "h", 9, [(1, b"\0"), (2, b"\1")], []
     for letter, size in [("d", 18), ("c", 66), ("s", 44), ("z", 3)]:

@@ -55,7 +55,7 @@ def read_counts(frames: Frames, part: Part) -> dict[str, int | str]:
     """The counters of a closing."""
     counts = frames.records(numpy.array([part.counts]), layouts.COUNTS)[0]
     letter = chr(counts["end"])
-    return {"end": ENDS.get(letter, letter), **{name: int(counts[name]) for name in layouts.COUNTS.names[1:]}}
+    return {"end": ENDS.get(letter, letter), **{name: int(counts[name]) for name in (layouts.COUNTS.names or ())[1:]}}
 
 
 def stocks_frame(frames: Frames, indexes: numpy.ndarray, symbols: list[str]) -> pandas.DataFrame:

@@ -157,8 +157,8 @@ class SeriesOffset(Edit):
     offset: Any
 
 
-KINDS: dict[str, type[Edit]] = {
-    kind.KIND: kind for kind in (Tick, Fee, Halt, Resume, Latency, AgentParameter, Silence, Inject, SeriesOffset)}
+EDITS: tuple[type[Edit], ...] = (Tick, Fee, Halt, Resume, Latency, AgentParameter, Silence, Inject, SeriesOffset)
+KINDS = {kind.KIND: kind for kind in EDITS}
 
 
 def message_digits(message: object) -> str:

@@ -72,7 +72,7 @@ def feed_frame(frames: Frames, part: Part, symbols: list[str]) -> pandas.DataFra
         of_kind = numpy.flatnonzero(rows.kinds == ord(letter))
         if len(of_kind):
             records = frames.records(rows.indexes[of_kind], layout)
-            for name in layout.names:
+            for name in layout.names or ():
                 if name in numbers:
                     numbers[name][of_kind] = records[name]
                 elif name in codes:

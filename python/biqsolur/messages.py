@@ -97,7 +97,7 @@ class Table:
         """Takes the fields of the bodies of this size into the columns that are named as they are."""
         rows = numpy.flatnonzero(self.sizes == size)
         body = self.source.body(self.indexes[rows], layout)
-        for name in layout.names:
+        for name in layout.names or ():
             if name in self.columns:
                 field = body[name]
                 self.columns[name][rows] = self.source.tokens.numbers(field) if name == "token" else field

@@ -120,6 +120,17 @@ def test_another_program_makes_another_entry(counted, tmp_path):
     assert runs() == 3
 
 
+def test_a_copy_of_the_program_makes_another_entry(program, tmp_path):
+    """The record says whether the program is that of the checkout, and a copy of it is not known to be."""
+    copy = tmp_path / "copy"
+    copy.write_bytes(Path(program).read_bytes())
+    copy.chmod(0o755)
+    own = biqsolur.run(study_of(1)).provenance
+    named = biqsolur.run(study_of(1), program=copy).provenance
+    assert (named.program_sum, named.bundle_sum) == (own.program_sum, own.bundle_sum)
+    assert named.program_found == "named" and biqsolur.run(study_of(1)).provenance.program_found == own.program_found
+
+
 def test_another_version_makes_another_entry(counted, monkeypatch):
     program, runs = counted
     biqsolur.run(study_of(1), program=program)
@@ -217,8 +228,9 @@ def test_a_bound_that_is_none(monkeypatch, said):
 def test_a_cache_that_cannot_be_written(monkeypatch, tmp_path):
     (tmp_path / "file").write_text("")
     monkeypatch.setenv("XDG_CACHE_HOME", str(tmp_path / "file"))
-    with pytest.warns(biqsolur.CacheWarning, match="XDG_CACHE_HOME"):
+    with pytest.warns(biqsolur.CacheWarning, match="XDG_CACHE_HOME") as told:
         bundle = biqsolur.run(study_of(1))
+    assert [warning.filename for warning in told] == [__file__]      # whose line it shows
     with warnings.catch_warnings():
         warnings.simplefilter("error")      # it is said once
         again = biqsolur.run(study_of(1))

@@ -2,6 +2,7 @@
 
 import random
 import tempfile
+from dataclasses import replace
 
 import numpy
 import pandas
@@ -12,7 +13,7 @@ import studies
 from biqsolur.errors import PlayError, PolicyError
 from biqsolur.last_branch import run_last
 from biqsolur.messages import sent_messages
-from biqsolur.observation import Observation
+from biqsolur.observation import Account, Observation
 from biqsolur.ouch import Accepted, Enter, Executed
 from biqsolur.playing import Game, play
 from biqsolur.running import run
@@ -316,6 +317,18 @@ def test_vectors_name_their_numbers():
     after = game.step([observation.buy(7, "40"), observation.sell(9, "60")])[0]
     vector = dict(zip(Observation.VECTOR, after.as_vector()))
     assert (vector["open_to_buy"], vector["open_to_sell"]) == (7, 9)
+
+
+def test_worth_is_cash_and_the_position_at_the_middle():
+    """By hand, for a long and a short position; the last price stands for a middle where a side is missing."""
+    game = Game(MARKET, WATCHER, "2s")
+    first, _ = game.reset()
+    for book, middle in ((replace(first.book, bid=500_000, ask=500_300), 50.015),
+                         (replace(first.book, bid=0, last=499_900), 49.99), (None, 0.0)):
+        for shares in (300, -200):
+            account = Account(1_500_000, {first.symbol: shares})
+            seen = replace(first, book=book, account=account)
+            assert seen.worth() == pytest.approx(1.5 + shares * middle) and seen.position == shares
 
 
 def test_a_game_is_a_gym_environment():

@@ -225,6 +225,16 @@ def test_an_enter_is_an_order_of_a_cross():
     assert list(alone.orders["agent"]) == [1]
 
 
+def test_a_cross_tells_hidden_orders():
+    """Two orders that rest at one price, of which one is hidden: the one that is shown is filled first."""
+    hidden, shown = (Enter(token, "B", 70, "ABM", "45", display=display) for token, display in (("HID", "N"), ("SHOWN", "Y")))
+    market = biqsolur.Study(TICK).only("root").with_("events", 1000).in_version_2()
+    market = market.branch("two", at="9:30:05", edits=[biqsolur.Inject(3, hidden, "1us"), biqsolur.Inject(3, shown, "1us")])
+    parts = biqsolur.cross(market, "two", 900, "ABM", [(4, "S", 9999, "40")]).parts
+    assert list(parts[parts.price == 450_000].hidden) == [False, True] and parts.hidden.sum() == 1
+    assert list(parts[parts.price == 450_000].agent) == [3, 3]
+
+
 def test_answers_are_read_from_files_too(tmp_path):
     crossed = biqsolur.cross(HALT, "root", 5000, "ABM", ROOT / "examples" / "reopening.csv")
     (tmp_path / "halt.cross").write_bytes(crossed.data)

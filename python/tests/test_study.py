@@ -452,6 +452,7 @@ def test_bad_values_of_a_dict(place, value, error, words):
     (lambda: edits.Tick("ABM", [(0, 0.05)]), "Tick: bands: 0.05 is a floating-point"),
     (lambda: edits.Silence("maker"), "Silence: agent: 'maker' is of the type str"),
     (lambda: edits.Inject(1, "XYZ"), "is no order"),
+    (lambda: edits.Inject(1, "4fzz"), "is no order"),
     (lambda: edits.Inject(1, 5), "is no order"),
     (lambda: edits.edit_of({"kind": "stop"}), "no kind of edit; there are tick, fee"),
     (lambda: edits.edit_of({"kind": "halt"}), "has the keys stock"),
@@ -497,6 +498,8 @@ def test_where_a_series_file_is_looked_for(tmp_path, monkeypatch):
     (here / table["series"]).write_text("symbol,time,value\n")
     assert Study.read(beside / "study.toml").folder == here
     assert Study.read(beside / "study.toml", folder=beside).folder == beside
+    far = Study.read(beside / "study.toml", folder="../beside").with_series_found().series_path
+    assert far.is_absolute() and far.samefile(beside / table["series"])
     found = study.with_series_found()
     assert Path(found.to_dict()["series"]) == beside / table["series"] and found.series_path.read_text() == rows
     assert Study.read(TICK_SIZE).folder is None and Study.read(TICK_SIZE).series_path is None
