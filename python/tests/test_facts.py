@@ -15,7 +15,7 @@ import studies
 from biqsolur import facts
 from biqsolur.__main__ import main
 from biqsolur.errors import FactsError, TapeError
-from biqsolur.facts import catalogue, flow, judgement, page, returns
+from biqsolur.facts import catalogue, curves, flow, judgement, page, returns
 from biqsolur.facts.tape import ADDED, DELETED, EXECUTED, HIDDEN, REDUCED, Tape
 
 SECOND = 10**9
@@ -236,6 +236,111 @@ def test_spread_depth_and_volume_are_those_of_plain_loops(hour):
             traded[-(-(time - begin) // (10 * SECOND))] = traded.get(-(-(time - begin) // (10 * SECOND)), 0) + shares
     volumes = returns.volumes(tape, 10).tolist()
     assert volumes == [traded.get(place, 0) for place in range(1, len(volumes) + 1)] and sum(volumes) > 10_000
+
+
+def plain_autocorrelation(values, lag):
+    mean = sum(values) / len(values)
+    return (sum((late - mean) * (early - mean) for early, late in zip(values, values[lag:]))
+            / sum((value - mean)**2 for value in values))
+
+
+def plain_kurtosis(values):
+    mean = sum(values) / len(values)
+    second, fourth = (sum((value - mean)**power for value in values) / len(values) for power in (2, 4))
+    return fourth / second**2 - 3
+
+
+def part_below(values, part):
+    """The quantile of values on a straight line between its two neighbours."""
+    ordered, place = sorted(values), part * (len(values) - 1)
+    low = math.floor(place)
+    return ordered[low] + (place - low) * (ordered[min(low + 1, len(ordered) - 1)] - ordered[low])
+
+
+def plain_impact(tape):
+    """The slope of a line through log mean size and log mean impact of ten groups of orders by size."""
+    mids, last = [math.nan], math.nan           # before each message, and after the last one
+    for bid, ask in zip(tape.bid.tolist(), tape.ask.tolist()):
+        last = (bid + ask) / 2 if bid and ask else last
+        mids.append(last)
+    rows = [row for row, kind in enumerate(tape.kind) if kind in (EXECUTED, HIDDEN)]
+    orders = []
+    for _, group in groupby(rows, lambda row: (tape.time[row], tape.direction[row])):
+        group = list(group)
+        impact = -int(tape.direction[group[0]]) * math.log(mids[group[-1] + 1] / mids[group[0]])
+        orders.append((sum(int(tape.shares[row]) for row in group), impact))
+    orders = sorted((order for order in orders if not math.isnan(order[1])), key=lambda order: order[0])
+    size, longer = divmod(len(orders), 10)
+    points = []
+    for place in range(10):
+        start = place * size + min(place, longer)
+        group = orders[start:start + size + (place < longer)]
+        shares, impact = (sum(column) / len(group) for column in zip(*group))
+        if impact > 0:
+            points.append((math.log(shares), math.log(impact)))
+    across, up = (sum(column) / len(points) for column in zip(*points))
+    return sum((x - across) * (y - up) for x, y in points) / sum((x - across)**2 for x, _ in points)
+
+
+def test_each_number_is_what_its_words_say(hour):
+    """From the words of the catalogue, by plain loops; spread and depth have a test of their own."""
+    tape = facts.tape_of_branch(hour[1].branches["root"])
+    mids = {seconds: plain_mids(tape, seconds) for seconds in (1, 10, 60)}
+    seconds, tens, minutes = ([math.log(after / before) for before, after in zip(part, part[1:])]
+                              for part in mids.values())
+    took, ended = plain_orders(tape)
+    gaps = [(late[0] - early[0]) / SECOND for early, late in zip(took, took[1:]) if late[0] > early[0]]
+    lives = [(end - begin) / SECOND for begin, end, _ in ended]
+    canceled = [end - begin for begin, end, by_cancel in ended if by_cancel]
+    signs, loud = [sign for _, sign, _ in took], [abs(value) for value in tens]
+    volumes = returns.volumes(tape, 10)
+    wanted = {
+        "kurtosis_60s_part": plain_kurtosis(minutes) / plain_kurtosis(seconds),
+        "returns_5_to_20s": max(abs(plain_autocorrelation(seconds, lag)) for lag in range(5, 21)),
+        "returns_60s": plain_autocorrelation(minutes, 1),
+        "absolute_10s": plain_autocorrelation(loud, 1),
+        "absolute_60_to_100s": sum(plain_autocorrelation(loud, lag) for lag in (6, 7, 8, 9, 10)) / 5,
+        "percentiles_10s": part_below(tens, 0.95) / abs(part_below(tens, 0.05)),
+        "volume_10s": float(numpy.corrcoef(volumes, loud)[0, 1]),
+        "signs_1": plain_autocorrelation(signs, 1), "signs_10": plain_autocorrelation(signs, 10),
+        "impact_exponent": plain_impact(tape),
+        "duration_dispersion": float(numpy.std(gaps) / numpy.mean(gaps)),
+        "canceled": len(canceled) / len(ended),
+        "canceled_within_2s": sum(life < 2 * SECOND for life in canceled) / len(canceled),
+        "life_mean_over_median": sum(lives) / len(lives) / part_below(lives, 0.5),
+    }
+    found = facts.numbers_of(tape)
+    assert {name: found[name] for name in wanted} == pytest.approx(wanted, rel=1e-6)
+
+
+def test_returns_that_come_back_after_five_seconds_are_told():
+    """The first lag that is looked at."""
+    draws = numpy.random.RandomState(8)
+    moves = draws.standard_normal(3_605) * 1e-4
+    moves[5:] += 0.5 * moves[:-5]
+    found = facts.numbers_of(tape_of_prices(1_000 * numpy.exp(numpy.cumsum(moves))))
+    assert found["returns_5_to_20s"] > 0.3
+
+
+def test_curves_of_pictures_are_those_of_plain_loops(hour):
+    tape = facts.tape_of_branch(hour[1].branches["root"])
+    made = curves.curves_of(tape)
+    mids = plain_mids(tape, 1)
+    moves = [math.log(after / before) for before, after in zip(mids, mids[1:])]
+    mean = sum(moves) / len(moves)
+    deviation = math.sqrt(sum((move - mean)**2 for move in moves) / len(moves))
+    wanted = [part_below([abs(move - mean) for move in moves], 1 - part) / deviation for part in curves.PARTS]
+    assert made["tail"] == pytest.approx(wanted, rel=1e-6) and made["tail"][-1] > made["tail"][0]
+    _, ended = plain_orders(tape)
+    wanted = [sum((end - begin) / SECOND > least for begin, end, _ in ended) / len(ended) for least in curves.TIMES]
+    assert made["lives"] == pytest.approx(wanted)
+    begin, end = tape.span
+    edges = [min(max(int(time), begin), end) for time in tape.time] + [end]
+    states = [(edges[row + 1] - edges[row], 20_000 * int(tape.ask[row] - tape.bid[row])
+               / int(tape.ask[row] + tape.bid[row])) for row in range(len(tape.time)) if tape.bid[row] and tape.ask[row]]
+    total = sum(length for length, _ in states)
+    wanted = [sum(length for length, spread in states if spread >= least) / total for least in curves.SPREADS]
+    assert made["spread"] == pytest.approx(wanted, abs=1e-9)
 
 
 def test_moments_are_those_of_plain_loops():

@@ -48,8 +48,9 @@ def hill_index(values: numpy.ndarray, tail: float = TAIL) -> float:
 
 
 def autocorrelations(values: numpy.ndarray, most: int) -> numpy.ndarray:
-    """The autocorrelations at the lags 1 to `most`: the mean product of the values less their mean, over the variance.
-    Shape (most,); not-a-number where a lag has no pair or all values are equal."""
+    """The autocorrelations at the lags 1 to `most`: the sum of the products of values (less their mean) a lag apart,
+    over the sum of all squares (Box and Jenkins 1976). Shape (most,); not-a-number where a lag has no pair or all
+    values are equal."""
     out = numpy.full(most, numpy.nan)
     if len(values) < 2:
         return out
