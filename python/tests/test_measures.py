@@ -264,11 +264,13 @@ def test_marked_profits_are_those_of_plain_loops(measured):
         for (event, _, stock, sign, price, shares, aggressor, _), resting in zip(tape.trades, branch.trades.resting):
             sides += [(agent, event, stock, way * shares, price, next(fees))
                       for agent, way in ((aggressor, sign), (resting, -sign))]
-        for mark in ("mid", "last"):
+        values = {event: [2 * int(branch.value_at(symbol, [event], measured.study)[0]) if event else 0
+                          for symbol in branch.symbols] for event in {0, after, middle_trade(tape), len(tape.times)}}
+        for mark in ("mid", "last", "value"):
             for since in {0, after, middle_trade(tape)}:
                 frame = measures.profits(branch, measured.study, mark=mark, after=since).set_index("agent")
-                marks = {event: [doubled(tape, stock, event, mark) for stock in range(len(branch.symbols))]
-                         for event in (since, len(tape.times))}
+                marks = {event: [doubled(tape, stock, event, mark) if mark != "value" else values[event][stock]
+                                 for stock in range(len(branch.symbols))] for event in (since, len(tape.times))}
                 for agent in frame.index:
                     own = [side for side in sides if side[0] == agent]
                     late = [side for side in own if side[1] > since]

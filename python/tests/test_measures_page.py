@@ -100,6 +100,8 @@ def test_the_measures_value_is_that_of_the_study(worked):
     found = measures.profits(worked, STUDY, mark="value")
     assert found.marked.tolist() == [100 * 10**7, 50 * 10**7, -50 * 10**7, -100 * 10**7]
     assert sum(found.profit) + sum(found.fees) == 0
+    for mark in measures.agents.MARKS:          # behind the end nothing is earned
+        assert not any(measures.profits(worked, STUDY, mark=mark, after=10**9).profit)
 
 
 def test_a_horizon_may_reach_to_the_very_end_and_no_further(worked):

@@ -159,7 +159,8 @@ def profits(branch: Branch, study: object = None, *, mark: str = "mid",
     late = frame[frame.event > event_number(after)]
     cash, fees = exact_sums(late.agent, late.cash), exact_sums(late.agent, late.fee)
     marked = dict.fromkeys(agents, 0)
-    for sign, event in ((-1, after), (1, len(tape_of(branch).event_times))):
+    end = len(tape_of(branch).event_times)
+    for sign, event in ((-1, min(after, end)), (1, end)):
         for stock, own in frame[frame.event <= event].groupby("stock"):
             doubled = doubled_mark(branch, stock, event, mark, known)
             for agent, position in exact_sums(own.agent, own.shares).items():
