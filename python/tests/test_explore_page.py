@@ -374,6 +374,99 @@ def test_hidden_orders_are_marked(page: Page, program: str) -> None:
         page.wait("document.getElementById('queue').textContent.includes('hidden, is the first to trade at its price')")
 
 
+def test_an_order_says_its_place_in_the_queue(page: Page, served: Served) -> None:
+    """An order that is not the first of its level says what trades before it, as the server counted it."""
+    def second(event: int) -> Any:
+        levels = served.ask("state", branch="root", event=event)["stocks"][0]["bids"][:12]
+        return next((order for level in levels for order in level["orders"][1:] if order["open"] != order["ahead"]), None)
+    event = next(event for event in range(4900, 12000, 25) if second(event))
+    order = second(event)
+    page.open(served, f"branch=root&event={event}&stock=0&agent=1")
+    page.click(f"#ladders [aria-label^='order {order['reference']} of']")
+    words = f"trades after {order['before']} order{'s' * (order['before'] > 1)} with {order['ahead']:,} shares"
+    page.wait("document.getElementById('queue').textContent.includes(arguments[0])", words)
+
+
+def test_a_fork_at_a_branchs_own_beginning_is_its_child(page: Page, served: Served) -> None:
+    """One event before it, it is its parent's. With the shift key an arrow goes ten events."""
+    from selenium.webdriver.common.action_chains import ActionChains
+    from selenium.webdriver.common.keys import Keys
+    page.open(served, "branch=wide&event=5000")
+    assert page.text("#fork-form p").startswith("A new branch of wide.")
+    page.free()
+    page.keys(Keys.ARROW_LEFT)
+    page.at(4999)
+    assert page.text("#fork-form p").startswith("A new branch of root.")
+    for key, event in ((Keys.ARROW_RIGHT, 5009), (Keys.ARROW_LEFT, 4999)):
+        ActionChains(page.driver).key_down(Keys.SHIFT).send_keys(key).key_up(Keys.SHIFT).perform()
+        page.at(event)
+
+
+def test_effects_and_measures_are_the_servers(page: Page, served: Served) -> None:
+    """Each effect with its words, and the two columns of measures in their order."""
+    page.open(served, "branch=wide&event=5032")
+    found = served.ask("why", branch="wide", event=5032)["effects"]
+    assert found
+    page.wait("[...document.querySelectorAll('#effects li')].map(item => item.textContent)"
+              ".every((text, place) => text.includes(arguments[0][place])) && "
+              "document.querySelectorAll('#effects li').length === arguments[0].length", [row["words"] for row in found])
+    rows = [row for row in served.ask("compare", branch="wide")["measures"][:12] if None not in (row["ours"],
+            row["theirs"])]
+    assert any(row["ours"] != row["theirs"] for row in rows)
+    page.wait("document.querySelector('#compare table')")
+    cells = page.script("Object.fromEntries([...document.querySelectorAll('#compare table tr')]"
+                        ".map(row => [...row.cells].map(cell => cell.textContent)).map(row => [row[0], row]))")
+    assert cells["measure"][1:3] == ["root", "wide"]
+    for row in rows:
+        shown = [float(text.replace(",", "")) for text in cells[row["name"]][1:3]]
+        assert shown == pytest.approx([row["theirs"], row["ours"]], rel=1e-4)
+
+
+def test_the_cursor_and_a_click_in_the_tree_are_where_the_picture_has_them(page: Page, served: Served) -> None:
+    """By the pictures' own axes: the cursor at its time, and a branch's row."""
+    page.open(served, "branch=root&event=9000")
+    time = served.ask("state", branch="root", event=9000)["time"]
+    page.wait("Math.abs(parseFloat(document.getElementById('cursor').style.left) - (axes => axes.xaxis._offset + "
+              "axes.xaxis.l2p(arguments[0]))(document.getElementById('plot')._fullLayout)) < 2", time)
+    for place, name in ((2, "same"), (1, "wide"), (0, "root")):
+        page.script(CLICK_TREE, place, time)
+        page.wait("document.getElementById('branch').value === arguments[0]", name)
+
+
+def test_times_and_amounts_are_read_and_written(page: Page, served: Served) -> None:
+    """The page's own functions: a time of day, a length of time, a price, a fee."""
+    page.open(served)
+    second = 10**9
+    calls = [
+        ("clockTime", "9:31:05.25", (9 * 3600 + 31 * 60 + 5) * second + second // 4), ("clockTime", "9:60:00", None),
+        ("clockTime", "24:00", None), ("clockTime", " 9:31 ", (9 * 60 + 31) * 60 * second), ("clockTime", "x", None),
+        ("clock", 34200000000001, "09:30:00.000000001"), ("clock", 86399999999999, "23:59:59.999999999"),
+        ("span", 1500000, "1.5 ms"), ("span", 999, "999 ns"), ("span", 2 * second, "2 s"),
+        ("spanInput", 50000, "50us"), ("spanInput", 1500, "1500ns"), ("spanInput", 0, "0ns"),
+        ("price", 500050, "50.0050"), ("price", 500000, "50.00"), ("priceInput", -250, "-0.025"),
+        ("fee", -2000, "-0.002"), ("fee", 0, "0.00"), ("fee", 10000, "0.01"), ("whole", 1234567, "1,234,567"),
+    ]
+    got = page.driver.execute_async_script(
+        "const done = arguments[1]; import('./page/format.js').then(module => done(arguments[0].map(([name, word]) => "
+        "module[name](word))), error => done(String(error)))", [call[:2] for call in calls])
+    assert got == [wish for _, _, wish in calls]
+
+
+def test_playing_by_the_markets_time_keeps_its_speed(page: Page, served: Served) -> None:
+    """The first time that is asked for lies at least 30 ms of playing, times the speed, behind the cursor: the page
+    waits 40 ms before."""
+    page.open(served)
+    time = served.ask("state", branch="root", event=4990)["time"]
+    speed = page.script("[...document.getElementById('speed').options].map(option => option.value)"
+                        ".filter(value => value[0] !== 'e').pop()")
+    page.script(RECORD_TIMES)
+    page.script("document.getElementById('speed').value = arguments[0]", speed)
+    page.click("#play")
+    page.wait("window.timesAsked.length > 0")
+    page.click("#play")
+    assert page.script("window.timesAsked[0]") >= time + 30_000_000 * float(speed[1:])
+
+
 def test_the_tabs_are_worked_by_arrows(page: Page, served: Served) -> None:
     from selenium.webdriver.common.keys import Keys
     page.open(served)
@@ -384,6 +477,29 @@ def test_the_tabs_are_worked_by_arrows(page: Page, served: Served) -> None:
                   "document.querySelectorAll('[role=tabpanel]:not([hidden])').length === 1", f"panel-{panel}")
     assert page.event == 4990
 
+
+CLICK_TREE = """
+((place, time) => {
+  const { xaxis, yaxis4 } = document.getElementById('plot')._fullLayout;
+  const box = document.getElementById('plot').getBoundingClientRect();
+  const at = { bubbles: true, clientX: box.left + xaxis._offset + xaxis.l2p(time),
+    clientY: box.top + yaxis4._offset + yaxis4.l2p(-place) };
+  for (const kind of ['pointerdown', 'pointerup'])
+    document.getElementById('plot-frame').dispatchEvent(new PointerEvent(kind, at));
+})(arguments[0], arguments[1])
+"""
+
+RECORD_TIMES = """
+(() => {
+  const own = window.fetch;
+  window.timesAsked = [];
+  window.fetch = (address, ...more) => {
+    const words = new URLSearchParams(String(address).split('?')[1]);
+    if (String(address).startsWith('api/at') && words.has('time')) window.timesAsked.push(Number(words.get('time')));
+    return own(address, ...more);
+  };
+})()
+"""
 
 NAMES = """
 (() => {
