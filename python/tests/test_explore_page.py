@@ -378,7 +378,8 @@ def test_an_order_says_its_place_in_the_queue(page: Page, served: Served) -> Non
     """An order that is not the first of its level says what trades before it, as the server counted it."""
     def second(event: int) -> Any:
         levels = served.ask("state", branch="root", event=event)["stocks"][0]["bids"][:12]
-        return next((order for level in levels for order in level["orders"][1:] if order["open"] != order["ahead"]), None)
+        later = [order for level in levels for order in level["orders"][1:]]
+        return next((order for order in later if order["open"] != order["ahead"]), None)
     event = next(event for event in range(4900, 12000, 25) if second(event))
     order = second(event)
     page.open(served, f"branch=root&event={event}&stock=0&agent=1")
@@ -407,9 +408,10 @@ def test_effects_and_measures_are_the_servers(page: Page, served: Served) -> Non
     page.open(served, "branch=wide&event=5032")
     found = served.ask("why", branch="wide", event=5032)["effects"]
     assert found
-    page.wait("[...document.querySelectorAll('#effects li')].map(item => item.textContent)"
-              ".every((text, place) => text.includes(arguments[0][place])) && "
-              "document.querySelectorAll('#effects li').length === arguments[0].length", [row["words"] for row in found])
+    words = [row["words"] for row in found]
+    page.wait("document.querySelectorAll('#effects li').length === arguments[0].length && "
+              "[...document.querySelectorAll('#effects li')].map(item => item.textContent)"
+              ".every((text, place) => text.includes(arguments[0][place]))", words)
     rows = [row for row in served.ask("compare", branch="wide")["measures"][:12] if None not in (row["ours"],
             row["theirs"])]
     assert any(row["ours"] != row["theirs"] for row in rows)
@@ -467,6 +469,33 @@ def test_playing_by_the_markets_time_keeps_its_speed(page: Page, served: Served)
     assert page.script("window.timesAsked[0]") >= time + 30_000_000 * float(speed[1:])
 
 
+def test_an_answer_that_comes_late_is_not_drawn_over_a_newer_one(page: Page, served: Served) -> None:
+    from selenium.webdriver.common.keys import Keys
+    page.open(served)
+    page.script(HOLD_STATE, "event=100&")
+    page.script("location.hash = 'branch=root&event=100'")
+    page.wait("window.held")
+    page.script("location.hash = 'branch=root&event=200'")
+    page.at(200)
+    page.script("window.letGo()")
+    page.wait("window.answered")
+    page.free()
+    page.keys(Keys.ARROW_RIGHT)
+    page.at(201)
+
+
+def test_a_question_that_a_change_overtakes_is_answered(page: Page, served: Served) -> None:
+    """What the page asks of the version that it knows fails in no way when the next one is there, and it goes on to
+    that."""
+    page.open(served)
+    served.change("fork", name="other", parent="root", at=100, edits=[])
+    page.free()
+    page.keys("t")
+    page.wait("[...document.querySelectorAll('#branch option')].some(option => option.value === 'other')")
+    page.drawn()
+    assert page.errors() == []
+
+
 def test_the_tabs_are_worked_by_arrows(page: Page, served: Served) -> None:
     from selenium.webdriver.common.keys import Keys
     page.open(served)
@@ -487,6 +516,20 @@ CLICK_TREE = """
   for (const kind of ['pointerdown', 'pointerup'])
     document.getElementById('plot-frame').dispatchEvent(new PointerEvent(kind, at));
 })(arguments[0], arguments[1])
+"""
+
+HOLD_STATE = """
+(words => {
+  const own = window.fetch;
+  window.fetch = (address, ...more) => {
+    if (!String(address).startsWith('api/state') || !String(address).includes(words)) return own(address, ...more);
+    window.held = true;
+    return new Promise(resolve => { window.letGo = resolve; }).then(() => own(address, ...more)).then(answer => {
+      window.answered = true;
+      return answer;
+    });
+  };
+})(arguments[0])
 """
 
 RECORD_TIMES = """
