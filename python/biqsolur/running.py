@@ -52,6 +52,8 @@ MOST_WORKERS = 64
 MOST_TARGETS = 64
 MOST_BYTES = 16_777_216         # of a study
 PROGRESS_SECONDS = 0.2          # between two words of progress
+TOLD = ("run", "table", "rewind", "cross", "session")
+AnyProgress = Union[bool, Callable[[int], object], None]
 ACCEPTED = r"accepted: agents (\d+), stocks (\d+), branches (\d+), segments (\d+)\n"
 IN_MEMORY = re.compile(r"/proc/self/fd/\d+")
 AUDITED = r"audit ok: branches (\d+), orders (\d+)\n"
@@ -313,9 +315,10 @@ class Call:
     subject: str | None = None
     more: Callable[[ProgramError], str] | None = None
 
-    def output(self) -> bytes:
-        """What the program writes. Raises the error of its status."""
-        return self.end(subprocess.PIPE).stdout
+    def output(self, progress: AnyProgress = None) -> bytes:
+        """What the program writes, which comes at its end. Raises the error of its status."""
+        with Progress(progress, None, self.words.words) as watch:
+            return self.end(subprocess.PIPE, watch).stdout
 
     def end(self, output: int, watch: Callable[[], None] | None = None) -> Answer:
         """Runs it; raises the error of its status."""
@@ -361,15 +364,20 @@ def line_of(output: bytes, pattern: str, program: Program) -> list[int]:
     return [int(number) for number in match.groups()]
 
 
-def table(study: AnyStudy, workers: int = 1, *, program: AnyProgram = None) -> pandas.DataFrame:
-    """The comparison table: a row a branch, columns as of `read_table`."""
+def table(study: AnyStudy, workers: int = 1, *, program: AnyProgram = None,
+          progress: AnyProgress = None) -> pandas.DataFrame:
+    """The comparison table: a row a branch, columns as of `read_table`.
+
+    progress, here and in `rewind`, `cross` and `session`: True for a line on standard error while it runs, or a
+    function that is called every fifth of a second with 0, since all of the answer comes at the end.
+    """
     from biqsolur.tables import read_table
     with command("table", study, program, *workers_words(workers)) as (call, _):
-        return read_table(call.output())
+        return read_table(call.output(progress))
 
 
 def rewind(study: AnyStudy, targets: Iterable[tuple[str, int]], workers: int = 1, *,
-           program: AnyProgram = None) -> Rewind:
+           program: AnyProgram = None, progress: AnyProgress = None) -> Rewind:
     """The states of branches after events, for 1 to 64 pairs (branch, event) in any order: rewind(...)["wide", 5000].
 
     Raises NoSuchBranch and NoSuchEvent, and RunError where there are too many pairs or one is none.
@@ -378,7 +386,7 @@ def rewind(study: AnyStudy, targets: Iterable[tuple[str, int]], workers: int = 1
     given = given_study(study)
     with command("rewind", given, program, *workers_words(workers)) as (call, words):
         words.words += [target_word(branch, event) for branch, event in pairs_of(targets)]
-        output = call.output()
+        output = call.output(progress)
     return read_rewind(output, given.known_study())
 
 
@@ -408,7 +416,7 @@ def target_word(branch: str, event: int) -> str:
 
 
 def cross(study: AnyStudy, branch: str, event: int, symbol: str, orders: object, workers: int = 1, *,
-          program: AnyProgram = None) -> Cross:
+          program: AnyProgram = None, progress: AnyProgress = None) -> Cross:
     """At which price a stock would reopen in the state of a branch after an event, if these orders joined its book.
 
     orders: the path of a file of docs/FORMATS.md#the-file-of-a-cross, its text, a data frame with its columns, or a
@@ -421,7 +429,7 @@ def cross(study: AnyStudy, branch: str, event: int, symbol: str, orders: object,
         words.words += [target_word(branch, event), plain_word(symbol, "symbol")]
         words.add_file(data, name)
         call.subject, call.more = name, lambda error: orders_fault(error, data, given)
-        output = call.output()
+        output = call.output(progress)
     return read_cross(output, data, lambda: rewind_of(given, branch, event, workers, program))
 
 
@@ -457,7 +465,7 @@ def plain_word(text: object, what: str) -> str:
 
 
 def session(study: AnyStudy, script: str | os.PathLike[str] | Iterable[Act], workers: int = 1, *,
-            program: AnyProgram = None) -> Session:
+            program: AnyProgram = None, progress: AnyProgress = None) -> Session:
     """The answers to the acts of a script, over the study's tree of branches: a path, a text of TOML, or a list of acts
     of `biqsolur.acts` (`Fork`, `Undo`, `EditBranch`, `StateAt`, `Close`, `Values`). Raises ScriptRefused, ActRefused
     and NoSuchEvent."""
@@ -467,7 +475,7 @@ def session(study: AnyStudy, script: str | os.PathLike[str] | Iterable[Act], wor
     with command("session", given, program, *workers_words(workers)) as (call, words):
         words.add_file(data, name)
         call.subject, call.more = name, lambda error: script_fault(error, data, given)
-        output = call.output()
+        output = call.output(progress)
     return read_session(output, data, given.known_study())
 
 
@@ -498,7 +506,7 @@ def audit_of_bytes(bundle: Bundle, program: Program) -> Answer:
 # ---------------------------------------------------------------- bundles
 
 def run(study: AnyStudy, workers: int = 1, *, program: AnyProgram = None, cache: bool = True,
-        progress: bool | Callable[[int], object] | None = None) -> Bundle:
+        progress: AnyProgress = None) -> Bundle:
     """Runs a study and gives its bundle, with `bundle.provenance` and `bundle.study`.
 
     workers: 1 to 64 threads, which change no byte. cache: whether the bundle is looked for in the cache and kept there.
@@ -521,7 +529,7 @@ def run(study: AnyStudy, workers: int = 1, *, program: AnyProgram = None, cache:
         return kept
     with command("run", given, program, *options) as (call, _), caches.part_for(limit) as (part, folder):
         begun, clock = time.time(), time.monotonic()
-        with Progress(progress, part.descriptor) as watch:
+        with Progress(progress, part.descriptor, ["run"]) as watch:
             call.subject, call.more = str(part.path), lambda error: write_sentence(error, part.path)
             call.end(part.descriptor, watch)
         bundle = written_bundle(part.path, which)
@@ -576,10 +584,15 @@ def sum_of_series(given: Given) -> str:
 
 
 class Progress:
-    """Tells how far a run is: `with Progress(...) as watch` gives what is to be called now and then, or None."""
+    """Tells how far a command is: `with Progress(...) as watch` gives what is to be called now and then, or None.
 
-    def __init__(self, told: bool | Callable[[int], object] | None, descriptor: int) -> None:
+    descriptor: of the file that it writes, None where its output comes at the end. words: of the program, one of which
+    is the command.
+    """
+
+    def __init__(self, told: AnyProgress, descriptor: int | None, words: Sequence[str]) -> None:
         self.told, self.descriptor, self.begun = told, descriptor, time.monotonic()
+        self.name = next((word for word in words if word in TOLD), "abides")
         self.line = ""
 
     def __enter__(self) -> Callable[[], None] | None:
@@ -593,11 +606,12 @@ class Progress:
 
     def watch(self) -> None:
         """Tells once."""
-        size = os.fstat(self.descriptor).st_size
+        size = 0 if self.descriptor is None else os.fstat(self.descriptor).st_size
         if callable(self.told):
             self.told(size)
         else:
-            self.line = f"abides run: {time.monotonic() - self.begun:.0f} s, {size / 1e6:.1f} MB written"
+            written = "" if self.descriptor is None else f", {size / 1e6:.1f} MB written"
+            self.line = f"abides {self.name}: {time.monotonic() - self.begun:.0f} s{written}"
             self.write(self.line + "\r")
 
     def write(self, text: str) -> None:

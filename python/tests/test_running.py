@@ -558,6 +558,17 @@ def test_progress_is_told(capfd):
     assert "\n" not in capfd.readouterr().err
 
 
+def test_progress_of_answers_that_come_at_the_end(capfd):
+    for asked in (lambda told: biqsolur.table(TICK, progress=told),
+                  lambda told: biqsolur.rewind(TICK, [("wide", 5100)], progress=told),
+                  lambda told: biqsolur.session(TICK, "[[act]]\nkind = \"values\"\nname = \"wide\"\n", progress=told)):
+        told = []
+        asked(told.append)
+        assert told and set(told) == {0}
+        asked(True)
+        assert "\n" not in capfd.readouterr().err
+
+
 def test_small_commands_load_no_data_frames():
     words = (f"import sys, biqsolur; assert biqsolur.run_bytes('check', {str(TICK)!r}).status == 0; "
              f"assert biqsolur.run_bytes('nothing').status == 2; "

@@ -21,6 +21,7 @@ from scipy import stats
 
 import biqsolur
 from biqsolur import errors, measures
+from biqsolur import program as package_program
 from biqsolur.sweep import __main__ as words
 from biqsolur.sweep import page, plan, points, run, summary
 
@@ -258,6 +259,17 @@ def test_a_measure_in_the_summary(tmp_path, program):
     assert math.isclose(float(said[0]["difference"]), sum(pairs) / 2, rel_tol=1e-12) and sum(pairs) != 0
     assert [row["refused"] for row in rows_of("out/summary.csv") if row["point"] == "1"] == ["3"]
     assert not any(row["measure"].startswith("parent.") for row in rows_of("out/summary.csv"))
+
+
+def test_a_summary_tells_where_it_comes_from(tmp_path, program):
+    """The record beside it, and the page, name the program by its sum, and the package's version."""
+    made = carried_out(configuration(tmp_path, program))
+    summary.summarise(made)
+    record = json.loads(Path("out/summary.run.json").read_text())
+    sum_ = hashlib.sha256(Path(program).read_bytes()).hexdigest()
+    assert record["sum of the program"] == sum_ and record["version"] == package_program.version()
+    assert record["keys"] == made.keys and record["points"] == [point.values for point in made.points]
+    assert sum_ in Path("out/summary.html").read_text()
 
 
 def test_columns_of_tables_that_differ(tmp_path):

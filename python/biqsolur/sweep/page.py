@@ -11,7 +11,7 @@ import pandas
 
 from biqsolur.report_page import packed, plotly_script
 from biqsolur.sweep.plan import Plan, cell, write_whole
-from biqsolur.sweep.summary import LEVEL
+from biqsolur.sweep.summary import LEVEL, origin
 
 MOST_ROWS = 5_000       # of the table; all are in summary.csv
 STYLE = ("body { font: 16px/1.45 system-ui, sans-serif; margin: 2em auto; max-width: 75em; padding: 0 1em } "
@@ -56,8 +56,9 @@ def page_text(plan: Plan, frame: pandas.DataFrame) -> str:
         more = f"<p>The first {MOST_ROWS:,} of {len(frame):,} rows; summary.csv has all.</p>"
     table = shown.to_html(index=False, na_rep="–", border=0, float_format=lambda value: f"{value:,.6g}")
     title, said = html.escape(title), html.escape(said)
+    from_where = html.escape("; ".join(f"{name}: {value}" for name, value in origin(plan).items()))
     return (f'<!doctype html><html lang="en"><meta charset="utf-8"><title>{title}</title><style>{STYLE}</style>'
-            f'<h1>{title}</h1><p>{said}</p>{picture}<div class="scroll">{table}</div>{more}</html>\n')
+            f'<h1>{title}</h1><p>{said}</p>{picture}<div class="scroll">{table}</div>{more}<p>{from_where}</p></html>\n')
 
 
 def labels(plan: Plan) -> list[str]:

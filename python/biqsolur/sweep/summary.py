@@ -14,13 +14,17 @@ are over the events behind the fork, and their differences are from the parent o
 from __future__ import annotations
 
 import csv
+import json
+import time
 from collections.abc import Iterable
 from pathlib import Path
 
 import numpy
 import pandas
 
+from biqsolur import program
 from biqsolur.errors import SweepError
+from biqsolur.provenance import moment_text
 from biqsolur.sweep.plan import Plan, write_whole
 from biqsolur.sweep.run import OF_PARENT, OWN_COLUMNS, TABLE_COLUMNS, column_of
 
@@ -160,7 +164,7 @@ def of_pairs(group: numpy.ndarray, differences: numpy.ndarray) -> dict[str, nump
 
 
 def summarise(plan: Plan) -> None:
-    """Writes the summary of a sweep's rows, and its page. SweepError where all runs were refused."""
+    """Writes the summary of a sweep's rows, its page and its record. SweepError where all runs were refused."""
     from biqsolur.sweep.page import write_summary_page
     rows = read_points(Path(plan.output) / "points.csv")
     if not (rows.status == "0").any():
@@ -168,6 +172,21 @@ def summarise(plan: Plan) -> None:
     frame = summary_frame(rows, [column_of(path) for path in plan.paths], plan.baseline)
     write_whole(Path(plan.output) / "summary.csv", frame.to_csv(index=False, lineterminator="\n"))
     write_summary_page(plan, frame, Path(plan.output) / "summary.html")
+    write_whole(Path(plan.output) / "summary.run.json", record_text(plan))
+
+
+def origin(plan: Plan) -> dict[str, str]:
+    """What the sweep's numbers come from: the study, the package's version, the kit that proved the program, its sum."""
+    return {"study": plan.study, "version": program.version(), "kit": program.kit() or "not known",
+            "program": plan.program, "sum of the program": plan.program_sum}
+
+
+def record_text(plan: Plan) -> str:
+    """The record of a sweep, which stands beside its summary: `origin`, the points with their values, the keys, and when
+    it was summarised (ISO 8601, UTC)."""
+    points = [point.values for point in plan.points]
+    return json.dumps({**origin(plan), "points": points, "keys": plan.keys, "time": moment_text(time.time())},
+                      indent=1, default=str) + "\n"
 
 
 def last_line(plan: Plan) -> str:
