@@ -214,6 +214,18 @@ def test_lives_by_hand():
     assert (lives.added, lives.life.tolist(), lives.canceled.tolist()) == (3, [10.0, 4.0], [True, False])
 
 
+def test_an_order_that_takes_two_prices_by_hand():
+    """One order takes both asks, and its impact is that of both."""
+    rows = [(1, ADDED, 7, 100, 1, 90, 0), (2, ADDED, 8, 50, -1, 90, 110), (3, ADDED, 9, 50, -1, 90, 110),
+            (4, EXECUTED, 8, 50, -1, 90, 120), (4, EXECUTED, 9, 20, -1, 90, 130), (4, EXECUTED, 7, 10, 1, 80, 130)]
+    time, kind, reference, shares, direction, bid, ask = map(numpy.array, zip(*rows))
+    ones = numpy.ones(len(rows), numpy.int64)
+    takes = flow.takes(Tape("X", time * SECOND, kind, reference, shares, ones, direction, bid, ones, ask, ones))
+    assert (takes.time // SECOND).tolist() == [4, 4]
+    assert (takes.sign.tolist(), takes.shares.tolist()) == ([1, -1], [70, 10])
+    assert (takes.before.tolist(), takes.after.tolist()) == ([100.0, 110.0], [110.0, 105.0])
+
+
 def test_spread_depth_and_volume_are_those_of_plain_loops(hour):
     tape = facts.tape_of_branch(hour[1].branches["root"])
     begin, end = tape.span

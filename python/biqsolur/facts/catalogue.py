@@ -207,7 +207,7 @@ FACTS = (
                quick_cancels),
         Number("life_mean_over_median", "mean life of the orders that ended over the median one", "", 2, 1000,
                skewed_lives)),
-        "Hasbrouck and Saar 2009: 37 per cent within two seconds; Challet and Stinchcombe 2003: lives follow a power "
+        "Hasbrouck and Saar 2009: 37 per cent of all limit orders; Challet and Stinchcombe 2003: lives follow a power "
         "law. That the mean is twice the median or more is this package's."),
 )
 
