@@ -219,3 +219,27 @@ class Generator:
 def make_study(seed):
     """(the study of a seed as a dict, the text of its series file or None)"""
     return Generator(seed).make()
+
+
+def steady_market(seconds: int) -> str:
+    """A study without its agents: one stock around 50 dollars, from 9:30 on for so many seconds."""
+    second = 1_000_000_000
+    return f"""version = 1
+key = "{5:064x}"
+open = {34_200 * second}
+close = {(34_200 + seconds) * second}
+events = 60000
+exchange = {{ group = 0, delay = 1000 }}
+latency = {{ base = [[1000]], jitter = [[9000]] }}
+[[stock]]
+symbol = "ABM"
+bands = [[0, 100]]
+add = 0
+take = 0
+series = "rule"
+start = 500000
+mean = 500000
+pull = 0
+shock = 100
+every = {second}
+"""

@@ -10,6 +10,7 @@ import numpy
 import pytest
 
 import biqsolur
+import studies
 from biqsolur import facts
 from biqsolur.__main__ import main
 from biqsolur.calibrate import MOMENTS, calibrate, calibration_of, moments_of, read_config
@@ -33,25 +34,7 @@ def agent(kind, every, **own):
 
 def market(margin, every):
     """Six minutes of value and noise traders: how far a price must be off, and how often noise comes."""
-    return f"""version = 1
-key = "{5:064x}"
-open = {34_200 * SECOND}
-close = {34_560 * SECOND}
-events = 60000
-exchange = {{ group = 0, delay = 1000 }}
-latency = {{ base = [[1000]], jitter = [[9000]] }}
-[[stock]]
-symbol = "ABM"
-bands = [[0, 100]]
-add = 0
-take = 0
-series = "rule"
-start = 500000
-mean = 500000
-pull = 0
-shock = 100
-every = {SECOND}
-""" + agent("value", 5 * SECOND, noise=300, margin=margin) + agent("noise", every)
+    return studies.steady_market(360) + agent("value", 5 * SECOND, noise=300, margin=margin) + agent("noise", every)
 
 
 def settings(folder, **more):

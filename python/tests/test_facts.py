@@ -54,25 +54,7 @@ def agent(kind, count, every, **own):
     return "[[agent]]\n" + "\n".join(f"{name} = {value}" for name, value in words.items()) + "\n"
 
 
-HOUR = f"""version = 1
-key = "{5:064x}"
-open = {34_200 * SECOND}
-close = {36_000 * SECOND}
-events = 60000
-exchange = {{ group = 0, delay = 1000 }}
-latency = {{ base = [[1000]], jitter = [[9000]] }}
-[[stock]]
-symbol = "ABM"
-bands = [[0, 100]]
-add = 0
-take = 0
-series = "rule"
-start = 500000
-mean = 500000
-pull = 0
-shock = 100
-every = {SECOND}
-""" + agent("maker", 2, 20, half=100, step=100, levels=2, pause=0) + agent("value", 10, 200, noise=300, margin=300) \
+HOUR = studies.steady_market(1_800) + agent("maker", 2, 20, half=100, step=100, levels=2, pause=0) + agent("value", 10, 200, noise=300, margin=300) \
     + agent("noise", 10, 100) + agent("momentum", 8, 100, short=2, long=6)
 
 
