@@ -136,7 +136,7 @@ fn tell_study<R: Threads + Wait + Sync, O: Sink, G: Gate + Sync, D: Ledger + Sen
     let setup = Setup {
         stride: study.stride,
         places: NO_PLACES,
-        keep: Keep::Frames,
+        keep: Keep::Tallied,
         workers,
     };
     let before = steps.count();

@@ -229,7 +229,7 @@ pub fn simulate_kept<R: Threads + Wait + Sync, G: Gate + Sync, D: Ledger + Send>
     let setup = Setup {
         stride: study.stride,
         places,
-        keep: Keep::Frames,
+        keep: Keep::Nothing,
         workers,
     };
     let Ok(worked) = simulate(rt, alloc, course, setup, gate, steps) else {

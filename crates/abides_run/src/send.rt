@@ -1,7 +1,7 @@
 //! Bytes, and the parts of a study's bundle, to a sink.
 
 ghost use Rattle.std.specs.Prelude.{◌≡◌, IfErr, OnOk};
-ghost use Rattle.trace_bundle.specs.Ran.{IsRunOf};
+ghost use Rattle.trace_bundle.specs.Ran.{IsFramedRunOf};
 ghost use Rattle.abides_run.specs.Output.{study_bundle};
 ghost use Rattle.abides_run.specs.Performed.{Sent};
 
@@ -40,6 +40,7 @@ pub struct ToSink {
 }
 
 impl<O: Sink> Carrier<O> for ToSink {
+    ghost use Rattle.kernel_copy.specs.Kept.{frames_of};
     ghost use Rattle.abides_run.specs.Performed.{Sent};
     ghost use Rattle.abides_run.specs.Sending.{sent_before, sent_behind, sent_nothing, unsent_for_memory};
 
@@ -47,7 +48,7 @@ impl<O: Sink> Carrier<O> for ToSink {
 
     ghost Carried = { λ d e bytes parts r. Sent bytes (O.faults d) (O.faults e) (O.taken d) (O.taken e) r };
 
-    ghost IsOwn = { λ s k bytes. Unit {0} };
+    ghost IsOwn = { λ s k kept bytes. frames_of kept ≡ bytes };
 
     fn bytes(&self, to: &mut O, bytes: &[u8]) -> Result<(), Status> {
         send(to, bytes)
@@ -78,7 +79,7 @@ pub fn send_bundle<O: Sink, W: RunOutcomes>(
     ran: &W,
     out: &mut O,
 ) -> Result<(), Status>
-    requires { IsRunOf course.now (W.count ran.now) (W.kept_of ran.now) (W.closing_of ran.now) }
+    requires { IsFramedRunOf course.now (W.count ran.now) (W.kept_of ran.now) (W.closing_of ran.now) }
     ensures { Sent (study_bundle course.now) (O.faults out.old) (O.faults out.new) (O.taken out.old) (O.taken out.new) result }
 {
     trace_bundle::send_bundle(alloc, course, ran, &ToSink { alloc }, out)

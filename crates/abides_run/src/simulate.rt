@@ -2,9 +2,10 @@
 
 ghost use Rattle.std.specs.Prelude.{◌≡◌, ◌+◌, ◌<◌, ◌≤◌, ◌^◌, IfOk, OnOk};
 ghost use Rattle.kernel_copy.specs.declared.kept.Keep.TheVariants.{Entries};
+ghost use Rattle.kernel_copy.specs.Kept.{KeepsFrames, KeepsTally};
 ghost use Rattle.rewind_desk.specs.AfterWork.{IsAfterWork};
 ghost use Rattle.abides_run.specs.Output.{study_events};
-ghost use Rattle.abides_run.specs.Simulated.{AreListedRunOf, AreRunOf};
+ghost use Rattle.abides_run.specs.Simulated.{AreFramedRunOf, AreListedRunOf, AreRunOf, AreTalliedRunOf};
 
 use branch_workers::{Setup, Worked, work};
 use kernel_copy::Course;
@@ -34,6 +35,8 @@ pub fn simulate<R: Threads + Wait + Sync, G: Gate + Sync, D: Ledger + Send>(
     requires workers { (0 < setup.workers) × (setup.workers ≤ 64) }
     requires steps { steps.old ≤ 2 ^ 63 }
     ensures ran { IfOk result (λ w. AreRunOf course.now.value w.outcomes.items) }
+    ensures framed { KeepsFrames setup.keep → IfOk result (λ w. AreFramedRunOf course.now.value w.outcomes.items) }
+    ensures tallied { KeepsTally setup.keep → IfOk result (λ w. AreTalliedRunOf course.now.value w.outcomes.items) }
     ensures listed { setup.keep ≡ Entries → IfOk result (λ w. AreListedRunOf course.now.value w.outcomes.items) }
     ensures shelf { IfOk result (λ w. IsAfterWork course.now.value setup.stride setup.places setup.workers w.shelf) }
     ensures few { study_events course.now.value < 2 ^ 52 }

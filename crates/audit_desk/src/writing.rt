@@ -2,7 +2,7 @@
 
 ghost use Rattle.std.specs.Prelude.{◌≡◌, IfOk};
 ghost use Rattle.trace_bundle.specs.Bundle.{bundle_of};
-ghost use Rattle.trace_bundle.specs.Ran.{IsRunOf};
+ghost use Rattle.trace_bundle.specs.Ran.{IsFramedRunOf};
 
 use kernel_copy::Course;
 use market_types::Memory;
@@ -14,7 +14,7 @@ use trace_bundle::{RunOutcomes, ToBytes, send_bundle};
 /// # Errors
 /// Want of memory alone.
 pub fn written<W: RunOutcomes>(alloc: Global, course: &Course, ran: &W) -> Result<Vec<u8>, Memory>
-    requires { IsRunOf course.now (W.count ran.now) (W.kept_of ran.now) (W.closing_of ran.now) }
+    requires { IsFramedRunOf course.now (W.count ran.now) (W.kept_of ran.now) (W.closing_of ran.now) }
     ensures { IfOk result (λ v. v.items ≡ bundle_of course.now) }
 {
     let mut out = Vec::new(alloc);

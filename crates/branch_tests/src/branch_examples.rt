@@ -3,6 +3,7 @@
 ghost use Rattle.std.specs.Prelude.{◌≡◌, ◌≤◌, ◌∷◌, [], length, map};
 ghost use Rattle.branch_tree.specs.Segments.{segments_in};
 ghost use Rattle.kernel_copy.specs.Courses.{AreEdits};
+ghost use Rattle.kernel_copy.specs.Kept.{KeepsFrames};
 ghost use Rattle.kernel_copy.specs.Outcomes.{outcome_told, outcomes_before};
 ghost use Rattle.branch_workers.specs.Example.{AreBranches, small};
 
@@ -97,7 +98,8 @@ fn bundle(
     keep: Keep,
     ran: &Vec<Outcome>,
 ) -> Vec<u8>
-    requires { map outcome_told ran.now.items ≡ outcomes_before course.now keep (length (segments_in course.now.plan)) }
+    requires framed { KeepsFrames keep }
+    requires ran { map outcome_told ran.now.items ≡ outcomes_before course.now keep (length (segments_in course.now.plan)) }
 {
     let _ = keep;
     outcomes_are_a_run();
@@ -113,7 +115,8 @@ fn bundle(
 
 // The trace of a course's last branch, from what was kept.
 fn last(rt: &impl Abort, alloc: Global, course: &Course, keep: Keep, ran: &Vec<Outcome>) -> Vec<u8>
-    requires { map outcome_told ran.now.items ≡ outcomes_before course.now keep (length (segments_in course.now.plan)) }
+    requires framed { KeepsFrames keep }
+    requires ran { map outcome_told ran.now.items ≡ outcomes_before course.now keep (length (segments_in course.now.plan)) }
 {
     let _ = keep;
     outcomes_are_a_run();
@@ -139,7 +142,8 @@ fn run<R: Abort + Threads + Wait + Sync>(
     keep: Keep,
     branches: Vec<Branch>,
 ) -> Written
-    requires { AreBranches branches.items }
+    requires framed { KeepsFrames keep }
+    requires branches { AreBranches branches.items }
 {
     let course = course_of(rt, alloc, branches);
     let simulated = simulate(rt, alloc, &course, keep);
@@ -167,7 +171,7 @@ fn digest(bytes: &[u8]) -> (usize, u64) {
 fn held(outcome: &Outcome) -> usize {
     match &outcome.kept {
         Kept::Entries(trace) => trace.len(),
-        Kept::Frames(_) => 0,
+        _ => 0,
     }
 }
 

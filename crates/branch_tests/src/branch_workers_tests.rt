@@ -89,7 +89,7 @@ fn are_one_edit(a: &EditMark, b: &EditMark) -> bool {
 fn entries_of(outcome: &Outcome) -> Option<&Packed> {
     match &outcome.kept {
         Kept::Entries(packed) => Some(packed),
-        Kept::Frames(_) => None,
+        _ => None,
     }
 }
 
@@ -177,6 +177,45 @@ fn frames<R: Abort + Threads + Wait + Sync>(
     bytes
 }
 
+// The tally of the frames of a course's entries, by three workers that keep tallies.
+fn tally<R: Abort + Threads + Wait + Sync>(
+    rt: &R,
+    alloc: Global,
+    course: &Arc<Course>,
+) -> (u128, u128) {
+    segments_have_few_events(course);
+    let mut steps: Steps<Counted> = Steps::new();
+    let setup = Setup {
+        stride: 5,
+        places: 1,
+        keep: Keep::Tallied,
+        workers: 3,
+    };
+    let worked = work(rt, alloc, course, setup, &OpenGate, &mut steps);
+    let _ = steps.close();
+    let worked = worked.expect(rt, "memory");
+    let (mut count, mut total) = (0u128, 0u128);
+    for outcome in worked.outcomes.iter() {
+        let Kept::Tallied(tallied) = &outcome.kept else {
+            panic!(rt; "no tally");
+        };
+        let tally = tallied.tally().expect(rt, "memory");
+        count = count.saturating_add(tally.count);
+        total = total.saturating_add(tally.total);
+    }
+    drop(worked);
+    (count, total)
+}
+
+// How many bytes there are, and their sum.
+fn counted(bytes: &[u8]) -> (u128, u128) {
+    let mut total = 0u128;
+    for byte in bytes.iter() {
+        total = total.saturating_add(u128::from(*byte));
+    }
+    (bytes.len() as u128, total)
+}
+
 // So many workers with so many places: they count as many steps as one worker does, so many states stand on the shelf, and each
 // outcome is one worker's.
 fn many_at<R: Abort + Threads + Wait + Sync>(
@@ -196,7 +235,7 @@ fn many_at<R: Abort + Threads + Wait + Sync>(
     drop(told);
 }
 
-// The frames that workers keep are those of the entries.
+// The frames that workers keep are those of the entries, and so is their tally. Where nothing is kept there are none.
 fn frames_are_those_of_entries<R: Abort + Threads + Wait + Sync>(
     rt: &R,
     alloc: Global,
@@ -206,6 +245,8 @@ fn frames_are_those_of_entries<R: Abort + Threads + Wait + Sync>(
     let entries = frames(rt, alloc, course, Keep::Entries);
     holds(rt, !bytes.is_empty());
     holds(rt, bytes.as_slice() == entries.as_slice());
+    equal(rt, tally(rt, alloc, course), counted(bytes.as_slice()));
+    holds(rt, frames(rt, alloc, course, Keep::Nothing).is_empty());
 }
 
 // Three branches, x, y and z, by one worker and by many: the outcomes are the same. Four of the five segments pass event 5, and
@@ -248,6 +289,21 @@ fn two_segments_at_once(rt: HostRuntime) {
         let (told, ticks) = worked(&rt, alloc, &course, 1, 2, &gate);
         equal(&rt, (told.outcomes.len(), ticks), (5, 18));
         equal(&rt, (gate.exceeded(), gate.passes()), (false, 5));
+        drop(told);
+    }
+    drop(course);
+}
+
+// The gate is passed by each segment's own number: one that holds a segment until another that isn't there is spent.
+#[test]
+fn each_segment_passes_the_gate(rt: HostRuntime) {
+    let alloc = rt.alloc();
+    let course = course(&rt, alloc, Stop::At(2));
+    for segment in 0..5u32 {
+        let gate = HoldGate::new(segment, 99, 1);
+        let (told, ticks) = worked(&rt, alloc, &course, 1, 1, &gate);
+        equal(&rt, (told.outcomes.len(), ticks), (5, 18));
+        equal(&rt, (gate.exceeded(), gate.passes()), (true, 5));
         drop(told);
     }
     drop(course);

@@ -1,6 +1,6 @@
 //! Rewinds over the shelf that workers of a small course give back.
 
-ghost use Rattle.std.specs.Prelude.{◌≡◌, ◌≤◌};
+ghost use Rattle.std.specs.Prelude.{◌≡◌, ◌<◌, ◌≤◌};
 ghost use Rattle.rewind_desk.specs.AfterWork.{IsAfterWork};
 
 use crate::facts::equal;
@@ -27,13 +27,28 @@ pub(crate) fn left<R: Abort + Threads + Wait + Sync>(
     requires places { places ≤ 128 }
     ensures { IsAfterWork course.now.value 5 places 3 result }
 {
+    left_by(rt, alloc, course, places, 3)
+}
+
+// The shelf that so many workers give back.
+fn left_by<R: Abort + Threads + Wait + Sync>(
+    rt: &R,
+    alloc: Global,
+    course: &Arc<Course>,
+    places: u32,
+    workers: u32,
+) -> ClosedShelf<Checkpoint>
+    requires places { places ≤ 128 }
+    requires workers { (0 < workers) × (workers ≤ 64) }
+    ensures { IsAfterWork course.now.value 5 places workers result }
+{
     segments_have_few_events(course);
     let mut steps: Steps<Counted> = Steps::new();
     let setup = Setup {
         stride: 5,
         places,
-        keep: Keep::Frames,
-        workers: 3,
+        keep: Keep::Nothing,
+        workers,
     };
     let worked = work(rt, alloc, course, setup, &OpenGate, &mut steps);
     let _ = steps.close();
@@ -83,17 +98,30 @@ fn key(segment: u32, event: u32) -> Option<Key> {
 // A rewind's branch and event, what it comes to, and how many events it counts.
 type Row = (u16, u32, Result<(u32, u32), RewindError>, u64);
 
+// Asks for each row's rewind.
+fn are_rewound(
+    rt: &impl Abort,
+    alloc: Global,
+    course: &Arc<Course>,
+    shelf: &ClosedShelf<Checkpoint>,
+    rows: &[Row],
+)
+    requires { shelf.now.course ≡ course.now.value }
+{
+    for (branch, event, told, ticks) in rows.iter() {
+        equal(
+            rt,
+            came(alloc, course, shelf, *branch, *event),
+            (*told, *ticks),
+        );
+    }
+}
+
 // Asks for each row's rewind of a course whose branches leave at this stop, with a place for each state of the grid.
 fn rewound<R: Abort + Threads + Wait + Sync>(rt: &R, alloc: Global, stop: Stop, rows: &[Row]) {
     let course = course(rt, alloc, stop);
     let shelf = left(rt, alloc, &course, 128);
-    for (branch, event, told, ticks) in rows.iter() {
-        equal(
-            rt,
-            came(alloc, &course, &shelf, *branch, *event),
-            (*told, *ticks),
-        );
-    }
+    are_rewound(rt, alloc, &course, &shelf, rows);
     drop(shelf);
     drop(course);
 }
@@ -123,6 +151,24 @@ fn rewinds_of_a_small_course(rt: HostRuntime) {
     rewound(&rt, alloc, Stop::At(2), &EARLY);
     rewound(&rt, alloc, Stop::When(1004), &EARLY);
     rewound(&rt, alloc, Stop::When(1005), &LATE);
+}
+
+const SHARED: [Row; 3] = [
+    (0, 6, Ok((6, 2)), 4),
+    (1, 6, Ok((6, 2)), 4),
+    (2, 6, Ok((6, 5)), 1),
+];
+
+// Three segments pass event 5, and the grid has one place for its states. One worker runs y's segment last, so that the place
+// holds y's state in the end: a rewind of y to event 6 counts one event, and those of the others go on from the fork.
+#[test]
+fn a_place_of_the_grid_that_keys_share(rt: HostRuntime) {
+    let alloc = rt.alloc();
+    let course = course(&rt, alloc, Stop::At(2));
+    let shelf = left_by(&rt, alloc, &course, 1, 1);
+    are_rewound(&rt, alloc, &course, &shelf, &SHARED);
+    drop(shelf);
+    drop(course);
 }
 
 // The fork's state has two events, and this number in its key. Without places for the grid it is the nearest from its event on,

@@ -1,9 +1,10 @@
 -- Runs that go on, and what is kept of them.
-use Rattle.std.proofs.Common.{◌≡◌, ℕ, ◌-◌, zero, suc, List, [], ◌∷◌, ◌++◌, All, map, Option, Some, None, Result, Ok, Err, OnOk, min, refl, sym, ap, ◌∙◌, subst, append_assoc, append-nil, arith}
-use Rattle.std.specs.List.{flat_map}
+use Rattle.std.proofs.Common.{◌≡◌, ℕ, ◌-◌, zero, suc, List, [], ◌∷◌, ◌++◌, All, map, Option, Some, None, Result, Ok, Err, OnOk, min, refl, sym, ap, ◌∙◌, ◌+◌, length, subst, append_assoc, append-nil, arith, length-append}
+use Rattle.std.specs.List.{flat_map, sum}
 use Rattle.std.proofs.lemmas.Grind.{flat_map-append}
 use Rattle.std.proofs.lemmas.List.{get_or-map, length-map}
 use Rattle.std.proofs.lemmas.List.Folds.{flat_map-map}
+use Rattle.std.proofs.lemmas.List.Sums.{sum_by-append}
 use Rattle.market_types.specs.declared.entry.Entry.{Entry}
 use Rattle.market_types.specs.Told.{EntryTold, EventTold, event, edit, entry_told}
 use Rattle.market_types.specs.Timely.{IsTimely}
@@ -24,21 +25,43 @@ use Rattle.kernel_copy.specs.UntilStop.{until_part}
 use Rattle.kernel_copy.proofs.Halts.{part-behind}
 use Rattle.kernel_copy.specs.declared.kept.Keep.{Keep}
 use Rattle.kernel_copy.specs.declared.kept.Keep.TheVariants as keep
-use Rattle.kernel_copy.specs.Kept.{KeptTold, frames, kept_as, kept_with, frames_of, with_event_frames, IsWritable}
+use Rattle.kernel_copy.specs.Kept.{KeepsFrames, KeptTold, frames, kept_as, kept_with, frames_of, tallied, with_event_frames, with_event_tally, IsWritable}
+use Rattle.kernel_copy.specs.Tallies.{tally_of, tally_with}
+use Rattle.kernel_copy.specs.declared.tally.Tally.{Tally}
 use Rattle.kernel_copy.specs.Ran.{RanTold, ran_as, ran_with}
+
+-- bytes behind others
+tally-more : (t : Tally) (a b : List ℕ) → tally_with (tally_with t a) b ≡ tally_with t (a ++ b)
+tally-more t a b =
+    let count : t.count + length a + length b ≡ t.count + length (a ++ b) = omega (arith, length-append a b) in
+    let total : t.total + sum a + sum b ≡ t.total + sum (a ++ b) = omega (arith, sum_by-append (λ (x : ℕ). x) a b) in
+    λ i. record { count = count i; total = total i }
+
+tally-behind : (a b : List ℕ) → tally_with (tally_of a) b ≡ tally_of (a ++ b)
+tally-behind a b =
+    let count : length a + length b ≡ length (a ++ b) = omega (arith, length-append a b) in
+    let total : sum a + sum b ≡ sum (a ++ b) = omega (arith, sum_by-append (λ (x : ℕ). x) a b) in
+    λ i. record { count = count i; total = total i }
 
 pub as_with : (k : Keep) (xs ys : List EntryTold) → kept_with (kept_as k xs) ys ≡ kept_as k (xs ++ ys)
 as_with keep.Entries xs ys = refl
 as_with keep.Frames xs ys = ap (λ (b : List ℕ). frames b) (sym (flat_map-append entry_frames xs ys))
+as_with keep.Tallied xs ys =
+    ap (λ (t : Tally). tallied t) (tally-behind (flat_map entry_frames xs) (flat_map entry_frames ys) ∙ ap (λ (b : List ℕ). tally_of b) (sym (flat_map-append entry_frames xs ys)))
+as_with keep.Nothing xs ys = refl
 
--- what is kept has the frames of the entries
-pub frames_as : (k : Keep) (xs : List EntryTold) → frames_of (kept_as k xs) ≡ flat_map entry_frames xs
-frames_as keep.Entries xs = refl
-frames_as keep.Frames xs = refl
+-- where frames are kept, they are those of the entries
+pub frames_as : (k : Keep) (xs : List EntryTold) → KeepsFrames k → frames_of (kept_as k xs) ≡ flat_map entry_frames xs
+frames_as keep.Entries xs keeps = refl
+frames_as keep.Frames xs keeps = refl
+frames_as keep.Tallied xs keeps = absurd keeps
+frames_as keep.Nothing xs keeps = absurd keeps
 
 pub timely_as : (k : Keep) (xs : List EntryTold) → All IsTimely xs → IsWritable (kept_as k xs)
 timely_as keep.Entries xs all = all
 timely_as keep.Frames xs all = tt
+timely_as keep.Tallied xs all = tt
+timely_as keep.Nothing xs all = tt
 
 -- the frames of entries are those of what they tell
 pub frames_told : (xs : List Entry) (ys : List EntryTold) → map entry_told xs ≡ ys → flat_map (λ (e : Entry). entry_frames (entry_told e)) xs ≡ flat_map entry_frames ys
@@ -112,6 +135,26 @@ time-appends bytes o when most s =
 pub part-appends : (bytes : List ℕ) (o : Opening) (t : Stop) (most : ℕ) (s : State) → AreAppended bytes (until_part o t most (afresh s)).entries
 part-appends bytes o (At n) most s = until-appends bytes o (min n most) s
 part-appends bytes o (When w) most s = time-appends bytes o w most s
+
+-- a tally of frames is the tally of the bytes that were appended
+folded-tally : (t : Tally) (bytes : List ℕ) (es : List EntryTold) → folded with_event_tally (tally_with t bytes) es ≡ tally_with t (folded with_event_frames bytes es)
+folded-tally t bytes [] = refl
+folded-tally t bytes (event e ∷ es) =
+    ap (λ (u : Tally). folded with_event_tally u es) (tally-more t bytes (event_frames e)) ∙ folded-tally t (with_event_frames bytes e) es
+folded-tally t bytes (edit m ∷ es) = folded-tally t bytes es
+
+tally-nothing : (t : Tally) → t ≡ tally_with t []
+tally-nothing t =
+    let count : t.count ≡ t.count + 0 = omega arith in
+    let total : t.total ≡ t.total + 0 = omega arith in
+    λ i. record { count = count i; total = total i }
+
+-- and the tally of the frames that a run to a stop appends
+pub part-tallies : (tally : Tally) (o : Opening) (t : Stop) (most : ℕ) (s : State)
+    → folded with_event_tally tally (until_part o t most (afresh s)).entries ≡ tally_with tally (flat_map entry_frames (until_part o t most (afresh s)).entries)
+part-tallies tally o t most s =
+    let es = (until_part o t most (afresh s)).entries in
+    ap (λ (u : Tally). folded with_event_tally u es) (tally-nothing tally) ∙ folded-tally tally [] es ∙ ap (λ (b : List ℕ). tally_with tally b) (part-appends [] o t most s)
 
 -- and the entries that it lists
 pub part-lists : (xs : List EntryTold) (o : Opening) (t : Stop) (most : ℕ) (s : State) → folded listed xs (until_part o t most (afresh s)).entries ≡ xs ++ (until_part o t most (afresh s)).entries

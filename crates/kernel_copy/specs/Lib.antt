@@ -4,6 +4,7 @@ pub mod Full
 pub mod Segmentwise
 pub mod Reached
 pub mod Courses
+pub mod Tallies
 pub mod Kept
 pub mod Ran
 pub mod Outcomes

@@ -6,6 +6,7 @@ ghost use Rattle.bundle_frames.specs.Frames.{entry_frames};
 ghost use Rattle.market_types.specs.Timely.{IsTimely};
 ghost use Rattle.kernel_copy.specs.Kept.{IsWritable, frames_of, kept_told, kept_as};
 
+use crate::tallied::Tallied;
 use bundle_frames::{Written, put_all};
 use market_types::{EditMark, Memory, Record, Trace};
 use packed_entries::{Packed, Step, Walk, blank_edit, blank_event};
@@ -18,6 +19,10 @@ pub enum Keep {
     Entries,
     /// The bytes of their frames as they stand in a bundle, about 90 an entry. The entries are dropped as the run goes on.
     Frames,
+    /// How many bytes their frames have, and their sum. Bytes and entries are dropped as the run goes on.
+    Tallied,
+    /// Nothing, where no one reads them.
+    Nothing,
 }
 
 /// What is kept of a run's entries.
@@ -27,6 +32,10 @@ pub enum Kept {
     Entries(Packed),
     /// The bytes of their frames, one after another.
     Frames(Vec<u8>),
+    /// How many bytes their frames have, and their sum.
+    Tallied(Tallied),
+    /// Nothing.
+    Nothing,
 }
 
 // The entries of a trace, kept small.
@@ -41,8 +50,18 @@ fn packed_of(alloc: Global, trace: &Trace) -> Result<Packed, Memory>
     Ok(packed)
 }
 
+// The bytes of the frames of a trace's entries.
+fn frames_of(alloc: Global, trace: &Trace) -> Result<Vec<u8>, Memory>
+    requires { All IsTimely trace.now.list }
+    ensures { IfOk result (λ v. v.items ≡ flat_map entry_frames trace.now.list) }
+{
+    let mut bytes = Vec::new(alloc);
+    put_all(&mut bytes, trace.as_slice())?;
+    Ok(bytes)
+}
+
 // What is to be kept of the entries of a trace.
-fn packed_or_framed(alloc: Global, keep: Keep, trace: &Trace) -> Result<Kept, Memory>
+fn kept_of(alloc: Global, keep: Keep, trace: &Trace) -> Result<Kept, Memory>
     requires { All IsTimely trace.now.list }
     ensures { IfOk result (λ x. kept_told x ≡ kept_as keep trace.now.list) }
 {
@@ -53,11 +72,12 @@ fn packed_or_framed(alloc: Global, keep: Keep, trace: &Trace) -> Result<Kept, Me
             };
             Ok(Kept::Entries(packed))
         }
-        Keep::Frames => {
-            let mut bytes = Vec::new(alloc);
-            put_all(&mut bytes, trace.as_slice())?;
-            Ok(Kept::Frames(bytes))
+        Keep::Frames => Ok(Kept::Frames(frames_of(alloc, trace)?)),
+        Keep::Tallied => {
+            let bytes = frames_of(alloc, trace)?;
+            Ok(Kept::Tallied(Tallied::of(bytes)))
         }
+        Keep::Nothing => Ok(Kept::Nothing),
     }
 }
 
@@ -104,12 +124,13 @@ impl Kept {
         requires { All IsTimely trace.list }
         ensures { IfOk result (λ x. kept_told x ≡ kept_as keep trace.list) }
     {
-        let kept = packed_or_framed(alloc, keep, &trace);
+        let kept = kept_of(alloc, keep, &trace);
         drop(trace);
         kept
     }
 
-    /// Appends the bytes of the frames. What stands in `out` after want of memory is left open.
+    /// Appends the bytes of the frames: none where a tally is kept, or nothing. What stands in `out` after want of memory is
+    /// left open.
     ///
     /// # Errors
     /// Want of memory alone.
@@ -120,6 +141,7 @@ impl Kept {
         match self {
             Kept::Entries(packed) => put_packed(out, packed)?,
             Kept::Frames(bytes) => out.extend_from_slice(bytes)?,
+            Kept::Tallied(_) | Kept::Nothing => {}
         }
         Ok(())
     }

@@ -11,7 +11,7 @@ ghost use Rattle.kernel_core.specs.Until.{until};
 ghost use Rattle.market_types.specs.Timely.{IsTimely};
 ghost use Rattle.kernel_copy.specs.Closing.{closing_at};
 ghost use Rattle.kernel_copy.specs.Courses.{kept_of};
-ghost use Rattle.kernel_copy.specs.Kept.{entries, frames, kept_told, kept_with};
+ghost use Rattle.kernel_copy.specs.Kept.{entries, frames, kept_told, kept_with, tallied};
 ghost use Rattle.kernel_copy.specs.Ran.{ran_told, ran_with};
 ghost use Rattle.kernel_copy.specs.Reached.{IsReached};
 ghost use Rattle.kernel_copy.specs.UntilStop.{until_part};
@@ -25,6 +25,8 @@ use crate::kept::Kept;
 use crate::keys::number_of_end;
 use crate::laws::courses_stay_in_range;
 use crate::packed_events::PackedEvents;
+use crate::tallied::Tallied;
+use crate::unkept::Unkept;
 use branch_tree::{BranchPlan, Stop};
 use bundle_frames::Closing;
 use kernel_core::{Keeper, Kernel};
@@ -161,6 +163,29 @@ fn run_packed<L: Ledger>(
     ran
 }
 
+// Runs a kernel on to a stop, and to no more than so many events, and tallies the frames of each event.
+fn run_tallied<L: Ledger>(
+    alloc: Global,
+    o: &Opening,
+    stop: Stop,
+    most: u32,
+    kernel: &mut Kernel,
+    tally: &mut Tallied,
+    steps: &mut Steps<L>,
+) -> Result<(), Memory>
+    requires fits { Fits o.now kernel.old }
+    requires count { steps.old + (most - kernel.old.events) < 2 ^ 64 }
+    ensures state { OnOk result (kernel.new ≡ (until_part o.now stop most (afresh kernel.old)).state) }
+    ensures kept { OnOk result (tallied tally.new ≡ kept_with (tallied tally.old) (until_part o.now stop most (afresh kernel.old)).entries) }
+    ensures made { kernel.new ≡ (until o.now kernel.new.events (afresh kernel.old)).state }
+    ensures ticks { steps.new + kernel.old.events ≡ steps.old + kernel.new.events }
+    ensures grows { kernel.old.events ≤ kernel.new.events }
+    ensures within { kernel.new.events ≤ (until_part o.now stop most (afresh kernel.old)).state.events }
+    ensures fitting { Fits o.now kernel.new }
+{
+    run_part(alloc, o, stop, most, kernel, tally, steps)
+}
+
 impl Ran {
     /// Lets a run go on to a stop, and to no more than so many events.
     ///
@@ -189,6 +214,12 @@ impl Ran {
             }
             Kept::Frames(bytes) => {
                 run_in_frames(alloc, o, stop, most, &mut self.kernel, bytes, steps)
+            }
+            Kept::Tallied(tally) => {
+                run_tallied(alloc, o, stop, most, &mut self.kernel, tally, steps)
+            }
+            Kept::Nothing => {
+                run_part(alloc, o, stop, most, &mut self.kernel, &mut Unkept, steps)
             }
         }
     }

@@ -1,7 +1,8 @@
 //! The large study: the lines that tell of its run, and that it is accepted.
 
 use crate::facts::holds;
-use crate::runs::{Around, alone, is_whole, ran, sized};
+use crate::runs::{Around, alone, is_whole, ran, ran_past, sized};
+use outside::HoldGate;
 use std::alloc::Global;
 use std::process::Abort;
 use std::sync::Wait;
@@ -47,4 +48,22 @@ fn lines_of_the_large_study(rt: HostRuntime) {
         holds(&rt, runs_so(&rt, alloc, text.as_str(), row));
     }
     drop(text);
+}
+
+// The lines by two workers, of which each segment of two branches waits for the other to begin.
+#[test]
+fn workers_of_the_large_study(rt: HostRuntime) {
+    let alloc = rt.alloc();
+    for (held, until) in [(11, 12), (12, 11)] {
+        let gate = HoldGate::new(held, until, 100_000_000);
+        let around = Around {
+            failing_read: 1,
+            ..alone("", sized(200, 64))
+        };
+        let words = ["big", "7", "--workers=2"];
+        let ended = ran_past(&rt, alloc, &words, &around, Vec::new(alloc), &gate);
+        holds(&rt, is_whole(&ended, 88_000, LINES.as_bytes()));
+        drop(ended);
+        holds(&rt, !gate.exceeded() & (gate.passes() == 13));
+    }
 }

@@ -1,5 +1,5 @@
 use crate::facts::holds;
-use trace_bundle::Tally;
+use kernel_copy::Tally;
 
 #[test]
 fn tallies(rt: HostRuntime) {

@@ -233,7 +233,27 @@ const BY_TWO: [(&[&str], &str); 4] = [
     ),
 ];
 
-// A command runs three branches past a gate that holds one segment, by two workers.
+// A command runs three branches past this gate, by two workers.
+fn runs_past<R: Abort + Threads + Wait + Sync>(
+    rt: &R,
+    alloc: Global,
+    text: &str,
+    row: &(&[&str], &str),
+    gate: &HoldGate,
+) {
+    let around = Around {
+        series: row.1,
+        ..alone(text, sized(4096, 4096))
+    };
+    let probes = four_probes(rt, alloc);
+    let ended = ran_past(rt, alloc, row.0, &around, probes, gate);
+    holds(rt, is_ended(&ended, Status::Ok, 18));
+    drop(ended);
+    holds(rt, gate.passes() == 5);
+}
+
+// A command has two workers, whose segments 2 and 3 are under way at once, and passes the gate by the numbers of segments: one
+// that holds segment 4 until another that isn't there is spent.
 fn runs_by_two<R: Abort + Threads + Wait + Sync>(
     rt: &R,
     alloc: Global,
@@ -241,15 +261,11 @@ fn runs_by_two<R: Abort + Threads + Wait + Sync>(
     row: &(&[&str], &str),
 ) {
     let gate = HoldGate::new(2, 3, 100_000_000);
-    let around = Around {
-        series: row.1,
-        ..alone(text, sized(4096, 4096))
-    };
-    let probes = four_probes(rt, alloc);
-    let ended = ran_past(rt, alloc, row.0, &around, probes, &gate);
-    holds(rt, is_ended(&ended, Status::Ok, 18));
-    drop(ended);
-    holds(rt, !gate.exceeded() & (gate.passes() == 5));
+    runs_past(rt, alloc, text, row, &gate);
+    holds(rt, !gate.exceeded());
+    let spent = HoldGate::new(4, 99, 1);
+    runs_past(rt, alloc, text, row, &spent);
+    holds(rt, spent.exceeded());
 }
 
 // The other commands that simulate a study have more than one worker too where their words say so.

@@ -16,7 +16,6 @@ use kernel_core::Kernel;
 use market_floor::Opening;
 use market_types::{Memory, Trace};
 use outside::{Ledger, Steps};
-use packed_entries::Packed;
 use std::alloc::Global;
 
 // Where a run to so many events of a segment's branch came.
@@ -80,8 +79,10 @@ fn arrive<L: Ledger>(
 {
     let o = course.opening();
     let stop = course.segment(segment).stop;
-    let kept = Kept::Entries(Packed::new(alloc));
-    let mut ran = Ran { kept, kernel };
+    let mut ran = Ran {
+        kept: Kept::Nothing,
+        kernel,
+    };
     let Ok(_) = ran.run_to(alloc, o, stop, event, steps) else {
         drop(ran);
         return Err(Memory);

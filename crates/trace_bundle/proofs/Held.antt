@@ -11,7 +11,7 @@ use Rattle.kernel_copy.specs.declared.kept.Keep.TheVariants as keeping
 use Rattle.kernel_copy.specs.declared.run.Outcome.{Outcome}
 use Rattle.kernel_copy.specs.Outcomes.{OutcomeTold, outcome_of, outcome_told, outcomes_before}
 use Rattle.trace_bundle.specs.Outcomes.{all_told, no_outcome, outcome_at}
-use Rattle.trace_bundle.specs.Ran.{IsListedRunOf, IsRunOf}
+use Rattle.trace_bundle.specs.Ran.{IsFramedRunOf, IsListedRunOf, IsRunOf}
 
 outcomes-length : (c : CourseTold) (k : Keep) (n : ℕ) → length (outcomes_before c k n) ≡ n
 outcomes-length c k zero = refl
@@ -55,3 +55,6 @@ listed-run-of c xs e = record {
 -- a run that holds the entries themselves
 pub run-of-listed : (c : CourseTold) (held : ℕ) (kept_of : ℕ → KeptTold) (closing_of : ℕ → Closing) → IsListedRunOf c held kept_of closing_of → IsRunOf c held kept_of closing_of
 run-of-listed c held kept_of closing_of run = record { all = run.all; keep = keeping.Entries; kept = run.entries; closing = run.closing }
+
+pub framed-of-listed : (c : CourseTold) (held : ℕ) (kept_of : ℕ → KeptTold) (closing_of : ℕ → Closing) → IsListedRunOf c held kept_of closing_of → IsFramedRunOf c held kept_of closing_of
+framed-of-listed c held kept_of closing_of run = record { run = run-of-listed c held kept_of closing_of run; frames = tt }

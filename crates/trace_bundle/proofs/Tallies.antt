@@ -7,11 +7,13 @@ use Rattle.branch_tree.specs.Segments.{segments_in}
 use Rattle.branch_tree.proofs.CutLemmas.{count-few}
 use Rattle.branch_tree.proofs.PartLemmas.{length-before}
 use Rattle.kernel_copy.specs.Courses.{CourseTold, IsCourse}
+use Rattle.kernel_copy.specs.Kept.{KeptTold}
 use Rattle.kernel_copy.proofs.Trees.{course-few}
 use Rattle.trace_bundle.specs.Bundle.{bundle_of}
 use Rattle.trace_bundle.specs.Report.{bundle_size, byte_sum}
-use Rattle.trace_bundle.specs.Tallied.{AreOwn, AreTalliesOf, IsOwnTally, IsTallyOf, IsWith, no_tally, own_frames, parts_of_bundle}
-use Rattle.trace_bundle.specs.declared.tally.Tally.{Tally}
+use Rattle.kernel_copy.specs.Tallies.{IsTallyOf, no_tally}
+use Rattle.trace_bundle.specs.Tallied.{AreOwn, AreTalliesOf, IsOwnTally, IsWith, own_frames, parts_of_bundle}
+use Rattle.kernel_copy.specs.declared.tally.Tally.{Tally}
 
 -- one segment more
 pub tallies-more : (c : CourseTold) (n : ℕ) (ts : List Tally) (t : Tally) → AreTalliesOf c n ts → IsTallyOf t (own_frames c n) 1 → AreTalliesOf c (n + 1) (ts ++ t ∷ [])
@@ -27,8 +29,8 @@ tallies-more c n ts t are is = record {
 }
 
 -- the tallies of all segments stand for them
-pub tallies-own : (c : CourseTold) (ts : List Tally) → AreTalliesOf c (length (segments_in c.plan)) ts → AreOwn (λ s bytes. IsOwnTally ts s bytes) c
-tallies-own c ts are = λ s l. record { there = omega (arith, l, are.all); tally = are.each s l }
+pub tallies-own : (c : CourseTold) (kept_of : ℕ → KeptTold) (ts : List Tally) → AreTalliesOf c (length (segments_in c.plan)) ts → AreOwn (λ s kept bytes. IsOwnTally ts s bytes) c kept_of
+tallies-own c kept_of ts are = λ s l. record { there = omega (arith, l, are.all); tally = are.each s l }
 
 -- a bundle has few parts
 parts-few : (c : CourseTold) → IsCourse c → parts_of_bundle c ≤ 2 ^ 30

@@ -1,8 +1,9 @@
 -- Parts that are carried one behind another.
 use Rattle.std.proofs.Common.{◌≡◌, ℕ, ◌+◌, ◌^◌, ◌≤◌, List, [], ◌++◌, Result, Ok, Err, OnOk, append_assoc, append-nil, ap, ◌∙◌, sym, subst, add_assoc, add-le-add, le-add_right, le_refl, le_trans, mul-le-mul_right}
 use Rattle.plain_lists.specs.declared.memory.Memory.{Memory}
-use Rattle.trace_bundle.specs.Tallied.{IsTallyOf, IsWith}
-use Rattle.trace_bundle.specs.declared.tally.Tally.{Tally}
+use Rattle.kernel_copy.specs.Tallies.{IsTallyOf}
+use Rattle.trace_bundle.specs.Tallied.{IsWith}
+use Rattle.kernel_copy.specs.declared.tally.Tally.{Tally}
 
 pub bytes-nothing : (before : List ℕ) → before ≡ before ++ []
 bytes-nothing before = sym (append-nil before)

@@ -1,22 +1,13 @@
--- How many bytes there are, and their sum.
-use Rattle.std.specs.Prelude.{◌≡◌, ◌<◌, ◌≤◌, ◌+◌, ◌*◌, ◌^◌, ◌++◌, ℕ, List, length, sum, slice_index_or}
+-- The tallies of segments' own entries, and of a bundle's parts.
+use Rattle.std.specs.Prelude.{◌≡◌, ◌<◌, ◌≤◌, ◌+◌, ◌*◌, ◌^◌, ◌++◌, ℕ, List, length, slice_index_or}
 use Rattle.std.specs.List.{flat_map}
 use Rattle.bundle_frames.specs.Frames.{entry_frames}
 use Rattle.branch_tree.specs.Segments.{segment_at, segments_in}
 use Rattle.kernel_copy.specs.Courses.{CourseTold}
+use Rattle.kernel_copy.specs.Kept.{KeptTold, entries, frames, nothing, tallied}
 use Rattle.kernel_copy.specs.Segmentwise.{segment_end, segment_entries}
-use Rattle.trace_bundle.specs.declared.tally.Tally.{Tally}
-
--- The tally of these bytes, which came in so many parts, each one that a memory of 64-bit addresses holds.
-pub record IsTallyOf (t : Tally) (bytes : List ℕ) (parts : ℕ) : Type 0 where
-  pub count : t.count ≡ length bytes
-  pub total : t.total ≡ sum bytes
-  pub few : t.count ≤ parts * 2 ^ 64
-  pub small : t.total ≤ 255 * t.count
-
--- the tally of no bytes
-abbrev pub no_tally : Tally
-no_tally = record { count = 0; total = 0 }
+use Rattle.kernel_copy.specs.Tallies.{IsTallyOf, no_tally, tally_of}
+use Rattle.kernel_copy.specs.declared.tally.Tally.{Tally}
 
 -- the frames of a segment's own entries
 abbrev pub own_frames : CourseTold → ℕ → List ℕ
@@ -26,9 +17,16 @@ own_frames c s = flat_map entry_frames (segment_entries c.opening c.plan (segmen
 abbrev pub frames_to : CourseTold → ℕ → List ℕ
 frames_to c s = flat_map entry_frames (segment_end c.opening c.plan (segment_at c.plan s)).entries
 
--- A carrier that takes such bytes as a segment's own takes the frames of each segment's own entries.
-abbrev pub AreOwn : (ℕ → List ℕ → Type 0) → CourseTold → Type 0
-AreOwn own c = (s : ℕ) → s < length (segments_in c.plan) → own s (own_frames c s)
+-- A carrier that takes what is kept of a segment as such bytes takes what is kept of each as the frames of its own entries.
+abbrev pub AreOwn : (ℕ → KeptTold → List ℕ → Type 0) → CourseTold → (ℕ → KeptTold) → Type 0
+AreOwn own c kept_of = (s : ℕ) → s < length (segments_in c.plan) → own s (kept_of s) (own_frames c s)
+
+-- What is kept tells these bytes of frames, or their tally.
+abbrev pub IsKeptOf : KeptTold → List ℕ → Type 0
+IsKeptOf (entries xs) bytes = flat_map entry_frames xs ≡ bytes
+IsKeptOf (frames told) bytes = told ≡ bytes
+IsKeptOf (tallied tally) bytes = tally ≡ tally_of bytes
+IsKeptOf nothing bytes = ⊥
 
 -- The tallies of the first n segments' own entries.
 pub record AreTalliesOf (c : CourseTold) (n : ℕ) (ts : List Tally) : Type 0 where

@@ -1,7 +1,7 @@
 //! How the parts of a bundle come to where they go.
 
 ghost use Rattle.std.specs.Prelude.{◌≤◌, ◌+◌, ◌++◌, [], ℕ, List, Result, Ok, Err};
-ghost use Rattle.kernel_copy.specs.Kept.{IsWritable, frames_of, kept_told};
+ghost use Rattle.kernel_copy.specs.Kept.{IsWritable, KeptTold, kept_told};
 ghost use Rattle.plain_lists.specs.declared.memory.Memory.{Memory as NoMemory};
 
 use kernel_copy::Kept;
@@ -15,18 +15,17 @@ pub trait Carrier<D> {
     /// These bytes came in at most so many parts, or why not all of them did: the `D` before, and after.
     ghost Carried: { D → D → List ℕ → ℕ → Result (Unit {0}) Self.Error → Type 0 };
 
-    /// It takes these bytes as those of a segment's own entries.
-    ghost IsOwn: { Self → ℕ → List ℕ → Type 0 };
+    /// It takes what is kept of a segment's own entries as these bytes.
+    ghost IsOwn: { Self → ℕ → KeptTold → List ℕ → Type 0 };
 
     /// Carries a small part: a header, what stands around the entries of a branch, an end.
     fn bytes(&self, to: &mut D, bytes: &[u8]) -> Result<(), Self::Error>
         ensures { Carried to.old to.new bytes.now 1 result };
 
-    /// Carries what is kept of a segment's own entries.
+    /// Carries what is kept of a segment's own entries, as bytes that it takes for it.
     fn segment(&self, to: &mut D, segment: u32, kept: &Kept) -> Result<(), Self::Error>
         requires writable { IsWritable (kept_told kept.now) }
-        requires own { IsOwn self.now segment (frames_of (kept_told kept.now)) }
-        ensures { Carried to.old to.new (frames_of (kept_told kept.now)) 1 result };
+        ensures { (bytes : List ℕ) → IsOwn self.now segment (kept_told kept.now) bytes → Carried to.old to.new bytes 1 result };
 
     /// No bytes are no part.
     ghost nothing: { (d : D) → Carried d d [] 0 (Ok tt) };

@@ -14,7 +14,6 @@ mod outcomes;
 mod ran;
 mod segment_tallies;
 mod send;
-mod tally;
 mod to_bytes;
 pub mod worked;
 
@@ -26,5 +25,4 @@ pub use lines::big_lines;
 pub use listed::trace_of_segment;
 pub use ran::RunOutcomes;
 pub use send::{send_bundle, send_end};
-pub use tally::Tally;
 pub use to_bytes::{ToBytes, write_branch};

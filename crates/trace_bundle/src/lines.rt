@@ -2,21 +2,20 @@
 
 ghost use Rattle.std.specs.Prelude.{◌≡◌, IfOk, string_bytes};
 ghost use Rattle.kernel_copy.specs.Segmentwise as segmentwise;
-ghost use Rattle.trace_bundle.specs.Ran.{IsRunOf};
+ghost use Rattle.trace_bundle.specs.Ran.{IsTalliedRunOf};
 ghost use Rattle.trace_bundle.specs.Report.{big_lines_of, bundle_size, byte_sum, six_lines};
 
 use crate::ends::events_of_all;
 use crate::ran::RunOutcomes;
 use crate::segment_tallies::segment_tallies;
 use crate::send::send_bundle;
-use crate::tally::Tally;
-use kernel_copy::Course;
+use kernel_copy::{Course, Tally};
 use plain_lists::Memory;
 use std::alloc::{AllocError, Global};
 
 // The tally of a study's bundle, which is never held whole.
 fn tally_of_bundle<W: RunOutcomes>(alloc: Global, course: &Course, ran: &W) -> Result<Tally, Memory>
-    requires { IsRunOf course.now (W.count ran.now) (W.kept_of ran.now) (W.closing_of ran.now) }
+    requires { IsTalliedRunOf course.now (W.count ran.now) (W.kept_of ran.now) (W.closing_of ran.now) }
     ensures count { IfOk result (λ t. t.count ≡ bundle_size course.now) }
     ensures total { IfOk result (λ t. t.total ≡ byte_sum course.now) }
 {
@@ -57,7 +56,7 @@ pub fn big_lines<W: RunOutcomes>(
     ran: &W,
     distinct: u64,
 ) -> Result<String, Memory>
-    requires ran { IsRunOf course.now (W.count ran.now) (W.kept_of ran.now) (W.closing_of ran.now) }
+    requires ran { IsTalliedRunOf course.now (W.count ran.now) (W.kept_of ran.now) (W.closing_of ran.now) }
     requires distinct { distinct ≡ segmentwise.distinct course.now.opening course.now.plan }
     ensures { IfOk result (λ text. string_bytes text ≡ big_lines_of study course.now) }
 {

@@ -18,6 +18,6 @@ pub fn trace_of_segment<'a, W: RunOutcomes>(course: &Course, ran: &'a W, segment
     let _ = course;
     match ran.kept(segment) {
         Kept::Entries(packed) => packed,
-        Kept::Frames(_) => unreachable!(),
+        Kept::Frames(_) | Kept::Tallied(_) | Kept::Nothing => unreachable!(),
     }
 }

@@ -1,16 +1,16 @@
 //! The tallies of segments' own entries, and those of a bundle's parts with them.
 
-ghost use Rattle.std.specs.Prelude.{IfOk, length};
+ghost use Rattle.std.specs.Prelude.{ℕ, List, IfOk, length};
 ghost use Rattle.branch_tree.specs.Segments.{segments_in};
-ghost use Rattle.kernel_copy.specs.Kept.{IsWritable, frames_of, kept_told};
-ghost use Rattle.trace_bundle.specs.Ran.{IsRunOf};
-ghost use Rattle.trace_bundle.specs.Tallied.{AreTalliesOf, IsTallyOf};
+ghost use Rattle.kernel_copy.specs.Kept.{IsWritable, kept_told};
+ghost use Rattle.trace_bundle.specs.Ran.{IsTalliedRunOf};
+ghost use Rattle.kernel_copy.specs.Tallies.{IsTallyOf};
+ghost use Rattle.trace_bundle.specs.Tallied.{AreTalliesOf, IsKeptOf};
 
 use crate::carrier::Carrier;
 use crate::ran::RunOutcomes;
-use crate::tally::Tally;
 use kernel_copy::laws::courses_stay_in_range;
-use kernel_copy::{Course, Kept};
+use kernel_copy::{Course, Kept, Tally};
 use plain_lists::Memory;
 use std::alloc::Global;
 
@@ -21,14 +21,15 @@ pub(crate) struct SegmentTallies {
     tallies: Vec<Tally>,
 }
 
-// The tally of the frames of what is kept: bytes are read where they lie.
+// The tally of the frames of what is kept: bytes are read where they lie, and a tally stands already.
 fn of_kept(alloc: Global, kept: &Kept) -> Result<Tally, Memory>
     requires { IsWritable (kept_told kept.now) }
-    ensures { IfOk result (λ t. IsTallyOf t (frames_of (kept_told kept.now)) 1) }
+    ensures { (bytes : List ℕ) → IsKeptOf (kept_told kept.now) bytes → IfOk result (λ t. IsTallyOf t bytes 1) }
 {
     match kept {
         Kept::Frames(bytes) => Ok(Tally::new().with(bytes)),
-        Kept::Entries(_) => {
+        Kept::Tallied(tally) => tally.tally(),
+        Kept::Entries(_) | Kept::Nothing => {
             let mut bytes = Vec::new(alloc);
             kept.put(&mut bytes)?;
             Ok(Tally::new().with(&bytes))
@@ -45,7 +46,7 @@ pub(crate) fn segment_tallies<W: RunOutcomes>(
     course: &Course,
     ran: &W,
 ) -> Result<SegmentTallies, Memory>
-    requires { IsRunOf course.now (W.count ran.now) (W.kept_of ran.now) (W.closing_of ran.now) }
+    requires { IsTalliedRunOf course.now (W.count ran.now) (W.kept_of ran.now) (W.closing_of ran.now) }
     ensures { IfOk result (λ s. AreTalliesOf course.now (length (segments_in course.now.plan)) s.tallies.items) }
 {
     courses_stay_in_range();
@@ -66,7 +67,7 @@ impl Carrier<Tally> for SegmentTallies {
 
     ghost Carried = { λ d e bytes parts r. OnOk r (IsWith d e bytes parts) };
 
-    ghost IsOwn = { λ s k bytes. IsOwnTally s.tallies.items k bytes };
+    ghost IsOwn = { λ s k kept bytes. IsOwnTally s.tallies.items k bytes };
 
     fn bytes(&self, to: &mut Tally, bytes: &[u8]) -> Result<(), Memory> {
         *to = to.with(bytes);

@@ -37,7 +37,7 @@ fn send_own<D, C: Carrier<D>, W: RunOutcomes>(
 ) -> Result<(), C::Error>
     requires segment { segment < length (segments_in course.now.plan) }
     requires ran { IsRunOf course.now (W.count ran.now) (W.kept_of ran.now) (W.closing_of ran.now) }
-    requires own { AreOwn (C.IsOwn carrier.now) course.now }
+    requires own { AreOwn (C.IsOwn carrier.now) course.now (W.kept_of ran.now) }
     ensures { C.Carried to.old to.new (own_frames course.now segment) 1 result }
 {
     courses_stay_in_range();
@@ -55,7 +55,7 @@ fn send_entries<D, C: Carrier<D>, W: RunOutcomes>(
 ) -> Result<(), C::Error>
     requires segment { segment < length (segments_in course.now.plan) }
     requires ran { IsRunOf course.now (W.count ran.now) (W.kept_of ran.now) (W.closing_of ran.now) }
-    requires own { AreOwn (C.IsOwn carrier.now) course.now }
+    requires own { AreOwn (C.IsOwn carrier.now) course.now (W.kept_of ran.now) }
     ensures { C.Carried to.old to.new (frames_to course.now segment) (segment + 1) result }
 {
     match course.segment(segment).parent {
@@ -78,7 +78,7 @@ pub(crate) fn send_branch<D, C: Carrier<D>, W: RunOutcomes>(
 ) -> Result<(), C::Error>
     requires branch { branch < length course.now.plan.branches }
     requires ran { IsRunOf course.now (W.count ran.now) (W.kept_of ran.now) (W.closing_of ran.now) }
-    requires own { AreOwn (C.IsOwn carrier.now) course.now }
+    requires own { AreOwn (C.IsOwn carrier.now) course.now (W.kept_of ran.now) }
     ensures { C.Carried to.old to.new (trace_of course.now branch) (parts_of_trace course.now) result }
 {
     course.is_course();
@@ -97,7 +97,7 @@ fn send_branches<D, C: Carrier<D>, W: RunOutcomes>(
     to: &mut D,
 ) -> Result<(), C::Error>
     requires ran { IsRunOf course.now (W.count ran.now) (W.kept_of ran.now) (W.closing_of ran.now) }
-    requires own { AreOwn (C.IsOwn carrier.now) course.now }
+    requires own { AreOwn (C.IsOwn carrier.now) course.now (W.kept_of ran.now) }
     ensures { C.Carried to.old to.new (traces_of course.now (length course.now.plan.branches)) (parts_before course.now (length course.now.plan.branches)) result }
 {
     let count = course.plan().branches().len() as u16;
@@ -135,7 +135,7 @@ pub fn send_bundle<D, C: Carrier<D>, W: RunOutcomes>(
     to: &mut D,
 ) -> Result<(), C::Error>
     requires ran { IsRunOf course.now (W.count ran.now) (W.kept_of ran.now) (W.closing_of ran.now) }
-    requires own { AreOwn (C.IsOwn carrier.now) course.now }
+    requires own { AreOwn (C.IsOwn carrier.now) course.now (W.kept_of ran.now) }
     ensures { C.Carried to.old to.new (bundle_of course.now) (parts_of_bundle course.now) result }
 {
     let branches = course.plan().branches().len() as u16;

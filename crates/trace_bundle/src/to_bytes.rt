@@ -2,7 +2,7 @@
 
 ghost use Rattle.std.specs.Prelude.{◌≡◌, ◌<◌, ◌++◌, OnOk, OnErr, length};
 ghost use Rattle.trace_bundle.specs.Bundle.{trace_of};
-ghost use Rattle.trace_bundle.specs.Ran.{IsRunOf};
+ghost use Rattle.trace_bundle.specs.Ran.{IsFramedRunOf};
 
 use crate::carrier::Carrier;
 use crate::ran::RunOutcomes;
@@ -16,13 +16,14 @@ pub struct ToBytes;
 
 impl Carrier<Vec<u8>> for ToBytes {
     ghost use Rattle.std.specs.Prelude.{◌≡◌, ◌++◌, OnOk};
+    ghost use Rattle.kernel_copy.specs.Kept.{frames_of};
     ghost use Rattle.trace_bundle.specs.Carrying.{bytes-behind, bytes-nothing};
 
     type Error = Memory;
 
     ghost Carried = { λ d e bytes parts r. OnOk r (e.items ≡ d.items ++ bytes) };
 
-    ghost IsOwn = { λ s k bytes. Unit {0} };
+    ghost IsOwn = { λ s k kept bytes. frames_of kept ≡ bytes };
 
     fn bytes(&self, to: &mut Vec<u8>, bytes: &[u8]) -> Result<(), Memory> {
         to.extend_from_slice(bytes)?;
@@ -53,7 +54,7 @@ pub fn write_branch<W: RunOutcomes>(
     out: &mut Vec<u8>,
 ) -> Result<(), Memory>
     requires branch { branch < length course.now.plan.branches }
-    requires ran { IsRunOf course.now (W.count ran.now) (W.kept_of ran.now) (W.closing_of ran.now) }
+    requires ran { IsFramedRunOf course.now (W.count ran.now) (W.kept_of ran.now) (W.closing_of ran.now) }
     ensures appended { OnOk result (out.new.items ≡ out.old.items ++ trace_of course.now branch) }
     ensures refused { OnErr result (out.new.items ≡ out.old.items) }
 {

@@ -2,7 +2,8 @@
 
 ghost use Rattle.std.specs.Prelude.{◌≡◌, [], ◌∷◌, ◌++◌};
 ghost use Rattle.kernel_copy.specs.declared.kept.Keep.TheVariants as keep;
-ghost use Rattle.kernel_copy.specs.Kept.{entries, frames, frames_of, kept_as, kept_with};
+ghost use Rattle.kernel_copy.specs.Kept.{entries, frames, frames_of, kept_as, kept_with, nothing, tallied};
+ghost use Rattle.kernel_copy.specs.Tallies.{tally_of};
 ghost use Rattle.branch_tree.specs.declared.stop.Stop.TheVariants.{At, When};
 ghost use Rattle.kernel_core.specs.State.{State};
 ghost use Rattle.kernel_copy.specs.Ran.{ran_as, ran_with};
@@ -26,10 +27,13 @@ pub fn stops_that_are_written()
 {}
 
 /// Of two edits, the second is kept behind the first: as its frame's 20 bytes where frames are kept, as the entry where entries
-/// are. A run that goes on ends in the second state.
+/// are. Of both there is the tally of 40 bytes where a tally is kept. A run that goes on ends in the second state.
 pub fn edits_that_are_kept()
     ensures frames { kept_with (kept_as keep.Frames (halt_at 0 ∷ [])) (halt_at 1 ∷ []) ≡ frames (halt_bytes 0 ++ halt_bytes 1) }
     ensures entries { kept_with (kept_as keep.Entries (halt_at 0 ∷ [])) (halt_at 1 ∷ []) ≡ entries (halt_at 0 ∷ halt_at 1 ∷ []) }
+    ensures tally { kept_with (kept_as keep.Tallied (halt_at 0 ∷ [])) (halt_at 1 ∷ []) ≡ tallied (tally_of (halt_bytes 0 ++ halt_bytes 1)) }
+    ensures size { (tally_of (halt_bytes 0 ++ halt_bytes 1)).count ≡ 40 }
+    ensures nothing { kept_with (kept_as keep.Nothing (halt_at 0 ∷ [])) (halt_at 1 ∷ []) ≡ nothing }
     ensures bytes { frames_of (entries (halt_at 0 ∷ halt_at 1 ∷ [])) ≡ halt_bytes 0 ++ halt_bytes 1 }
     ensures run { (s t : State) → ran_with (ran_as keep.Frames (record { state = s; entries = halt_at 0 ∷ [] })) (record { state = t; entries = halt_at 1 ∷ [] }) ≡ record { state = t; kept = frames (halt_bytes 0 ++ halt_bytes 1) } }
 {}

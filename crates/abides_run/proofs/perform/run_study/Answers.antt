@@ -1,7 +1,7 @@
 use Rattle.std.proofs.Common.{arith, subst, sym}
 use Rattle.kernel_copy.specs.Courses.{CourseTold}
 use Rattle.abides_run.specs.Output.{study_bundle, study_events}
-use Rattle.abides_run.specs.Simulated.{AreRunOf}
+use Rattle.abides_run.specs.Simulated.{AreFramedRunOf}
 use Rattle.abides_run.proofs.Performing.{sent_ends, wanting}
 use Rattle.abides_run.proofs.perform.run_study.Goals as goal
 
@@ -17,4 +17,4 @@ returns-in-Err g c =
     λ reads. wanting (study_bundle k) (study_events k) 0 (study_events k) reads (g.O.Sink.faults c.args.out.now) c.args.steps.now c.simulate.new.steps (g.O.Sink.taken c.args.out.now) c.simulate.ensures.least c.simulate.ensures.most
 
 pub send_bundle-sent-requires : goal.send_bundle-sent-requires
-send_bundle-sent-requires g c = subst (λ (x : CourseTold). AreRunOf x c.in-Ok.worked.outcomes.items) (sym c.deref.ensures) c.in-Ok.ensures.ran
+send_bundle-sent-requires g c = subst (λ (x : CourseTold). AreFramedRunOf x c.in-Ok.worked.outcomes.items) (sym c.deref.ensures) (c.in-Ok.ensures.framed tt)

@@ -3,7 +3,7 @@ use Rattle.kernel_copy.specs.Courses.{CourseTold}
 use Rattle.kernel_copy.specs.Segmentwise as segmentwise
 use Rattle.abides_run.specs.Output.{study_events, study_lines}
 use Rattle.abides_run.specs.Performed.{Sent}
-use Rattle.abides_run.specs.Simulated.{AreRunOf}
+use Rattle.abides_run.specs.Simulated.{AreTalliedRunOf}
 use Rattle.abides_run.proofs.Performing.{sent_ends, wanting}
 use Rattle.abides_run.proofs.perform.tell_study.Goals as goal
 
@@ -24,7 +24,7 @@ returns g c =
     (c.as_bytes.ensures.value ∙ (rw c.deref.ensures at c.in-Ok-big_lines.ensures)) c.send.ensures)
 
 pub big_lines-requires-clause-ran : goal.big_lines-requires-clause-ran
-big_lines-requires-clause-ran g c = subst (λ (x : CourseTold). AreRunOf x c.in-Ok.worked.outcomes.items) (sym c.deref.ensures) c.in-Ok.ensures.ran
+big_lines-requires-clause-ran g c = subst (λ (x : CourseTold). AreTalliedRunOf x c.in-Ok.worked.outcomes.items) (sym c.deref.ensures) (c.in-Ok.ensures.tallied tt)
 
 pub big_lines-requires-clause-distinct : goal.big_lines-requires-clause-distinct
 unfolding study_events

@@ -1,6 +1,6 @@
 use Rattle.std.proofs.Common.{sym, ap, ◌∙◌}
 use Rattle.kernel_copy.specs.Kept.{kept_told}
-use Rattle.trace_bundle.proofs.Kept.{entries-only, no-frames}
+use Rattle.trace_bundle.proofs.Kept.{entries-only, no-frames, no-tally, not-nothing}
 use Rattle.trace_bundle.proofs.listed.trace_of_segment.Goals as goal
 
 pub returns : goal.returns

@@ -7,6 +7,9 @@ unfolding edit_frame
 returns c = record {
   frames = refl;
   entries = refl;
+  tally = refl;
+  size = refl;
+  nothing = refl;
   bytes = refl;
   run = λ s t. refl;
 }

@@ -3,7 +3,7 @@ use Rattle.std.specs.List.{sum}
 use Rattle.std.specs.Slice.Iter.{chunks_rest}
 use Rattle.std.proofs.lemmas.List.{nil_from_length}
 use Rattle.std.proofs.lemmas.List.Sums.{sum_by-append}
-use Rattle.trace_bundle.proofs.tally.total.Goals as goal
+use Rattle.kernel_copy.proofs.tally.total.Goals as goal
 
 pub loop-part-init : goal.loop-part-init
 loop-part-init c = (search rules, tt, search rules, search rules, search rules)

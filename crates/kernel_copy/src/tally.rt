@@ -1,7 +1,7 @@
 //! How many bytes there are, and their sum.
 
 ghost use Rattle.std.specs.Prelude.{◌≡◌, ◌+◌, ◌*◌, ◌^◌, ◌≤◌, ◌++◌, [], ℕ, List, length, sum};
-ghost use Rattle.trace_bundle.specs.Tallied.{IsTallyOf};
+ghost use Rattle.kernel_copy.specs.Tallies.{IsTallyOf};
 
 /// How many bytes there are, and their sum. Each is kept in 128 bits and stands still at their last value, which no bytes that a
 /// memory holds reach.
@@ -26,7 +26,8 @@ fn part_total(bytes: &[u8]) -> u16
     total
 }
 
-fn total(bytes: &[u8]) -> u128
+// The sum of bytes.
+pub(crate) fn total(bytes: &[u8]) -> u128
     ensures value { result ≡ sum bytes.now }
     ensures small { result ≤ 255 * length bytes.now }
 {

@@ -1,7 +1,7 @@
 use Rattle.std.proofs.Common.{◌≡◌, ◌+◌, ◌*◌, ◌≤◌, length}
 use Rattle.std.specs.List.{sum}
 use Rattle.std.specs.Slice.Iter.{chunks_rest, chunks_size}
-use Rattle.trace_bundle.proofs.tally.total.Given as goal
+use Rattle.kernel_copy.proofs.tally.total.Given as goal
 
 abbrev pub invariant-loop-part : goal.invariant-loop-part
 invariant-loop-part l =
