@@ -171,7 +171,7 @@ def test_each_exported_call_has_a_line(checkout: Path) -> None:
         "`refused` (The list is the one that it was), `empty` (`self.new ≡ self.old`) "
         "| Want of memory. The list stands. |",
         "| `Held::plain` | As it is. |  |  |  |",
-        "| `Held::weight` |  |  | `heavy` |  |",
+        "| `Held::weight` | As `Weighs::weight`. |  | `heavy` |  |",
         "| `weigh` | Weighs it. |  | `result ≡ of` |  |",
         "| `laws::one_is_one` | One is one. |  | `1 ≡ 1` |  |",
         "| `laws::Counts::count` | How many. |  | `known` |  |"]
