@@ -28,6 +28,7 @@ LIB = """//! What all stand on:
 //! More of it.
 
 mod inner;
+mod far;
 mod hidden;
 pub mod laws;
 
@@ -104,6 +105,20 @@ pub fn unnamed()
     ensures lost { 1 ≡ 1 }
 {}
 """
+FAR = """//! More of a list.
+
+impl<T: Fn(u8) -> bool> Held<T> {
+    /// From afar.
+    pub fn far(&self)
+        ensures here { 1 ≡ 1 };
+}
+
+impl Unheld {
+    /// Of a type that nobody reaches.
+    pub fn far(&self) {
+    }
+}
+"""
 LAWS = """//! Laws.
 
 /// One is one.
@@ -144,6 +159,7 @@ def checkout(tmp_path: Path) -> Path:
     for name in ("low", "middle", "high", "low_tests"):
         texts[f"crates/{name}/src/lib.rt"] = LIB if name == "low" else f"//! The {name} one.\n"
     texts |= {"crates/low/src/inner.rt": INNER, "crates/low/src/laws.rt": LAWS, "crates/low/src/hidden.rt": "//! No.\n"}
+    texts["crates/low/src/far.rt"] = FAR
     texts |= {"crates/low/specs/Lib.antt": "pub mod Told\n", "crates/low/specs/Told.antt": "-- What is told.\nuse A\n"}
     texts |= {name: "push it\n" for name in ("abides", "prove", "test", "HANDLES", ".ci/run", "docs/tables")}
     for name, text in texts.items():
@@ -173,6 +189,7 @@ def test_each_exported_call_has_a_line(checkout: Path) -> None:
         "| `Held::plain` | As it is. |  |  |  |",
         "| `Held::weight` | As `Weighs::weight`. |  | `heavy` |  |",
         "| `weigh` | Weighs it. |  | `result ≡ of` |  |",
+        "| `Held::far` | From afar. |  | `here` |  |",
         "| `laws::one_is_one` | One is one. |  | `1 ≡ 1` |  |",
         "| `laws::Counts::count` | How many. |  | `known` |  |"]
 
@@ -200,6 +217,7 @@ def test_a_stale_table_is_told(checkout: Path) -> None:
 @pytest.mark.parametrize(("text", "fault"), [
     ("`Held::pull`", "PAGE.md:1: `Held::pull` stands nowhere in the code"),
     ("\n`gone()` and `push`", "PAGE.md:2: `gone()` stands nowhere in the code"),
+    ("`Held::weigh` and `Held::weight`", "PAGE.md:1: `Held::weigh` stands nowhere in the code"),
     ("`secrets`", "PAGE.md:1: `secrets` stands nowhere in the code"),
     ("[there](NOWHERE.md)", "PAGE.md: no file for the link NOWHERE.md"),
     ("[there](#nothing)", "PAGE.md: no heading for the link #nothing"),
