@@ -233,6 +233,18 @@ def test_names_and_links(checkout: Path, text: str, fault: str | None) -> None:
     assert tables.faults(checkout) == ([fault] if fault else [])
 
 
+@pytest.mark.parametrize(("cell", "missing"), [
+    ("`Held::push`: `pushed`, `empty`; `one_is_one`", []), ("`push`, `weigh`: `refused`, `Told`", []),
+    ("`Held`: `here`, `heavy`, `lost`", ["`Held` has no clause `lost`"]),
+    ("`far`: `here`; `weigh`: `pushed`, `heavy`", ["`weigh` has no clause `pushed`", "`weigh` has no clause `heavy`"])])
+def test_clauses_of_promises(checkout: Path, cell: str, missing: list[str]) -> None:
+    """A clause that a row of PROVED names is one of its calls', of a type's, or a definition."""
+    write(checkout)
+    (checkout / "crates/low/specs/Told.antt").write_text("-- What is told.\npub record Told (n : ℕ) where\n")
+    (checkout / "docs/PROVED.md").write_text(f"| Promise | Carried by |\n|---|---|\n| It is | {cell} |\n")
+    assert tables.faults(checkout) == [f"PROVED.md:3: {each}" for each in missing]
+
+
 def test_the_command(capsys: pytest.CaptureFixture[str], monkeypatch: pytest.MonkeyPatch, checkout: Path) -> None:
     """`--check` writes nothing and ends with 1 where something is wrong; without it the pages are written."""
     monkeypatch.setattr(tables, "ROOT", checkout)
