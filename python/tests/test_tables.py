@@ -185,7 +185,7 @@ def test_each_exported_call_has_a_line(checkout: Path) -> None:
     assert lines == [
         "| `Held::push` | Appends `n` \\| 1 items. | `n < 9`, `wide` | `pushed`, "
         "`refused` (The list is the one that it was), `empty` (`self.new ≡ self.old`) "
-        "| Want of memory. The list stands. |",
+        "| `Memory`: Want of memory. The list stands. |",
         "| `Held::plain` | As it is. |  |  |  |",
         "| `Held::weight` | As `Weighs::weight`. |  | `heavy` |  |",
         "| `weigh` | Weighs it. |  | `result ≡ of` |  |",
