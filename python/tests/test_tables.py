@@ -119,6 +119,13 @@ impl Unheld {
     }
 }
 """
+BARE = """use A
+
+abbrev pub seen : ℕ
+seen = 1
+pub record Two (n : ℕ) where
+  pub own : n
+"""
 LAWS = """//! Laws.
 
 /// One is one.
@@ -160,7 +167,9 @@ def checkout(tmp_path: Path) -> Path:
         texts[f"crates/{name}/src/lib.rt"] = LIB if name == "low" else f"//! The {name} one.\n"
     texts |= {"crates/low/src/inner.rt": INNER, "crates/low/src/laws.rt": LAWS, "crates/low/src/hidden.rt": "//! No.\n"}
     texts["crates/low/src/far.rt"] = FAR
-    texts |= {"crates/low/specs/Lib.antt": "pub mod Told\n", "crates/low/specs/Told.antt": "-- What is told.\nuse A\n"}
+    texts["crates/low/specs/Lib.antt"] = "pub mod Told\n"
+    texts["crates/low/specs/Told.antt"] = "-- What is told.\n-- All of it.\nuse A\n"
+    texts["crates/low/specs/Bare.antt"] = BARE
     texts |= {name: "push it\n" for name in ("abides", "prove", "test", "HANDLES", ".ci/run", "docs/tables")}
     for name, text in texts.items():
         (tmp_path / name).parent.mkdir(parents=True, exist_ok=True)
@@ -198,7 +207,9 @@ def test_crates_stand_on_the_least(checkout: Path) -> None:
     """A crate that another one's crate stands on is left out, and so are the kit's."""
     assert "| `high` | The high one. | `middle` |" in tables.crates_table(checkout)
     assert "| `low` | What all stand on: one list. | nothing |" in tables.crates_table(checkout)
-    assert tables.definitions(checkout) == "### low\n\n- [Told](../crates/low/specs/Told.antt): What is told.\n"
+    assert tables.definitions(checkout).splitlines() == [
+        "### low", "", "- [Bare](../crates/low/specs/Bare.antt): `seen`, `Two`",
+        "- [Told](../crates/low/specs/Told.antt): What is told. All of it."]
 
 
 def test_a_stale_table_is_told(checkout: Path) -> None:
