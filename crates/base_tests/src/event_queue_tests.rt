@@ -8,8 +8,7 @@ use std::process::Abort;
 
 const PUSHES: u64 = 4_000;
 
-fn wakeup(time: u64, seq: u64) -> Message
-{
+fn wakeup(time: u64, seq: u64) -> Message {
     Message {
         time,
         seq,
@@ -45,8 +44,7 @@ fn same(rt: &impl Abort, told: Option<Message>, hoped: Option<Message>) {
 }
 
 // A question of agent 1 to the exchange.
-fn question(time: u64, seq: u64) -> Message
-{
+fn question(time: u64, seq: u64) -> Message {
     Message {
         time,
         seq,
