@@ -25,7 +25,7 @@ pub(crate) fn send_all(
     requires groups { group_count o.now.groups ≡ group_count groups.now }
     requires addressed { All (λ x. IsAddressed (length o.now.traders) (length o.now.stocks) from x) postings.now }
     requires leaves { leave < 2 ^ 60 }
-    requires numbers { mail.old.next_seq + length postings.now < 2 ^ 64 }
+    requires numbers { mail.old.next_seq + length postings.now < 2 ^ 48 }
     requires drops { mail.old.dropped + length postings.now < 2 ^ 64 }
     ensures mail { mail.new ≡ all_sent o.now groups.now from leave mail.old postings.now }
     ensures drops { mail.new.dropped ≤ mail.old.dropped + length postings.now }
