@@ -1,6 +1,6 @@
 //! The book.
 
-ghost use Rattle.std.specs.Prelude.{false, ◌≡◌, ◌<◌, ◌≤◌, ◌-◌, ◌∷◌, ◌++◌, ◌↔◌, [], IsTrue, OnErr, OnOk, IfOk, IfSome, IfNone, All, Some, None, length, option_map, slice_get};
+ghost use Rattle.std.specs.Prelude.{false, ◌≡◌, ◌<◌, ◌≤◌, ◌+◌, ◌*◌, ◌-◌, ◌∷◌, ◌++◌, ◌↔◌, [], true, IsTrue, OnErr, OnOk, IfOk, IfSome, IfNone, All, Some, None, length, option_map, slice_get};
 ghost use Rattle.price_time_book.specs.Awaited.{AreAwaited};
 ghost use Rattle.price_time_book.specs.Indexed.{open_orders};
 ghost use Rattle.price_time_book.specs.Matched.{fill_of, after_fill, matched};
@@ -14,13 +14,16 @@ use crate::levels::{Half, Queue, best_in, fits, is_met, join};
 use crate::lowering::{lower_at, take_first};
 use crate::resting::{Best, Fill, Resting};
 use crate::room::{make_room_in_half, make_room_in_two};
-use crate::search::{crossing_in, held_at, open_of, order_of};
+use crate::search::{crossing_in, held_at, is_open, open_of, order_of};
 use market_types::{AgentNo, Memory, Side, Token, copied};
 use std::alloc::Global;
 use std::marker::Model;
 
 // How many orders may have left before the vector of arrival is made anew.
 const LEFT_BEHIND: usize = 32;
+
+// For so many orders places are made at a time.
+const PLACES_AHEAD: usize = 16;
 
 // For how many fills at most room is made without a count of the orders that cross.
 const FEW_FILLS: usize = 512;
@@ -113,12 +116,15 @@ impl Book {
         if n <= self.spare {
             return Ok(());
         }
-        if !self.is_sparse() {
-            return self.widen(n);
+        let more = n.max(PLACES_AHEAD);
+        let (entries, resting) = (self.orders.len(), self.len());
+        if is_sparse(entries, resting) {
+            let packed = self.packed(more)?;
+            *self = packed;
+            return Ok(());
         }
-        let packed = self.packed(n)?;
-        *self = packed;
-        Ok(())
+        prove!(entries / 2 <= resting.saturating_add(LEFT_BEHIND));
+        self.widen(more)
     }
 
     /// A book with the same orders, which may keep any number of places.
@@ -358,11 +364,6 @@ impl Book {
         }
     }
 
-    // Whether so many orders of the vector of arrival have left, and more than half, that it is made anew.
-    fn is_sparse(&self) -> bool {
-        self.orders.len() / 2 > self.len().saturating_add(LEFT_BEHIND)
-    }
-
     // Makes room for `n` more in every vector.
     fn widen(&mut self, n: usize) -> Result<(), Memory>
         ensures list { self.new.list ≡ self.old.list }
@@ -411,11 +412,19 @@ impl Book {
         ensures { self.new.list ≡ open_orders orders.now }
     {
         for order in orders {
-            if order.left != 0 {
+            if is_open(order) {
                 self.rest(*order);
             }
         }
     }
+}
+
+// Whether so many orders of the vector of arrival have left, and more than half, that it is made anew.
+fn is_sparse(entries: usize, resting: usize) -> bool
+    ensures sparse { result ≡ true → 2 * resting + 65 < entries }
+    ensures dense { result ≡ false → entries ≤ 2 * resting + 65 }
+{
+    entries / 2 > resting.saturating_add(LEFT_BEHIND)
 }
 
 // Copies of two vectors.

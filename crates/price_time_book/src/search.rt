@@ -50,6 +50,13 @@ pub fn is_crossed(best: Option<Best>, side: Side, limit: u32) -> bool
     }
 }
 
+// Whether an order has open shares.
+pub fn is_open(order: &Resting) -> bool
+    ensures { result ≡ not (order.now.left == 0) }
+{
+    order.left != 0
+}
+
 // How many orders are open and cross an incoming order of this side with this limit.
 fn count_crossing(orders: &[Resting], side: Side, limit: u32) -> usize
     ensures { result ≡ count_by (λ o. not (o.left == 0) && crosses side limit o) orders.now }
