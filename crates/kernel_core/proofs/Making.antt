@@ -1,6 +1,7 @@
 -- An event that is made of its parts.
-use Rattle.std.proofs.Common.{◌≡◌, ◌<◌, ◌≤◌, ℕ, ◌+◌, List, [], ◌∷◌, All, Option, Some, None, IfSome, Result, Ok, IfOk, OnOk, refl, sym, ap, ◌∙◌, arith, subst, get_or, slice_index, slice_set}
+use Rattle.std.proofs.Common.{◌≡◌, ◌<◌, ◌≤◌, ℕ, ℤ, pos, ◌+◌, Bool, true, false, List, [], ◌∷◌, All, Option, Some, None, IfSome, Result, Ok, IfOk, OnOk, refl, sym, ap, ◌∙◌, arith, subst, get_or, slice_index, slice_set}
 use Rattle.std.proofs.lemmas.Option.{same_Some}
+use Rattle.market_types.specs.declared.feed.Feed.{Feed}
 use Rattle.market_types.specs.declared.message.Message.{Message}
 use Rattle.market_types.specs.Timely.{IsTimely}
 use Rattle.market_types.specs.Told.{EventTold, event}
@@ -49,6 +50,19 @@ pub delivered-made : (o : Opening) (s : State) (m : Message) (until applied : �
     → ◌≡◌ {A = State} (record { time = m.time; events = s.events + 1; applied = applied; post = p; own = own; floor = f; groups = s.groups }) (event_delivered o s m).state
 delivered-made o s m until applied p own f u a b c d = rw (b, c, a, d, u) refl
 
+-- what is told of an event in which a message is put back
+pub back-entry : (o : Opening) (s : State) (m : Message) (busy : ℕ) (e : EventTold) (is_back : Bool) (until : ℕ) (fee : ℤ) (before after : List Feed)
+    → e ≡ record { number = s.events + 1; time = m.time; seq = m.seq; from = m.from; to = m.to; put_back = is_back; until = until; fee = fee; body = m.body; before = before; after = after }
+    → is_back ≡ true → until ≡ busy → fee ≡ pos 0 → before ≡ (ruled o s.applied m.time s.floor).feed → after ≡ [] → e ≡ (event_back o s m busy).entry
+back-entry o s m busy e is_back until fee before after is a b c d f = is ∙ rw (a, b, c, d, f) refl
+
+-- and in which it is delivered
+pub delivered-entry : (o : Opening) (s : State) (m : Message) (e : EventTold) (is_back : Bool) (until : ℕ) (fee : ℤ) (before after : List Feed)
+    → e ≡ record { number = s.events + 1; time = m.time; seq = m.seq; from = m.from; to = m.to; put_back = is_back; until = until; fee = fee; body = m.body; before = before; after = after }
+    → is_back ≡ false → until ≡ m.time + (reaction_at o s m).delay → fee ≡ (reaction_at o s m).fee → before ≡ (ruled o s.applied m.time s.floor).feed → after ≡ (reaction_at o s m).feed
+    → e ≡ (event_delivered o s m).entry
+delivered-entry o s m e is_back until fee before after is a b c d f = is ∙ rw (a, b, c, d, f) refl
+
 -- the event of the least waiting message, whose receiver is busy until later
 pub back-same : NextIsAmong → (o : Opening) (k s : State) (m : Message) (i until : ℕ) → IsSound k → k ≡ s → least k.post.waiting ≡ Some m
     → i ≡ m.to → until ≡ get_or k.own i until → m.time < until → event_back o k m until ≡ event_of o s (first_of s)
@@ -73,8 +87,8 @@ delivered-same law o k s m i busy sound same next at read free =
     ∙ sym (event-free o s (first_of s) (omega (arith, own, time, free)))
 
 -- what a keeper took of an event, which is the same as another one
-pub taken-same : {T : Type 0} (take : T → EventTold → T) (old room new : T) (x y : Happened) → new ≡ take room x.entry → room ≡ old → x ≡ y → new ≡ take old y.entry
-taken-same {T} take old room new x y is in-room same = is ∙ ap (λ (t : T). take t x.entry) in-room ∙ ap (λ (h : Happened). take old h.entry) same
+pub taken-same : {T : Type 0} (take : T → EventTold → T) (old room new : T) (e : EventTold) (x y : Happened) → new ≡ take room e → e ≡ x.entry → room ≡ old → x ≡ y → new ≡ take old y.entry
+taken-same {T} take old room new e x y is told in-room same = is ∙ ap (λ (t : T). take t e) in-room ∙ ap (take old) told ∙ ap (λ (h : Happened). take old h.entry) same
 
 -- a run of one event
 abbrev pub IsOne : Opening → State → State → Type 0

@@ -1,26 +1,51 @@
 //! The kernel: its events.
 
-ghost use Rattle.std.specs.Prelude.{◌≡◌, ◌<◌, ◌≤◌, ◌+◌, ◌-◌, ◌^◌, true, Some, None, OnOk, OnErr, IfOk, IfErr, IsNone, All, max};
+ghost use Rattle.std.specs.Prelude.{◌≡◌, ◌<◌, ◌≤◌, ◌+◌, ◌-◌, ◌^◌, true, List, Some, None, OnOk, OnErr, IfOk, IfErr, IsNone, All, max};
+ghost use Rattle.market_types.specs.declared.feed.Feed.{Feed};
 ghost use Rattle.market_types.specs.Told.{event};
 ghost use Rattle.market_types.specs.Timely.{IsTimely};
 ghost use Rattle.event_queue.specs.Waiting.{least};
 ghost use Rattle.kernel_core.specs.Edited.{IsEditOf};
-ghost use Rattle.kernel_core.specs.Seen.{afresh, first_of, folded};
+ghost use Rattle.kernel_core.specs.Seen.{afresh, first_of, folded, seen_told};
 ghost use Rattle.kernel_core.specs.Step.{Fits, answer_by, end_of, event_of, raised};
 ghost use Rattle.kernel_core.specs.Until.{advanced, advanced_by, until};
 
-use crate::keeper::Keeper;
+use crate::keeper::{EventSeen, Keeper};
 use crate::kernel::{Kernel, next_of};
 use crate::mail_laws::mail_stays_sound;
 use crate::post::send_all;
 use crate::stepped::Stepped;
-use crate::telling::{tell_back, tell_delivery};
+use crate::telling::{meet, tell};
 use market_floor::laws::floors_stay_sound;
-use market_floor::{Opening, applied_by};
+use market_floor::{Happening, Opening, applied_by};
 use market_rules::Edit;
-use market_types::{End, Memory, Time, Trace};
+use market_types::{End, Memory, Message, Time, Trace};
 use outside::{Ledger, Steps};
 use std::alloc::Global;
+
+// The event of a number in which a message is put back or delivered, so that its receiver's own time is then this one, in
+// nanoseconds past midnight. Its fee is that of what happened.
+fn seen_of<'a>(
+    m: &'a Message,
+    number: u32,
+    put_back: bool,
+    until: Time,
+    out: &Happening,
+) -> EventSeen<'a>
+    ensures { (before : List Feed) → (after : List Feed) → seen_told result before after ≡ record { number = number; time = m.now.time; seq = m.now.seq; from = m.now.from; to = m.now.to; put_back = put_back; until = until; fee = out.now.fee; body = m.now.body; before = before; after = after } }
+{
+    EventSeen {
+        number,
+        time: m.time,
+        seq: m.seq,
+        from: m.from,
+        to: m.to,
+        put_back,
+        until,
+        fee: out.fee,
+        body: &m.body,
+    }
+}
 
 impl Kernel {
     // The event of the next message, unless the state is ended. The answer is its end, or whether the keeper took the event: it
@@ -62,29 +87,24 @@ impl Kernel {
         let number = self.events + 1;
         let own = self.own[to];
         let applied = self.applied;
-        let floor = &mut self.floor;
+        let is_due = o.dated.is_due(applied, time);
         let out = &mut self.happening;
-        if m.time < own {
-            let Ok(kept) = tell_back(alloc, o, applied, number, own, m, floor, out, keeper) else {
-                return Err(Memory);
-            };
-            self.mail.delay_least(own);
-            self.applied = applied_by(o, applied, time);
-            self.events = number;
-            self.time = time;
-            return Ok(Ok(kept));
-        }
-        let Ok(kept) = tell_delivery(alloc, o, applied, number, m, floor, out, keeper) else {
+        let Ok(until) = meet(alloc, o, applied, is_due, own, m, &mut self.floor, out) else {
             return Err(Memory);
         };
-        let out = &self.happening;
-        let until = time + out.delay;
-        self.mail.drop_least();
-        send_all(&mut self.mail, o, &self.groups, from, until, &out.postings);
-        self.own[to] = until;
-        self.applied = applied_by(o, applied, time);
+        let seen = seen_of(m, number, time < own, until, out);
+        let kept = tell(alloc, &seen, out, keeper);
+        self.applied = applied_by(o, applied, is_due, time);
         self.events = number;
         self.time = time;
+        if time < own {
+            self.mail.delay_least(own);
+            return Ok(Ok(kept));
+        }
+        self.mail.drop_least();
+        let postings = &self.happening.postings;
+        send_all(&mut self.mail, o, &self.groups, from, until, postings);
+        self.own[to] = until;
         Ok(Ok(kept))
     }
 
