@@ -28,7 +28,7 @@ fn send_replies(
     requires fits { IsGrouped o.now groups.now }
     requires addressed { All (λ r. IsAddressed (length o.now.traders) (length o.now.stocks) from (to_receiver r)) replies.now }
     requires leaves { leave < 2 ^ 60 }
-    requires numbers { mail.old.next_seq + length replies.now < 2 ^ 64 }
+    requires numbers { mail.old.next_seq + length replies.now < 2 ^ 48 }
     requires drops { mail.old.dropped + length replies.now < 2 ^ 64 }
     ensures mail { mail.new ≡ all_sent o.now groups.now from leave mail.old (map to_receiver replies.now) }
     ensures numbers { mail.new.next_seq ≤ mail.old.next_seq + length replies.now }
@@ -70,7 +70,7 @@ fn send_sendings(
     requires fits { IsGrouped o.now groups.now }
     requires addressed { All (λ s. IsAddressed (length o.now.traders) (length o.now.stocks) from (to_exchange s)) sends.now }
     requires leaves { leave < 2 ^ 60 }
-    requires numbers { mail.old.next_seq + length sends.now < 2 ^ 64 }
+    requires numbers { mail.old.next_seq + length sends.now < 2 ^ 48 }
     requires drops { mail.old.dropped + length sends.now < 2 ^ 64 }
     ensures mail { mail.new ≡ all_sent o.now groups.now from leave mail.old (map to_exchange sends.now) }
     ensures drops { mail.new.dropped ≤ mail.old.dropped + length sends.now }
