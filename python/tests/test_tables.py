@@ -35,6 +35,16 @@ pub mod laws;
 pub use inner::{
     Held, weigh,
 };
+
+/// What stands on top.
+pub struct Top;
+
+impl Top {
+    /// Its top.
+    pub fn top(&self) -> Result<(u8, u8), Memory>
+    {
+    }
+}
 """
 INNER = """//! The list.
 
@@ -192,6 +202,7 @@ def test_each_exported_call_has_a_line(checkout: Path) -> None:
     """Public calls of what `pub use` and `pub mod` hand on, with comment, conditions, clauses and errors; no others."""
     lines = [line for line in tables.contracts_page(checkout).splitlines() if line.startswith("| `")]
     assert lines == [
+        "| `Top::top` | Its top. |  |  | `Memory` |",
         "| `Held::push` | Appends `n` \\| 1 items. | `n < 9`, `wide` | `pushed`, "
         "`refused` (The list is the one that it was), `empty` (`self.new ≡ self.old`) "
         "| `Memory`: Want of memory. The list stands. |",
@@ -233,6 +244,9 @@ def test_a_stale_table_is_told(checkout: Path) -> None:
     ("[there](NOWHERE.md)", "PAGE.md: no file for the link NOWHERE.md"),
     ("[there](#nothing)", "PAGE.md: no heading for the link #nothing"),
     ("[there](../README.md#none)", "PAGE.md: no heading for the link ../README.md#none"),
+    ("`noted`", "PAGE.md:1: `noted` stands nowhere in the code"),
+    ("# Twice\n\n# Twice\n\n[a](#twice), [b](#twice-1), [c](#twice-2)", "PAGE.md: no heading for the link #twice-2"),
+    ("```\n[there](NOWHERE.md)\n# Here\n```\n\n[here](#here)", "PAGE.md: no heading for the link #here"),
     ("`Held::push`, `x_of`, `git push --gone`\n\n    `gone`\n\n[web](https://a.b/c)", None)])
 def test_names_and_links(checkout: Path, text: str, fault: str | None) -> None:
     """A name that stands nowhere, or in a comment alone, and a link that leads nowhere are told with their page."""
@@ -241,11 +255,41 @@ def test_names_and_links(checkout: Path, text: str, fault: str | None) -> None:
     (checkout / "docs/PAGE.md").write_text(text + "\n")
     comment = checkout / "crates/low/src/hidden.rt"
     comment.write_text("//! Not `gone`.\n// secrets\n")
+    (checkout / "crates/low/specs/Told.antt").write_text("-- What is noted.\nuse A\n")
     assert tables.faults(checkout) == ([fault] if fault else [])
+
+
+def test_each_page_is_read(checkout: Path) -> None:
+    """README's links and names are looked at, and the links of the contracts' page."""
+    (checkout / "README.md").write_text("`gone` is [there](NOWHERE.md)\n")
+    (checkout / "docs/contracts_head.txt").write_text("[too](NOWHERE.md)\n")
+    write(checkout)
+    assert tables.faults(checkout) == [
+        "README.md: no file for the link NOWHERE.md", "README.md:1: `gone` stands nowhere in the code",
+        "CONTRACTS.md: no file for the link NOWHERE.md"]
+
+
+@pytest.mark.parametrize(("stands", "row", "fault"), [
+    ("self.new ≡ self.old", "", False), ("self.new.items ≡ self.old.items", "", True),
+    ("self.new.items ≡ self.old.items", "| `Held::push` | `Memory` |", False),
+    ("self.new ≡ self.now", "| `Memory` | `Held::push` |", True)])
+def test_refusals_are_settled(checkout: Path, stands: str, row: str, fault: bool) -> None:
+    """A call that may be refused has a clause that all it may change stands, or a row of RELIABILITY."""
+    inner = checkout / "crates/low/src/inner.rt"
+    text = inner.read_text()
+    inner.write_text(text.replace("ensures refused { OnErr result (self.new ≡ self.old) }",
+                                  f"ensures refused {{ OnErr result ({stands}) }}"))
+    assert text.count("ensures refused { OnErr result (self.new ≡ self.old) }") == 1
+    write(checkout)
+    (checkout / "docs/RELIABILITY.md").write_text(
+        f"## Open\n\n{row}\n\n## Other\n\n| `Held::push` | no table of refusals |\n".replace("`Memory`", "Memory"))
+    told = "RELIABILITY.md: no row for `Held::push`, and no clause says that all stands"
+    assert tables.faults(checkout) == ([told] if fault else [])
 
 
 @pytest.mark.parametrize(("cell", "missing"), [
     ("`Held::push`: `pushed`, `empty`; `one_is_one`", []), ("`push`, `weigh`: `refused`, `Told`", []),
+    ("`push`: `wide`", ["`push` has no clause `wide`"]),
     ("`Held`: `here`, `heavy`, `lost`", ["`Held` has no clause `lost`"]),
     ("`far`: `here`; `weigh`: `pushed`, `heavy`", ["`weigh` has no clause `pushed`", "`weigh` has no clause `heavy`"])])
 def test_clauses_of_promises(checkout: Path, cell: str, missing: list[str]) -> None:
