@@ -1,4 +1,4 @@
-use Rattle.std.proofs.Common.{List, length, ap, ◌∙◌, arith}
+use Rattle.std.proofs.Common.{List, length, sym, ap, ◌∙◌, arith}
 use Rattle.branch_tree.specs.Segments.{segments_in}
 use Rattle.branch_tree.specs.declared.segment.Segment.{Segment}
 use Rattle.branch_tree.specs.Plan.{Plan}
@@ -25,3 +25,6 @@ returns-clause-work g c =
 
 pub returns-clause-stopped : goal.returns-clause-stopped
 returns-clause-stopped g c = λ told _. ap (λ (v : SeatView). v.stopped) c.progress-progress.ensures.seen.is ∙ told
+
+pub returns-clause-seen : goal.returns-clause-seen
+returns-clause-seen g c = λ stopped. sym (ap (λ (v : SeatView). v.stopped) c.progress-progress.ensures.seen.is) ∙ stopped
