@@ -1,5 +1,5 @@
 -- Lemmas on the keys of two heaps as one list.
-use Rattle.std.proofs.Common.{◌≡◌, ℕ, ◌<◌, Bool, IfNone, false, List, [], ◌∷◌, ◌++◌, Option, Some, None, IfSome, IsSome, length, get_or, drop, All, Bor, sym, refl, subst, arith}
+use Rattle.std.proofs.Common.{◌≡◌, ℕ, ◌<◌, IfNone, false, List, [], ◌∷◌, ◌++◌, Option, Some, None, IfSome, IsSome, length, get_or, drop, All, Bor, sym, refl, subst, arith}
 use Rattle.std.specs.Ordering.{is_lt}
 use Rattle.std.specs.BinaryHeap.{IsHeap, IsUpperBound}
 use Rattle.std.specs.List.{AllByRecursion}
@@ -114,11 +114,3 @@ each_permutation P v w p a = recursion_from_All P w (All-permutation P v w p (Al
 pub kind_left : (P : Due → Type 0) (n k : ℕ) (o : Option Due) (v w : List Due) → IfSome o (λ (d : Due). IsPermutation v (d ∷ w)) → IfNone o ((w ≡ v) × (k ≡ n)) → AllByRecursion P v → AllByRecursion P w
 kind_left P n k (Some d) v w p e a = (each_permutation P v (d ∷ w) p a).1
 kind_left P n k None v w p e a = subst (λ (l : List Due). AllByRecursion P l) (sym e.0) a
-
-pub kind_moved : {X : Type 0} (items : X → List Due) (p : ℕ → Bool) (b : Bool) (time : ℕ) (o : Option Due) (h k : X)
-    → IfSome o (λ (d : Due). items h ≡ d ∷ drop 1 (items h)) → IfSome o (λ (d : Due). IsPermutation (record { time = time; seq = d.seq; slot = d.slot } ∷ drop 1 (items h)) (items k)) → IfNone o (k ≡ h)
-    → AllByRecursion (λ (d : Due). p d.slot ≡ b) (items h) → AllByRecursion (λ (d : Due). p d.slot ≡ b) (items k)
-kind_moved items p b time (Some d) h k top moved e a =
-    let all : AllByRecursion (λ (d : Due). p d.slot ≡ b) (d ∷ drop 1 (items h)) = subst (λ (l : List Due). AllByRecursion (λ (d : Due). p d.slot ≡ b) l) top a in
-    each_permutation (λ (d : Due). p d.slot ≡ b) (record { time = time; seq = d.seq; slot = d.slot } ∷ drop 1 (items h)) (items k) moved (all.0, all.1)
-kind_moved items p b time None h k top moved e a = subst (λ (x : _). AllByRecursion (λ (d : Due). p d.slot ≡ b) (items x)) (sym e) a

@@ -39,7 +39,7 @@ told-elsewhere old slots at (d ∷ ds) f e a =
     let here : message_at slots d ≡ message_at old d = f d.slot (other d.slot at (times_held at ds) e) in
     ((ap (λ (m : Message). m.time) here ∙ a.0.0, ap (λ (m : Message). m.seq) here ∙ a.0.1), told-elsewhere old slots at ds f (rest d.slot at (times_held at ds) e) a.1)
 
--- a count, and what holds of each key, forget the order
+-- a count forgets the order
 held-sum : (n : ℕ) (ds : List Due) → times_held n ds ≡ sum_by (λ (d : Due). cond (eqb d.slot n) 1 0) ds
 held-sum n ds = is_sum_by (times_held n) (λ (d : Due). cond (eqb d.slot n) 1 0) refl (λ _ _. refl) ds
 
@@ -57,7 +57,7 @@ bound_messages : (slots : List Message) (d : Due) (ds : List Due) → IsTold slo
 bound_messages slots d [] t ts h = tt
 bound_messages slots d (e ∷ ds) t ts h = (due-before (message_at slots d) (message_at slots e) d e t ts.0 h.0, bound_messages slots d ds t ts.1 h.1)
 
--- nor do vacant slots
+-- vacant slots that are added change no message
 pub vacant_last : (slots : List Message) (n : ℕ) → get_or (slots ++ vacant ∷ []) n vacant ≡ get_or slots n vacant
 vacant_last [] zero = refl
 vacant_last [] (suc n) = refl
@@ -247,11 +247,12 @@ copied slots free v w shared told apart p =
       same = sym (by_number-permutation (held slots v) (held slots w) moved apart);
     }
 
--- the keys of wakeups are apart as their slots' messages stay what they are
+-- the keys that name a slot, in two lists
 times_held-append : (n : ℕ) (v w : List Due) → times_held n (v ++ w) ≡ times_held n v + times_held n w
 times_held-append n [] w = omega arith
 times_held-append n (d ∷ v) w = omega (arith, times_held-append n v w)
 
+-- a test of slots that gives the same at each slot that the keys name
 kind-elsewhere : (p q : ℕ → Bool) (b : Bool) (at : ℕ) (ds : List Due) → ((n : ℕ) → n ≢ at → q n ≡ p n) → times_held at ds ≡ 0 → AllByRecursion (λ (d : Due). p d.slot ≡ b) ds → AllByRecursion (λ (d : Due). q d.slot ≡ b) ds
 kind-elsewhere p q b at [] f e a = tt
 kind-elsewhere p q b at (d ∷ ds) f e a = (f d.slot (other d.slot at (times_held at ds) e) ∙ a.0, kind-elsewhere p q b at ds f (rest d.slot at (times_held at ds) e) a.1)

@@ -6,7 +6,7 @@ use market_types::Time;
 use std::cmp::Ordering;
 use std::marker::Model;
 
-// How many slots, and how many numbers of messages, a key can tell.
+// How many slots a key can tell. Of numbers of messages it can tell 2 ^ 48.
 const SLOTS: u64 = 1 << 16;
 
 // What a nanosecond counts in a key, below which are the number and the slot.

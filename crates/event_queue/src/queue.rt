@@ -14,7 +14,7 @@ use std::alloc::Global;
 use std::marker::Model;
 use std::slice::{from_mut, from_ref};
 
-// How many vacant slots are made at a time.
+// How many vacant slots are made at a time, at most.
 const SLOTS_AHEAD: usize = 32;
 
 // How many slots there may be: as many as a key can tell.

@@ -70,22 +70,6 @@ no_place key place cmp of os es x d q none k w l f =
     let c = x.covered k w l in
     none c.0 c.1 (ap (λ z. cmp z q) (entry_key key place cmp of os es x c.0 k d c.1 (c.2 d)) ∙ f)
 
--- two open orders do not tie
-pub places_differ : {E K : Type 0} (key : E → K) (place : E → ℕ) (cmp : K → K → Ordering) (of : Resting → K) → IsTotalOrder cmp → (os : List Resting) (es : List E) → IsIndex key place cmp of os es → (d : E) (j k : ℕ) → j < length os → 0 < (get_or os j nothing).left → k < length os → 0 < (get_or os k nothing).left → cmp (of (get_or os j nothing)) (of (get_or os k nothing)) ≡ Equal → j ≡ k
-places_differ {E} {K} key place cmp of t os es x d j k a l b m e =
-    let c = x.covered k b m in
-    let same : key (get_or es c.0 d) ≡ of (get_or os k nothing) = entry_key key place cmp of os es x c.0 k d c.1 (c.2 d) in
-    let itself : cmp (key (get_or es c.0 d)) (of (get_or os k nothing)) ≡ Equal = ap (λ z. cmp z (of (get_or os k nothing))) same ∙ tie t (of (get_or os k nothing)) in
-    only_place key place cmp of t os es x c.0 d (of (get_or os k nothing)) c.1 itself j a l e ∙ c.2 d
-  where
-    self_reverse : (o : Ordering) → o ≡ ordering_reverse o → o ≡ Equal
-    self_reverse Less h = absurd (cc h)
-    self_reverse Equal h = refl
-    self_reverse Greater h = absurd (cc h)
-
-    tie : IsTotalOrder cmp → (z : K) → cmp z z ≡ Equal
-    tie t z = self_reverse (cmp z z) (t.antisymm z z)
-
 -- what a search by halving gives: the entries before a place are less than a key, the one there is not
 pub record IsFrom {E K : Type 0} (key : E → K) (cmp : K → K → Ordering) (es : List E) (q : K) (at : ℕ) : Type 0 where
   pub within : at ≤ length es

@@ -20,10 +20,10 @@ use market_types::{AgentNo, Memory, Side, Token, copied};
 use std::alloc::Global;
 use std::marker::Model;
 
-// How many orders may have left before the vector of arrival is made anew.
+// The vector of arrival is made anew where half its length exceeds the orders that rest by more than this.
 const LEFT_BEHIND: usize = 32;
 
-// For so many orders places are made at a time.
+// For so many orders at least places are made at a time.
 const PLACES_AHEAD: usize = 16;
 
 // For how many fills at most room is made without a count of the orders that cross.
