@@ -48,8 +48,8 @@ fn next_segment<R: Wait, B: Room>(rt: &R, lane: &mut Lane<B>) -> Option<u32>
     ensures taken { MatchOption result
         ((lane.new.own.view ≡ lane.old.own.view) × (lane.new.others ≡ lane.old.others))
         (λ segment.
-            (Took B.room (segment ∷ []) lane.old.own.view lane.new.own.view × (lane.new.others ≡ lane.old.others))
-            ⊎ ((lane.new.own.view ≡ lane.old.own.view) × Stole B.room segment lane.old.others lane.new.others)) }
+        (Took B.room (segment ∷ []) lane.old.own.view lane.new.own.view × (lane.new.others ≡ lane.old.others))
+        ⊎ ((lane.new.own.view ≡ lane.old.own.view) × Stole B.room segment lane.old.others lane.new.others)) }
 {
     if let Some(segment) = lane.pop() {
         return Some(segment);
