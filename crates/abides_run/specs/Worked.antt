@@ -1,7 +1,6 @@
 -- The empty run, byte by byte: one watcher would first wake after the close, so that no event comes.
 use Rattle.std.specs.Prelude.{ℕ, List, [], ◌∷◌, ◌++◌, replicate, codes}
 use Rattle.market_floor.specs.OpeningWorked.{market, watcher}
-use Rattle.market_rules.specs.declared.edit.Edit.{Edit}
 use Rattle.market_rules.specs.declared.edit.Edit.TheVariants.{Latency}
 use Rattle.branch_tree.specs.declared.branch.Branch.{Branch}
 use Rattle.branch_tree.specs.declared.stop.Stop.{Stop}
@@ -13,8 +12,6 @@ use Rattle.command_words.specs.declared.asked.Crossing.{Crossing}
 use Rattle.reopening_desk.specs.declared.stock.StockNamed.{StockNamed}
 use Rattle.rewind_desk.specs.declared.target.Target.{Target}
 use Rattle.bundle_reader.specs.Told.{BundleTold}
-use Rattle.session_desk.specs.declared.act.Act.{Act}
-use Rattle.session_desk.specs.declared.act.Act.TheVariants.{Fork, Undo, Edit as Edited, Rewind}
 
 abbrev pub root : Branch
 root = record { name = codes "root"; parent = 0; stop = At 0; edits = [] }
@@ -29,13 +26,9 @@ two_watchers branches = record {
   plan = record { branches = root ∷ branches; limit = 100 };
 }
 
--- messages are under way for so many nanoseconds
-abbrev pub delayed : ℕ → List Edit
-delayed base = Latency 0 0 base 0 ∷ []
-
 -- A branch after which messages are under way for so many nanoseconds.
 abbrev pub slower : List ℕ → Stop → ℕ → Branch
-slower name stop base = record { name = name; parent = 0; stop = stop; edits = delayed base }
+slower name stop base = record { name = name; parent = 0; stop = stop; edits = Latency 0 0 base 0 ∷ [] }
 
 -- A branch that changes nothing.
 abbrev pub unchanged : List ℕ → ℕ → Stop → Branch
@@ -60,17 +53,6 @@ late_parent = two_watchers (unchanged (codes "x") 0 (When 1004) ∷ unchanged (c
 
 abbrev pub three_branches_study : StudyTold
 three_branches_study = record { course = three_branches; stride = 10000 }
-
--- a branch `v` is forked from the root and rewound, `x` is edited and rewound, `v` is undone, and `z` is rewound
-abbrev pub forked_and_edited : List Act
-forked_and_edited =
-    Fork (codes "v") (codes "root") 2 (delayed 50)
-    ∷ Rewind (codes "v") 5
-    ∷ Edited (codes "x") (delayed 7)
-    ∷ Rewind (codes "x") 5
-    ∷ Undo
-    ∷ Rewind (codes "z") 4
-    ∷ []
 
 -- a mark that is written so
 abbrev pub mark_at : List ℕ → List ℕ → ℕ → Mark

@@ -4,12 +4,12 @@ ghost use Rattle.std.specs.Prelude.{◌≡◌, ◌∷◌, ◌++◌, [], ℕ, Som
 ghost use Rattle.outside.specs.Files.{absent, too_long, whole};
 ghost use Rattle.abides_run.specs.Output.{audit_line, audited, carried_out, counts_line, crossed, rewound, study_bundle, study_events};
 ghost use Rattle.branch_tree.specs.declared.stop.Stop.TheVariants.{When};
-ghost use Rattle.abides_run.specs.Worked.{crossing_at, first_stock, forked_and_edited, header_alone, empty_course, empty_run, late_parent, mark_at, no_branches, no_branches_bytes, slower_at_a_time, target_at, three_branches, three_branches_at, three_branches_study, study_with_series};
+ghost use Rattle.abides_run.specs.Worked.{crossing_at, first_stock, header_alone, empty_course, empty_run, late_parent, mark_at, no_branches, no_branches_bytes, slower_at_a_time, target_at, three_branches, three_branches_at, three_branches_study, study_with_series};
 ghost use Rattle.abides_run.specs.Rewinds.{lasts_of};
 ghost use Rattle.session_desk.specs.declared.act.Act.TheVariants as act;
 ghost use Rattle.abides_run.specs.Sessions.{act_word};
 ghost use Rattle.abides_run.specs.Words.{asked_of};
-ghost use Rattle.abides_run.specs.Verdict.{verdict, usage, no_file, file_too_long, refused, no_branch, no_stock, bad_orders, bad_bundle, bad_script, refused_act, no_event, accepted, allowance, distinct, verdict_on_study, verdict_on_found, verdict_on_bundle, verdict_on_script};
+ghost use Rattle.abides_run.specs.Verdict.{verdict, usage, no_file, file_too_long, refused, no_branch, no_stock, bad_orders, bad_bundle, bad_script, refused_act, no_event, accepted, verdict_on_study, verdict_on_found, verdict_on_bundle, verdict_on_script};
 ghost use Rattle.abides_run.specs.Fetched.{fetched};
 ghost use Rattle.abides_run.specs.Notes.{note, past_event};
 ghost use Rattle.command_words.specs.declared.asked.Request.TheVariants.{File, Large, Bundle};
@@ -107,14 +107,6 @@ pub fn sessions_of_three_branches()
     ensures refused { verdict_on_script 16 three_branches_study (Ok (act.Rewind (codes "root") 7 ∷ act.Values (codes "w") ∷ [])) ≡ refused_act 1 }
     ensures past { verdict_on_script 16 three_branches_study (Ok (act.Undo ∷ act.Rewind (codes "root") 7 ∷ [])) ≡ no_event (codes "act 1") 6 three_branches_study 200 }
     ensures there { verdict_on_script 16 three_branches_study (Ok (act.Rewind (codes "z") 6 ∷ [])) ≡ accepted (carried_out (act.Rewind (codes "z") 6 ∷ []) 16 three_branches_study) }
-{}
-
-/// How many steps the answers of a session are counted: of a branch that an act forked or edited all behind the stop of the first
-/// such branch, of another those behind its nearest kept state. They are exactly so many where the grid is empty.
-pub fn steps_of_sessions()
-    ensures forked { distinct (accepted (carried_out forked_and_edited 16 three_branches_study)) ≡ 26 }
-    ensures exact { allowance (accepted (carried_out forked_and_edited 16 three_branches_study)) ≡ 0 }
-    ensures closed { distinct (accepted (carried_out (act.Close (codes "z") ∷ []) 16 three_branches_study)) ≡ 22 }
 {}
 
 /// An audit fetches its bundle alone. Of no bytes a frame is cut; a letter that no frame has is a bad frame, an end where the header
