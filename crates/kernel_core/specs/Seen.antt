@@ -30,8 +30,8 @@ message_or_vacant None = vacant
 message_or_vacant (Some m) = m
 
 -- the least waiting message, where one waits
-abbrev pub first_of : State → Message
-first_of s = message_or_vacant (least s.post.waiting)
+abbrev pub first_waiting : State → Message
+first_waiting s = message_or_vacant (least s.post.waiting)
 
 -- a state with no entries before it
 abbrev pub afresh : State → Run

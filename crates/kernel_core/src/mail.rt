@@ -134,7 +134,7 @@ impl Mail {
     }
 
     /// No more messages wait than may, and each has a number of its own that was given.
-    pub fn is_orderly(&self)
+    pub fn know_order(&self)
         ensures { IsOrderly self.now }
     {
         self.queue.numbers_rise();

@@ -1,12 +1,13 @@
 //! The kernel: its events.
 
+ghost use Rattle.market_floor.specs.Reaction.{most_posted};
 ghost use Rattle.std.specs.Prelude.{◌≡◌, ◌<◌, ◌≤◌, ◌+◌, ◌-◌, ◌^◌, true, List, Some, None, OnOk, OnErr, IfOk, IfErr, IsNone, All, max};
 ghost use Rattle.market_types.specs.declared.feed.Feed.{Feed};
 ghost use Rattle.market_types.specs.Told.{event};
 ghost use Rattle.market_types.specs.Timely.{IsTimely};
 ghost use Rattle.event_queue.specs.Waiting.{least};
 ghost use Rattle.kernel_core.specs.Edited.{IsEditOf};
-ghost use Rattle.kernel_core.specs.Seen.{afresh, first_of, folded, seen_told};
+ghost use Rattle.kernel_core.specs.Seen.{afresh, first_waiting, folded, seen_told};
 ghost use Rattle.kernel_core.specs.Step.{Fits, answer_by, end_of, event_of, raised};
 ghost use Rattle.kernel_core.specs.Until.{advanced, advanced_by, until};
 
@@ -61,13 +62,13 @@ impl Kernel {
         ensures same { IfOk result (λ r. OnErr r (self.new ≡ self.old)) }
         ensures keeper_same { IfOk result (λ r. OnErr r (K.told keeper.new ≡ K.told keeper.old)) }
         ensures going { IfOk result (λ r. OnOk r (end_of o.now self.old ≡ None)) }
-        ensures next { IfOk result (λ r. OnOk r (least self.old.post.waiting ≡ Some (first_of self.old))) }
-        ensures state { IfOk result (λ r. OnOk r (self.new ≡ (event_of o.now self.old (first_of self.old)).state)) }
-        ensures taken { IfOk result (λ r. IfOk r (λ kept. kept ≡ true → K.told keeper.new ≡ K.with (K.told keeper.old) (event_of o.now self.old (first_of self.old)).entry)) }
+        ensures next { IfOk result (λ r. OnOk r (least self.old.post.waiting ≡ Some (first_waiting self.old))) }
+        ensures state { IfOk result (λ r. OnOk r (self.new ≡ (event_of o.now self.old (first_waiting self.old)).state)) }
+        ensures taken { IfOk result (λ r. IfOk r (λ kept. kept ≡ true → K.told keeper.new ≡ K.with (K.told keeper.old) (event_of o.now self.old (first_waiting self.old)).entry)) }
         ensures sure { IfOk result (λ r. IfOk r (λ kept. K.is_sure → kept ≡ true)) }
-        ensures timely { IfOk result (λ r. OnOk r (IsTimely (event (event_of o.now self.old (first_of self.old)).entry))) }
+        ensures timely { IfOk result (λ r. OnOk r (IsTimely (event (event_of o.now self.old (first_waiting self.old)).entry))) }
         ensures fitting { Fits o.now self.new }
-        ensures drops { IfOk result (λ r. OnOk r (self.new.post.dropped ≤ 2000002)) }
+        ensures drops { IfOk result (λ r. OnOk r (self.new.post.dropped ≤ most_posted)) }
         ensures counted { IfOk result (λ r. OnOk r (self.new.events ≡ self.old.events + 1)) }
         ensures refused { OnErr result (self.new ≡ self.old) }
         ensures keeper_refused { OnErr result (K.told keeper.new ≡ K.told keeper.old) }
@@ -130,7 +131,7 @@ impl Kernel {
         ensures fitting { Fits o.now self.new }
         ensures offsets { self.new.floor.offsets ≡ self.old.floor.offsets }
         ensures editable { (e : Edit) → IsEditOf self.old e → IsEditOf self.new e }
-        ensures drops { self.new.post.dropped ≤ max self.old.post.dropped 2000002 }
+        ensures drops { self.new.post.dropped ≤ max self.old.post.dropped most_posted }
         ensures refused { OnErr result (K.is_sure → self.new ≡ self.old) }
         ensures keeper_refused { OnErr result (K.is_sure → K.told keeper.new ≡ K.told keeper.old) }
     {
@@ -170,7 +171,7 @@ impl Kernel {
         ensures timely { All IsTimely trace.old.list → All IsTimely trace.new.list }
         ensures offsets { self.new.floor.offsets ≡ self.old.floor.offsets }
         ensures editable { (e : Edit) → IsEditOf self.old e → IsEditOf self.new e }
-        ensures drops { self.new.post.dropped ≤ max self.old.post.dropped 2000002 }
+        ensures drops { self.new.post.dropped ≤ max self.old.post.dropped most_posted }
         ensures kernel_refused { OnErr result (self.new ≡ self.old) }
         ensures trace_refused { OnErr result (trace.new.list ≡ trace.old.list) }
         ensures steps_refused { OnErr result (steps.new ≡ steps.old) }
@@ -206,7 +207,7 @@ impl Kernel {
         ensures time { self.old.time ≤ o.now.close → self.new.time ≤ o.now.close }
         ensures offsets { self.new.floor.offsets ≡ self.old.floor.offsets }
         ensures editable { (e : Edit) → IsEditOf self.old e → IsEditOf self.new e }
-        ensures drops { self.new.post.dropped ≤ max self.old.post.dropped 2000002 }
+        ensures drops { self.new.post.dropped ≤ max self.old.post.dropped most_posted }
         ensures fitting { Fits o.now self.new }
     {
         'events: while self.events() < stop {
@@ -246,7 +247,7 @@ impl Kernel {
         ensures timely { All IsTimely trace.old.list → All IsTimely trace.new.list }
         ensures offsets { self.new.floor.offsets ≡ self.old.floor.offsets }
         ensures editable { (e : Edit) → IsEditOf self.old e → IsEditOf self.new e }
-        ensures drops { self.new.post.dropped ≤ max self.old.post.dropped 2000002 }
+        ensures drops { self.new.post.dropped ≤ max self.old.post.dropped most_posted }
         ensures fitting { Fits o.now self.new }
     {
         self.run_into(alloc, o, stop, trace, steps)

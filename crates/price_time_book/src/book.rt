@@ -331,7 +331,7 @@ impl Book {
         ensures enough { length (matched self.now.list side limit shares).fills ≤ result }
         ensures few { result ≤ length self.now.list }
     {
-        self.is_orderly();
+        self.know_order();
         if !self.is_met(side, limit) {
             return 0;
         }
@@ -358,7 +358,7 @@ impl Book {
 
     /// What holds of the orders of each book: their references rise, each has open shares and no more
     /// than its intended size, and they are few.
-    pub fn is_orderly(&self)
+    pub fn know_order(&self)
         ensures { IsOrderly self.now.list }
     {
         let _orders = &self.orders;

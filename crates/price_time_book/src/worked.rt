@@ -6,7 +6,7 @@ ghost use Rattle.price_time_book.specs.Matched.{fill_of, after_fill, matched};
 ghost use Rattle.price_time_book.specs.Next.{beats, best_at, crossing_of, next_of};
 ghost use Rattle.price_time_book.specs.Orders.{order_with, changed, reduced};
 ghost use Rattle.price_time_book.specs.Priced.{best_priced, first_priced};
-ghost use Rattle.price_time_book.specs.Queues.{best_in, first_of, hidden_of, shown_of, top_in};
+ghost use Rattle.price_time_book.specs.Queues.{best_in, first_on, hidden_of, shown_of, top_in};
 ghost use Rattle.price_time_book.specs.Sides.{depth_of};
 ghost use Rattle.price_time_book.specs.Worked.{bought, dear, early, given, late, three_sells, veiled, veiled_sells};
 
@@ -88,7 +88,7 @@ pub fn which_comes_first()
 pub fn queues()
     ensures shown { top_in (shown_of Side.Sell) veiled_sells ≡ Some (late 300) }
     ensures hidden { top_in (hidden_of Side.Sell) veiled_sells ≡ Some (veiled (early 200)) }
-    ensures first { first_of Side.Sell veiled_sells ≡ Some (late 300) }
+    ensures first { first_on Side.Sell veiled_sells ≡ Some (late 300) }
     ensures best_shown { best_in (shown_of Side.Sell) veiled_sells ≡ Some (record { price = 100000; shares = 300 }) }
     ensures best_hidden { best_in (hidden_of Side.Sell) veiled_sells ≡ Some (record { price = 100000; shares = 200 }) }
     ensures by_price { first_priced Side.Sell veiled_sells ≡ Some (veiled (early 200)) }

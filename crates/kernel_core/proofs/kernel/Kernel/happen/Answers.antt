@@ -11,7 +11,7 @@ use Rattle.market_floor.specs.Floor.{FloorState}
 use Rattle.market_floor.specs.Postings.{IsAddressed}
 use Rattle.market_floor.specs.Reaction.{ArePosted}
 use Rattle.kernel_core.specs.Post.{Post, put_back, taken}
-use Rattle.kernel_core.specs.Seen.{first_of}
+use Rattle.kernel_core.specs.Seen.{first_waiting}
 use Rattle.kernel_core.specs.Send.{all_sent}
 use Rattle.kernel_core.specs.Sound.{IsSound}
 use Rattle.kernel_core.specs.SoundMail.{IsSoundMail}
@@ -57,7 +57,7 @@ returns-then-time-own-clause-state g c =
     let m = c.in-Ok.m.now in
     let busy = c.index-own.result.now in
     let later : m.time < busy = omega (arith, c.if-time-own.true) in
-    let same : event_back o (state_of k) m busy ≡ event_of o s (first_of s) = back-same c.mail_stays_sound.ensures.next o (state_of k) s m c.from-to.result busy c.self.invariant c.self.view_is c.in-Ok.ensures.least c.from-to.ensures c.index-own.ensures later in
+    let same : event_back o (state_of k) m busy ≡ event_of o s (first_waiting s) = back-same c.mail_stays_sound.ensures.next o (state_of k) s m c.from-to.result busy c.self.invariant c.self.view_is c.in-Ok.ensures.least c.from-to.ensures c.index-own.ensures later in
     let post = at-some (λ (x : Message). c.delay_least.new.self ≡ put_back k.mail x busy) _ m (sym c.in-Ok.ensures.least) c.delay_least.ensures.back in
     back-made o (state_of k) m busy c.applied_by-self-inside.result c.delay_least.new.self c.meet.new.floor c.applied_by-self-inside.ensures.value post (c.in-Ok-meet.ensures.floor_back later)
     ∙ ap (λ (h : Happened). h.state) same
@@ -70,12 +70,12 @@ returns-then-time-own-clause-taken g c kept =
     let m = c.in-Ok.m.now in
     let busy = c.index-own.result.now in
     let later : m.time < busy = omega (arith, c.if-time-own.true) in
-    let same : event_back o (state_of k) m busy ≡ event_of o s (first_of s) = back-same c.mail_stays_sound.ensures.next o (state_of k) s m c.from-to.result busy c.self.invariant c.self.view_is c.in-Ok.ensures.least c.from-to.ensures c.index-own.ensures later in
+    let same : event_back o (state_of k) m busy ≡ event_of o s (first_waiting s) = back-same c.mail_stays_sound.ensures.next o (state_of k) s m c.from-to.result busy c.self.invariant c.self.view_is c.in-Ok.ensures.least c.from-to.ensures c.index-own.ensures later in
     let h = c.meet.new.out in
     let back : ltb m.time busy ≡ true = grind (arith, nat_tests, later) in
     let entry = back-entry o (state_of k) m busy _ _ _ _ _ _ (c.seen_of-seen.ensures h.before.list h.after.list) back (c.in-Ok-meet.ensures.until_back later)
     (c.in-Ok-meet.ensures.fee_back later) c.in-Ok-meet.ensures.before (c.in-Ok-meet.ensures.feed_back later) in
-    taken-same g.K.Keeper.with (g.K.Keeper.told c.args.keeper.now) _ _ _ (event_back o (state_of k) m busy) (event_of o s (first_of s)) (c.tell-kept.ensures.taken kept) entry c.in-Ok-room.ensures.same same
+    taken-same g.K.Keeper.with (g.K.Keeper.told c.args.keeper.now) _ _ _ (event_back o (state_of k) m busy) (event_of o s (first_waiting s)) (c.tell-kept.ensures.taken kept) entry c.in-Ok-room.ensures.same same
 
 pub returns-then-time-own-clause-timely : goal.returns-then-time-own-clause-timely
 returns-then-time-own-clause-timely g c =
@@ -85,7 +85,7 @@ returns-then-time-own-clause-timely g c =
     let m = c.in-Ok.m.now in
     let busy = c.index-own.result.now in
     let later : m.time < busy = omega (arith, c.if-time-own.true) in
-    let same : event_back o (state_of k) m busy ≡ event_of o s (first_of s) = back-same c.mail_stays_sound.ensures.next o (state_of k) s m c.from-to.result busy c.self.invariant c.self.view_is c.in-Ok.ensures.least c.from-to.ensures c.index-own.ensures later in
+    let same : event_back o (state_of k) m busy ≡ event_of o s (first_waiting s) = back-same c.mail_stays_sound.ensures.next o (state_of k) s m c.from-to.result busy c.self.invariant c.self.view_is c.in-Ok.ensures.least c.from-to.ensures c.index-own.ensures later in
     let before = subst (λ (fs : List Feed). AreTimely fs) c.in-Ok-meet.ensures.before c.in-Ok-meet.ensures.timely_before in
     let here : IsTimely (event (event_back o (state_of k) m busy).entry) = (before, All-nil (λ (f : Feed). f.time < 2 ^ 48)) in
     subst (λ (h : Happened). IsTimely (event h.entry)) same here
@@ -153,7 +153,7 @@ returns-clause-state g c =
     let m = c.in-Ok.m.now in
     let busy = c.index-own.result.now in
     let free : busy ≤ m.time = omega (arith, c.if-time-own.false) in
-    let same : event_delivered o (state_of k) m ≡ event_of o s (first_of s) = delivered-same c.mail_stays_sound.ensures.next o (state_of k) s m c.from-to.result busy c.self.invariant c.self.view_is c.in-Ok.ensures.least c.from-to.ensures c.index-own.ensures free in
+    let same : event_delivered o (state_of k) m ≡ event_of o s (first_waiting s) = delivered-same c.mail_stays_sound.ensures.next o (state_of k) s m c.from-to.result busy c.self.invariant c.self.view_is c.in-Ok.ensures.least c.from-to.ensures c.index-own.ensures free in
     let until = c.in-Ok-meet.until in
     let told = c.in-Ok-meet.ensures.told free in
     let gone = at-some (λ (x : Message). c.drop_least.new.self ≡ taken k.mail x) _ m (sym c.in-Ok.ensures.least) c.drop_least.ensures.left in
@@ -172,12 +172,12 @@ returns-clause-taken g c kept =
     let m = c.in-Ok.m.now in
     let busy = c.index-own.result.now in
     let free : busy ≤ m.time = omega (arith, c.if-time-own.false) in
-    let same : event_delivered o (state_of k) m ≡ event_of o s (first_of s) = delivered-same c.mail_stays_sound.ensures.next o (state_of k) s m c.from-to.result busy c.self.invariant c.self.view_is c.in-Ok.ensures.least c.from-to.ensures c.index-own.ensures free in
+    let same : event_delivered o (state_of k) m ≡ event_of o s (first_waiting s) = delivered-same c.mail_stays_sound.ensures.next o (state_of k) s m c.from-to.result busy c.self.invariant c.self.view_is c.in-Ok.ensures.least c.from-to.ensures c.index-own.ensures free in
     let h = c.meet.new.out in
     let told = c.in-Ok-meet.ensures.told free in
     let back : ltb m.time busy ≡ false = grind (arith, nat_tests, free) in
     let entry = delivered-entry o (state_of k) m _ _ _ _ _ _ (c.seen_of-seen.ensures h.before.list h.after.list) back (c.in-Ok-meet.ensures.until free) told.fee c.in-Ok-meet.ensures.before told.feed in
-    taken-same g.K.Keeper.with (g.K.Keeper.told c.args.keeper.now) _ _ _ (event_delivered o (state_of k) m) (event_of o s (first_of s)) (c.tell-kept.ensures.taken kept) entry c.in-Ok-room.ensures.same same
+    taken-same g.K.Keeper.with (g.K.Keeper.told c.args.keeper.now) _ _ _ (event_delivered o (state_of k) m) (event_of o s (first_waiting s)) (c.tell-kept.ensures.taken kept) entry c.in-Ok-room.ensures.same same
 
 pub returns-clause-timely : goal.returns-clause-timely
 returns-clause-timely g c =
@@ -187,7 +187,7 @@ returns-clause-timely g c =
     let m = c.in-Ok.m.now in
     let busy = c.index-own.result.now in
     let free : busy ≤ m.time = omega (arith, c.if-time-own.false) in
-    let same : event_delivered o (state_of k) m ≡ event_of o s (first_of s) = delivered-same c.mail_stays_sound.ensures.next o (state_of k) s m c.from-to.result busy c.self.invariant c.self.view_is c.in-Ok.ensures.least c.from-to.ensures c.index-own.ensures free in
+    let same : event_delivered o (state_of k) m ≡ event_of o s (first_waiting s) = delivered-same c.mail_stays_sound.ensures.next o (state_of k) s m c.from-to.result busy c.self.invariant c.self.view_is c.in-Ok.ensures.least c.from-to.ensures c.index-own.ensures free in
     let told = c.in-Ok-meet.ensures.told free in
     let before = subst (λ (fs : List Feed). AreTimely fs) c.in-Ok-meet.ensures.before c.in-Ok-meet.ensures.timely_before in
     let after = subst (λ (fs : List Feed). AreTimely fs) told.feed c.in-Ok-meet.ensures.timely_after in

@@ -5,7 +5,7 @@ use Rattle.price_time_book.specs.Indexed.{IsOpenAt, key, nothing, open_orders}
 use Rattle.price_time_book.specs.Queues.{hidden_of, shown_of}
 use Rattle.price_time_book.proofs.Takes.{no_level}
 use Rattle.price_time_book.proofs.Sides.{first_by_queues, from_either, from_one, if_some}
-use Rattle.price_time_book.proofs.lowering.first_of.Goals as goal
+use Rattle.price_time_book.proofs.lowering.first_on.Goals as goal
 
 -- what stands open at a place stands in the vector
 pub earlier-requires-clause-shown : goal.earlier-requires-clause-shown
