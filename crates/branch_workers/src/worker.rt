@@ -41,14 +41,15 @@ fn push_all<B: Room>(lane: &mut Lane<B>, segments: &[u32])
     }
 }
 
-// The next segment of the own lane, or else of another's: what was taken is the answer, and where nothing is, nothing was
-// taken.
+// The next segment of the own lane, or else of another's: one that is the answer was taken, and nothing else was.
 fn next_segment<R: Wait, B: Room>(rt: &R, lane: &mut Lane<B>) -> Option<u32>
     ensures below { IfSome result (λ segment. segment < B.room) }
     ensures pushed { lane.new.own.view.pushed ≡ lane.old.own.view.pushed }
     ensures taken { MatchOption result
         ((lane.new.own.view ≡ lane.old.own.view) × (lane.new.others ≡ lane.old.others))
-        (λ segment. Took B.room (segment ∷ []) lane.old.own.view lane.new.own.view ⊎ Stole B.room segment lane.old.others lane.new.others) }
+        (λ segment.
+        (Took B.room (segment ∷ []) lane.old.own.view lane.new.own.view × (lane.new.others ≡ lane.old.others))
+        ⊎ ((lane.new.own.view ≡ lane.old.own.view) × Stole B.room segment lane.old.others lane.new.others)) }
 {
     if let Some(segment) = lane.pop() {
         return Some(segment);
@@ -116,8 +117,8 @@ fn try_segment<R: Wait, G: Gate, L: Ledger, B: Room>(
     true
 }
 
-// Whether a worker that found no segment ends: since all are done, which it notes, or since it is told to stop. A stop that its
-// seat has seen ends it.
+// Whether a worker that found no segment ends: since it is told to stop, or since all are done, which it notes. A stop that its
+// seat has seen ends it, and so does the number of all segments done.
 fn ends<G, L: Ledger, B: Room>(shift: &Shift<'_, G>, worker: &mut Worker<L, B>) -> bool
     requires work { IsAtWork shift.now.course.now.value shift.now.keep shift.now.shelf.now worker.old.number worker.old.seat worker.old.steps worker.old.outcomes.items worker.old.lane.own.view.pushed }
     requires finished { worker.old.finished ≡ false }
@@ -127,14 +128,16 @@ fn ends<G, L: Ledger, B: Room>(shift: &Shift<'_, G>, worker: &mut Worker<L, B>) 
     ensures goes_on { IsFalse result → worker.new.finished ≡ false }
     ensures stopped { IsTrue result → worker.new.finished ≡ false → worker.new.seat.view.stopped ≡ true }
     ensures seen { worker.new.seat.view.stopped ≡ true → IsTrue result }
+    ensures over { worker.new.seat.view.done_seen ≡ length (segments_in shift.now.course.now.value.plan) → IsTrue result }
 {
     let count = shift.course.plan().segments().len();
     let progress = shift.shelf.progress(&mut worker.seat);
-    if !progress.stopped && progress.done as usize == count {
-        worker.finished = true;
+    if progress.stopped {
         return true;
     }
-    progress.stopped
+    let are_all_done = progress.done as usize == count;
+    worker.finished = are_all_done;
+    are_all_done
 }
 
 // What a worker does: it runs the segments of its lane and of the others', until all are done or it is told to stop.

@@ -12,7 +12,7 @@ pub returns-in-Some-clause-pushed : goal.returns-in-Some-clause-pushed
 returns-in-Some-clause-pushed g c = ap (λ (v : LaneView). v.pushed) c.in-Some.ensures.taken.is
 
 pub returns-in-Some-clause-taken : goal.returns-in-Some-clause-taken
-returns-in-Some-clause-taken g c = inl c.in-Some.ensures.taken
+returns-in-Some-clause-taken g c = inl (c.in-Some.ensures.taken, c.pop.ensures.others)
 
 pub returns-clause-pushed : goal.returns-clause-pushed
 returns-clause-pushed g c = ap (λ (e : EndTold). e.view.pushed) c.steal_round.ensures.own ∙ ap (λ (v : LaneView). v.pushed) c.in_default.ensures.taken
@@ -23,5 +23,5 @@ returns-clause-taken g c =
     let others = c.pop.ensures.others in
     either c.steal_round.result _ _ _ _
     (λ same. (own, same ∙ others))
-    (λ segment stole. inr (subst (λ (ends : List EndTold). Stole g.B.Room.room segment ends c.steal_round.new.self.others) others stole))
+    (λ segment stole. inr (own, subst (λ (ends : List EndTold). Stole g.B.Room.room segment ends c.steal_round.new.self.others) others stole))
     c.steal_round.ensures.taken
