@@ -15,7 +15,7 @@ pub data KeptTold : Type 0 where
   frames : List ℕ → KeptTold
 
 abbrev pub kept_told : Kept → KeptTold
-kept_told (kept.Entries packed) = entries packed.list
+kept_told (kept.Entries summed) = entries summed.list
 kept_told (kept.Frames bytes) = frames bytes.items
 
 -- what is kept of these entries

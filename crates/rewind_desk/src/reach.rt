@@ -16,7 +16,7 @@ use kernel_core::Kernel;
 use market_floor::Opening;
 use market_types::{Memory, Trace};
 use outside::{Ledger, Steps};
-use packed_entries::Packed;
+use probe_desk::Summed;
 use std::alloc::Global;
 
 // Where a run to so many events of a segment's branch came.
@@ -80,7 +80,7 @@ fn arrive<L: Ledger>(
 {
     let o = course.opening();
     let stop = course.segment(segment).stop;
-    let kept = Kept::Entries(Packed::new(alloc));
+    let kept = Kept::Entries(Summed::new(alloc));
     let mut ran = Ran { kept, kernel };
     let Ok(_) = ran.run_to(alloc, o, stop, event, steps) else {
         drop(ran);
