@@ -13,6 +13,8 @@ mod branch_workers_tests;
 #[cfg(test)]
 mod bundle_reader_tests;
 #[cfg(test)]
+mod error_texts_tests;
+#[cfg(test)]
 mod facts;
 #[cfg(test)]
 mod feed_rebuild_tests;

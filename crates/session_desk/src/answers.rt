@@ -115,8 +115,9 @@ impl Session {
     ///
     /// # Errors
     /// `NoBranch` exactly where the tree hasn't the branch: the trace is then unchanged. And want of memory: the trace then holds,
-    /// behind what it held, the entries that were made, the first of the full run. They have as many events as the counter rose
-    /// by, at most the study's limit.
+    /// behind what it held, the first entries of the full run. They have as many events as the counter rose by, at most the
+    /// study's limit, and all that comes before the last of these. Of the edits that follow it at once, which are made one by one
+    /// and before the next event, they have those that were made by then: all, none, or the first of them.
     pub fn records<L: Ledger>(
         &self,
         branch: u16,
