@@ -170,7 +170,7 @@ fn digest(bytes: &[u8]) -> (usize, u64) {
 // How many entries an outcome holds.
 fn held(outcome: &Outcome) -> usize {
     match &outcome.kept {
-        Kept::Entries(trace) => trace.len(),
+        Kept::Entries(summed) => summed.len(),
         _ => 0,
     }
 }

@@ -88,7 +88,7 @@ fn are_one_edit(a: &EditMark, b: &EditMark) -> bool {
 // The entries that an outcome keeps, if it keeps them.
 fn entries_of(outcome: &Outcome) -> Option<&Packed> {
     match &outcome.kept {
-        Kept::Entries(packed) => Some(packed),
+        Kept::Entries(summed) => Some(summed.packed()),
         _ => None,
     }
 }

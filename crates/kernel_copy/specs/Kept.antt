@@ -19,7 +19,7 @@ pub data KeptTold : Type 0 where
   nothing : KeptTold
 
 abbrev pub kept_told : Kept → KeptTold
-kept_told (kept.Entries packed) = entries packed.list
+kept_told (kept.Entries summed) = entries summed.list
 kept_told (kept.Frames bytes) = frames bytes.items
 kept_told (kept.Tallied tally) = tallied tally
 kept_told kept.Nothing = nothing

@@ -10,12 +10,13 @@ use crate::tallied::Tallied;
 use bundle_frames::{Written, put_all};
 use market_types::{EditMark, Memory, Record, Trace};
 use packed_entries::{Packed, Step, Walk, blank_edit, blank_event};
+use probe_desk::Summed;
 use std::alloc::Global;
 
 /// What is to be kept of a run's entries.
 #[derive(Clone, Copy)]
 pub enum Keep {
-    /// They themselves, about 80 bytes each.
+    /// They themselves, about 80 bytes each, and what the four columns of every table say of them.
     Entries,
     /// The bytes of their frames as they stand in a bundle, about 90 an entry. The entries are dropped as the run goes on.
     Frames,
@@ -28,8 +29,8 @@ pub enum Keep {
 /// What is kept of a run's entries.
 #[derive(Drop)]
 pub enum Kept {
-    /// They themselves.
-    Entries(Packed),
+    /// They themselves, with their sums.
+    Entries(Summed),
     /// The bytes of their frames, one after another.
     Frames(Vec<u8>),
     /// How many bytes their frames have, and their sum.
@@ -38,16 +39,16 @@ pub enum Kept {
     Nothing,
 }
 
-// The entries of a trace, kept small.
-fn packed_of(alloc: Global, trace: &Trace) -> Result<Packed, Memory>
+// The entries of a trace, kept small, with their sums.
+fn summed_of(alloc: Global, trace: &Trace) -> Result<Summed, Memory>
     ensures { IfOk result (λ p. p.list ≡ trace.now.list) }
 {
-    let mut packed = Packed::new(alloc);
-    let Ok(()) = packed.push_all(trace.as_slice()) else {
-        drop(packed);
+    let mut summed = Summed::new(alloc);
+    let Ok(()) = summed.push_all(trace.as_slice()) else {
+        drop(summed);
         return Err(Memory);
     };
-    Ok(packed)
+    Ok(summed)
 }
 
 // The bytes of the frames of a trace's entries.
@@ -67,10 +68,10 @@ fn kept_of(alloc: Global, keep: Keep, trace: &Trace) -> Result<Kept, Memory>
 {
     match keep {
         Keep::Entries => {
-            let Ok(packed) = packed_of(alloc, trace) else {
+            let Ok(summed) = summed_of(alloc, trace) else {
                 return Err(Memory);
             };
-            Ok(Kept::Entries(packed))
+            Ok(Kept::Entries(summed))
         }
         Keep::Frames => Ok(Kept::Frames(frames_of(alloc, trace)?)),
         Keep::Tallied => {
@@ -139,7 +140,7 @@ impl Kept {
         ensures { OnOk result (out.new.items ≡ out.old.items ++ frames_of (kept_told self.now)) }
     {
         match self {
-            Kept::Entries(packed) => put_packed(out, packed)?,
+            Kept::Entries(summed) => put_packed(out, summed.packed())?,
             Kept::Frames(bytes) => out.extend_from_slice(bytes)?,
             Kept::Tallied(_) | Kept::Nothing => {}
         }

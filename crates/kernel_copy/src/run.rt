@@ -24,7 +24,7 @@ use crate::frame_bytes::FrameBytes;
 use crate::kept::Kept;
 use crate::keys::number_of_end;
 use crate::laws::courses_stay_in_range;
-use crate::packed_events::PackedEvents;
+use crate::summed_events::SummedEvents;
 use crate::tallied::Tallied;
 use crate::unkept::Unkept;
 use branch_tree::{BranchPlan, Stop};
@@ -34,7 +34,7 @@ use market_floor::Opening;
 use market_rules::Edit;
 use market_types::{Memory, Trace};
 use outside::{Ledger, Steps};
-use packed_entries::Packed;
+use probe_desk::Summed;
 use shelf_core::Key;
 use std::alloc::Global;
 use std::mem::replace;
@@ -131,35 +131,36 @@ fn run_in_frames<L: Ledger>(
     ran
 }
 
-// Runs a kernel on to a stop, and to no more than so many events, and packs each event.
-fn run_packed<L: Ledger>(
+// Runs a kernel on to a stop, and to no more than so many events, and packs each event and adds it
+// to the sums.
+fn run_summed<L: Ledger>(
     alloc: Global,
     o: &Opening,
     stop: Stop,
     most: u32,
     kernel: &mut Kernel,
-    packed: &mut Packed,
+    summed: &mut Summed,
     steps: &mut Steps<L>,
 ) -> Result<(), Memory>
     requires fits { Fits o.now kernel.old }
     requires count { steps.old + (most - kernel.old.events) < 2 ^ 64 }
     ensures state { OnOk result (kernel.new ≡ (until_part o.now stop most (afresh kernel.old)).state) }
-    ensures kept { OnOk result (entries packed.new.list ≡ kept_with (entries packed.old.list) (until_part o.now stop most (afresh kernel.old)).entries) }
+    ensures kept { OnOk result (entries summed.new.list ≡ kept_with (entries summed.old.list) (until_part o.now stop most (afresh kernel.old)).entries) }
     ensures made { kernel.new ≡ (until o.now kernel.new.events (afresh kernel.old)).state }
     ensures ticks { steps.new + kernel.old.events ≡ steps.old + kernel.new.events }
     ensures grows { kernel.old.events ≤ kernel.new.events }
     ensures within { kernel.new.events ≤ (until_part o.now stop most (afresh kernel.old)).state.events }
     ensures fitting { Fits o.now kernel.new }
 {
-    let mut events = PackedEvents {
-        packed: replace(packed, Packed::new(alloc)),
+    let mut events = SummedEvents {
+        summed: replace(summed, Summed::new(alloc)),
     };
     let left = last_number(stop, o.limit)
         .min(most)
         .saturating_sub(kernel.events());
-    events.packed.expect(left as usize);
+    events.summed.expect(left as usize);
     let ran = run_part(alloc, o, stop, most, kernel, &mut events, steps);
-    drop(replace(packed, events.packed));
+    drop(replace(summed, events.summed));
     ran
 }
 
@@ -209,8 +210,8 @@ impl Ran {
         ensures fitting { Fits o.now self.new.kernel }
     {
         match &mut self.kept {
-            Kept::Entries(packed) => {
-                run_packed(alloc, o, stop, most, &mut self.kernel, packed, steps)
+            Kept::Entries(summed) => {
+                run_summed(alloc, o, stop, most, &mut self.kernel, summed, steps)
             }
             Kept::Frames(bytes) => {
                 run_in_frames(alloc, o, stop, most, &mut self.kernel, bytes, steps)

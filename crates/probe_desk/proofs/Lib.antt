@@ -1,1 +1,2 @@
 mod Seen
+pub mod Summing

@@ -2,7 +2,7 @@
 
 ghost use Rattle.std.specs.Prelude.{◌≡◌, pos};
 
-use crate::Probe;
+use crate::{Column, Probe};
 use market_types::Record;
 
 /// The fees of all records in millionths of a dollar, delivered and put back.
@@ -40,6 +40,10 @@ impl Probe for Fees {
 
     fn value(&self) -> i128 {
         self.total
+    }
+
+    fn column(&self) -> Option<Column> {
+        Some(Column::Fees)
     }
 
     fn restart(&mut self) {

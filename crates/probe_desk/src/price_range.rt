@@ -3,15 +3,15 @@
 ghost use Rattle.std.specs.Prelude.{◌≡◌, None};
 ghost use Rattle.probe_desk.specs.Spans.{widened_of};
 
-use crate::Probe;
 use crate::removal::taken;
+use crate::{Column, Probe};
 use market_types::Record;
 
 // The least and the greatest price with four implied decimals.
 #[derive(Clone, Copy)]
-struct Span {
-    least: u32,
-    greatest: u32,
+pub(crate) struct Span {
+    pub(crate) least: u32,
+    pub(crate) greatest: u32,
 }
 
 /// The greatest less the least price, with four implied decimals, at which an order took from the book; 0 where none
@@ -56,6 +56,10 @@ impl Probe for Range {
             Some(span) => i128::from(span.greatest) - i128::from(span.least),
             None => 0,
         }
+    }
+
+    fn column(&self) -> Option<Column> {
+        Some(Column::Range)
     }
 
     fn restart(&mut self) {

@@ -1,9 +1,11 @@
 //! What a probe is.
 
-ghost use Rattle.std.specs.Prelude.{◌≡◌, ℕ, ℤ, List};
+ghost use Rattle.std.specs.Prelude.{◌≡◌, ℕ, ℤ, List, IfSome};
 ghost use Rattle.market_types.specs.Told.{event_told};
 ghost use Rattle.probe_desk.specs.Probe.{Meaning};
+ghost use Rattle.probe_desk.specs.Sums.{meaning_of};
 
+use crate::Column;
 use market_types::Record;
 
 /// An object that keeps a list of numbers, which each record changes. What it is to compute is its meaning: the list
@@ -31,6 +33,13 @@ pub trait Probe: Drop {
     /// The number of its column, for what it has seen since it was restarted.
     fn value(&self) -> i128
         ensures { result ≡ (meaning self.now).value (numbers self.now) };
+
+    /// The column of every table that it is the probe of, if it is one of those. Takes no memory.
+    fn column(&self) -> Option<Column>
+        ensures { IfSome result (λ k. meaning self.now ≡ meaning_of k) }
+    {
+        None
+    }
 
     /// Opens anew, as before a branch.
     fn restart(&mut self)

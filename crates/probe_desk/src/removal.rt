@@ -24,7 +24,7 @@ pub fn taken(event: &Record) -> Option<Execution>
 }
 
 // The same of a body.
-fn taken_in(body: &Body) -> Option<Execution>
+pub(crate) fn taken_in(body: &Body) -> Option<Execution>
     ensures { option_map (λ t. record { shares = t.shares; price = t.price }) result ≡ removal_in body.now }
 {
     match *body {

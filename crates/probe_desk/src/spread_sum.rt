@@ -1,10 +1,10 @@
 //! The probe `spread_sum`.
 
-ghost use Rattle.std.specs.Prelude.{◌≡◌, pos};
+ghost use Rattle.std.specs.Prelude.{◌≡◌, ◌≤◌, ◌^◌, pos, unsigned_abs};
 ghost use Rattle.probe_desk.specs.Columns.{spread_of, spread_told};
 ghost use Rattle.market_types.specs.Told.{event_told};
 
-use crate::Probe;
+use crate::{Column, Probe};
 use market_types::{Body, Quote, Record};
 
 /// The sum of ask less bid, with four implied decimals, over the quotes with both sides.
@@ -44,6 +44,10 @@ impl Probe for SpreadSum {
         self.total
     }
 
+    fn column(&self) -> Option<Column> {
+        Some(Column::SpreadSum)
+    }
+
     fn restart(&mut self) {
         self.total = 0;
     }
@@ -63,8 +67,9 @@ fn spread(event: &Record) -> i128
 }
 
 // Ask less bid; 0 where a side is absent.
-fn spread_in(quote: &Quote) -> i128
-    ensures { result ≡ spread_told quote.now }
+pub(crate) fn spread_in(quote: &Quote) -> i128
+    ensures value { result ≡ spread_told quote.now }
+    ensures few { unsigned_abs result ≤ 2 ^ 32 }
 {
     if quote.bid == 0 || quote.ask == 0 {
         return 0;

@@ -4,8 +4,8 @@ ghost use Rattle.std.specs.Prelude.{◌≡◌, pos};
 ghost use Rattle.probe_desk.specs.Columns.{removal_of, shares_of};
 ghost use Rattle.market_types.specs.Told.{event_told};
 
-use crate::Probe;
 use crate::removal::taken;
+use crate::{Column, Probe};
 use market_types::Record;
 
 /// Executed shares of the orders that took from the book.
@@ -43,6 +43,10 @@ impl Probe for Volume {
 
     fn value(&self) -> i128 {
         self.total
+    }
+
+    fn column(&self) -> Option<Column> {
+        Some(Column::Volume)
     }
 
     fn restart(&mut self) {

@@ -1,10 +1,11 @@
 //! Probes that watch the records of a trace.
 
-ghost use Rattle.std.specs.Prelude.{◌≡◌, ◌∷◌, [], ◌++◌, IfOk, OnOk, ℤ, ℕ, List, map, length};
-ghost use Rattle.market_types.specs.Told.{entry_told, event_told};
-ghost use Rattle.probe_desk.specs.Probe.{seen};
+ghost use Rattle.std.specs.Prelude.{◌≡◌, ◌∷◌, [], ◌++◌, ◌<◌, ◌^◌, IfOk, IfSome, OnOk, ℤ, ℕ, List, map, length};
+ghost use Rattle.market_types.specs.Told.{EntryTold, entry_told, event_told};
+ghost use Rattle.probe_desk.specs.Probe.{column_of, seen};
+ghost use Rattle.probe_desk.specs.Sums.{AreSums, moved};
 
-use crate::Probe;
+use crate::{Probe, Sums};
 use market_types::{EditMark, Entry, Memory, Record, Trace};
 use packed_entries::{Packed, Step, Walk, blank_edit, blank_event};
 use std::alloc::Global;
@@ -120,6 +121,31 @@ fn restart_one(probe: &mut dyn Probe)
     ensures title { title probe.new ≡ title probe.old }
 {
     probe.restart();
+}
+
+/// What each probe says of entries with these sums, in order, if each is the probe of a column of every table. So nothing is
+/// read again.
+///
+/// # Errors
+/// Want of memory alone.
+pub fn values_by_sums(
+    alloc: Global,
+    probes: &[Box<dyn Probe>],
+    sums: &Sums,
+) -> Result<Option<Vec<i128>>, Memory>
+    ensures { (es : List EntryTold) → AreSums sums.now es → moved es < 2 ^ 127 → IfOk result (λ told. IfSome told (λ v. v.items ≡ map (λ p. column_of (meaning p) es) probes.now)) }
+{
+    let mut all = Vec::new(alloc);
+    for probe in probes {
+        match probe.as_ref().column() {
+            Some(column) => all.push(sums.number(column))?,
+            None => {
+                drop(all);
+                return Ok(None);
+            }
+        }
+    }
+    Ok(Some(all))
 }
 
 /// What each probe says, in order.

@@ -9,3 +9,4 @@ pub mod Traces
 pub mod Rows
 pub mod Compared
 pub mod Led
+pub mod Few

@@ -46,3 +46,7 @@ pub columns_read : {X : Type 0} (mean : X → Meaning) (num : X → List ℤ) (p
 columns_read mean num ps qs xs m n =
     both_same mean num (λ q. seen (mean q) (mean q).opening xs) (λ k s. k.value s) ps qs m n
     ∙ map_twice mean (λ (k : Meaning). column_of k xs) qs
+
+-- the columns of probes are those of their meanings
+pub columns_by : {X : Type 0} (mean : X → Meaning) (qs : List X) (xs : List EntryTold) → map (λ q. column_of (mean q) xs) qs ≡ map (λ m. column_of m xs) (map mean qs)
+columns_by mean qs xs = map_twice mean (λ (k : Meaning). column_of k xs) qs

@@ -13,12 +13,13 @@ use crate::parts::parts_of;
 use branch_tree::Name;
 use kernel_copy::Course;
 use market_types::{End, Memory, Sequence};
-use probe_desk::{Probe, restart_all, values, watch_packed};
+use probe_desk::{Probe, restart_all, sums_of_parts, values, values_by_sums, watch_packed};
 use std::alloc::Global;
 use trace_bundle::laws::listed_runs_are_runs;
 use trace_bundle::{RunOutcomes, closing_of_branch, stop_written};
 
-// What each probe says of the full run of a branch, which it sees in order from its opening on.
+// What each probe says of the full run of a branch. If each is the probe of a column of every table, that is read from the
+// sums of the run's segments; else each sees the run's records in order, from its opening on.
 fn columns<W: RunOutcomes>(
     alloc: Global,
     course: &Course,
@@ -32,10 +33,14 @@ fn columns<W: RunOutcomes>(
     ensures meanings { map (λ p. meaning p) probes.new ≡ map (λ p. meaning p) probes.old }
     ensures titles { map (λ p. title p) probes.new ≡ map (λ p. title p) probes.old }
 {
+    course.is_course();
     let parts = parts_of(alloc, course, ran, branch)?;
+    if let Some(told) = values_by_sums(alloc, probes, &sums_of_parts(&parts))? {
+        return Ok(told);
+    }
     restart_all(probes);
     for part in &parts {
-        watch_packed(alloc, probes, part)?;
+        watch_packed(alloc, probes, part.packed())?;
     }
     values(alloc, probes)
 }

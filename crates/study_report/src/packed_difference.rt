@@ -8,7 +8,7 @@ ghost use Rattle.study_report.specs.PackedRuns.{left_in};
 use crate::packed_run::PackedRun;
 use crate::same::same_event;
 use market_types::Memory;
-use packed_entries::Packed;
+use probe_desk::Summed;
 use std::alloc::Global;
 
 // The least event number whose records differ or stand in one of two runs alone, of which nothing was read.
@@ -39,8 +39,8 @@ fn first_apart(own: &mut PackedRun<'_>, other: &mut PackedRun<'_>) -> Result<u32
 // record of each run at a time is read.
 pub(crate) fn difference_of_packed(
     alloc: Global,
-    a: &[&Packed],
-    b: &[&Packed],
+    a: &[&Summed],
+    b: &[&Summed],
 ) -> Result<u32, Memory>
     requires numbered { IsNumbered (flat_map (λ t. t.now.list) a.now) }
     requires others { IsNumbered (flat_map (λ t. t.now.list) b.now) }

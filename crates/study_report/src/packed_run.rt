@@ -8,7 +8,8 @@ ghost use Rattle.study_report.specs.Next.{Leads};
 ghost use Rattle.study_report.specs.PackedRuns.{left_in};
 
 use market_types::{EditMark, Memory, Record};
-use packed_entries::{Packed, Step, Walk, blank_edit, blank_event};
+use packed_entries::{Step, Walk, blank_edit, blank_event};
+use probe_desk::Summed;
 use std::alloc::Global;
 
 // The record that was read last, and what is left to read: of a part, and of the parts from a place on.
@@ -17,7 +18,7 @@ pub(crate) struct PackedRun<'a> {
     pub event: Record,
     edit: EditMark,
     walk: Walk<'a>,
-    parts: &'a [&'a Packed],
+    parts: &'a [&'a Summed],
     place: usize,
 }
 
@@ -37,7 +38,7 @@ fn next_record(walk: &mut Walk<'_>, event: &mut Record, edit: &mut EditMark) -> 
 // Reads the next record of entries and of the parts from a place on.
 fn next_in_parts<'a>(
     walk: &mut Walk<'a>,
-    parts: &[&'a Packed],
+    parts: &[&'a Summed],
     place: &mut usize,
     event: &mut Record,
     edit: &mut EditMark,
@@ -50,7 +51,7 @@ fn next_in_parts<'a>(
         return Ok(true);
     }
     for i in *place..parts.len() {
-        *walk = parts[i].walk();
+        *walk = parts[i].packed().walk();
         if next_record(walk, event, edit)? {
             *place = i + 1;
             return Ok(true);
@@ -61,7 +62,7 @@ fn next_in_parts<'a>(
 
 impl<'a> PackedRun<'a> {
     // A run of which nothing was read.
-    pub(crate) fn new(alloc: Global, parts: &'a [&'a Packed]) -> PackedRun<'a>
+    pub(crate) fn new(alloc: Global, parts: &'a [&'a Summed]) -> PackedRun<'a>
         ensures { left_in result ≡ events_in (flat_map (λ t. t.now.list) parts.now) }
     {
         PackedRun {

@@ -9,9 +9,9 @@ ghost use Rattle.study_report.specs.Tables.{run_of};
 
 use kernel_copy::Course;
 use market_types::Memory;
-use packed_entries::Packed;
+use probe_desk::Summed;
 use std::alloc::Global;
-use trace_bundle::{RunOutcomes, trace_of_segment};
+use trace_bundle::{RunOutcomes, summed_of_segment};
 
 // The entries of the segments from the root's first to this one, each of which goes on from the one before.
 fn parts_to<'a, W: RunOutcomes>(
@@ -19,12 +19,12 @@ fn parts_to<'a, W: RunOutcomes>(
     course: &Course,
     ran: &'a W,
     segment: u32,
-) -> Result<Vec<&'a Packed>, Memory>
+) -> Result<Vec<&'a Summed>, Memory>
     requires segment { segment < length (segments_in course.now.plan) }
     requires ran { IsListedRunOf course.now (W.count ran.now) (W.kept_of ran.now) (W.closing_of ran.now) }
     ensures { IfOk result (λ v. flat_map (λ t. t.now.list) v.items ≡ (segment_end course.now.opening course.now.plan (segment_at course.now.plan segment)).entries) }
 {
-    let own = trace_of_segment(course, ran, segment);
+    let own = summed_of_segment(course, ran, segment);
     match course.segment(segment).parent {
         None => {
             let mut parts = Vec::new(alloc);
@@ -45,7 +45,7 @@ pub fn parts_of<'a, W: RunOutcomes>(
     course: &Course,
     ran: &'a W,
     branch: u16,
-) -> Result<Vec<&'a Packed>, Memory>
+) -> Result<Vec<&'a Summed>, Memory>
     requires branch { branch < length course.now.plan.branches }
     requires ran { IsListedRunOf course.now (W.count ran.now) (W.kept_of ran.now) (W.closing_of ran.now) }
     ensures { IfOk result (λ v. flat_map (λ t. t.now.list) v.items ≡ (run_of course.now branch).entries) }

@@ -22,7 +22,7 @@ pub use carrier::Carrier;
 pub use ends::{closing_of_branch, events_of_branch};
 pub use forks::stop_written;
 pub use lines::big_lines;
-pub use listed::trace_of_segment;
+pub use listed::{summed_of_segment, trace_of_segment};
 pub use ran::RunOutcomes;
 pub use send::{send_bundle, send_end};
 pub use to_bytes::{ToBytes, write_branch};

@@ -1,4 +1,4 @@
-use Rattle.std.proofs.Common.{◌≡◌, ◌∙◌, ◌+◌, List, IfOk, map, take, ap, subst}
+use Rattle.std.proofs.Common.{◌≡◌, ◌∙◌, ◌+◌, ◌++◌, List, IfOk, map, take, ap, subst, sym}
 use Rattle.std.specs.List.{flat_map}
 use Rattle.std.proofs.lemmas.List.{take_all}
 use Rattle.market_types.specs.Told.{EntryTold}
@@ -14,8 +14,9 @@ loop-part-preserved g c =
     let parts = c.deref-part-items.result.now in
     let i = c.loop-part.part-index in
     let seen = flat_map (λ t. t.now.list) (take i parts) in
-    let next = c.part-item.result.now.list in
-    let more = parts-taken (λ t. t.now.list) parts i c.part-item.result c.loop-part-test.true c.part-item.is in
+    let next = c.packed.result.now.list in
+    let more = parts-taken (λ t. t.now.list) parts i c.part-item.result c.loop-part-test.true c.part-item.is
+        ∙ ap (λ (es : List EntryTold). seen ++ es) (sym (ap (λ v. v.list) c.packed.ensures)) in
     (c.in_ok-watch_packed.ensures.numbers ∙ seen_on _ _ c.loop-part.probes c.args.probes.now seen next (flat_map (λ t. t.now.list) (take (i + 1) parts)) meanings numbers more, w.meanings ∙ meanings, w.titles ∙ titles)
 
 pub returns-clause-values : goal.returns-clause-values

@@ -21,7 +21,7 @@ returns-in_ok-push-in-None g t c =
     let none : (segment_at k.plan s).parent ≡ None = sym (ap (λ (y : Segment). y.parent) c.segment.ensures.value) ∙ c.in-None.is in
     let copy = segment-copy k.opening k.plan s (course-tree k c.segment.ensures.course) c.segment.ensures.course.limit c.requires.segment in
     let before = ap (flat_map (λ t. t.now.list)) c.new-parts.ensures.items ∙ sym (ap (λ (y : Option ℕ). (parent_end k.opening k.plan y).entries) none) in
-    segment-more (λ t. t.now.list) k s c.new-parts.result.items c.push.new.self.items c.trace_of_segment-own.result copy c.in_ok-push-in-None.ensures.items before c.trace_of_segment-own.ensures
+    segment-more (λ t. t.now.list) k s c.new-parts.result.items c.push.new.self.items c.summed_of_segment-own.result copy c.in_ok-push-in-None.ensures.items before c.summed_of_segment-own.ensures
 
 pub returns-in_ok-push-in-Some : goal.returns-in_ok-push-in-Some
 returns-in_ok-push-in-Some g t c =
@@ -30,4 +30,4 @@ returns-in_ok-push-in-Some g t c =
     let some : (segment_at k.plan s).parent ≡ Some c.in-Some.parent = sym (ap (λ (y : Segment). y.parent) c.segment.ensures.value) ∙ c.in-Some.is in
     let copy = segment-copy k.opening k.plan s (course-tree k c.segment.ensures.course) c.segment.ensures.course.limit c.requires.segment in
     let before = c.in_ok-parts-in-Some.ensures ∙ sym (ap (λ (y : Option ℕ). (parent_end k.opening k.plan y).entries) some) in
-    segment-more (λ t. t.now.list) k s c.in_ok-parts-in-Some.parts.items c.push-in-Some.new.self.items c.trace_of_segment-own.result copy c.in_ok-push-in-Some.ensures.items before c.trace_of_segment-own.ensures
+    segment-more (λ t. t.now.list) k s c.in_ok-parts-in-Some.parts.items c.push-in-Some.new.self.items c.summed_of_segment-own.result copy c.in_ok-push-in-Some.ensures.items before c.summed_of_segment-own.ensures

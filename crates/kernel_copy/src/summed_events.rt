@@ -1,26 +1,27 @@
-//! A keeper of a run's events that packs them.
+//! A keeper of a run's events that packs them and adds each to the sums of a table's columns.
 
 ghost use Rattle.std.specs.Prelude.{◌≡◌};
 
 use kernel_core::{EventSeen, Keeper};
 use market_types::{FeedList, Memory};
-use packed_entries::{EventParts, Packed};
+use packed_entries::EventParts;
+use probe_desk::Summed;
 use std::alloc::Global;
 
 // Entries to which events are appended as they are made.
 #[derive(Drop)]
-pub(crate) struct PackedEvents {
-    pub(crate) packed: Packed,
+pub(crate) struct SummedEvents {
+    pub(crate) summed: Summed,
 }
 
-impl Keeper for PackedEvents {
+impl Keeper for SummedEvents {
     ghost use Rattle.std.specs.Prelude.{List};
     ghost use Rattle.market_types.specs.Told.{EntryTold};
     ghost use Rattle.kernel_core.specs.Seen.{listed};
 
     ghost Told = { List EntryTold };
 
-    ghost told = { λ p. p.packed.list };
+    ghost told = { λ p. p.summed.list };
 
     ghost with = { listed };
 
@@ -40,7 +41,7 @@ impl Keeper for PackedEvents {
         after: &mut FeedList,
     ) -> Result<(), Memory> {
         let _ = alloc;
-        self.packed.push_event(&EventParts {
+        self.summed.push_event(&EventParts {
             number: seen.number,
             time: seen.time,
             seq: seen.seq,

@@ -5,12 +5,12 @@ use Rattle.kernel_copy.specs.Kept.{entries}
 use Rattle.kernel_copy.specs.Segmentwise.{afresh}
 use Rattle.kernel_copy.specs.UntilStop.{until_part}
 use Rattle.kernel_copy.proofs.Pieces.{part-lists, then-ok}
-use Rattle.kernel_copy.proofs.run.run_packed.Goals as goal
+use Rattle.kernel_copy.proofs.run.run_summed.Goals as goal
 
 pub returns-clause-kept : goal.returns-clause-kept
 returns-clause-kept g c =
     let o = c.args.o.now in
-    let told = c.args.packed.now.list in
+    let told = c.args.summed.now.list in
     let more = (until_part o c.args.stop c.args.most (afresh c.args.kernel.now)).entries in
     let start : c.expect.new.self.list ≡ told = ap (λ v. v.list) c.expect.ensures ∙ ap (λ v. v.list) c.replace.ensures.value in
     then-ok c.run_part-ran.result c.run_part-ran.ensures.kept
